@@ -7,11 +7,11 @@ use Rattle.ata_types.specs.declared.Port.{Port}
 use Rattle.adapter.specs.Device.{Notes, DevicePort, Device}
 use Rattle.adapter.specs.Kept.{Keeps, KeepsOutsideReset, KeepsPort, KeepsControls}
 use Rattle.adapter.specs.Rules.{IsOn}
-pub use Rattle.adapter.specs.Seen.{KeepsButNotes, PortRegisterRead, PortRegisterWritten}
+pub use Rattle.adapter.specs.RegisterEffects.{KeepsOverDeviceSteps, PortRegisterRead, PortRegisterWritten}
 use Rattle.adapter.specs.Steps.{Steps, with_port}
 use Rattle.adapter.specs.Access.{PortShows, note, Reads, Writes, Access, Does, DoesAll, IsDriven}
 use Rattle.adapter.proofs.Changed.{changed_same, changed_other, changed_each}
-use Rattle.adapter.proofs.KeptLemmas.{law_steps_guarantee, same_engine, still, same_controls, calm, KeepsPort-refl, KeepsPort-trans, KeepsControls-refl, KeepsControls-trans}
+use Rattle.adapter.proofs.KeptLemmas.{law_step_lists_keep_what_steps_keep, same_engine, still, same_controls, calm, KeepsPort-refl, KeepsPort-trans, KeepsControls-refl, KeepsControls-trans}
 
 -- ---- lists of accesses
 
@@ -34,7 +34,7 @@ pub on_after : {old new : Device} → IsOn old → KeepsOutsideReset old new →
 on_after on keeps = record { ae = keeps.ae ∙ on.ae; no_reset = keeps.no_reset }
 
 pub on_stays : {old new : Device} → IsOn old → Steps old new → IsOn new
-on_stays on steps = let k = law_steps_guarantee steps in on_after on (k.on on.no_reset)
+on_stays on steps = let k = law_step_lists_keep_what_steps_keep steps in on_after on (k.on on.no_reset)
 
 -- ---- a register of a port is read
 
@@ -55,8 +55,8 @@ shows_noted Serr v p n h = h
 shows_noted Sact v p n h = h
 shows_noted Ci v p n h = h
 
-pub KeepsButNotes-trans : {old mid new : Device} → KeepsButNotes old mid → KeepsButNotes mid new → KeepsButNotes old new
-KeepsButNotes-trans a b = record {
+pub KeepsOverDeviceSteps-trans : {old mid new : Device} → KeepsOverDeviceSteps old mid → KeepsOverDeviceSteps mid new → KeepsOverDeviceSteps old new
+KeepsOverDeviceSteps-trans a b = record {
   size = b.size ∙ a.size;
   cap = b.cap ∙ a.cap;
   pi = b.pi ∙ a.pi;
@@ -69,12 +69,12 @@ KeepsButNotes-trans a b = record {
   port = λ q. KeepsPort-trans (a.port q) (b.port q);
 }
 
-pub steps_keep_all : {old new : Device} → old.hr ≡ false → Steps old new → KeepsButNotes old new
-steps_keep_all h steps = let k = law_steps_guarantee steps in record { size = k.size; cap = k.cap; pi = k.pi; on = k.on h; port = k.port }
+pub steps_keep_all : {old new : Device} → old.hr ≡ false → Steps old new → KeepsOverDeviceSteps old new
+steps_keep_all h steps = let k = law_step_lists_keep_what_steps_keep steps in record { size = k.size; cap = k.cap; pi = k.pi; on = k.on h; port = k.port }
 
 module _ (port : Port) (r : PortReg) (v : ℕ) (old new : Device) (call : Reads (Px port r) v old new) (h : old.hr ≡ false) where
   kept : Keeps old call.mid
-  kept = law_steps_guarantee call.steps
+  kept = law_step_lists_keep_what_steps_keep call.steps
 
   there : DevicePort
   there = record (call.mid.port port.0) { notes = note r v (call.mid.port port.0) }
@@ -83,7 +83,7 @@ module _ (port : Port) (r : PortReg) (v : ℕ) (old new : Device) (call : Reads 
   unfolding there
   is_there = ap (λ (d : Device). d.port port.0) call.effect ∙ changed_same call.mid.port port.0 there
 
-  noted_keeps : KeepsButNotes call.mid (with_port call.mid port.0 there)
+  noted_keeps : KeepsOverDeviceSteps call.mid (with_port call.mid port.0 there)
   unfolding there
   noted_keeps =
       let on : KeepsOutsideReset old call.mid = kept.on h in
@@ -100,11 +100,11 @@ module _ (port : Port) (r : PortReg) (v : ℕ) (old new : Device) (call : Reads 
         port = changed_each call.mid.port port.0 there (λ q p. KeepsPort (call.mid.port q) p) (still (call.mid.port port.0) there (same_engine (call.mid.port port.0))) (λ q. KeepsPort-refl (call.mid.port q));
       }
 
-  seen_keeps : KeepsButNotes old new
+  seen_keeps : KeepsOverDeviceSteps old new
   unfolding there
   seen_keeps =
-      let P : Device → Type 0 = λ d. KeepsButNotes old d in
-      subst P (sym call.effect) (KeepsButNotes-trans (steps_keep_all h call.steps) noted_keeps)
+      let P : Device → Type 0 = λ d. KeepsOverDeviceSteps old d in
+      subst P (sym call.effect) (KeepsOverDeviceSteps-trans (steps_keep_all h call.steps) noted_keeps)
 
   seen_shows : PortShows r v (new.port port.0)
   unfolding there
@@ -131,7 +131,7 @@ module _ (port : Port) (r : PortReg) (v : ℕ) (old new : Device) (call : Reads 
 
 pub put : (port : Port) (r : PortReg) (v : ℕ) (old new : Device) → Writes (Px port r) v old new → old.hr ≡ false → PortRegisterWritten port.0 r v old new
 put port r v old new call h =
-    let k : Keeps old call.mid = law_steps_guarantee call.steps in
+    let k : Keeps old call.mid = law_step_lists_keep_what_steps_keep call.steps in
     let on : KeepsOutsideReset old call.mid = k.on h in
     record {
       mid = call.mid;

@@ -7,7 +7,7 @@ use Rattle.std.proofs.lemmas.List.Elements.{All-replicate}
 use Rattle.adapter.specs.Memory.{patched, bytes_at, changed}
 use Rattle.adapter.specs.Device.{Disk, IsSector, IsDisk, HasKnownSectors, DevicePort, Device}
 use Rattle.adapter.specs.FirstRead.{header_bytes, command_fis_bytes, prd_bytes, first_memory, first_disk_sector, first_disk, no_disk, empty_port, reading_port, first_read_device}
-use Rattle.adapter.specs.Idle.{IsIdlePort, IsSane}
+use Rattle.adapter.specs.Idle.{IsIdlePort, HoldsBytesAndTellsDisks}
 use Rattle.adapter.specs.OneCommand.{HasOneCommand, SaysCommand, CommandLayout, layout_of, is_in_span, is_of_pieces, is_read_only, is_written, is_unwritten, IsElsewhere}
 use Rattle.adapter.specs.ReadDone.{read_of, IsReadDone}
 use Rattle.adapter.specs.Rules.{IsUnowned, IsStable}
@@ -130,7 +130,7 @@ first_small =
     small_patched (patched (patched (λ _. 0) 0 header_bytes) 0x1000 command_fis_bytes) 0x1080 prd_bytes refl
     (small_patched (patched (λ _. 0) 0 header_bytes) 0x1000 command_fis_bytes refl (small_patched (λ _. 0) 0 header_bytes refl (λ a. omega arith)))
 
-pub first_sane : IsSane first_read_device
+pub first_sane : HoldsBytesAndTellsDisks first_read_device
 first_sane = record {
   bytes = first_small;
   disk = changed_each (λ _. empty_port) 0 reading_port (λ q p. IsDisk p.disk) (told_sectors first_disk first_disk_sector refl (λ k small. sector_is k small)) (λ q. told_sectors no_disk (λ k. []) refl (λ k small. absurd (omega arith)));

@@ -6,7 +6,7 @@ use Rattle.adapter.specs.Steps.{Steps}
 use Rattle.adapter.specs.Rules.{DeviceOwns, IsUnowned, IsStable, InDataBlocks}
 use Rattle.adapter.specs.Guarded.{IsGuardedSlot, IsGuarded, IsApart}
 use Rattle.adapter.proofs.Guards.{steps_guard, in_use_before}
-use Rattle.adapter.proofs.KeptLemmas.{law_steps_guarantee}
+use Rattle.adapter.proofs.KeptLemmas.{law_step_lists_keep_what_steps_keep}
 use Rattle.adapter.proofs.SaysLemmas.{says_table, says_prds, says_places}
 
 module _ (Tables Kept : ℕ → Type 0) (at n : ℕ) where
@@ -34,7 +34,7 @@ module _ (Tables Kept : ℕ → Type 0) (at n : ℕ) where
 
   apart_stays : (old mid : Device) → IsApart Tables Kept at n old → Steps old mid → IsApart Tables Kept at n mid
   apart_stays old mid apart steps =
-      let k : Keeps old mid = law_steps_guarantee steps in
+      let k : Keeps old mid = law_step_lists_keep_what_steps_keep steps in
       record {
         inside = rw k.size apart.inside;
         kept = apart.kept;

@@ -5,7 +5,7 @@ use Rattle.adapter.specs.Commands.{Meaning, reads_memory}
 use Rattle.adapter.specs.Device.{FetchedCommand, Bases, DevicePort, Device}
 use Rattle.adapter.specs.Kept.{Keeps, KeepsPort}
 use Rattle.adapter.specs.Rules.{InUse}
-use Rattle.adapter.specs.Steps.{DeviceTransition, Can, device_after, StepLeads, Steps, MayFetch, MayScribble, next_place}
+use Rattle.adapter.specs.Steps.{DeviceTransition, Can, device_after, TransitionsLead, Steps, MayFetch, MayScribble, next_place}
 use Rattle.adapter.specs.Steps.DeviceTransition.{Fetch, FetchFault, Move, Clear, Done, Fault, Fatal, Fall, FrFall, LinkUp, Unplug, Plug, ResetEnds, Scribble}
 use Rattle.adapter.specs.Guarded.{MissesRange, MissesPieces, IsGuardedSlot, IsGuardedPort, IsGuarded}
 use Rattle.adapter.proofs.Absurd.{some-none, some_one, set_before}
@@ -140,7 +140,7 @@ module _ (Tables Kept : ℕ → Type 0) (d : Device) (g : IsGuarded Tables Kept 
             };
       }
 
-leads_guard : (Tables Kept : ℕ → Type 0) (steps : List DeviceTransition) (old new : Device) → IsGuarded Tables Kept old → StepLeads steps old new →
+leads_guard : (Tables Kept : ℕ → Type 0) (steps : List DeviceTransition) (old new : Device) → IsGuarded Tables Kept old → TransitionsLead steps old new →
     IsGuarded Tables Kept new × ((a : ℕ) → Kept a → new.memory a ≡ old.memory a)
 leads_guard Tables Kept [] old new g e =
     let P : Device → Type 0 = λ d. IsGuarded Tables Kept d × ((a : ℕ) → Kept a → d.memory a ≡ old.memory a) in

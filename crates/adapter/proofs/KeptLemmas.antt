@@ -6,7 +6,7 @@ use Rattle.adapter.specs.Memory.{changed}
 use Rattle.adapter.specs.Commands.{is_queued}
 use Rattle.adapter.specs.Device.{FetchedCommand, DevicePort, Device}
 use Rattle.adapter.specs.Kept.{Keeps, KeepsOutsideReset, KeepsPort, KeepsControls}
-use Rattle.adapter.specs.Steps.{DeviceTransition, Can, device_after, StepLeads, Steps, with_port}
+use Rattle.adapter.specs.Steps.{DeviceTransition, Can, device_after, TransitionsLead, Steps, with_port}
 use Rattle.adapter.specs.Steps.DeviceTransition.{Fetch, FetchFault, Move, Clear, Done, Fault, Fatal, Fall, FrFall, LinkUp, Unplug, Plug, ResetEnds, Scribble}
 use Rattle.adapter.specs.declared.tape.Entry.{Entry}
 
@@ -393,10 +393,10 @@ Keeps-trans {old} {mid} {new} a b = record {
   on = λ h. let first : KeepsOutsideReset old mid = a.on h in KeepsOutsideReset-trans first (b.on first.no_reset);
 }
 
-leads_keeps : (steps : List DeviceTransition) (old new : Device) → StepLeads steps old new → Keeps old new
+leads_keeps : (steps : List DeviceTransition) (old new : Device) → TransitionsLead steps old new → Keeps old new
 leads_keeps [] old new e = let P : Device → Type 0 = λ d. Keeps old d in subst P (sym e) (Keeps-refl old)
 leads_keeps (step ∷ steps) old new (can, rest) = Keeps-trans (step_keeps step old can) (leads_keeps steps (device_after step old) new rest)
 
 -- whatever the device does, it keeps this
-pub law_steps_guarantee : {old new : Device} → Steps old new → Keeps old new
-law_steps_guarantee {old} {new} s = leads_keeps s.steps old new s.lead
+pub law_step_lists_keep_what_steps_keep : {old new : Device} → Steps old new → Keeps old new
+law_step_lists_keep_what_steps_keep {old} {new} s = leads_keeps s.steps old new s.lead

@@ -5,7 +5,7 @@ use Rattle.std.proofs.lemmas.Bool.{cases_eq, cases_lt, le-leb, lt-ltb}
 use Rattle.adapter.specs.Device.{DevicePort, Device}
 use Rattle.adapter.specs.Idle.{IsIdle, IsIdlePort}
 use Rattle.adapter.specs.Rules.{InUse, InDataBlocks, IsUnowned, IsStable}
-use Rattle.adapter.specs.Guarded.{Passing, MissesRange, MissesPieces, IsGuardedSlot, IsGuardedPort, IsGuarded}
+use Rattle.adapter.specs.Guarded.{PassesTest, MissesRange, MissesPieces, IsGuardedSlot, IsGuardedPort, IsGuarded}
 use Rattle.adapter.specs.OneCommand.{CommandLayout, is_in_span, is_of_pieces, is_read_only, is_written, is_unwritten, IsFreeSlot, layout_of, HasOneCommand, NoneHasCommand, IsElsewhere}
 use Rattle.adapter.proofs.Absurd.{true-false, some-none}
 use Rattle.adapter.proofs.Free.{apart_free_stays}
@@ -81,22 +81,22 @@ port_idle Tables Kept memory p i =
     port_unused Tables Kept memory p (λ slot. record { ci = i.ci slot; taken = i.taken slot }) (λ fre. true-false fre i.fre)
 
 pub unused_guarded : (kept : ℕ → Bool) (d : Device) → NoneHasCommand d →
-    ((port : ℕ) → (d.port port).fre ≡ true → MissesRange (Passing kept) (d.port port).bases.fb ((d.port port).bases.fb + 256)) →
-    IsGuarded (Passing (λ _. false)) (Passing kept) d
+    ((port : ℕ) → (d.port port).fre ≡ true → MissesRange (PassesTest kept) (d.port port).bases.fb ((d.port port).bases.fb + 256)) →
+    IsGuarded (PassesTest (λ _. false)) (PassesTest kept) d
 unused_guarded kept d none area = record {
   within = λ at table. true-false table refl;
-  port = λ q. port_unused (Passing (λ _. false)) (Passing kept) d.memory (d.port q) (none q) (area q);
+  port = λ q. port_unused (PassesTest (λ _. false)) (PassesTest kept) d.memory (d.port q) (none q) (area q);
 }
 
-pub idle_guarded : (kept : ℕ → Bool) (d : Device) → IsIdle d → IsGuarded (Passing (λ _. false)) (Passing kept) d
+pub idle_guarded : (kept : ℕ → Bool) (d : Device) → IsIdle d → IsGuarded (PassesTest (λ _. false)) (PassesTest kept) d
 idle_guarded kept d i = record {
   within = λ at table. true-false table refl;
-  port = λ q. port_idle (Passing (λ _. false)) (Passing kept) d.memory (d.port q) (i.port q);
+  port = λ q. port_idle (PassesTest (λ _. false)) (PassesTest kept) d.memory (d.port q) (i.port q);
 }
 
 pub idle_free : (at n : ℕ) (d : Device) → IsIdle d → at + n ≤ d.size → IsStable (IsUnowned at n) d
 idle_free at n d i inside =
-    apart_free_stays (Passing (λ _. false)) (Passing (λ _. true)) at n d (idle_guarded (λ _. true) d i)
+    apart_free_stays (PassesTest (λ _. false)) (PassesTest (λ _. true)) at n d (idle_guarded (λ _. true) d i)
     (record {
       inside = inside;
       kept = λ a low high. refl;
@@ -111,10 +111,10 @@ module _ (d : Device) (port slot : ℕ) (c : HasOneCommand d port slot) where
   s = layout_of d port slot c.command
 
   abbrev Tables : ℕ → Type 0
-  Tables = Passing (is_read_only s)
+  Tables = PassesTest (is_read_only s)
 
   abbrev Kept : ℕ → Type 0
-  Kept = Passing (is_unwritten s)
+  Kept = PassesTest (is_unwritten s)
 
   places_avoid : MissesPieces Kept c.command.places
   places_avoid at kept in_places = written_not s at (writes_piece s at in_places) kept
@@ -150,7 +150,7 @@ module _ (d : Device) (port slot : ℕ) (c : HasOneCommand d port slot) where
     received = λ fre at low high kept. written_not s at (writes_area s at low high) kept;
   }
 
-  pub command_is_guarded : IsGuarded (Passing (is_read_only (layout_of d port slot c.command))) (Passing (is_unwritten (layout_of d port slot c.command))) d
+  pub command_is_guarded : IsGuarded (PassesTest (is_read_only (layout_of d port slot c.command))) (PassesTest (is_unwritten (layout_of d port slot c.command))) d
   command_is_guarded = record {
     within = c.apart;
     port = λ q.

@@ -13,18 +13,18 @@ use Rattle.hba_regs.specs.declared.reg.Reg.TheVariants.{Cap, Ghc, Pi, Vs, Cap2, 
 use Rattle.hba_regs.specs.declared.reg.Reg.TheVariants as adapter
 use Rattle.hba_regs.specs.declared.reg.PortReg.{PortReg}
 use Rattle.hba_regs.specs.declared.reg.PortReg.TheVariants.{Clb, Clbu, Fb, Fbu, Is, Ie, Cmd, Tfd, Sig, Ssts, Sctl, Serr, Sact, Ci}
-use Rattle.adapter.specs.Access.{Access, ShowsPending, Does, DoesAll, Reads, Writes, causes, is_cause, is_pending, named_causes, noted, port_written, raises, raises_interrupt, shown_interrupt, with_is_cleared, with_st, written}
+use Rattle.adapter.specs.Access.{Access, ShowsPending, Does, DoesAll, Reads, Writes, causes, is_cause, is_pending, named_causes, noted, port_written, raises, raises_interrupt, shown_interrupt, with_is_bit_cleared, with_st, written}
 use Rattle.adapter.specs.Access.Access.{Reading, Writing, Loading, Storing}
 use Rattle.adapter.specs.Device.{DevicePort, Device}
 use Rattle.adapter.specs.Kept.{KeepsControls}
 use Rattle.adapter.specs.Memory.{changed}
-use Rattle.adapter.specs.Pending.{LeavesIe, KeepsIsBit, SetsCause, EnablesAllCauses, interrupts}
+use Rattle.adapter.specs.Pending.{LeavesIe, KeepsIsBit, SetsCause, EnablesAllCauses, interrupting_port}
 use Rattle.adapter.specs.Rules.{HasPort}
-use Rattle.adapter.specs.Steps.{DeviceTransition, Can, device_after, clear_entry, done_entry, fault_entry, StepLeads, move_of, halt_after_start, Steps}
+use Rattle.adapter.specs.Steps.{DeviceTransition, Can, device_after, clear_entry, done_entry, fault_entry, TransitionsLead, move_of, halt_after_start, Steps}
 use Rattle.adapter.specs.Steps.DeviceTransition.{Fetch, FetchFault, Move, Clear, Done, Fault, Fatal, Fall, FrFall, LinkUp, Unplug, Plug, ResetEnds, Scribble}
 use Rattle.adapter.proofs.Absurd.{some-none, true-false}
 use Rattle.adapter.proofs.Changed.{changed_same, changed_each}
-use Rattle.adapter.proofs.KeptLemmas.{step_keeps, law_steps_guarantee}
+use Rattle.adapter.proofs.KeptLemmas.{step_keeps, law_step_lists_keep_what_steps_keep}
 use Rattle.adapter.specs.declared.tape.Entry.{Entry}
 use Rattle.adapter.specs.declared.tape.Entry.TheVariants as entry
 
@@ -136,7 +136,7 @@ controls_rise : (old new : DevicePort) → KeepsControls old new → Rises old n
 controls_rise old new k = record { ips = λ h. k.ips ∙ h; ie = k.ie; is = k.is; serr_n = k.serr_n; serr_x = k.serr_x }
 
 pub steps_pend : (port : ℕ) (old new : Device) → Steps old new → old.hr ≡ false → is_pending (old.port port) ≡ true → is_pending (new.port port) ≡ true
-steps_pend port old new s off = pending_on (old.port port) (new.port port) (controls_rise (old.port port) (new.port port) (((law_steps_guarantee s).on off).controls port))
+steps_pend port old new s off = pending_on (old.port port) (new.port port) (controls_rise (old.port port) (new.port port) (((law_step_lists_keep_what_steps_keep s).on off).controls port))
 
 -- ---- a step that raises a cause
 
@@ -315,11 +315,11 @@ written_leaves : (port : ℕ) (r : Reg) (v : ℕ) (d : Device) → KeepsIsBit po
 written_leaves port Ghc v d none = record { off = λ h. or_false d.hr (bit v 0) h none; tape = refl; ie = λ spares. refl; pends = λ h. h }
 written_leaves port adapter.Is v d none = record { off = λ h. h; tape = refl; ie = λ spares. same (bit v port); pends = by (bit v port) none }
   where
-    same : (b : Bool) → (if b then with_is_cleared (d.port port) else d.port port).ie ≡ (d.port port).ie
+    same : (b : Bool) → (if b then with_is_bit_cleared (d.port port) else d.port port).ie ≡ (d.port port).ie
     same true = refl
     same false = refl
 
-    by : (b : Bool) → b ≡ false → is_pending (d.port port) ≡ true → is_pending (if b then with_is_cleared (d.port port) else d.port port) ≡ true
+    by : (b : Bool) → b ≡ false → is_pending (d.port port) ≡ true → is_pending (if b then with_is_bit_cleared (d.port port) else d.port port) ≡ true
     by false is h = h
     by true is h = true-false refl is
 written_leaves port (Px its r) v d none = record {
@@ -364,7 +364,7 @@ any_access (access ∷ accesses) = All-cons (λ (access : Access). Unit {0}) acc
 pub accesses_pend : (port : ℕ) (accesses : List Access) (old new : Device) → DoesAll accesses old new → All (KeepsIsBit port) accesses → old.hr ≡ false → is_pending (old.port port) ≡ true → is_pending (new.port port) ≡ true
 accesses_pend port accesses old new does none off h =
     (all_go port (Pends port) (λ access. Unit {0})
-    (λ old new s p. record { off = ((law_steps_guarantee s).on p.off).no_reset; pends = steps_pend port old new s p.off p.pends })
+    (λ old new s p. record { off = ((law_step_lists_keep_what_steps_keep s).on p.off).no_reset; pends = steps_pend port old new s p.off p.pends })
     (λ access d new may l p. record { off = l.off p.off; pends = l.pends p.pends })
     accesses old new does (any_access accesses) none (record { off = off; pends = h })).pends
 
@@ -377,7 +377,7 @@ port_is a b e = sym (ap (λ (o : Option ℕ). its_port o) e)
     its_port (Some port) = port
     its_port None = 0
 
-module _ (port : ℕ) (told : Entry) (its : interrupts told ≡ Some port) (begun : List Entry) where
+module _ (port : ℕ) (told : Entry) (its : interrupting_port told ≡ Some port) (begun : List Entry) where
   -- since the tape was so, what it tells of left the port's interrupt pending
   record Waits (d : Device) : Type 0 where
     off : d.hr ≡ false
@@ -405,22 +405,22 @@ module _ (port : ℕ) (told : Entry) (its : interrupts told ≡ Some port) (begu
       pends = λ has. goes_on (w.pends has);
     }
 
-    recorded : (e : Entry) → (device_after step d).tape ≡ d.tape ++ e ∷ [] → (interrupts e ≡ Some port → is_pending ((device_after step d).port port) ≡ true) → Waits (device_after step d)
+    recorded : (e : Entry) → (device_after step d).tape ≡ d.tape ++ e ∷ [] → (interrupting_port e ≡ Some port → is_pending ((device_after step d).port port) ≡ true) → Waits (device_after step d)
     recorded e same raised = record {
       off = ((step_keeps step d can).on w.off).no_reset;
       tells = enables_on (d.port port) ((device_after step d).port port) controls.ie w.tells;
       gained = w.gained ++ e ∷ [];
       tape = same ∙ (ap (λ (t : List Entry). t ++ e ∷ []) w.tape ∙ append_assoc begun w.gained (e ∷ []));
-      pends = λ has. ⊎_elim (λ x. goes_on (w.pends x)) (λ is. raised (ap (λ (x : Entry). interrupts x) is ∙ its)) (Contains-push_cases w.gained e told has);
+      pends = λ has. ⊎_elim (λ x. goes_on (w.pends x)) (λ is. raised (ap (λ (x : Entry). interrupting_port x) is ∙ its)) (Contains-push_cases w.gained e told has);
     }
 
     -- one that raises a cause, where the entry is of the port
-    raising : (e : Entry) (q place : ℕ) → (device_after step d).tape ≡ d.tape ++ e ∷ [] → interrupts e ≡ Some q → (port ≡ q → SetsCause step port place) → Waits (device_after step d)
+    raising : (e : Entry) (q place : ℕ) → (device_after step d).tape ≡ d.tape ++ e ∷ [] → interrupting_port e ≡ Some q → (port ≡ q → SetsCause step port place) → Waits (device_after step d)
     raising e q place same of_q raises = recorded e same (λ is.
         let r = raises (port_is q port (sym of_q ∙ is)) in
         raised_pends step port place d can r (w.tells place (raised_named step port place d can r)))
 
-    other : (e : Entry) → interrupts e ≡ None → (device_after step d).tape ≡ d.tape ++ e ∷ [] → Waits (device_after step d)
+    other : (e : Entry) → interrupting_port e ≡ None → (device_after step d).tape ≡ d.tape ++ e ∷ [] → Waits (device_after step d)
     other e none same = recorded e same (λ is. some-none is none)
 
   step_waits : (step : DeviceTransition) (d : Device) → Can step d → Waits d → Waits (device_after step d)
@@ -439,7 +439,7 @@ module _ (port : ℕ) (told : Entry) (its : interrupts told ≡ Some port) (begu
   step_waits ResetEnds d can w = true-false can w.off
   step_waits (Scribble p s at bytes) d can w = quiet (Scribble p s at bytes) d can w refl
 
-  leads_wait : (steps : List DeviceTransition) (old new : Device) → StepLeads steps old new → Waits old → Waits new
+  leads_wait : (steps : List DeviceTransition) (old new : Device) → TransitionsLead steps old new → Waits old → Waits new
   leads_wait [] old new e w = subst Waits (sym e) w
   leads_wait (step ∷ steps) old new (can, rest) w = leads_wait steps (device_after step old) new rest (step_waits step old can w)
 
@@ -452,7 +452,7 @@ module _ (port : ℕ) (told : Entry) (its : interrupts told ≡ Some port) (begu
     pends = λ has. l.pends (w.pends has);
   }
 
-pub told_pend : (port : ℕ) (told : Entry) (accesses : List Access) (gained : List Entry) (old new : Device) → interrupts told ≡ Some port → DoesAll accesses old new → All (KeepsIsBit port) accesses → All (LeavesIe port) accesses
+pub told_pend : (port : ℕ) (told : Entry) (accesses : List Access) (gained : List Entry) (old new : Device) → interrupting_port told ≡ Some port → DoesAll accesses old new → All (KeepsIsBit port) accesses → All (LeavesIe port) accesses
     → old.hr ≡ false → EnablesAllCauses (old.port port) → new.tape ≡ old.tape ++ gained → Contains gained told → is_pending (new.port port) ≡ true
 told_pend port told accesses gained old new its does none spares off tells tape has =
     let w : Waits port told its old.tape new = all_go port (Waits port told its old.tape) (LeavesIe port)
@@ -471,6 +471,6 @@ pending_shown port v old new x has =
 pub pending_cleared : (port v : ℕ) (old new : Device) → Writes adapter.Is v old new → bit v port ≡ true → is_pending (new.port port) ≡ raises_interrupt (new.port port)
 pending_cleared port v old new x set = subst (λ (d : Device). is_pending (d.port port) ≡ raises_interrupt (d.port port)) (sym x.effect) (by (bit v port) set)
   where
-    by : (b : Bool) → b ≡ true → is_pending (if b then with_is_cleared (x.mid.port port) else x.mid.port port) ≡ raises_interrupt (if b then with_is_cleared (x.mid.port port) else x.mid.port port)
+    by : (b : Bool) → b ≡ true → is_pending (if b then with_is_bit_cleared (x.mid.port port) else x.mid.port port) ≡ raises_interrupt (if b then with_is_bit_cleared (x.mid.port port) else x.mid.port port)
     by true is = refl
     by false is = true-false is refl

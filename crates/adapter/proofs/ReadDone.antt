@@ -5,7 +5,7 @@ use Rattle.adapter.specs.Asked.{DoesSlotSteps, EndsAndPosts, PostsNone}
 use Rattle.adapter.specs.Memory.{patched, bytes_at, changed}
 use Rattle.adapter.specs.Device.{Disk, IsSector, FetchedCommand, Halt, DevicePort, Device}
 use Rattle.adapter.specs.OneCommand.{IsFreeSlot}
-use Rattle.adapter.specs.ReadDone.{read_of, IsReadFetchable, moves, IsReadDone}
+use Rattle.adapter.specs.ReadDone.{read_of, IsReadFetchable, move_entries, IsReadDone}
 use Rattle.adapter.specs.Steps.{device_after, Steps, WorksOn, IsWorking, admits, begun, MayMove, MayBeDone, with_fetch, with_move, with_done, done_entry, move_of}
 use Rattle.adapter.specs.Steps.DeviceTransition.{Fetch, Move, Done}
 use Rattle.adapter.specs.declared.command.Operation.{Operation}
@@ -39,7 +39,7 @@ module _ (old : Device) (port slot first count : ℕ) (places : List ℕ) (told 
     pub works : WorksOn (d.port port) slot (command n) Read
     pub disk : (d.port port).disk ≡ (old.port port).disk
     pub size : d.size ≡ old.size
-    pub tape : d.tape ≡ old.tape ++ moves port slot first places told n
+    pub tape : d.tape ≡ old.tape ++ move_entries port slot first places told n
     pub bytes : (k : ℕ) → k < n → bytes_at d.memory (slice_index places k) 512 ≡ told (first + k)
 
   many : length places ≡ count
@@ -127,7 +127,7 @@ module _ (old : Device) (port slot first count : ℕ) (places : List ℕ) (told 
               });
           disk = ap (λ (p : DevicePort). p.disk) here ∙ m.disk;
           size = m.size;
-          tape = ap (λ (entries : List Entry). entries ++ entry.Move (move_of port slot (command n) (told (first + n))) ∷ []) m.tape ∙ append_assoc old.tape (moves port slot first places told n) _;
+          tape = ap (λ (entries : List Entry). entries ++ entry.Move (move_of port slot (command n) (told (first + n))) ∷ []) m.tape ∙ append_assoc old.tape (move_entries port slot first places told n) _;
           bytes = moved_bytes;
         }
 
@@ -159,7 +159,7 @@ module _ (old : Device) (port slot first count : ℕ) (places : List ℕ) (told 
           shown = ap (λ (p : DevicePort). p.is) here ∙ ap (λ (f : ℕ → Bool). changed f 0 true) m.is;
           free = subst P (sym here)
               (record { ci = changed_same (d.port port).ci slot false; taken = changed_same (d.port port).taken slot None });
-          tape = ap (λ (entries : List Entry). entries ++ done_entry port slot Read ∷ []) m.tape ∙ append_assoc old.tape (moves port slot first places told count) _;
+          tape = ap (λ (entries : List Entry). entries ++ done_entry port slot Read ∷ []) m.tape ∙ append_assoc old.tape (move_entries port slot first places told count) _;
           bytes = m.bytes;
         },
       )

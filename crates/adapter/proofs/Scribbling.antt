@@ -5,7 +5,7 @@ use Rattle.std.proofs.lemmas.Bool.{cases_lt, false≢true}
 use Rattle.std.proofs.lemmas.Bool.Decides.{leb_tells}
 use Rattle.std.proofs.lemmas.List.{length-replicate, get_or-replicate}
 use Rattle.ata_types.specs.declared.memory.TheConstants.{HEADER_BYTES, RECEIVED_FIS_BYTES}
-use Rattle.adapter.specs.Asked.{IsOneOf, IsScribblePlace, IsScribbled, memory_filled}
+use Rattle.adapter.specs.Asked.{IsByteWithin, IsScribblePlace, IsScribbled, memory_filled}
 use Rattle.adapter.specs.Device.{DevicePort}
 use Rattle.adapter.specs.Memory.{patched}
 use Rattle.adapter.proofs.MemoryLemmas.{patched_before, patched_past}
@@ -22,7 +22,7 @@ patched_within memory at count byte place from inside =
 
 -- either it is one of the bytes, and has the new one, or it isn't, and has what it had
 abbrev Told : (size at count byte place was is : ℕ) → Type 0
-Told size at count byte place was is = (IsOneOf size at count place × (is ≡ byte)) ⊎ ((IsOneOf size at count place → ⊥) × (is ≡ was))
+Told size at count byte place was is = (IsByteWithin size at count place × (is ≡ byte)) ⊎ ((IsByteWithin size at count place → ⊥) × (is ≡ was))
 
 fill_told : (size at count byte place : ℕ) (memory : ℕ → ℕ) → Told size at count byte place (memory place) (memory_filled size at count byte memory place)
 fill_told size at count byte place memory =
@@ -54,19 +54,19 @@ module _ (size byte : ℕ) (p : DevicePort) where
     filled = λ place it.
         elim (fill_told size p.bases.fb RECEIVED_FIS_BYTES byte place old) [
           | inl there ↦ there.1
-          | inr not ↦ absurd (⊎_elim not.0 (λ (w : (slot : ℕ) × (slot < 0) × (is_some (p.taken slot) ≡ true) × IsOneOf size (count_at slot) 4 place). omega (arith, w.1)) it)
+          | inr not ↦ absurd (⊎_elim not.0 (λ (w : (slot : ℕ) × (slot < 0) × (is_some (p.taken slot) ≡ true) × IsByteWithin size (count_at slot) 4 place). omega (arith, w.1)) it)
         ];
     others = λ place none. elim (fill_told size p.bases.fb RECEIVED_FIS_BYTES byte place old) [ inl there ↦ absurd (none (inl there.0)) | inr not ↦ not.1 ];
   }
 
   -- a place of one slot more
-  earlier : (slot place : ℕ) → IsScribblePlace (slot + 1) size p place → IsScribblePlace slot size p place ⊎ ((is_some (p.taken slot) ≡ true) × IsOneOf size (count_at slot) 4 place)
+  earlier : (slot place : ℕ) → IsScribblePlace (slot + 1) size p place → IsScribblePlace slot size p place ⊎ ((is_some (p.taken slot) ≡ true) × IsByteWithin size (count_at slot) 4 place)
   earlier slot place (inl area) = inl (inl area)
   earlier slot place (inr (own, less, held, it)) =
       elim (cases_lt own slot) [
         | inl before ↦ inl (inr (own, before, held, it))
         | inr from ↦ let same : own ≡ slot = omega (arith, less, from) in
-            let P : ℕ → Type 0 = λ k. (is_some (p.taken k) ≡ true) × IsOneOf size (count_at k) 4 place in
+            let P : ℕ → Type 0 = λ k. (is_some (p.taken k) ≡ true) × IsByteWithin size (count_at k) 4 place in
             inr (subst P same (held, it))
       ]
 
@@ -98,14 +98,14 @@ module _ (size byte : ℕ) (p : DevicePort) where
       }
 
   -- whether a place is one
-  is_within : (at count place : ℕ) → IsOneOf size at count place ⊎ (IsOneOf size at count place → ⊥)
+  is_within : (at count place : ℕ) → IsByteWithin size at count place ⊎ (IsByteWithin size at count place → ⊥)
   is_within at count place = ⊎_elim (λ there. inl there.0) (λ not. inr not.0) (fill_told size at count 0 place (λ k. 0))
 
   is_place : (slots place : ℕ) → IsScribblePlace slots size p place ⊎ (IsScribblePlace slots size p place → ⊥)
   is_place zero place =
       elim (is_within p.bases.fb RECEIVED_FIS_BYTES place) [
         | inl area ↦ inl (inl area)
-        | inr not ↦ inr (λ it. ⊎_elim not (λ (w : (slot : ℕ) × (slot < 0) × (is_some (p.taken slot) ≡ true) × IsOneOf size (count_at slot) 4 place). omega (arith, w.1)) it)
+        | inr not ↦ inr (λ it. ⊎_elim not (λ (w : (slot : ℕ) × (slot < 0) × (is_some (p.taken slot) ≡ true) × IsByteWithin size (count_at slot) 4 place). omega (arith, w.1)) it)
       ]
   is_place (suc slot) place =
       let next : slot + 1 ≡ suc slot = omega arith in
@@ -115,7 +115,7 @@ module _ (size byte : ℕ) (p : DevicePort) where
         | inr none ↦ by slot none (is_some (p.taken slot)) refl (is_within (count_at slot) 4 place)
       ]
     where
-      by : (slot : ℕ) → (IsScribblePlace slot size p place → ⊥) → (b : Bool) → is_some (p.taken slot) ≡ b → IsOneOf size (count_at slot) 4 place ⊎ (IsOneOf size (count_at slot) 4 place → ⊥)
+      by : (slot : ℕ) → (IsScribblePlace slot size p place → ⊥) → (b : Bool) → is_some (p.taken slot) ≡ b → IsByteWithin size (count_at slot) 4 place ⊎ (IsByteWithin size (count_at slot) 4 place → ⊥)
           → IsScribblePlace (suc slot) size p place ⊎ (IsScribblePlace (suc slot) size p place → ⊥)
       by slot none true held (inl there) = inl (inr (slot, omega arith, held, there))
       by slot none true held (inr not) = inr (λ it. ⊎_elim none (λ w. not w.1) (earlier slot place (subst (λ n. IsScribblePlace n size p place) (omega arith) it)))

@@ -84,12 +84,12 @@ Shows _ v d = Unit {0}
 -- ---- what a reading notes beside the state (this project's own)
 
 -- one more reading in a row, at most as many as a wait has
-abbrev pub counted : Bool → ℕ → ℕ
-counted again n = if again then min MOST_READINGS (n + 1) else 0
+abbrev pub readings_counted : Bool → ℕ → ℕ
+readings_counted again n = if again then min MOST_READINGS (n + 1) else 0
 
 -- the count of SSTS: a reading with a device sets it to the most, where it stays
-abbrev pub link_counted : ℕ → ℕ → ℕ
-link_counted det n = if nat_eq det 3 then MOST_READINGS else min MOST_READINGS (n + 1)
+abbrev pub link_readings_counted : ℕ → ℕ → ℕ
+link_readings_counted det n = if nat_eq det 3 then MOST_READINGS else min MOST_READINGS (n + 1)
 
 -- the counts of SSTS, TFD and CI move only while SCTL.DET is 0
 abbrev pub while_no_comreset : DevicePort → ℕ → ℕ → ℕ
@@ -99,24 +99,24 @@ abbrev pub note : PortReg → ℕ → DevicePort → Notes
 note Cmd v p =
     record p.notes {
       last_cmd = v;
-      engine_count = counted (not p.st && bit v 15 || not p.fre && bit v 14) p.notes.engine_count;
+      engine_count = readings_counted (not p.st && bit v 15 || not p.fre && bit v 14) p.notes.engine_count;
     }
 note Ssts v p =
     record p.notes {
       last_ssts = v;
-      link_count = while_no_comreset p (link_counted (v % 16) p.notes.link_count)
+      link_count = while_no_comreset p (link_readings_counted (v % 16) p.notes.link_count)
           p.notes.link_count;
     }
 note Tfd v p =
     record p.notes {
       last_tfd = v;
-      busy_count = while_no_comreset p (counted (bit v 7 || bit v 3) p.notes.busy_count)
+      busy_count = while_no_comreset p (readings_counted (bit v 7 || bit v 3) p.notes.busy_count)
           p.notes.busy_count;
     }
 note Ci v p =
     record p.notes {
       last_ci = v;
-      command_count = while_no_comreset p (counted (bit v 0) p.notes.command_count)
+      command_count = while_no_comreset p (readings_counted (bit v 0) p.notes.command_count)
           p.notes.command_count;
     }
 note Sig v p = record p.notes { last_sig = v }
@@ -191,13 +191,15 @@ port_written Sact v tape p = record p { sact = λ slot. p.sact slot || bit v slo
 port_written _ v tape p = p
 
 -- The port's bit of IS was written: it falls, unless a cause sets it anew.
-abbrev pub with_is_cleared : DevicePort → DevicePort
-with_is_cleared p =
+abbrev pub with_is_bit_cleared : DevicePort → DevicePort
+with_is_bit_cleared p =
     record p { ips = false; other_causes = enables_others p.ie; notes = record p.notes { acknowledged = false } }
 
 abbrev pub written : Reg → ℕ → Device → Device
 written Ghc v d = record d { hr = d.hr || bit v 0; ae = bit v 31; ie = bit v 1 }
-written adapter.Is v d = record d { port = λ port. if bit v port then with_is_cleared (d.port port) else d.port port }
+written adapter.Is v d = record d {
+  port = λ port. if bit v port then with_is_bit_cleared (d.port port) else d.port port;
+}
 written (Px port r) v d = with_port d port.0 (port_written r v (length d.tape) (d.port port.0))
 written _ v d = d
 

@@ -141,15 +141,15 @@ memory_filled size at count byte memory =
     if nat_le (at + count) size then patched memory at (replicate count byte) else memory
 
 -- the place is one of these bytes, which all lie in the memory
-abbrev pub IsOneOf : (size at count place : ℕ) → Type 0
-IsOneOf size at count place = (at + count ≤ size) × (at ≤ place) × (place < at + count)
+abbrev pub IsByteWithin : (size at count place : ℕ) → Type 0
+IsByteWithin size at count place = (at + count ≤ size) × (at ≤ place) × (place < at + count)
 
 -- a place of the port's received FIS area, or of PRDBC of a slot whose command is taken, of the first slots, so many
 -- (AHCI 1.3.1, 4.2.1 and 4.2.2)
 abbrev pub IsScribblePlace : (slots size : ℕ) → DevicePort → ℕ → Type 0
-IsScribblePlace slots size p place = IsOneOf size p.bases.fb RECEIVED_FIS_BYTES place
+IsScribblePlace slots size p place = IsByteWithin size p.bases.fb RECEIVED_FIS_BYTES place
     ⊎ ((slot : ℕ) × (slot < slots) × (is_some (p.taken slot) ≡ true)
-    × IsOneOf size (p.bases.clb + HEADER_BYTES * slot + 4) 4 place)
+    × IsByteWithin size (p.bases.clb + HEADER_BYTES * slot + 4) 4 place)
 
 -- each of these places has this byte, and each other one has what it had
 pub record IsScribbled (slots size byte : ℕ) (p : DevicePort) (old new : ℕ → ℕ) : Type 0 where
@@ -209,9 +209,10 @@ FailsToldStep Posts (asked.Finish p s) old new = FailsAfter Posts (SlotGoesOn Po
 FailsToldStep Posts step old new = ⊥
 
 -- the one or the other
-abbrev pub AskedOf : ((port flag : ℕ) → Operation → Device → Device → Type 0) → DeviceStep → Device → Device → Type 0
-AskedOf Posts step old new = DoesToldStep Posts step old new ⊎ FailsToldStep Posts step old new
+abbrev pub AskedWithPosts : ((port flag : ℕ) → Operation → Device → Device → Type 0) → DeviceStep → Device → Device
+    → Type 0
+AskedWithPosts Posts step old new = DoesToldStep Posts step old new ⊎ FailsToldStep Posts step old new
 
 -- what was asked of the device, or a fault in its place, and any FIS as a command ended or failed, or none
 abbrev pub Asked : DeviceStep → Device → Device → Type 0
-Asked step old new = AskedOf MayPost step old new
+Asked step old new = AskedWithPosts MayPost step old new

@@ -52,5 +52,5 @@ pub record IsApart (Tables Kept : ℕ → Type 0) (at n : ℕ) (d : Device) : Ty
       + HEADER_BYTES → ⊥
 
 -- the bytes that pass a test, as a set
-abbrev pub Passing : (ℕ → Bool) → ℕ → Type 0
-Passing test at = test at ≡ true
+abbrev pub PassesTest : (ℕ → Bool) → ℕ → Type 0
+PassesTest test at = test at ≡ true

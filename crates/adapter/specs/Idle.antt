@@ -22,7 +22,7 @@ abbrev pub TellsDisks : Device → Type 0
 TellsDisks d = d.telling ≡ true → (port : ℕ) → HasKnownSectors (d.port port).disk
 
 -- Memory and disks hold bytes, and disks tell their sectors if the adapter is one that tells.
-pub record IsSane (d : Device) : Type 0 where
+pub record HoldsBytesAndTellsDisks (d : Device) : Type 0 where
   pub bytes : (at : ℕ) → d.memory at < 256
   pub disk : (port : ℕ) → IsDisk (d.port port).disk
   pub told : TellsDisks d

@@ -8,7 +8,7 @@ pub mod Steps
 pub mod Access
 pub mod Rules
 pub mod Kept
-pub mod Seen
+pub mod RegisterEffects
 pub mod Guarded
 pub mod Idle
 pub mod Asked

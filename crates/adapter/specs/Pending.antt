@@ -43,13 +43,13 @@ EnablesAllCauses p = (place : ℕ) → is_cause place ≡ true → bit p.ie plac
 
 -- the port that interrupts for what the entry tells of: a command that ended or failed, a fatal error, a disk that went
 -- or came
-abbrev pub interrupts : Entry → Option ℕ
-interrupts (entry.Done done) = Some done.port.0
-interrupts (entry.Fault fault) = Some fault.port.0
-interrupts (entry.Fatal port) = Some port.0
-interrupts (entry.Unplug port) = Some port.0
-interrupts (entry.Plug port name) = Some port.0
-interrupts _ = None
+abbrev pub interrupting_port : Entry → Option ℕ
+interrupting_port (entry.Done done) = Some done.port.0
+interrupting_port (entry.Fault fault) = Some fault.port.0
+interrupting_port (entry.Fatal port) = Some port.0
+interrupting_port (entry.Unplug port) = Some port.0
+interrupting_port (entry.Plug port name) = Some port.0
+interrupting_port _ = None
 
 -- An adapter whose port 0 tells of all the causes that are named, where its flush is taken; then where the flush has
 -- ended; and where its cause was cleared then.

@@ -5,7 +5,7 @@ use Rattle.adapter.specs.Memory.{bytes_at, changed}
 use Rattle.adapter.specs.Commands.{Meaning}
 use Rattle.adapter.specs.Device.{IsDisk, Device}
 use Rattle.adapter.specs.OneCommand.{IsFreeSlot}
-use Rattle.adapter.specs.Steps.{Can, Steps, done_entry, noted_bytes}
+use Rattle.adapter.specs.Steps.{Can, Steps, done_entry, snapshot_of_bytes}
 use Rattle.adapter.specs.Steps.DeviceTransition.{Fetch}
 use Rattle.adapter.specs.declared.command.Operation.TheVariants.{Read}
 use Rattle.adapter.specs.declared.command.Direction.TheVariants.{ToMemory}
@@ -27,10 +27,10 @@ pub record IsReadFetchable (d : Device) (port slot first count : ℕ) (places : 
       (slice_index places j + 512 ≤ slice_index places k) ⊎ (slice_index places k + 512 ≤ slice_index places j)
 
 -- the tape's entries of the first n moves: sector after sector goes to piece after piece
-abbrev pub moves : (port slot first : ℕ) (places : List ℕ) (told : ℕ → List ℕ) → ℕ → List Entry
-moves port slot first places told zero = []
-moves port slot first places told (suc n) =
-    moves port slot first places told n
+abbrev pub move_entries : (port slot first : ℕ) (places : List ℕ) (told : ℕ → List ℕ) → ℕ → List Entry
+move_entries port slot first places told zero = []
+move_entries port slot first places told (suc n) =
+    move_entries port slot first places told n
     ++ entry.Move (record {
       port = record { 0 = port };
       slot = record { 0 = slot };
@@ -38,7 +38,7 @@ moves port slot first places told (suc n) =
       sector = first + n;
       address = slice_index places n;
       direction = ToMemory;
-      bytes = noted_bytes (told (first + n));
+      bytes = snapshot_of_bytes (told (first + n));
     })
     ∷ []
 
@@ -50,5 +50,5 @@ pub record IsReadDone (old new : Device) (port slot first count : ℕ) (places :
   pub goes : SlotGoesOn PostsNone port slot old new
   pub shown : (new.port port).is ≡ changed (old.port port).is 0 true
   pub free : IsFreeSlot (new.port port) slot
-  pub tape : new.tape ≡ old.tape ++ (moves port slot first places told count ++ done_entry port slot Read ∷ [])
+  pub tape : new.tape ≡ old.tape ++ (move_entries port slot first places told count ++ done_entry port slot Read ∷ [])
   pub bytes : (k : ℕ) → k < count → bytes_at new.memory (slice_index places k) 512 ≡ told (first + k)

@@ -300,20 +300,20 @@ pub record MayScribble (p : DevicePort) (slot at : ℕ) (bytes : List ℕ) : Typ
 -- ---- Plug
 
 -- the bytes that the entry puts into the port's sector k, if any: a write's move, or a clear
-abbrev pub put_into : (port k : ℕ) → Entry → Option (List ℕ)
-put_into port k (entry.Move move) =
+abbrev pub bytes_put_into : (port k : ℕ) → Entry → Option (List ℕ)
+bytes_put_into port k (entry.Move move) =
     if (move.port.0 == port && move.sector == k) && (is_ranged move.operation && reads_memory move.operation)
     then Some move.bytes.value else None
-put_into port k (entry.Clear clear) =
+bytes_put_into port k (entry.Clear clear) =
     if clear.port.0 == port && (nat_le clear.first k && nat_lt k (clear.first + clear.count))
     then Some (replicate 512 0) else None
-put_into port k _ = None
+bytes_put_into port k _ = None
 
 -- A disk of the port of which this is lasting held these bytes in its sector k when it last ended a flush, or, if it
 -- ended none, when it was first in; or they were put there since.
 abbrev pub WereHeld : List Entry → Lasting → (port k : ℕ) → List ℕ → Type 0
 WereHeld tape lasting port k bytes = (option_map (λ sectors. sectors k) lasting.sectors ≡ Some bytes)
-    ⊎ ((entry : Entry) × Contains (drop lasting.since tape) entry × (put_into port k entry ≡ Some bytes))
+    ⊎ ((entry : Entry) × Contains (drop lasting.since tape) entry × (bytes_put_into port k entry ≡ Some bytes))
 
 -- A disk with the name of the one that was in last is that one. It has as many sectors, and each that both tell is as
 -- it was at some moment since a flush was last ended: what its cache held may be lost (FLUSH CACHE EXT, ACS-3).
@@ -352,12 +352,12 @@ abbrev pub with_port : Device → ℕ → DevicePort → Device
 with_port d port new = record d { port = changed d.port port new }
 
 -- a port changed, and an entry stands on the tape
-abbrev pub recorded : Device → ℕ → DevicePort → Entry → Device
-recorded d port new entry = record d { port = changed d.port port new; tape = d.tape ++ entry ∷ [] }
+abbrev pub with_port_and_entry : Device → ℕ → DevicePort → Entry → Device
+with_port_and_entry d port new entry = record d { port = changed d.port port new; tape = d.tape ++ entry ∷ [] }
 
 -- a move's bytes as its entry has them, for contracts alone
-abbrev pub noted_bytes : List ℕ → Snapshot (List ℕ)
-noted_bytes bytes = record { marker = record {}; value = bytes }
+abbrev pub snapshot_of_bytes : List ℕ → Snapshot (List ℕ)
+snapshot_of_bytes bytes = record { marker = record {}; value = bytes }
 
 abbrev pub move_of : ℕ → ℕ → FetchedCommand → List ℕ → tape_move.Move
 move_of port slot t bytes = record {
@@ -367,7 +367,7 @@ move_of port slot t bytes = record {
   sector = next_sector t;
   address = next_place t;
   direction = direction_of t.meaning.operation;
-  bytes = noted_bytes bytes;
+  bytes = snapshot_of_bytes bytes;
 }
 
 abbrev pub clear_entry : ℕ → ℕ → ℕ → ℕ → Entry
@@ -391,31 +391,32 @@ fault_entry port slot error kept_bits =
 abbrev pub device_after : DeviceTransition → Device → Device
 device_after (Fetch port slot meaning places) d = with_port d port (with_fetch (d.port port) slot meaning places)
 device_after (FetchFault port slot queued kept_bits) d =
-    recorded d port (with_fault (d.port port) queued 4 kept_bits) (fault_entry port slot 4 kept_bits)
+    with_port_and_entry d port (with_fault (d.port port) queued 4 kept_bits) (fault_entry port slot 4 kept_bits)
 device_after (Move port slot t bytes) d =
-    record (recorded d port (with_move (d.port port) slot t bytes) (entry.Move (move_of port slot t bytes))) {
+    record (with_port_and_entry d port (with_move (d.port port) slot t bytes)
+    (entry.Move (move_of port slot t bytes))) {
       memory = device_memory_after d.memory t bytes;
     }
 device_after (Clear port slot t first count) d =
-    recorded d port (with_clear (d.port port) slot t first count) (clear_entry port slot first count)
+    with_port_and_entry d port (with_clear (d.port port) slot t first count) (clear_entry port slot first count)
 device_after (Done port slot flag t) d =
-    recorded d port
+    with_port_and_entry d port
     (with_flush (with_done (d.port port) slot flag t.meaning.operation) t.meaning.operation (length d.tape))
     (done_entry port slot t.meaning.operation)
 device_after (Fault port slot error kept_bits t) d =
-    recorded d port (with_fault (d.port port) (is_queued t.meaning.operation) error kept_bits)
+    with_port_and_entry d port (with_fault (d.port port) (is_queued t.meaning.operation) error kept_bits)
     (fault_entry port slot error kept_bits)
 device_after (Fatal port place) d =
-    recorded d port (record (d.port port) { is = changed (d.port port).is place true; broken = true })
+    with_port_and_entry d port (record (d.port port) { is = changed (d.port port).is place true; broken = true })
     (entry.Fatal (record { 0 = port }))
 device_after (Fall port) d = with_port d port (record (d.port port) { cr = false; taken = λ _. None })
 device_after (FrFall port) d = with_port d port (record (d.port port) { fr = false })
 device_after (LinkUp port sig n) d = with_port d port (with_link (d.port port) sig n)
 device_after (Unplug port) d =
-    recorded d port (record (d.port port) { ssts_det = 0; present = false; fresh = false; serr_n = true })
+    with_port_and_entry d port (record (d.port port) { ssts_det = 0; present = false; fresh = false; serr_n = true })
     (entry.Unplug (record { 0 = port }))
 device_after (Plug port disk) d =
-    recorded d port
+    with_port_and_entry d port
     (record (d.port port) {
       disk = disk;
       plugged = (d.port port).plugged ++ disk ∷ [];
@@ -432,11 +433,11 @@ device_after (Scribble port slot at bytes) d = record d { memory = patched d.mem
 
 -- ---- lists of steps
 
-abbrev pub StepLeads : List DeviceTransition → Device → Device → Type 0
-StepLeads [] old new = new ≡ old
-StepLeads (step ∷ steps) old new = Can step old × StepLeads steps (device_after step old) new
+abbrev pub TransitionsLead : List DeviceTransition → Device → Device → Type 0
+TransitionsLead [] old new = new ≡ old
+TransitionsLead (step ∷ steps) old new = Can step old × TransitionsLead steps (device_after step old) new
 
 -- the device may go from the one state to the other by itself
 pub record Steps (old new : Device) : Type 0 where
   pub steps : List DeviceTransition
-  pub lead : StepLeads steps old new
+  pub lead : TransitionsLead steps old new

@@ -13,16 +13,16 @@ ghost use Rattle.adapter.specs.Asked.{Asked, IsScribbled, memory_filled};
 ghost use Rattle.adapter.specs.Commands.{Meaning};
 ghost use Rattle.adapter.specs.Device.{Device, DevicePort};
 ghost use Rattle.adapter.specs.FirstRead.{first_read_device, first_disk_sector};
-ghost use Rattle.adapter.specs.Guarded.{Passing, MissesRange, IsGuarded, IsApart};
-ghost use Rattle.adapter.specs.Idle.{IsIdle, IsSane};
+ghost use Rattle.adapter.specs.Guarded.{PassesTest, MissesRange, IsGuarded, IsApart};
+ghost use Rattle.adapter.specs.Idle.{IsIdle, HoldsBytesAndTellsDisks};
 ghost use Rattle.adapter.specs.Kept.{Keeps, KeepsControls};
 ghost use Rattle.adapter.specs.Memory.{bytes_at, patched};
 ghost use Rattle.adapter.specs.OneCommand.{NoneHasCommand, HasOneCommand, IsElsewhere, is_read_only, is_unwritten, layout_of};
 ghost use Rattle.adapter.specs.ReadDone.{IsReadDone, IsReadFetchable, read_of};
-ghost use Rattle.adapter.specs.Pending.{LeavesIe, KeepsIsBit, SetsCause, EnablesAllCauses, interrupts, cleared, flushed, flushing, flush_taken};
+ghost use Rattle.adapter.specs.Pending.{LeavesIe, KeepsIsBit, SetsCause, EnablesAllCauses, interrupting_port, cleared, flushed, flushing, flush_taken};
 ghost use Rattle.adapter.specs.Rules.{HasPort, IsOn, IsUnowned, IsStable};
 ghost use Rattle.adapter.specs.Decoding.{DecodesTo, piece_addresses};
-ghost use Rattle.adapter.specs.Seen.{PortRegisterWritten, PortRegisterRead};
+ghost use Rattle.adapter.specs.RegisterEffects.{PortRegisterWritten, PortRegisterRead};
 ghost use Rattle.adapter.specs.Steps.{Can, DeviceTransition, Steps, device_after};
 ghost use Rattle.adapter.specs.declared.tape.Entry.{Entry};
 
@@ -64,7 +64,7 @@ pub fn law_scribble_slot_by_slot()
 {}
 
 /// What no step of the device changes, no list of steps changes.
-pub fn law_steps_guarantee()
+pub fn law_step_lists_keep_what_steps_keep()
     ensures { (old new : Device) → Steps old new → Keeps old new }
 {}
 
@@ -81,22 +81,23 @@ pub fn law_decoding_is_unique()
 
 /// Bytes that no command in use may write stay as they are, and the commands in use go on to stand on them.
 pub fn law_kept_bytes_stay()
-    ensures { (tables kept : ℕ → Bool) (old new : Device) → IsGuarded (Passing tables) (Passing kept) old
-        → Steps old new → IsGuarded (Passing tables) (Passing kept) new
-        × ((at : ℕ) → Passing kept at → new.memory at ≡ old.memory at) }
+    ensures { (tables kept : ℕ → Bool) (old new : Device) → IsGuarded (PassesTest tables) (PassesTest kept) old
+        → Steps old new → IsGuarded (PassesTest tables) (PassesTest kept) new
+        × ((at : ℕ) → PassesTest kept at → new.memory at ≡ old.memory at) }
 {}
 
 /// Kept bytes that belong to no table and no header in use may be loaded and stored, whatever the device does first.
 pub fn law_apart_bytes_are_free()
-    ensures { (tables kept : ℕ → Bool) (at n : ℕ) (d : Device) → IsGuarded (Passing tables) (Passing kept) d
-        → IsApart (Passing tables) (Passing kept) at n d → IsStable (IsUnowned at n) d }
+    ensures { (tables kept : ℕ → Bool) (at n : ℕ) (d : Device) → IsGuarded (PassesTest tables) (PassesTest kept) d
+        → IsApart (PassesTest tables) (PassesTest kept) at n d → IsStable (IsUnowned at n) d }
 {}
 
 /// A reading of any register leaves kept bytes and guards as the device's steps do.
 pub fn law_kept_bytes_stay_over_readings()
     ensures { (tables kept : ℕ → Bool) (old new : Device) (r : Reg) (v : ℕ) → Reads r v old new
-        → IsGuarded (Passing tables) (Passing kept) old
-        → IsGuarded (Passing tables) (Passing kept) new × ((at : ℕ) → Passing kept at → new.memory at ≡ old.memory at) }
+        → IsGuarded (PassesTest tables) (PassesTest kept) old
+        → IsGuarded (PassesTest tables) (PassesTest kept) new × ((at : ℕ) → PassesTest kept at
+        → new.memory at ≡ old.memory at) }
 {}
 
 /// Accesses go on one after another, and so do lists of them.
@@ -156,7 +157,7 @@ pub fn law_a_pending_interrupt_stays()
 /// PxIE nor the port's bit of IS, and reset nothing (AHCI 1.3.1, 5.5.3).
 pub fn law_what_the_tape_tells_is_pending()
     ensures { (port : ℕ) (e : Entry) (accesses : List Access) (gained : List Entry)
-        (old new : Device) → interrupts e ≡ Some port → DoesAll accesses old new → All (KeepsIsBit port) accesses
+        (old new : Device) → interrupting_port e ≡ Some port → DoesAll accesses old new → All (KeepsIsBit port) accesses
         → All (LeavesIe port) accesses → old.hr ≡ false → EnablesAllCauses (old.port port)
         → new.tape ≡ old.tape ++ gained → Contains gained e
         → is_pending (new.port port) ≡ true }
@@ -180,14 +181,15 @@ pub fn law_an_interrupt_comes_and_goes()
 pub fn law_an_adapter_without_commands_is_guarded()
     ensures { (kept : ℕ → Bool) (d : Device) → NoneHasCommand d
         → ((port : ℕ) → (d.port port).fre ≡ true
-        → MissesRange (Passing kept) (d.port port).bases.fb ((d.port port).bases.fb + RECEIVED_FIS_BYTES))
-        → IsGuarded (Passing (λ _. false)) (Passing kept) d }
+        → MissesRange (PassesTest kept) (d.port port).bases.fb ((d.port port).bases.fb + RECEIVED_FIS_BYTES))
+        → IsGuarded (PassesTest (λ _. false)) (PassesTest kept) d }
 {}
 
 /// An idle adapter is guarded, whatever bytes are kept; so its driver may load and store any bytes of the memory,
 /// whatever the device does first.
 pub fn law_an_idle_adapter_is_guarded()
-    ensures guarded { (kept : ℕ → Bool) (d : Device) → IsIdle d → IsGuarded (Passing (λ _. false)) (Passing kept) d }
+    ensures guarded { (kept : ℕ → Bool) (d : Device) → IsIdle d
+        → IsGuarded (PassesTest (λ _. false)) (PassesTest kept) d }
     ensures free { (at n : ℕ) (d : Device) → IsIdle d → at + n ≤ d.size → IsStable (IsUnowned at n) d }
 {}
 
@@ -195,8 +197,8 @@ pub fn law_an_idle_adapter_is_guarded()
 /// is kept. So the driver may load and store all other bytes of the memory, whatever the device does first.
 pub fn law_an_adapter_with_a_command_is_guarded()
     ensures guarded { (port slot : ℕ) (d : Device) (c : HasOneCommand d port slot)
-        → IsGuarded (Passing (is_read_only (layout_of d port slot c.command)))
-        (Passing (is_unwritten (layout_of d port slot c.command))) d }
+        → IsGuarded (PassesTest (is_read_only (layout_of d port slot c.command)))
+        (PassesTest (is_unwritten (layout_of d port slot c.command))) d }
     ensures free { (port slot at n : ℕ) (d : Device) (c : HasOneCommand d port slot)
         → IsElsewhere (layout_of d port slot c.command) at n d → IsStable (IsUnowned at n) d }
 {}
@@ -214,7 +216,7 @@ pub fn law_a_read_can_be_done()
 /// is free, whatever the device does; and the read can be done.
 pub fn law_a_first_read_exists()
     ensures on { IsOn first_read_device }
-    ensures sane { IsSane first_read_device }
+    ensures sane { HoldsBytesAndTellsDisks first_read_device }
     ensures command { HasOneCommand first_read_device 0 0 }
     ensures says { DecodesTo first_read_device.memory 0 0 (read_of 100 8) (piece_addresses 0x64000 8) }
     ensures free { IsStable (IsUnowned 0x65000 FRAME_BYTES) first_read_device }

@@ -1,2 +1,2 @@
-pub mod Grant
+pub mod SectorGrants
 pub mod Range

@@ -1,6 +1,6 @@
 // What a client may do with which sectors.
 ghost use Rattle.std.specs.Prelude.{◌≡◌, ◌↔◌, IsTrue};
-ghost use Rattle.ata_types.specs.Grant.{Allows, Covers};
+ghost use Rattle.ata_types.specs.SectorGrants.{AllowsOp, CoversSectors};
 
 use crate::{ClientId, Op, Port, Sector};
 
@@ -16,7 +16,7 @@ pub struct Rights {
 impl Rights {
     /// Whether the operation is among them.
     pub fn allows(self, op: Op) -> bool
-        ensures { IsTrue result ↔ Allows self op }
+        ensures { IsTrue result ↔ AllowsOp self op }
     {
         match op {
             Op::Read => self.read,
@@ -43,7 +43,7 @@ pub struct GrantRow {
 impl GrantRow {
     /// Whether `count` sectors from `first` on begin and end within the row's. Sums don't wrap.
     pub fn covers(&self, first: Sector, count: u32) -> bool
-        ensures { IsTrue result ↔ Covers self.now first.0 count }
+        ensures { IsTrue result ↔ CoversSectors self.now first.0 count }
     {
         let end = first.0 as u128 + count as u128;
         let row_end = self.first.0 as u128 + self.count as u128;

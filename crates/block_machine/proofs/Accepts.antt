@@ -10,11 +10,11 @@ use Rattle.ata_types.specs.declared.request.Op.TheVariants.{Read, Write, Trim, F
 use Rattle.ata_types.specs.declared.refusal.Rule.TheVariants.{NoGrant, NoRight, BadCount, OutsideGrant, FrameCount}
 use Rattle.ata_types.specs.declared.grant.GrantRow.{GrantRow}
 use Rattle.ata_types.specs.declared.grant.Rights.{Rights}
-use Rattle.ata_types.specs.Grant.{Allows}
+use Rattle.ata_types.specs.SectorGrants.{AllowsOp}
 use Rattle.block_machine.specs.Rules.{IsNamed, IsAllowedCount, frame_count_for}
 use Rattle.block_machine.specs.State.{Block, Accepted, Pending, Machine}
 use Rattle.block_machine.specs.Steps.{Step, Accept, Touch, May, MayAccept, HoldsFrames, after_step}
-use Rattle.block_machine.specs.Left.{after, IsLegal, IsInitial, IsAccept}
+use Rattle.block_machine.specs.Expected.{after, IsLegal, IsInitial, IsAccept}
 use Rattle.block_machine.specs.Confined.{IsGranted, IsConfined, WasAccepted, MovesBytes}
 use Rattle.block_machine.proofs.Members.{contains_none, contains_here, contains_there, contains_cases}
 use Rattle.block_machine.proofs.Trace.{Before, Comes, lives_before, next_grows, runs_lives}
@@ -85,7 +85,7 @@ true_cases : (b : Bool) → IsTrue b ⊎ (IsTrue b → ⊥)
 true_cases b = ⊎_elim (λ t. inl t) (λ f. inr (λ t. false≢true (sym f ∙ t))) (cases_Bool b)
 
 -- whether the operation is allowed
-allows_cases : (rights : Rights) (op : Op) → Allows rights op ⊎ (Allows rights op → ⊥)
+allows_cases : (rights : Rights) (op : Op) → AllowsOp rights op ⊎ (AllowsOp rights op → ⊥)
 allows_cases rights Read = true_cases rights.read
 allows_cases rights Write = true_cases rights.write
 allows_cases rights Trim = true_cases rights.trim

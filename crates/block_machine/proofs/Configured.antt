@@ -9,9 +9,9 @@ use Rattle.ata_types.specs.declared.grant.GrantRow.{GrantRow}
 use Rattle.ata_types.specs.declared.limits.TheConstants.{MOST_UNANSWERED}
 use Rattle.block_machine.specs.Histories.{IsReachable}
 use Rattle.block_machine.specs.State.{Accepted, Pending, Machine}
-use Rattle.block_machine.specs.Rules.{DifferInName, is_under}
+use Rattle.block_machine.specs.Rules.{DifferInName, is_same_grant_name}
 use Rattle.block_machine.specs.Steps.{Step, Accept, Revoke, after_step, unanswered_count}
-use Rattle.block_machine.specs.Left.{after, IsLegal, IsInitial}
+use Rattle.block_machine.specs.Expected.{after, IsLegal, IsInitial}
 use Rattle.block_machine.specs.Confined.{IsGranted, WasAccepted}
 use Rattle.block_machine.proofs.Members.{filter_in, contains_here, contains_there}
 use Rattle.block_machine.proofs.Counting.{count_cons}
@@ -19,7 +19,7 @@ use Rattle.block_machine.proofs.Accepts.{living_accepted, law_accepted_is_grante
 
 -- each of the rows that the step leaves was there
 row_step : (m : Machine) (step : Step) (row : GrantRow) → Contains (after_step m step).rows row → Contains m.rows row
-row_step m (Revoke client number) row h = (filter_in (λ (r : GrantRow). not (is_under client number r.client r.number)) m.rows row h).0
+row_step m (Revoke client number) row h = (filter_in (λ (r : GrantRow). not (is_same_grant_name client number r.client r.number)) m.rows row h).0
 row_step m _ row h = h
 
 pub rows_shrink : (m : Machine) (h : List Step) (row : GrantRow) → Contains (after m h).rows row → Contains m.rows row
@@ -28,7 +28,7 @@ rows_shrink m (step ∷ past) row h = rows_shrink m past row (row_step (after m 
 
 -- those that differ in name do so still
 differ_step : (m : Machine) (step : Step) → AllPairs DifferInName m.rows → AllPairs DifferInName (after_step m step).rows
-differ_step m (Revoke client number) differ = AllPairs-filter DifferInName (λ (r : GrantRow). not (is_under client number r.client r.number)) m.rows differ
+differ_step m (Revoke client number) differ = AllPairs-filter DifferInName (λ (r : GrantRow). not (is_same_grant_name client number r.client r.number)) m.rows differ
 differ_step m _ differ = differ
 
 pub rows_differ : (m : Machine) (h : List Step) → AllPairs DifferInName m.rows → AllPairs DifferInName (after m h).rows

@@ -2,10 +2,10 @@
 use Rattle.std.proofs.Common.{◌≡◌, ℕ, ◌+◌, ◌-◌, ◌<◌, ◌≤◌, Bool, true, false, ◌&&◌, ◌==◌, List, ◌∷◌, suc, inl, inr, ⊎_elim, refl, sym, ap, ◌∙◌, subst, arith, eqb-true, eq-eqb, ne_eqb, le_refl}
 use Rattle.std.proofs.lemmas.Bool.{cases_eq, cases_lt, or_left, and_parts, and_from, cond-true, cond-false, both_ways}
 use Rattle.ata_types.specs.declared.Port.{Port}
-use Rattle.block_machine.specs.State.{Block, DiskBytes, Accepted, Pending, Machine, waiting, sector_of, block_written}
+use Rattle.block_machine.specs.State.{Block, DiskBytes, Accepted, Pending, Machine, newly_unanswered, sector_of, block_written}
 use Rattle.block_machine.specs.Due.{conflict, changes_sectors}
 use Rattle.block_machine.specs.Steps.{Step, Accept, Issue, Touch, End, Age, Again, Answer, Revoke, Release, Unplug, Replace, Store, Load, May, after_step, MayStillMove, put_sector, disks_after}
-use Rattle.block_machine.specs.Left.{plug_count, bytes_when_plugged, IsTouch, HasTouched, Wrote, IsLastWritten}
+use Rattle.block_machine.specs.Expected.{plug_count, bytes_when_plugged, IsTouch, HasTouched, Wrote, IsLastWritten}
 use Rattle.block_machine.proofs.Sound.{Sound}
 use Rattle.block_machine.proofs.Keeps.{same_port}
 use Rattle.block_machine.proofs.Trace.{Seen, runs_lives, conflict_at, touched_number, last_from}
@@ -84,7 +84,7 @@ content_touch start h m e i block port k s seen r lt last = by_op (changes_secto
         (λ (t : HasTouched w k (plug_count port h) h). ⊎_elim
         (λ (less : e.request.id.0 < w.id.0).
         let q = seen w k (plug_count port h) t in
-        let con : conflict (waiting e.request) (waiting w) ≡ true = conflict_at e.request w k (here ∙ sym o.here) (or_left _ _ writes) (omega (arith, at)) (omega (arith, at, lt)) q.from q.to in
+        let con : conflict (newly_unanswered e.request) (newly_unanswered w) ≡ true = conflict_at e.request w k (here ∙ sym o.here) (or_left _ _ writes) (omega (arith, at)) (omega (arith, at, lt)) q.from q.to in
         absurd (q.order e (runs_lives m e r) less con))
         (λ (le : w.id.0 ≤ e.request.id.0). le)
         (cases_lt e.request.id.0 w.id.0))

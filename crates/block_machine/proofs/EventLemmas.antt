@@ -9,9 +9,9 @@ use Rattle.ata_types.specs.declared.request.Op.TheVariants.{Read}
 use Rattle.ata_types.specs.declared.request.Outcome.TheVariants.{Ok, DeviceError, Aborted, Unplugged, PortDead, Revoked}
 use Rattle.block_machine.specs.State.{Block, Memory, Pending, Machine, frame_at, is_reader}
 use Rattle.block_machine.specs.Steps.{Step, Accept, Touch, Again, Answer, Release, Store, May, after_step, stays, unlend, is_lent_to, put_bytes, memory_after, AllTouched}
-use Rattle.block_machine.specs.Left.{after, IsLegal, IsInitial, AllStepsFaithful, HoldsExpected}
+use Rattle.block_machine.specs.Expected.{after, IsLegal, IsInitial, AllStepsFaithful, HoldsExpected}
 use Rattle.block_machine.specs.Ports.{Ports, Evidence}
-use Rattle.block_machine.specs.Events.{AbstractState, AbstractCall, Submit, StoreAt, LoadAt, Service, Tick, Reset, RevokeOf, State, Device, CallRecord, AllMay, IsByDevice, IsByServer, AreStepsOfCall, AllLawful, abstract_after_all, IsRun, steps_of, EveryReadHolds}
+use Rattle.block_machine.specs.Events.{AbstractState, AbstractCall, Submit, StoreAt, LoadAt, Service, Tick, Reset, RevokeOf, State, Device, CallRecord, AllMay, IsByDevice, IsByServer, AreStepsOfCall, AllAnswersLawful, abstract_after_all, IsRun, steps_of, EveryReadHolds}
 use Rattle.block_machine.proofs.Order.{In}
 use Rattle.block_machine.proofs.Sound.{Sound}
 use Rattle.block_machine.proofs.Trace.{runs_lives}
@@ -54,7 +54,7 @@ abbrev pub AllWhole : List Step → Type 0
 AllWhole [] = Unit {0}
 AllWhole (step ∷ past) = AllWhole past × IsWhole step
 
-answer_whole : (old : AbstractState) (evidence : Evidence) (ports : Ports) (step : Step) (before : List Step) → AllLawful old evidence ports (step ∷ before) → AllLawful old evidence ports before × IsWhole step
+answer_whole : (old : AbstractState) (evidence : Evidence) (ports : Ports) (step : Step) (before : List Step) → AllAnswersLawful old evidence ports (step ∷ before) → AllAnswersLawful old evidence ports before × IsWhole step
 answer_whole old evidence ports (Answer e Ok) before l = (l.0, (l.1.2, l.1.3))
 answer_whole old evidence ports (Answer e (DeviceError status error)) before l = (l.0, tt)
 answer_whole old evidence ports (Answer e Aborted) before l = (l.0, tt)
@@ -64,7 +64,7 @@ answer_whole old evidence ports (Answer e Revoked) before l = (l.0, tt)
 answer_whole old evidence ports (Again e) before l = (l.0, tt)
 answer_whole old evidence ports _ before l = (l, tt)
 
-call_whole : (old : AbstractState) (evidence : Evidence) (ports : Ports) (steps past : List Step) → AllLawful old evidence ports steps → AllWhole past → AllWhole (steps ++ past)
+call_whole : (old : AbstractState) (evidence : Evidence) (ports : Ports) (steps past : List Step) → AllAnswersLawful old evidence ports steps → AllWhole past → AllWhole (steps ++ past)
 call_whole old evidence ports [] past l w = w
 call_whole old evidence ports (step ∷ before) past l w =
     let q = answer_whole old evidence ports step before l in (call_whole old evidence ports before past q.0 w, q.1)

@@ -11,7 +11,7 @@ use Rattle.ata_types.specs.declared.grant.GrantRow.{GrantRow}
 use Rattle.ata_types.specs.declared.refusal.FrameFault.TheVariants.{FrameForeign, FrameTwice, FrameLent}
 use Rattle.ata_types.specs.declared.refusal.Rule.TheVariants.{NoGrant, NoRight, BadCount, OutsideGrant, FrameCount, Frames}
 use Rattle.ata_types.specs.declared.refusal.Refusal.TheVariants as refused
-use Rattle.ata_types.specs.Grant.{Allows, Covers}
+use Rattle.ata_types.specs.SectorGrants.{AllowsOp, CoversSectors}
 use Rattle.block_machine.specs.Rules.{IsNamed, IsAllowedCount, frame_count_for}
 use Rattle.block_machine.specs.Refusals.{Situation, IsAcceptable}
 
@@ -20,9 +20,9 @@ use Rattle.block_machine.specs.Refusals.{Situation, IsAcceptable}
 pub record IsFitFor (row : GrantRow) (s : Situation) (r : Request) : Type 0 where
   pub named : IsNamed s.rows r row
   pub only : (other : GrantRow) → IsNamed s.rows r other → other ≡ row
-  pub allowed : Allows row.rights r.op
+  pub allowed : AllowsOp row.rights r.op
   pub count : IsAllowedCount r.op r.count
-  pub covered : r.op ≢ Flush → Covers row r.first.0 r.count
+  pub covered : r.op ≢ Flush → CoversSectors row r.first.0 r.count
   pub frames : length r.frames.items ≡ frame_count_for r.op r.count
   pub single : length r.frames.items ≤ 1
   pub owned : (f : Frame) → slice_get r.frames.items 0 ≡ Some f → s.owner f ≡ Some r.client
@@ -48,9 +48,9 @@ fit_acceptable row s r fit = go
 
     go : IsAcceptable s r
     go (refused.Rule NoGrant) h = h row fit.named
-    go (refused.Rule NoRight) h = h.2 (subst (λ (x : GrantRow). Allows x.rights r.op) (sym (fit.only h.0 h.1)) fit.allowed)
+    go (refused.Rule NoRight) h = h.2 (subst (λ (x : GrantRow). AllowsOp x.rights r.op) (sym (fit.only h.0 h.1)) fit.allowed)
     go (refused.Rule BadCount) h = h fit.count
-    go (refused.Rule OutsideGrant) h = h.1.2 (subst (λ (x : GrantRow). Covers x r.first.0 r.count) (sym (fit.only h.1.0 h.1.1)) (fit.covered h.0))
+    go (refused.Rule OutsideGrant) h = h.1.2 (subst (λ (x : GrantRow). CoversSectors x r.first.0 r.count) (sym (fit.only h.1.0 h.1.1)) (fit.covered h.0))
     go (refused.Rule FrameCount) h = h fit.frames
     go (refused.Rule (Frames (FrameForeign i))) h = h.2 (fit.owned h.0 (first_place i h.0 h.1))
     go (refused.Rule (Frames (FrameTwice i))) h =

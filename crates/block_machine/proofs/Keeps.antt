@@ -14,7 +14,7 @@ use Rattle.ata_types.specs.declared.refusal.FrameFault.TheVariants.{FrameTwice, 
 use Rattle.ata_types.specs.declared.refusal.Rule.TheVariants.{FrameCount, Frames}
 use Rattle.block_machine.specs.declared.due.QueueMode.{QueueMode}
 use Rattle.block_machine.specs.declared.due.Unanswered.{Unanswered}
-use Rattle.block_machine.specs.State.{Accepted, Pending, Machine, frame_at, is_reader, unanswered, waiting}
+use Rattle.block_machine.specs.State.{Accepted, Pending, Machine, frame_at, is_reader, unanswered, newly_unanswered}
 use Rattle.block_machine.specs.Rules.{frame_count_for}
 use Rattle.block_machine.specs.Due.{IsDue, conflict, waits_for, is_plain}
 use Rattle.block_machine.specs.Steps.{Step, Accept, Issue, Touch, End, Age, Again, Answer, Revoke, Release, Unplug, Replace, Store, Load, May, MayAccept, NoneQuarantined, after_step, at, without, HoldsFrames, MayStillMove, newly_issued, touch, mark_ended, requeued, older, newly_accepted, lend, unlend, unlend_all, is_lent_to, stays}
@@ -68,7 +68,7 @@ same_frame f g e = ap (λ n. record { 0 = n }) e
 pub same_id : (i j : RequestId) → i.0 ≡ j.0 → i ≡ j
 same_id i j e = ap (λ n. record { 0 = n }) e
 
-conflict_port : (a b : Accepted) → conflict (waiting a) (waiting b) ≡ true → a.port ≡ b.port
+conflict_port : (a b : Accepted) → conflict (newly_unanswered a) (newly_unanswered b) ≡ true → a.port ≡ b.port
 conflict_port a b con = same_port a.port b.port (eqb-true a.port.0 b.port.0 (and_parts _ _ con).0)
 
 issue_carries : (m : Machine) (mode : QueueMode) (e : Pending) → Carries (at e.request.id newly_issued) (λ x. x) m (after_step m (Issue mode e))
@@ -84,23 +84,23 @@ issue_carries m mode e = record {
 keeps_issue : (m : Machine) (mode : QueueMode) (e : Pending) → Sound m → Contains m.book e → IsDue mode (map unanswered m.book) (unanswered e) → NoneQuarantined m e.request.port → Sound (after_step m (Issue mode e))
 keeps_issue m mode e s here due none = carried (at e.request.id newly_issued) (λ x. x) m (after_step m (Issue mode e)) (issue_carries m mode e) order s
   where
-    earlier : (a : Pending) → HoldsFrames m a → a.request.id.0 < e.request.id.0 → conflict (waiting a.request) (waiting e.request) ≡ true → ⊥
+    earlier : (a : Pending) → HoldsFrames m a → a.request.id.0 < e.request.id.0 → conflict (newly_unanswered a.request) (newly_unanswered e.request) ≡ true → ⊥
     earlier a (inl h) lt con = due_order mode (map unanswered m.book) (unanswered e) (unanswered a) due (into_map unanswered m.book a h) lt con
     earlier a (inr h) lt con = none a h (conflict_port a.request e.request con)
 
-    order : (x a : Pending) → MayStillMove (after_step m (Issue mode e)) x → HoldsFrames (after_step m (Issue mode e)) a → a.request.id.0 < x.request.id.0 → conflict (waiting a.request) (waiting x.request) ≡ true → ⊥
+    order : (x a : Pending) → MayStillMove (after_step m (Issue mode e)) x → HoldsFrames (after_step m (Issue mode e)) a → a.request.id.0 < x.request.id.0 → conflict (newly_unanswered a.request) (newly_unanswered x.request) ≡ true → ⊥
     order x a (inr h) l lt con =
         let q = lived (at e.request.id newly_issued) (λ x. x) m (after_step m (Issue mode e)) (issue_carries m mode e) a l in
-        s.order x q.0 (inr h) q.1 (subst (λ (j : Accepted). j.id.0 < x.request.id.0) q.2 lt) (subst (λ (j : Accepted). conflict (waiting j) (waiting x.request) ≡ true) q.2 con)
+        s.order x q.0 (inr h) q.1 (subst (λ (j : Accepted). j.id.0 < x.request.id.0) q.2 lt) (subst (λ (j : Accepted). conflict (newly_unanswered j) (newly_unanswered x.request) ≡ true) q.2 con)
     order x a (inl h) l lt con =
         let q = lived (at e.request.id newly_issued) (λ x. x) m (after_step m (Issue mode e)) (issue_carries m mode e) a l in
         let r = map_in (at e.request.id newly_issued) m.book x h.0 in
         let jx : x.request ≡ r.0.request = ap (λ (y : Pending). y.request) r.2 ∙ at_keeps e.request.id newly_issued (λ y. refl) r.0 in
         let lt' : q.0.request.id.0 < r.0.request.id.0 = subst (λ (j : Accepted). q.0.request.id.0 < j.id.0) jx (subst (λ (j : Accepted). j.id.0 < x.request.id.0) q.2 lt) in
-        let con' : conflict (waiting q.0.request) (waiting r.0.request) ≡ true = subst (λ (j : Accepted). conflict (waiting q.0.request) (waiting j) ≡ true) jx (subst (λ (j : Accepted). conflict (waiting j) (waiting x.request) ≡ true) q.2 con) in
+        let con' : conflict (newly_unanswered q.0.request) (newly_unanswered r.0.request) ≡ true = subst (λ (j : Accepted). conflict (newly_unanswered q.0.request) (newly_unanswered j) ≡ true) jx (subst (λ (j : Accepted). conflict (newly_unanswered j) (newly_unanswered x.request) ≡ true) q.2 con) in
         ⊎_elim
         (λ p. let same : r.0 ≡ e = s.one r.0 e r.1 here p.0 in
-        earlier q.0 q.1 (subst (λ (y : Pending). q.0.request.id.0 < y.request.id.0) same lt') (subst (λ (y : Pending). conflict (waiting q.0.request) (waiting y.request) ≡ true) same con'))
+        earlier q.0 q.1 (subst (λ (y : Pending). q.0.request.id.0 < y.request.id.0) same lt') (subst (λ (y : Pending). conflict (newly_unanswered q.0.request) (newly_unanswered y.request) ≡ true) same con'))
         (λ p. s.order r.0 q.0 (inl (r.1, ap (λ (y : Pending). y.issued) (sym (r.2 ∙ p.1)) ∙ h.1)) q.1 lt' con')
         (at_cases e.request.id newly_issued r.0)
 
@@ -314,7 +314,7 @@ keeps_accept m request s new = record {
     room : is_reader request.asked.op ≡ true → request.asked.count ≤ 8 * length request.asked.frames.items
     room r = ⊎_elim (λ e. enough request.asked.op request.asked.count (length request.asked.frames.items) e r) (λ ne. absurd (new.unbroken FrameCount ne)) (cases_eq (length request.asked.frames.items) (frame_count_for request.asked.op request.asked.count))
 
-    order : (e a : Pending) → MayStillMove (after_step m (Accept request)) e → HoldsFrames m a ⊎ (a ≡ newly_accepted request) → a.request.id.0 < e.request.id.0 → conflict (waiting a.request) (waiting e.request) ≡ true → ⊥
+    order : (e a : Pending) → MayStillMove (after_step m (Accept request)) e → HoldsFrames m a ⊎ (a ≡ newly_accepted request) → a.request.id.0 < e.request.id.0 → conflict (newly_unanswered a.request) (newly_unanswered e.request) ≡ true → ⊥
     order e a (inr i) (inl l) lt con = s.order e a (inr i) l lt con
     order e a (inr i) (inr p) lt con = let b = s.below e (inr i) in let n = is_new a p in omega (arith, b, n, lt)
     order e a (inl h) l lt con = inner (append_in m.book (newly_accepted request) e h.0) l

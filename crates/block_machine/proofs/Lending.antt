@@ -11,7 +11,7 @@ use Rattle.ata_types.specs.declared.memory.TheConstants.{DRIVER_FRAMES}
 use Rattle.block_machine.specs.Confined.{WasAccepted, HasFrame}
 use Rattle.block_machine.specs.State.{Accepted, Pending, Machine, frame_at}
 use Rattle.block_machine.specs.Steps.{Step, Accept, Answer, Release, May, HoldsFrames, after_step, stays, unlend, is_lent_to}
-use Rattle.block_machine.specs.Left.{after, IsInitial, IsLegal}
+use Rattle.block_machine.specs.Expected.{after, IsInitial, IsLegal}
 use Rattle.block_machine.specs.Histories.{IsReachable}
 use Rattle.block_machine.proofs.Accepts.{living_accepted, law_one_id_is_one_request}
 use Rattle.block_machine.proofs.Configured.{owners_stay}

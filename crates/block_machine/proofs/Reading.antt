@@ -12,7 +12,7 @@ use Rattle.block_machine.specs.Refusals.{MayAccessFrame}
 use Rattle.block_machine.specs.Due.{changes_sectors}
 use Rattle.block_machine.specs.State.{Block, Memory, Accepted, Pending, Machine, block_of, frame_at, sector_of, is_reader}
 use Rattle.block_machine.specs.Steps.{Step, Accept, Issue, Touch, End, Age, Again, Answer, Revoke, Release, Unplug, Replace, Store, Load, May, after_step, at, HoldsFrames, MayStillMove, newly_issued, touch, mark_ended, requeued, older, newly_accepted, put_bytes, memory_after}
-use Rattle.block_machine.specs.Left.{plug_count, IsTouch, touches, disk_number_read, Wrote, IsLastWritten, IsExpectedBlock, StepIsFaithful}
+use Rattle.block_machine.specs.Expected.{plug_count, IsTouch, touches, disk_number_read, Wrote, IsLastWritten, IsExpectedBlock, StepIsFaithful}
 use Rattle.block_machine.proofs.Members.{map_in, at_cases, without_in, append_in}
 use Rattle.block_machine.proofs.Sound.{Sound, KeepsRequest}
 use Rattle.block_machine.proofs.Keeps.{older_keeps, older_issued, older_touched, same_frame}

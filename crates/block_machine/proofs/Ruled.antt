@@ -4,12 +4,12 @@ use Rattle.std.specs.List.{Contains}
 use Rattle.ata_types.specs.declared.grant.GrantRow.{GrantRow}
 use Rattle.ata_types.specs.declared.refusal.Rule.{Rule}
 use Rattle.ata_types.specs.declared.refusal.Rule.TheVariants.{NoGrant, NoRight, BadCount, OutsideGrant, FrameCount, Frames}
-use Rattle.ata_types.specs.Grant.{Allows, Covers}
+use Rattle.ata_types.specs.SectorGrants.{AllowsOp, CoversSectors}
 use Rattle.block_machine.specs.declared.due.QueueMode.{QueueMode}
 use Rattle.block_machine.specs.Rules.{Breaks, HasRow, IsNamed}
 use Rattle.block_machine.specs.State.{Accepted, Pending, Machine}
 use Rattle.block_machine.specs.Steps.{Step, Issue, May, MayAccept}
-use Rattle.block_machine.specs.Left.{after, IsLegal, IsInitial}
+use Rattle.block_machine.specs.Expected.{after, IsLegal, IsInitial}
 use Rattle.block_machine.specs.Confined.{IsGranted, IsNotOnFrames, KeepsRules, WasAccepted}
 use Rattle.block_machine.proofs.Accepts.{living_accepted, was_new}
 use Rattle.block_machine.proofs.Configured.{rows_shrink, was_granted}
@@ -23,9 +23,9 @@ module _ (start m : Machine) (r : Accepted) (s : IsInitial start) (granted : IsG
 
   pub unbroken : HasRow r.asked.client r.asked.grant m.rows → (rule : Rule) → IsNotOnFrames rule → Breaks m.rows m.owner m.lent r.asked rule → ⊥
   unbroken has NoGrant is breaks = breaks has.0 (has.1, has.2)
-  unbroken has NoRight is (row, named, denied) = denied (subst (λ (x : GrantRow). Allows x.rights r.asked.op) (sym (its_row row named)) granted.right)
+  unbroken has NoRight is (row, named, denied) = denied (subst (λ (x : GrantRow). AllowsOp x.rights r.asked.op) (sym (its_row row named)) granted.right)
   unbroken has BadCount is breaks = new.1.unbroken BadCount breaks
-  unbroken has OutsideGrant is (op, (row, named, outside)) = outside (subst (λ (x : GrantRow). Covers x r.asked.first.0 r.asked.count) (sym (its_row row named)) (granted.covered op))
+  unbroken has OutsideGrant is (op, (row, named, outside)) = outside (subst (λ (x : GrantRow). CoversSectors x r.asked.first.0 r.asked.count) (sym (its_row row named)) (granted.covered op))
   unbroken has FrameCount is breaks = new.1.unbroken FrameCount breaks
   unbroken has (Frames fault) is breaks = is
 

@@ -5,7 +5,7 @@ use Rattle.ata_types.specs.declared.request.Op.{Op}
 use Rattle.ata_types.specs.declared.request.Op.TheVariants.{Read}
 use Rattle.block_machine.specs.State.{Pending, Machine, is_reader}
 use Rattle.block_machine.specs.Steps.{Step, May, AllTouched, HoldsFrames}
-use Rattle.block_machine.specs.Left.{after, IsLegal, IsInitial, HoldsExpected, IsTouch, HasTouched, AllStepsFaithful}
+use Rattle.block_machine.specs.Expected.{after, IsLegal, IsInitial, HoldsExpected, IsTouch, HasTouched, AllStepsFaithful}
 use Rattle.block_machine.proofs.Members.{contains_none}
 use Rattle.block_machine.proofs.Sound.{Sound}
 use Rattle.block_machine.proofs.Keeps.{keeps}

@@ -11,12 +11,12 @@ use Rattle.ata_types.specs.declared.request.Request.{Request}
 use Rattle.ata_types.specs.declared.request.Op.{Op}
 use Rattle.ata_types.specs.declared.request.Op.TheVariants.{Trim, Flush}
 use Rattle.ata_types.specs.declared.grant.GrantRow.{GrantRow}
-use Rattle.ata_types.specs.Grant.{Allows, Covers}
+use Rattle.ata_types.specs.SectorGrants.{AllowsOp, CoversSectors}
 use Rattle.ata_types.specs.declared.memory.TheConstants.{DRIVER_FRAMES}
 use Rattle.block_machine.specs.Rules.{DifferInName, HasRow, IsAllowedCount, frame_count_for}
 use Rattle.block_machine.specs.Refusals.{Situation, IsAcceptable}
 use Rattle.block_machine.specs.State.{Memory, Machine}
-use Rattle.block_machine.specs.Left.{IsValidRow, IsInitial}
+use Rattle.block_machine.specs.Expected.{IsValidRow, IsInitial}
 use Rattle.block_machine.proofs.Fitting.{fit_acceptable}
 use Rattle.block_machine.proofs.Members.{contains_none, contains_cases}
 
@@ -131,9 +131,9 @@ pub record IsFit (n : ℕ) (s : Situation) (r : Request) : Type 0 where
   pub mine : Contains two_rows (row n)
   pub client_is : r.client ≡ client
   pub grant : r.grant ≡ n
-  pub allowed : Allows (row n).rights r.op
+  pub allowed : AllowsOp (row n).rights r.op
   pub count : IsAllowedCount r.op r.count
-  pub covered : r.op ≢ Flush → Covers (row n) r.first.0 r.count
+  pub covered : r.op ≢ Flush → CoversSectors (row n) r.first.0 r.count
   pub frames : length r.frames.items ≡ frame_count_for r.op r.count
   pub single : length r.frames.items ≤ 1
   pub owned : (f : Frame) → slice_get r.frames.items 0 ≡ Some f → s.owner f ≡ Some client

@@ -3,10 +3,10 @@ use Rattle.std.proofs.Common.{◌≡◌, ◌⊎◌, ℕ, ◌+◌, ◌<◌, ◌�
 use Rattle.std.proofs.lemmas.Bool.{or_right, and_from, and_right, cond-false}
 use Rattle.std.specs.List.{Contains}
 use Rattle.ata_types.specs.declared.Port.{Port}
-use Rattle.block_machine.specs.State.{Block, DiskBytes, Accepted, Pending, Machine, waiting, sector_of}
+use Rattle.block_machine.specs.State.{Block, DiskBytes, Accepted, Pending, Machine, newly_unanswered, sector_of}
 use Rattle.block_machine.specs.Due.{conflict, changes_sectors}
 use Rattle.block_machine.specs.Steps.{Step, Accept, Issue, Touch, End, Age, Again, Answer, Revoke, Release, Unplug, Replace, Store, Load, May, MayAccept, after_step, at, HoldsFrames, MayStillMove, newly_issued, touch, mark_ended, requeued, older, newly_accepted}
-use Rattle.block_machine.specs.Left.{IsAccept, plugs, plugged_disk, plug_count, bytes_when_plugged, IsTouch, touches, HasTouched, disk_number_read, Wrote, IsLastWritten}
+use Rattle.block_machine.specs.Expected.{IsAccept, plugs, plugged_disk, plug_count, bytes_when_plugged, IsTouch, touches, HasTouched, disk_number_read, Wrote, IsLastWritten}
 use Rattle.block_machine.proofs.Members.{contains_none, contains_cases, map_in, without_in, append_in}
 use Rattle.block_machine.proofs.Sound.{Sound, KeepsRequest}
 use Rattle.block_machine.proofs.Keeps.{at_keeps, older_keeps}
@@ -80,7 +80,7 @@ runs_lives m e (inr h) = inr h
 
 -- two requests of a port with a sector in common, one of which writes, conflict
 pub conflict_at : (a b : Accepted) (k : ℕ) → a.port ≡ b.port → (changes_sectors a.asked.op || changes_sectors b.asked.op) ≡ true
-    → a.asked.first.0 ≤ k → k < a.asked.first.0 + a.asked.count → b.asked.first.0 ≤ k → k < b.asked.first.0 + b.asked.count → conflict (waiting a) (waiting b) ≡ true
+    → a.asked.first.0 ≤ k → k < a.asked.first.0 + a.asked.count → b.asked.first.0 ≤ k → k < b.asked.first.0 + b.asked.count → conflict (newly_unanswered a) (newly_unanswered b) ≡ true
 conflict_at a b k port w al ah bl bh =
     and_from _ _ (eq-eqb a.port.0 b.port.0 (ap (λ (p : Port). p.0) port)) (or_right _ _ (and_from _ _ w
     (and_from _ _ (and_from _ _ (lt-ltb a.asked.first.0 (b.asked.first.0 + b.asked.count) (omega arith)) (lt-ltb b.asked.first.0 (a.asked.first.0 + a.asked.count) (omega arith)))
@@ -92,7 +92,7 @@ pub record Seen (m : Machine) (w : Accepted) (k : ℕ) : Type 0 where
   pub from : w.asked.first.0 ≤ k
   pub to : k < w.asked.first.0 + w.asked.count
   pub one : (a : Pending) → HoldsFrames m a → a.request.id.0 ≡ w.id.0 → a.request ≡ w
-  pub order : (a : Pending) → HoldsFrames m a → a.request.id.0 < w.id.0 → conflict (waiting a.request) (waiting w) ≡ true → ⊥
+  pub order : (a : Pending) → HoldsFrames m a → a.request.id.0 < w.id.0 → conflict (newly_unanswered a.request) (newly_unanswered w) ≡ true → ⊥
 
 pub seen_step : (m : Machine) (step : Step) → May m step → (w : Accepted) (k : ℕ) → Seen m w k → Seen (after_step m step) w k
 seen_step m step may w k s = record {
@@ -104,7 +104,7 @@ seen_step m step may w k s = record {
       (λ (p : Comes m step a.request). let b = s.below in let q = p.1.id in absurd (omega (arith, b, q, eq)))
       (lives_before m step may a l);
   order = λ a l lt con. ⊎_elim
-      (λ r. s.order r.0 r.1 (subst (λ (j : Accepted). j.id.0 < w.id.0) r.2 lt) (subst (λ (j : Accepted). conflict (waiting j) (waiting w) ≡ true) r.2 con))
+      (λ r. s.order r.0 r.1 (subst (λ (j : Accepted). j.id.0 < w.id.0) r.2 lt) (subst (λ (j : Accepted). conflict (newly_unanswered j) (newly_unanswered w) ≡ true) r.2 con))
       (λ (p : Comes m step a.request). let b = s.below in let q = p.1.id in omega (arith, b, q, lt))
       (lives_before m step may a l);
 }

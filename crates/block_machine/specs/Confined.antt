@@ -6,7 +6,7 @@ use Rattle.ata_types.specs.declared.request.Frame.{Frame}
 use Rattle.ata_types.specs.declared.request.Op.{Op}
 use Rattle.ata_types.specs.declared.request.Op.TheVariants.{Read, Write, Flush}
 use Rattle.ata_types.specs.declared.grant.GrantRow.{GrantRow}
-use Rattle.ata_types.specs.Grant.{Allows, Covers}
+use Rattle.ata_types.specs.SectorGrants.{AllowsOp, CoversSectors}
 use Rattle.ata_types.specs.declared.limits.TheConstants.{MOST_UNANSWERED}
 use Rattle.ata_types.specs.declared.refusal.Rule.{Rule}
 use Rattle.ata_types.specs.declared.refusal.Rule.TheVariants.{Frames}
@@ -14,15 +14,15 @@ use Rattle.block_machine.specs.Rules.{IsNamed, Breaks}
 use Rattle.block_machine.specs.Due.{changes_sectors}
 use Rattle.block_machine.specs.State.{Accepted, Pending, Machine, block_of, frame_at, sector_of, is_reader}
 use Rattle.block_machine.specs.Steps.{Step, Touch, Replace, Store, MayAccept, HoldsFrames, unanswered_count}
-use Rattle.block_machine.specs.Left.{after, IsAccept}
+use Rattle.block_machine.specs.Expected.{after, IsAccept}
 
 -- a row of the client grants the request: its port, its operation, and, but for a flush, its sectors
 pub record IsGranted (rows : List GrantRow) (r : Accepted) : Type 0 where
   pub row : GrantRow
   pub named : IsNamed rows r.asked row
   pub port : r.port ≡ row.port
-  pub right : Allows row.rights r.asked.op
-  pub covered : r.asked.op ≢ Flush → Covers row r.asked.first.0 r.asked.count
+  pub right : AllowsOp row.rights r.asked.op
+  pub covered : r.asked.op ≢ Flush → CoversSectors row r.asked.first.0 r.asked.count
 
 -- the row lets its client neither write nor trim
 abbrev pub GrantsNoWrites : GrantRow → Type 0

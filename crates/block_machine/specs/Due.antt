@@ -78,7 +78,7 @@ abbrev pub is_due : QueueMode → List Unanswered → Unanswered → Bool
 is_due mode book r = is_unblocked mode book r &&
     (is_plain mode r.op || nat_lt (ahead mode book r) (free_slots mode book r.port))
 
--- how many earlier ones of its port are due: `law_slots_by_due` says that a slot is left after these too
+-- how many earlier ones of its port are due: `law_due_ones_leave_a_slot` says that a slot is left after these too
 abbrev pub due_ahead : QueueMode → List Unanswered → Unanswered → ℕ
 due_ahead mode book r = count_by (λ other. is_earlier_on_port other r && is_due mode book other) book
 

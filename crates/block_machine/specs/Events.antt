@@ -15,13 +15,13 @@ use Rattle.ata_types.specs.declared.request.Outcome.{Outcome}
 use Rattle.ata_types.specs.declared.request.Outcome.TheVariants as outcome
 use Rattle.ata_types.specs.declared.refusal.Refusal.{Refusal}
 use Rattle.ata_types.specs.declared.refusal.MemFault.{MemFault}
-use Rattle.block_machine.specs.Rules.{HasRow, IsUnder, without_row}
+use Rattle.block_machine.specs.Rules.{HasRow, IsSameGrantName, without_row}
 use Rattle.block_machine.specs.Refusals.{Situation, IsAcceptable, IsFirstRefusal, MayAccessFrame, IsFirstMemFault}
 use Rattle.block_machine.specs.Due.{NoneDue}
-use Rattle.block_machine.specs.Ports.{Ports, PortsWellFormed, SamePort, SamePorts, SameDisk, Evidence, IsStoppedOrStuck, MayBecome, IsServiced, IsStuck}
+use Rattle.block_machine.specs.Ports.{Ports, PortsWellFormed, SamePort, SamePorts, SameDisk, Evidence, IsStoppedOrStuck, MayBecome, IsServiced, IsAfterStuckReset}
 use Rattle.block_machine.specs.State.{Accepted, Pending, Machine, unanswered}
 use Rattle.block_machine.specs.Steps.{Step, Accept, Issue, Touch, End, Age, Again, Answer, Revoke, Release, Unplug, Replace, Store, Load, May, AllTouched, unanswered_count}
-use Rattle.block_machine.specs.Left.{after, IsInitial, HoldsExpected}
+use Rattle.block_machine.specs.Expected.{after, IsInitial, HoldsExpected}
 
 -- machine and ports between two calls
 pub record AbstractState : Type 0 where
@@ -203,27 +203,29 @@ IsReadyAgain old evidence ports port = (ports.state port ≡ Ready) × Contains 
 -- was when the call began, or it got stuck in the call: that follows from what the calls make of ports, by law
 -- `law_dead_ports_were_stuck`. That a request is told Revoked only once its grant was revoked, `GrantAllowsOutcome`
 -- says.)
-abbrev pub IsLawful : AbstractState → Evidence → Ports → Pending → Outcome → Type 0
-IsLawful old evidence ports e outcome.Ok = WasIssued old.machine e.request.id × (e.issued ≡ true) × AllTouched e
+abbrev pub IsLawfulAnswer : AbstractState → Evidence → Ports → Pending → Outcome → Type 0
+IsLawfulAnswer old evidence ports e outcome.Ok = WasIssued old.machine e.request.id × (e.issued ≡ true) × AllTouched e
     × (e.ended ≡ true)
-IsLawful old evidence ports e (outcome.DeviceError status error) = WasIssued old.machine e.request.id
+IsLawfulAnswer old evidence ports e (outcome.DeviceError status error) = WasIssued old.machine e.request.id
     × (e.issued ≡ true) × Contains evidence.faults (record { id = e.request.id; status = status; error = error })
     × Contains evidence.stopped e.request.port
-IsLawful old evidence ports e outcome.Aborted = WasIssued old.machine e.request.id × (e.issues ≡ 4)
+IsLawfulAnswer old evidence ports e outcome.Aborted = WasIssued old.machine e.request.id × (e.issues ≡ 4)
     × IsReadyAgain old evidence ports e.request.port
-IsLawful old evidence ports e outcome.Unplugged = Contains evidence.lost e.request.port
+IsLawfulAnswer old evidence ports e outcome.Unplugged = Contains evidence.lost e.request.port
     × Contains evidence.stopped e.request.port
-IsLawful old evidence ports e outcome.PortDead = ports.state e.request.port ≡ Dead
-IsLawful old evidence ports e outcome.Revoked = (e.issued ≡ false) ⊎ IsReadyAgain old evidence ports e.request.port
+IsLawfulAnswer old evidence ports e outcome.PortDead = ports.state e.request.port ≡ Dead
+IsLawfulAnswer old evidence ports e outcome.Revoked = (e.issued ≡ false) ⊎ IsReadyAgain old evidence ports
+    e.request.port
 
 -- Each answer of the call is lawful, with these ports at its end. And a request waits again only where its port
 -- stopped: else its command may still move.
-abbrev pub AllLawful : AbstractState → Evidence → Ports → List Step → Type 0
-AllLawful old evidence ports [] = Unit {0}
-AllLawful old evidence ports (Answer e o ∷ rest) = AllLawful old evidence ports rest × IsLawful old evidence ports e o
-AllLawful old evidence ports (Again e ∷ rest) = AllLawful old evidence ports rest
+abbrev pub AllAnswersLawful : AbstractState → Evidence → Ports → List Step → Type 0
+AllAnswersLawful old evidence ports [] = Unit {0}
+AllAnswersLawful old evidence ports (Answer e o ∷ rest) = AllAnswersLawful old evidence ports rest
+    × IsLawfulAnswer old evidence ports e o
+AllAnswersLawful old evidence ports (Again e ∷ rest) = AllAnswersLawful old evidence ports rest
     × Contains evidence.stopped e.request.port
-AllLawful old evidence ports (step ∷ rest) = AllLawful old evidence ports rest
+AllAnswersLawful old evidence ports (step ∷ rest) = AllAnswersLawful old evidence ports rest
 
 -- the answers of a call, as they are told: by port, and then by id
 abbrev pub IsToldBefore : Pending × Outcome → Pending × Outcome → Type 0
@@ -278,8 +280,8 @@ pub record HasTimedOut (old : AbstractState) (port : Port) : Type 0 where
   pub old_enough : 2 ≤ pending.age
 
 -- no unanswered request of the port keeps an issue that it had before these steps
-abbrev pub NoneKeepsIssue : List Step → Machine → Port → Type 0
-NoneKeepsIssue steps m port = (e : Pending) → Contains m.book e → e.request.port ≡ port → e.issued ≡ true
+abbrev pub NoneStaysIssued : List Step → Machine → Port → Type 0
+NoneStaysIssued steps m port = (e : Pending) → Contains m.book e → e.request.port ≡ port → e.issued ≡ true
     → IsIssuedIn e.request.id steps
 
 -- the step takes the port's disk out, or puts one in
@@ -315,8 +317,8 @@ ShowsDisk (Unfit cause) = Unit {0}
 ShowsDisk _ = ⊥
 
 -- Where the port shows a disk after the call, it had one when the call began, or one went or came in it.
-abbrev pub ShowsRealDisk : AbstractState → List Step → AbstractState → Port → Type 0
-ShowsRealDisk old steps new port = ShowsDisk (new.ports.state port)
+abbrev pub ShownDiskWasInOrCame : AbstractState → List Step → AbstractState → Port → Type 0
+ShownDiskWasInOrCame old steps new port = ShowsDisk (new.ports.state port)
     → (old.machine.present port ≡ true) ⊎ (list_any (changes_disk port) steps ≡ true)
 
 -- The tick comes first, and once, at the ports that are ready then.
@@ -336,10 +338,10 @@ pub record RestartsTimedOut (old : AbstractState) (evidence : Evidence) (steps :
   pub again : (e : Pending) → Contains steps (Again e) → HasTimedOut old e.request.port
   pub answer : (e : Pending) (o : Outcome) → Contains steps (Answer e o) → HasTimedOut old e.request.port
   pub ended : (port : Port) → HasTimedOut old port → AnswersEnded old.machine steps port
-  pub anew : (port : Port) → HasTimedOut old port → NoneKeepsIssue steps new.machine port
+  pub anew : (port : Port) → HasTimedOut old port → NoneStaysIssued steps new.machine port
   pub interrupts : (port : Port) → HasTimedOut old port ↔ IsStoppedOrStuck evidence port
   pub finds : UnpluggedLostDisk steps old.ports new.ports
-  pub disk : (port : Port) → HasTimedOut old port → ShowsRealDisk old steps new port
+  pub disk : (port : Port) → HasTimedOut old port → ShownDiskWasInOrCame old steps new port
 
 -- The kept requests' frames are given back once, before the server does anything else.
 pub record ReleasesOnce (steps : List Step) : Type 0 where
@@ -367,7 +369,7 @@ pub record AnswersService (old : AbstractState) (evidence : Evidence) (steps : L
   pub emptied : (port : Port) → EmptyUnlessReady new port
   pub ended : (port : Port) → old.ports.state port ≡ Ready → AnswersEnded old.machine steps port
   pub becomes : (port : Port) → IsServiced old.ports evidence new.ports port
-  pub disk : (port : Port) → SamePort old.ports new.ports port ⊎ ShowsRealDisk old steps new port
+  pub disk : (port : Port) → SamePort old.ports new.ports port ⊎ ShownDiskWasInOrCame old steps new port
 
 -- What a tick says and does.
 pub record AnswersTick (old : AbstractState) (evidence : Evidence) (steps : List Step) (replies : List Reply)
@@ -390,9 +392,9 @@ pub record AnswersReset (old : AbstractState) (evidence : Evidence) (steps : Lis
   pub issues : NoneDueWhereReady new
   pub emptied : (port : Port) → EmptyUnlessReady new port
   pub becomes : (port : Port) → MayBecome old.ports evidence new.ports port
-  pub anew : (port : Port) → NoneKeepsIssue steps new.machine port
+  pub anew : (port : Port) → NoneStaysIssued steps new.machine port
   pub stopped : (port : Port) → old.ports.served port ≡ true → Contains evidence.stopped port
-  pub disk : (port : Port) → ShowsRealDisk old steps new port
+  pub disk : (port : Port) → ShownDiskWasInOrCame old steps new port
 
 -- What a revocation says and does. The row was there, and goes, and no other does. Of the unanswered requests exactly
 -- those are told Revoked that waited when the call began and were accepted under that grant; and nothing else is told
@@ -403,7 +405,7 @@ pub record AnswersRevoke (client : ClientId) (number : ℕ) (old : AbstractState
   pub rows : new.machine.rows ≡ without_row client number old.machine.rows
   pub tells : RepliesMatch steps replies
   pub told : (e : Pending) → Contains steps (Answer e outcome.Revoked) ↔ (Contains old.machine.book e
-      × (e.issued ≡ false) × IsUnder client number e.request.asked.client e.request.asked.grant)
+      × (e.issued ≡ false) × IsSameGrantName client number e.request.asked.client e.request.asked.grant)
   pub same : SamePorts old.ports new.ports
   pub issues : NoneDueWhereReady new
 
@@ -429,7 +431,7 @@ IsAnswered Service (Served replies) old evidence steps new = AnswersService old 
 IsAnswered Tick (Served replies) old evidence steps new = AnswersTick old evidence steps replies new
 IsAnswered Reset (WasReset (Some replies)) old evidence steps new = AnswersReset old evidence steps replies new
 IsAnswered Reset (WasReset None) old evidence steps new = AllByDevice steps
-    × ((port : Port) → IsStuck old.ports evidence new.ports port)
+    × ((port : Port) → IsAfterStuckReset old.ports evidence new.ports port)
 IsAnswered (RevokeOf client number) (WasRevoked (Some replies)) old evidence steps new =
     AnswersRevoke client number old steps replies new
 IsAnswered (RevokeOf client number) (WasRevoked None) old evidence steps new =
@@ -451,7 +453,7 @@ pub record Happens {D : Type 0} (old : AbstractState) (event : CallRecord D) : T
   pub may : AllMay old.machine event.steps
   pub belong : AreStepsOfCall event.ask event.ports event.steps
   pub last : IssuesLast event.steps
-  pub lawful : AllLawful old event.evidence event.ports event.steps
+  pub lawful : AllAnswersLawful old event.evidence event.ports event.steps
   pub fit : PortsWellFormed event.ports
   pub disks : UnansweredKeepDisk old (abstract_after old event)
   pub answered : IsAnswered event.ask event.said old event.evidence event.steps (abstract_after old event)
@@ -503,11 +505,11 @@ gives_id id (Submitted (Ok given)) = given.0 == id.0
 gives_id id said = false
 
 -- a submit of this client was answered with this id in the run
-abbrev pub WasGiven : {D : Type 0} → RequestId → ClientId → List (CallRecord D) → Type 0
-WasGiven id client [] = ⊥
-WasGiven id client (event ∷ past) =
+abbrev pub WasGivenId : {D : Type 0} → RequestId → ClientId → List (CallRecord D) → Type 0
+WasGivenId id client [] = ⊥
+WasGivenId id client (event ∷ past) =
     ((r : Request) × (event.ask ≡ Submit r) × (event.said ≡ Submitted (Ok id)) × (r.client ≡ client))
-    ⊎ WasGiven id client past
+    ⊎ WasGivenId id client past
 
 -- Each read that a call of the run answers Ok has at the end of that call what is left: by the calls before it, and by
 -- the call's own steps before the answer.

@@ -7,7 +7,7 @@ use Rattle.std.specs.Prelude.{◌≡◌, List, [], ◌∷◌, map}
 use Rattle.block_machine.specs.State.{Machine}
 use Rattle.block_machine.specs.Ports.{PortsWellFormed}
 use Rattle.block_machine.specs.Steps.{Step}
-use Rattle.block_machine.specs.Left.{after, IsInitial, IsLegal}
+use Rattle.block_machine.specs.Expected.{after, IsInitial, IsLegal}
 use Rattle.block_machine.specs.Events.{AbstractState, CallRecord, AllMay, Happens, abstract_after}
 
 -- device, machine and ports between two calls
@@ -16,22 +16,23 @@ pub record JointState (D : Type 0) : Type 0 where
   pub abstract : AbstractState
 
 -- a call, and the device after it
-pub record Happening (D E : Type 0) : Type 0 where
+pub record JointEvent (D E : Type 0) : Type 0 where
   pub event : CallRecord E
   pub device : D
 
 -- the instant after these calls
-abbrev pub now : {D E : Type 0} → JointState D → List (Happening D E) → JointState D
+abbrev pub now : {D E : Type 0} → JointState D → List (JointEvent D E) → JointState D
 now first [] = first
 now first (h ∷ past) = record { device = h.device; abstract = abstract_after (now first past).abstract h.event }
 
 -- the calls without the device
-abbrev pub events_of : {D E : Type 0} → List (Happening D E) → List (CallRecord E)
+abbrev pub events_of : {D E : Type 0} → List (JointEvent D E) → List (CallRecord E)
 events_of past = map (λ h. h.event) past
 
 -- calls that happened one after the other, from what a new server left on
-abbrev pub IsHistory : {D E : Type 0} → (JointState D → Type 0) → (JointState D → Happening D E → Type 0) → JointState D
-    → List (Happening D E) → Type 0
+abbrev pub IsHistory : {D E : Type 0} → (JointState D → Type 0) → (JointState D → JointEvent D E → Type 0)
+    → JointState D
+    → List (JointEvent D E) → Type 0
 IsHistory Begins Relation first [] = (IsInitial first.abstract.machine × PortsWellFormed first.abstract.ports)
     × Begins first
 IsHistory Begins Relation first (h ∷ past) =
@@ -39,10 +40,11 @@ IsHistory Begins Relation first (h ∷ past) =
 
 -- The history leads to a server's state: `Stands` says when a state is at an instant. What a call adds is said of every
 -- history that leads to the server, and that there is one is said where a server is made: so none of it is empty.
-pub record Leads {D E S : Type 0} (Begins : JointState D → Type 0) (Relation : JointState D → Happening D E → Type 0)
-    (Stands : JointState D → S → Type 0) (first : JointState D) (past : List (Happening D E)) (state : S) : Type 0 where
-  pub history : IsHistory Begins Relation first past
-  pub stands : Stands (now first past) state
+pub record LeadsTo {D E S : Type 0} (Begins : JointState D → Type 0) (Relation : JointState D → JointEvent D E → Type 0)
+    (Stands : JointState D → S → Type 0) (first : JointState D) (past : List (JointEvent D E)) (state : S) : Type 0
+  where
+    pub history : IsHistory Begins Relation first past
+    pub stands : Stands (now first past) state
 
 -- a history of steps leads to the machine
 pub record IsReachable (m : Machine) : Type 0 where

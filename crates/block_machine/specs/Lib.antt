@@ -4,7 +4,7 @@ pub mod Due
 pub mod State
 pub mod Steps
 pub mod Ports
-pub mod Left
+pub mod Expected
 pub mod Confined
 pub mod Events
 pub mod Histories

@@ -92,6 +92,6 @@ IsServiced old evidence new port = (old.state port ≡ Dead → SamePort old new
     × (SamePort old new port ⊎ IsStoppedOrStuck evidence port))
 
 -- What a reset that was stuck makes of it: a served port is dead, for which there is evidence, and remembers its disk.
-abbrev pub IsStuck : Ports → Evidence → Ports → Port → Type 0
-IsStuck old evidence new port = (new.served port ≡ old.served port)
+abbrev pub IsAfterStuckReset : Ports → Evidence → Ports → Port → Type 0
+IsAfterStuckReset old evidence new port = (new.served port ≡ old.served port)
     × (old.served port ≡ true → (new.state port ≡ Dead) × Contains evidence.stuck port) × SameDisk old new port

@@ -14,7 +14,7 @@ use Rattle.ata_types.specs.declared.refusal.Refusal.{Refusal}
 use Rattle.ata_types.specs.declared.refusal.Refusal.TheVariants as refused
 use Rattle.ata_types.specs.declared.refusal.MemFault.{MemFault}
 use Rattle.ata_types.specs.declared.refusal.MemFault.TheVariants.{FrameForeign, FrameLent, OutsideFrame}
-use Rattle.block_machine.specs.Rules.{IsNamed, Breaks, IsFirst, rank}
+use Rattle.block_machine.specs.Rules.{IsNamed, Breaks, IsFirstByRank, rank}
 
 -- What a request meets.
 pub record Situation : Type 0 where
@@ -50,26 +50,29 @@ IsAcceptable s r = (refusal : Refusal) → Applies s r refusal → ⊥
 
 -- the cause applies, and none before it
 abbrev pub IsFirstRefusal : Situation → Request → Refusal → Type 0
-IsFirstRefusal s r refusal = IsFirst rank (Applies s r) refusal
+IsFirstRefusal s r refusal = IsFirstByRank rank (Applies s r) refusal
 
 -- the cause applies to a client's access to so many bytes of a frame from this offset on
-abbrev pub MemApplies : (Frame → Option ClientId) → (Frame → Option RequestId) → ClientId → Frame → ℕ → ℕ → MemFault
+abbrev pub MemFaultApplies : (Frame → Option ClientId) → (Frame → Option RequestId) → ClientId → Frame → ℕ → ℕ
+    → MemFault
     → Type 0
-MemApplies owner lent client frame at n FrameForeign = owner frame ≢ Some client
-MemApplies owner lent client frame at n FrameLent = IsSome (lent frame)
-MemApplies owner lent client frame at n OutsideFrame = FRAME_BYTES < at + n
+MemFaultApplies owner lent client frame at n FrameForeign = owner frame ≢ Some client
+MemFaultApplies owner lent client frame at n FrameLent = IsSome (lent frame)
+MemFaultApplies owner lent client frame at n OutsideFrame = FRAME_BYTES < at + n
 
 -- in which order these are told
-abbrev pub mem_rank : MemFault → ℕ × ℕ
-mem_rank FrameForeign = (1, 0)
-mem_rank FrameLent = (2, 0)
-mem_rank OutsideFrame = (3, 0)
+abbrev pub mem_fault_rank : MemFault → ℕ × ℕ
+mem_fault_rank FrameForeign = (1, 0)
+mem_fault_rank FrameLent = (2, 0)
+mem_fault_rank OutsideFrame = (3, 0)
 
 -- no cause applies to the access
 abbrev pub MayAccessFrame : (Frame → Option ClientId) → (Frame → Option RequestId) → ClientId → Frame → ℕ → ℕ → Type 0
-MayAccessFrame owner lent client frame at n = (fault : MemFault) → MemApplies owner lent client frame at n fault → ⊥
+MayAccessFrame owner lent client frame at n = (fault : MemFault)
+    → MemFaultApplies owner lent client frame at n fault → ⊥
 
 -- the cause applies to the access, and none before it
 abbrev pub IsFirstMemFault : (Frame → Option ClientId) → (Frame → Option RequestId) → ClientId → Frame → ℕ → ℕ
     → MemFault → Type 0
-IsFirstMemFault owner lent client frame at n fault = IsFirst mem_rank (MemApplies owner lent client frame at n) fault
+IsFirstMemFault owner lent client frame at n fault = IsFirstByRank mem_fault_rank (MemFaultApplies owner lent client
+    frame at n) fault

@@ -14,36 +14,36 @@ use Rattle.ata_types.specs.declared.refusal.Rule.{Rule}
 use Rattle.ata_types.specs.declared.refusal.Rule.TheVariants.{NoGrant, NoRight, BadCount, OutsideGrant, FrameCount, Frames}
 use Rattle.ata_types.specs.declared.refusal.Refusal.{Refusal}
 use Rattle.ata_types.specs.declared.refusal.Refusal.TheVariants as refused
-use Rattle.ata_types.specs.Grant.{Allows, Covers}
+use Rattle.ata_types.specs.SectorGrants.{AllowsOp, CoversSectors}
 use Rattle.ata_types.specs.declared.limits.TheConstants.{MOST_REQUEST_SECTORS}
 
 -- both pairs of a client and a grant's number are the same
-abbrev pub IsUnder : ClientId → ℕ → ClientId → ℕ → Type 0
-IsUnder client number its_client its_number = (its_client ≡ client) × (its_number ≡ number)
+abbrev pub IsSameGrantName : ClientId → ℕ → ClientId → ℕ → Type 0
+IsSameGrantName client number its_client its_number = (its_client ≡ client) × (its_number ≡ number)
 
 -- so it is, as a test
-abbrev pub is_under : ClientId → ℕ → ClientId → ℕ → Bool
-is_under client number its_client its_number = its_client.0 == client.0 && its_number == number
+abbrev pub is_same_grant_name : ClientId → ℕ → ClientId → ℕ → Bool
+is_same_grant_name client number its_client its_number = its_client.0 == client.0 && its_number == number
 
 -- the row is the one of this client under this number
 abbrev pub Names : ClientId → ℕ → GrantRow → Type 0
-Names client number row = IsUnder client number row.client row.number
+Names client number row = IsSameGrantName client number row.client row.number
 
 -- the rows don't stand under one client and number
 abbrev pub DifferInName : GrantRow → GrantRow → Type 0
-DifferInName a b = IsUnder a.client a.number b.client b.number → ⊥
+DifferInName a b = IsSameGrantName a.client a.number b.client b.number → ⊥
 
 -- the row is the one that the request names
 abbrev pub IsNamed : List GrantRow → Request → GrantRow → Type 0
-IsNamed rows r row = Contains rows row × IsUnder r.client r.grant row.client row.number
+IsNamed rows r row = Contains rows row × IsSameGrantName r.client r.grant row.client row.number
 
 -- a row of this client is there under this number
 abbrev pub HasRow : ClientId → ℕ → List GrantRow → Type 0
-HasRow client number rows = (row : GrantRow) × Contains rows row × IsUnder client number row.client row.number
+HasRow client number rows = (row : GrantRow) × Contains rows row × IsSameGrantName client number row.client row.number
 
 -- the rows but for the one of this client under this number
 abbrev pub without_row : ClientId → ℕ → List GrantRow → List GrantRow
-without_row client number rows = filter (λ row. not (is_under client number row.client row.number)) rows
+without_row client number rows = filter (λ row. not (is_same_grant_name client number row.client row.number)) rows
 
 -- the operation may have so many sectors
 abbrev pub IsAllowedCount : Op → ℕ → Type 0
@@ -80,10 +80,10 @@ HasFault owner lent client frames (FrameLent i) = IsLentAt lent frames i
 -- the request breaks the rule
 abbrev pub Breaks : List GrantRow → (Frame → Option ClientId) → (Frame → Option RequestId) → Request → Rule → Type 0
 Breaks rows owner lent r NoGrant = (row : GrantRow) → IsNamed rows r row → ⊥
-Breaks rows owner lent r NoRight = (row : GrantRow) × IsNamed rows r row × (Allows row.rights r.op → ⊥)
+Breaks rows owner lent r NoRight = (row : GrantRow) × IsNamed rows r row × (AllowsOp row.rights r.op → ⊥)
 Breaks rows owner lent r BadCount = IsAllowedCount r.op r.count → ⊥
 Breaks rows owner lent r OutsideGrant = (r.op ≢ Flush)
-    × ((row : GrantRow) × IsNamed rows r row × (Covers row r.first.0 r.count → ⊥))
+    × ((row : GrantRow) × IsNamed rows r row × (CoversSectors row r.first.0 r.count → ⊥))
 Breaks rows owner lent r FrameCount = length r.frames.items ≢ frame_count_for r.op r.count
 Breaks rows owner lent r (Frames fault) = HasFault owner lent r.client r.frames.items fault
 
@@ -104,12 +104,13 @@ rank refused.ClientFull = (12, 0)
 rank refused.IdsSpent = (13, 0)
 
 -- the one rank is before the other
-abbrev pub IsBefore : ℕ × ℕ → ℕ × ℕ → Type 0
-IsBefore a b = (a.0 < b.0) ⊎ ((a.0 ≡ b.0) × (a.1 < b.1))
+abbrev pub RanksBefore : ℕ × ℕ → ℕ × ℕ → Type 0
+RanksBefore a b = (a.0 < b.0) ⊎ ((a.0 ≡ b.0) × (a.1 < b.1))
 
 -- the cause applies, and none of a rank before its own does
-abbrev pub IsFirst : {C : Type 0} → (C → ℕ × ℕ) → (C → Type 0) → C → Type 0
-IsFirst {C} rank_of Applies cause = Applies cause × ((c : C) → IsBefore (rank_of c) (rank_of cause) → Applies c → ⊥)
+abbrev pub IsFirstByRank : {C : Type 0} → (C → ℕ × ℕ) → (C → Type 0) → C → Type 0
+IsFirstByRank {C} rank_of Applies cause = Applies cause × ((c : C) → RanksBefore (rank_of c) (rank_of cause)
+    → Applies c → ⊥)
 
 -- the frames have no fault
 abbrev pub HasNoFault : (Frame → Option ClientId) → (Frame → Option RequestId) → ClientId → List Frame → Type 0
@@ -118,7 +119,7 @@ HasNoFault owner lent client frames = (fault : FrameFault) → HasFault owner le
 -- the fault is one of these frames, and none before it is
 abbrev pub IsFirstFault : (Frame → Option ClientId) → (Frame → Option RequestId) → ClientId → List Frame → FrameFault
     → Type 0
-IsFirstFault owner lent client frames fault = IsFirst (λ fault. rank (refused.Rule (Frames fault)))
+IsFirstFault owner lent client frames fault = IsFirstByRank (λ fault. rank (refused.Rule (Frames fault)))
     (HasFault owner lent client frames) fault
 
 -- the request breaks no rule
@@ -128,4 +129,4 @@ BreaksNone rows owner lent r = (rule : Rule) → Breaks rows owner lent r rule �
 -- the request breaks the rule, and none before it
 abbrev pub IsFirstBroken : List GrantRow → (Frame → Option ClientId) → (Frame → Option RequestId) → Request → Rule
     → Type 0
-IsFirstBroken rows owner lent r rule = IsFirst (λ rule. rank (refused.Rule rule)) (Breaks rows owner lent r) rule
+IsFirstBroken rows owner lent r rule = IsFirstByRank (λ rule. rank (refused.Rule rule)) (Breaks rows owner lent r) rule

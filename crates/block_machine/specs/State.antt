@@ -68,8 +68,8 @@ unanswered e = record {
 }
 
 -- and the same of a request that was just accepted
-abbrev pub waiting : Accepted → Unanswered
-waiting r =
+abbrev pub newly_unanswered : Accepted → Unanswered
+newly_unanswered r =
     unanswered (record { request = r; issues = 0; age = 0; issued = false; touched = λ _. false; ended = false })
 
 -- What the machine holds.

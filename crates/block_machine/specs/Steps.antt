@@ -201,8 +201,8 @@ GrantAllowsOutcome m e Aborted = HasGrant m e
 GrantAllowsOutcome m e _ = Unit {0}
 
 -- the bytes that are moved for a write are its own; a read's may be any, and a trim's and a flush's mean nothing
-abbrev pub MovesOwn : Accepted → ℕ → Block → Type 0
-MovesOwn r i block = r.asked.op ≡ Write → (b : ℕ) → b < 512 → block b ≡ r.held i b
+abbrev pub MovesOwnBytes : Accepted → ℕ → Block → Type 0
+MovesOwnBytes r i block = r.asked.op ≡ Write → (b : ℕ) → b < 512 → block b ≡ r.held i b
 
 -- the bytes of a sector are the same
 abbrev pub SameBytes : Block → Block → Type 0
@@ -210,8 +210,8 @@ SameBytes one other = (b : ℕ) → b < 512 → one b ≡ other b
 
 -- the port's disk holds this block in its sector k, or held it since a flush was last ended on it, or, if none was,
 -- since it was first in
-abbrev pub HasHeld : Machine → Port → ℕ → Block → Type 0
-HasHeld m port k block =
+abbrev pub HoldsOrHeldSinceFlush : Machine → Port → ℕ → Block → Type 0
+HoldsOrHeldSinceFlush m port k block =
     SameBytes block (m.disks port k) ⊎ ((old : Block) × Contains (m.aside port k) old × SameBytes block old)
 
 -- The step may come. A request is issued, or waits again, only while its grant is there. (That an answer is lawful is
@@ -222,7 +222,7 @@ May m (Issue mode e) = Contains m.book e × IsDue mode (map unanswered m.book) (
     × NoneQuarantined m e.request.port
     × HasGrant m e
 May m (Touch e i block) = MayStillMove m e × (i < e.request.asked.count) × (m.present e.request.port ≡ true)
-    × (sector_of e.request i < m.sizes e.request.port) × MovesOwn e.request i block
+    × (sector_of e.request i < m.sizes e.request.port) × MovesOwnBytes e.request i block
 May m (End e) = MayStillMove m e × AllTouched e × (m.present e.request.port ≡ true)
 May m (Age ready) = Unit {0}
 May m (Again e) = Contains m.book e × (e.issued ≡ true) × (e.issues < 4) × HasGrant m e

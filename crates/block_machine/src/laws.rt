@@ -19,7 +19,7 @@ ghost use Rattle.block_machine.specs.Refusals.{Situation, IsAcceptable, MayAcces
 ghost use Rattle.block_machine.specs.Rules.{Names};
 ghost use Rattle.block_machine.specs.State.{Block, Accepted, Pending, Machine, unanswered};
 ghost use Rattle.block_machine.specs.Steps.{Step, Touch, End, Issue, Again, Answer, Age, after_step, May, MayAccept, HoldsFrames, AllTouched};
-ghost use Rattle.block_machine.specs.Left.{IsInitial, IsLegal, AllStepsFaithful, HoldsExpected, after};
+ghost use Rattle.block_machine.specs.Expected.{IsInitial, IsLegal, AllStepsFaithful, HoldsExpected, after};
 ghost use Rattle.block_machine.specs.Confined.{IsGranted, IsConfined, FramesAreAsAccepted, HasFrame, KeepsRules, WasAccepted, WithinLimits};
 ghost use Rattle.block_machine.specs.Events.{AbstractState, CallRecord, AllMay, IsRun, EveryReadHolds, abstract_after_all, steps_of};
 ghost use Rattle.block_machine.specs.Histories.{IsReachable};
@@ -122,7 +122,7 @@ pub fn law_accepted_is_granted()
 {}
 
 /// Each request that is unanswered or kept was accepted.
-pub fn law_holder_was_accepted()
+pub fn law_frame_holder_was_accepted()
     ensures { (start : Machine) (history : List Step) (e : Pending) → IsInitial start
         → IsLegal start history
         → HoldsFrames (after start history) e → WasAccepted start history e.request }
@@ -205,7 +205,7 @@ pub fn law_issued_is_not_due()
 {}
 
 /// A slot is left for a request whether the earlier ones of its port are counted as clear to go or as due.
-pub fn law_slots_by_due()
+pub fn law_due_ones_leave_a_slot()
     ensures { (mode : QueueMode) (book : List Unanswered) (r : Unanswered) → IsInOrder book
         → Contains book r
         → (ahead mode book r < free_slots mode book r.port) ↔
@@ -271,7 +271,7 @@ pub fn law_due_depends_on_own_port()
 {}
 
 /// A request that is issued, waits again or is answered on one port leaves the requests of another as they are.
-pub fn law_other_ports_stay()
+pub fn law_other_ports_requests_stay()
     ensures issued { (port : Port) (book : List Unanswered) (r : Unanswered) → IsInOrder book → Contains book r
         → r.port ≢ port → of_port port (with_issued r.id book) ≡ of_port port book }
     ensures waiting { (port : Port) (book : List Unanswered) (r : Unanswered) → IsInOrder book → Contains book r

@@ -6,23 +6,22 @@ use Rattle.std.proofs.lemmas.List.Elements.{All-contains}
 use Rattle.ata_types.specs.declared.Port.{Port}
 use Rattle.ata_types.specs.declared.PortState.TheVariants.{Ready as ReadyState}
 use Rattle.ata_types.specs.declared.grant.GrantRow.{GrantRow}
-use Rattle.ata_types.specs.declared.refusal.Refusal.TheVariants.{Rule, IdsSpent}
+use Rattle.ata_types.specs.declared.refusal.Refusal.TheVariants.{ClientFull, Rule, IdsSpent}
 use Rattle.ata_types.specs.declared.request.Frame.{Frame}
 use Rattle.ata_types.specs.declared.request.Request.{Request}
 use Rattle.ata_types.specs.declared.request.RequestId.{RequestId}
-use Rattle.block_machine.specs.Left.{IsValidRow}
+use Rattle.block_machine.specs.Expected.{IsValidRow}
 use Rattle.block_machine.specs.Refusals.{IsAcceptable}
 use Rattle.block_machine.specs.declared.due.QueueMode.{QueueMode}
 use Rattle.block_machine.specs.Rules.{BreaksNone, HasNoFault, IsNamed}
 use Rattle.dma_frames.specs.Table.{LendsOnly, Table, owner_of, lent_to}
-use Rattle.host_boot.specs.Taken.{probe_result_of}
+use Rattle.host_boot.specs.TakeOver.{probe_result_of}
 use Rattle.host_boot.specs.declared.ProbeResult.{ProbeResult}
-use Rattle.request_queue.specs.Entries.{BookEntry, unanswered_entries}
-use Rattle.server_history.specs.Served.{Accepts, IssuesAll, accepted_as, accepting}
+use Rattle.request_queue.specs.Entries.{BookEntry, entry_count_of_client}
+use Rattle.server_history.specs.Served.{Accepts, IssuesAll, accepted_as, with_accepted}
 use Rattle.server_history.specs.Server.{ServerState, InCallInvariant, mode_in, no_slots, admission_context, state_of}
-use Rattle.server_history.proofs.plain_calls.AcceptableRequests.{has_room, on_ready}
 use Rattle.slots.specs.Uses.{PortSlots}
-use Rattle.block_server.specs.Calls.{IsFor}
+use Rattle.block_server.specs.Calls.{IsRequestForPort}
 use Rattle.port_driver.specs.Ports.{HasFoundPort}
 
 -- ---- what is asked of the calls
@@ -37,12 +36,9 @@ module _ (s : ServerState) (r : Request) (acc : IsAcceptable (admission_context 
   pub faultless : HasNoFault (owner_of s.table) (lent_to s.table) r.client r.frames.items
   faultless fault = none (Rattle.ata_types.specs.declared.refusal.Rule.TheVariants.Frames fault)
 
-  module _ (k : InCallInvariant s) (port : Port) (is : IsFor s.grants r port) where
-    pub has_place : unanswered_entries s.book r.client.0 < 16
-    has_place = has_room s r acc is.0 is.1 port is.2
-
-    pub ready : state_of (probe_result_of s.ports port.0) ≡ ReadyState
-    ready = on_ready s r acc is.0 is.1 port is.2
+  module _ (k : InCallInvariant s) (port : Port) (is : IsRequestForPort s.grants r port) where
+    pub has_place : entry_count_of_client s.book r.client.0 < 16
+    has_place = elim (cases_lt (entry_count_of_client s.book r.client.0) 16) [ inl low ↦ low | inr high ↦ absurd (acc ClientFull high) ]
 
     pub low : port.0 < 4
     low = let its = (All-contains IsValidRow s.grants is.0 k.rows is.1.0).port in let same = ap (λ (p : Port). p.0) is.2 in omega (arith, its, same)
@@ -51,7 +47,7 @@ module _ (s : ServerState) (r : Request) (acc : IsAcceptable (admission_context 
 
     -- It was put last into the book, and these frames lent to it.
     module _ (keeps : (s : ServerState) (port : Port) (r : Request) (row : GrantRow) (id : RequestId) (table : Table) → InCallInvariant s → IsAcceptable (admission_context s) r
-        → IsNamed s.grants r row → row.port ≡ port → id.0 ≡ s.last + 1 → LendsOnly s.table table r.frames.items (Some id) → InCallInvariant (accepting port r id table s))
+        → IsNamed s.grants r row → row.port ≡ port → id.0 ≡ s.last + 1 → LendsOnly s.table table r.frames.items (Some id) → InCallInvariant (with_accepted port r id table s))
         (id : RequestId) (id_is : id.0 ≡ s.last + 1) (frames : List Frame) (frames_are : frames ≡ r.frames.items)
         (table : Table) (lent : LendsOnly s.table table frames (Some id))
         (book : List BookEntry) (book_is : book ≡ s.book ++ record { entry = (accepted_as port r id).entry; frames = frames } ∷ []) where
@@ -61,7 +57,7 @@ module _ (s : ServerState) (r : Request) (acc : IsAcceptable (admission_context 
       pub its_book : s.book ++ accepted_as port r id ∷ [] ≡ book
       its_book = sym (book_is ∙ ap (λ (fs : List Frame). s.book ++ record { entry = (accepted_as port r id).entry; frames = fs } ∷ []) frames_are)
 
-      pub lends : (slots : PortSlots) → slice_index_or s.slots port.0 no_slots ≡ slots → (mode : QueueMode) → mode_in s port ≡ mode → (found : ProbeResult) → probe_result_of s.ports port.0 ≡ found → HasFoundPort (accepting port r id table s) s.device book slots port mode found
+      pub lends : (slots : PortSlots) → slice_index_or s.slots port.0 no_slots ≡ slots → (mode : QueueMode) → mode_in s port ≡ mode → (found : ProbeResult) → probe_result_of s.ports port.0 ≡ found → HasFoundPort (with_accepted port r id table s) s.device book slots port mode found
       lends slots are mode mode_is found found_is = record {
         kept = keeps s port r is.0 id table k acc is.1 is.2 id_is its_lent;
         found_is = found_is;
@@ -71,5 +67,5 @@ module _ (s : ServerState) (r : Request) (acc : IsAcceptable (admission_context 
         mode_is = mode_is;
       }
 
-      pub accepts : (new : ServerState) → IssuesAll port (accepting port r id table s) new → Accepts port r id s new
+      pub accepts : (new : ServerState) → IssuesAll port (with_accepted port r id table s) new → Accepts port r id s new
       accepts new issues = record { row = is.0; named = is.1; port_is = is.2; id_is = id_is; table = table; lent = its_lent; issued = issues }

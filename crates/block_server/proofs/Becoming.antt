@@ -8,7 +8,7 @@ use Rattle.block_machine.specs.declared.due.QueueMode.{QueueMode}
 use Rattle.dma_frames.specs.Loan.{Lending}
 use Rattle.hba_regs.specs.Bits.{bit}
 use Rattle.host_boot.specs.Resets.{Resets, ResetStaysPending}
-use Rattle.host_boot.specs.Taken.{TakesOver, probe_result_of}
+use Rattle.host_boot.specs.TakeOver.{TakesOver, probe_result_of}
 use Rattle.host_boot.specs.declared.Host.{Host}
 use Rattle.host_boot.specs.declared.ProbeResult.{ProbeResult}
 use Rattle.host_boot.specs.declared.ProbeResult.TheVariants.{Unserved}
@@ -17,7 +17,7 @@ use Rattle.slots.specs.Uses.{PortSlots, use_at}
 use Rattle.server_history.specs.Kept.{IsKeptIn, TakesBack}
 use Rattle.server_history.specs.Resets.{IsReinitialized}
 use Rattle.server_history.specs.Server.{ServerState, quarantined_at, last_disk_of, mode_at, probed_mode, plain_mode, remembered_at, slots_at, used_for}
-use Rattle.server_history.specs.StuckServer.{ResetGetsStuck, stuck_found}
+use Rattle.server_history.specs.StuckServer.{ResetGetsStuck, found_after_stuck_reset}
 use Rattle.block_server.specs.FourPorts.{EachBecomes, BeginsAsHostFound, by_port, port_in, without_loans}
 use Rattle.block_server.specs.Seen.{with_ports}
 use Rattle.port_driver.specs.Parts.{NotesProbeResult, no_port}
@@ -111,9 +111,9 @@ module _ (found : ℕ → ProbeResult) (mode : ℕ → QueueMode) (old new : Lis
 -- ---- the adapter didn't end its reset
 
 module _ (s : ServerState) (before device : Device) (shared : Shared) (old new : List ServedPort) (four_old : length old ≡ 4)
-    (stuck : EachBecomes (λ number was now. NotesProbeResult (stuck_found was.found) plain_mode was now) old new) where
+    (stuck : EachBecomes (λ number was now. NotesProbeResult (found_after_stuck_reset was.found) plain_mode was now) old new) where
   abbrev found : ℕ → ProbeResult
-  found number = stuck_found (port_in old number).found
+  found number = found_after_stuck_reset (port_in old number).found
 
   abbrev mode : ℕ → QueueMode
   mode number = plain_mode
@@ -122,10 +122,10 @@ module _ (s : ServerState) (before device : Device) (shared : Shared) (old new :
   gets_stuck stays = record {
     stays = stays;
     found = λ number. ⊎_elim
-        (λ (low : number < 4). its_found found mode old new four_old stuck.four stuck.each number low ∙ sym (ap stuck_found (get_or-map (λ (p : ServedPort). p.found) old number no_port)))
+        (λ (low : number < 4). its_found found mode old new four_old stuck.four stuck.each number low ∙ sym (ap found_after_stuck_reset (get_or-map (λ (p : ServedPort). p.found) old number no_port)))
         (λ (more : 4 ≤ number).
         get_or-map (λ (p : ServedPort). p.found) new number no_port ∙ ap (λ (p : ServedPort). p.found) (beyond new stuck.four number more)
-        ∙ sym (ap (λ (p : ServedPort). stuck_found p.found) (beyond old four_old number more)) ∙ sym (ap stuck_found (get_or-map (λ (p : ServedPort). p.found) old number no_port)))
+        ∙ sym (ap (λ (p : ServedPort). found_after_stuck_reset p.found) (beyond old four_old number more)) ∙ sym (ap found_after_stuck_reset (get_or-map (λ (p : ServedPort). p.found) old number no_port)))
         (cases_lt number 4);
     remembered = its_last_disk found mode old new four_old stuck.four stuck.each;
     four = length-map new (λ (p : ServedPort). p.remembered) ∙ stuck.four;

@@ -16,22 +16,22 @@ use Rattle.adapter.specs.Rules.{IsOn}
 use Rattle.adapter.specs.declared.access.DeviceStep.{DeviceStep}
 use Rattle.adapter.specs.declared.tape.Entry.{Entry}
 use Rattle.refinement.specs.Acts.{DriverSlots}
-use Rattle.refinement.specs.Facts.{IsDisturbance, RunsWell, Undisturbed}
+use Rattle.refinement.specs.PortFacts.{IsDisturbance, RunsWell, Undisturbed}
 use Rattle.refinement.specs.Slots.{ServesRequest}
 use Rattle.block_machine.specs.Events.{AbstractCall, CallResult, Service as AskService, Tick, Reset, RevokeOf, WasRevoked, AbstractState, EveryReadHolds, IsAnswered, HasTimedOut, IsRun, WasIssued, abstract_after, steps_of}
-use Rattle.block_machine.specs.Histories.{Happening, JointState, events_of, now}
+use Rattle.block_machine.specs.Histories.{JointEvent, JointState, events_of, now}
 use Rattle.block_machine.specs.Ports.{PortsWellFormed, Evidence, Ports}
 use Rattle.block_machine.specs.State.{Pending}
 use Rattle.block_machine.specs.Steps.{AllTouched, Answer, Step}
-use Rattle.durability.specs.Durable.{EveryPlugFinds}
+use Rattle.durability.specs.Durable.{EveryPlugFindsFlushed}
 use Rattle.driver_history.specs.Heeding.{HeedsAt}
 use Rattle.driver_history.specs.Claims.{AnswerJustified, GoesWellFor, IsFaultFreeOutcome, IsHealthyFor}
 use Rattle.driver_history.specs.Evidence.{StaysHealthy}
 use Rattle.driver_history.specs.Histories.{IsDriverHistory}
-use Rattle.driver_history.specs.Holds.{DriverInvariant, PortStateInvariant, HasNoUnanswered}
+use Rattle.driver_history.specs.PortInvariants.{DriverInvariant, PortStateInvariant, HasNoUnanswered}
 use Rattle.driver_history.specs.Moves.{MovesConfined}
 use Rattle.configuration.specs.declared.Config.{Config}
-use Rattle.host_boot.specs.Taken.{probe_result_of, wanted_of, StandsBehind, TakesOver}
+use Rattle.host_boot.specs.TakeOver.{probe_result_of, wanted_of, BacksProbeResult, TakesOver}
 use Rattle.host_boot.specs.declared.ProbeResult.{ProbeResult}
 use Rattle.host_boot.specs.declared.ProbeResult.TheVariants.{Unserved, Ready as IsFound, Unready}
 use Rattle.host_boot.specs.declared.Host.{Host}
@@ -51,25 +51,25 @@ use Rattle.ata_types.specs.declared.request.Reply.{Reply}
 
 -- What the laws of histories say, each of every history.
 pub record HistoryLaws : Type 0 where
-  pub seen : (wanted : List Wanted) (first : JointState Device) (past : List (Happening Device DeviceStep)) (h : Happening Device DeviceStep) (port : Port) (slot : ℕ) (id : RequestId)
+  pub seen : (wanted : List Wanted) (first : JointState Device) (past : List (JointEvent Device DeviceStep)) (h : JointEvent Device DeviceStep) (port : Port) (slot : ℕ) (id : RequestId)
       → IsDriverHistory wanted first (h ∷ past) → h.event.ask ≡ AskService → (now first past).abstract.ports.state port ≡ Ready
       → ServesRequest (now first past).abstract.machine (now first past).device.memory ((now first past).device.port port.0) port.0 slot id
       → ((now first past).device.port port.0).ci slot ≡ false → ((now first past).device.port port.0).sact slot ≡ false
       → (done : Pending) × (done.request.id ≡ id) × Contains h.event.steps (Answer done Ok)
-  pub well : (wanted : List Wanted) (first : JointState Device) (past : List (Happening Device DeviceStep)) (h : Happening Device DeviceStep) (port : Port)
+  pub well : (wanted : List Wanted) (first : JointState Device) (past : List (JointEvent Device DeviceStep)) (h : JointEvent Device DeviceStep) (port : Port)
       → IsDriverHistory wanted first (h ∷ past) → IsHealthyFor (now first past) h port → GoesWellFor (now first past) h port
-  pub rest : (wanted : List Wanted) (first : JointState Device) (past : List (Happening Device DeviceStep)) (h : Happening Device DeviceStep)
+  pub rest : (wanted : List Wanted) (first : JointState Device) (past : List (JointEvent Device DeviceStep)) (h : JointEvent Device DeviceStep)
       (history : IsDriverHistory wanted first (h ∷ past)) → (e : Pending) (told : Outcome) → Contains h.event.steps (Answer e told)
       → AnswerJustified (now first past) h history.2.accesses e told
-  pub moves : (wanted : List Wanted) (first : JointState Device) (past : List (Happening Device DeviceStep)) (h : Happening Device DeviceStep)
+  pub moves : (wanted : List Wanted) (first : JointState Device) (past : List (JointEvent Device DeviceStep)) (h : JointEvent Device DeviceStep)
       → IsDriverHistory wanted first (h ∷ past)
       → MovesConfined first.abstract.machine (steps_of (events_of past)) h.event.steps (now first past).device h.device
-  pub run : (wanted : List Wanted) (first : JointState Device) (past : List (Happening Device DeviceStep)) → IsDriverHistory wanted first past
+  pub run : (wanted : List Wanted) (first : JointState Device) (past : List (JointEvent Device DeviceStep)) → IsDriverHistory wanted first past
       → IsRun first.abstract (events_of past)
-  pub reads : (wanted : List Wanted) (first : JointState Device) (past : List (Happening Device DeviceStep)) → IsDriverHistory wanted first past
+  pub reads : (wanted : List Wanted) (first : JointState Device) (past : List (JointEvent Device DeviceStep)) → IsDriverHistory wanted first past
       → first.device.telling ≡ true → EveryReadHolds first.abstract (events_of past)
-  pub lasts : (wanted : List Wanted) (first : JointState Device) (past : List (Happening Device DeviceStep)) → IsDriverHistory wanted first past
-      → first.device.telling ≡ true → EveryPlugFinds first.abstract.machine (steps_of (events_of past))
+  pub lasts : (wanted : List Wanted) (first : JointState Device) (past : List (JointEvent Device DeviceStep)) → IsDriverHistory wanted first past
+      → first.device.telling ≡ true → EveryPlugFindsFlushed first.abstract.machine (steps_of (events_of past))
 
 -- What is known of ports that were found ready as an adapter was taken over.
 abbrev pub ReadyRunWell : Type 0
@@ -79,9 +79,9 @@ ReadyRunWell = (wanted : List Wanted) (host : Host) (port : ℕ) (info : DiskInf
 -- ---- calls after calls
 
 abbrev Calls : Type 0
-Calls = List (Happening Device DeviceStep)
+Calls = List (JointEvent Device DeviceStep)
 
-module _ (Is : Calls → Happening Device DeviceStep → Type 0) (past one : Calls) where
+module _ (Is : Calls → JointEvent Device DeviceStep → Type 0) (past one : Calls) where
   each_joined : (two : Calls) → AllAdded Is past one → AllAdded Is (one ++ past) two → AllAdded Is past (two ++ one)
   each_joined [] a b = a
   each_joined (h ∷ two) a b = (each_joined two a b.0, subst (λ (l : Calls). Is l h) (sym (append_assoc two one past)) b.1)
@@ -92,13 +92,13 @@ module _ (Is : Calls → Happening Device DeviceStep → Type 0) (past one : Cal
       let rest = each_parted two a.0 in
       (rest.0, (rest.1, subst (λ (l : Calls). Is l h) (append_assoc two one past) a.1))
 
-mapped : {X : Type 0} (f : Happening Device DeviceStep → X) (one two : Calls) (a b : List X) → map f (reverse one) ≡ a → map f (reverse two) ≡ b
+mapped : {X : Type 0} (f : JointEvent Device DeviceStep → X) (one two : Calls) (a b : List X) → map f (reverse one) ≡ a → map f (reverse two) ≡ b
     → map f (reverse (two ++ one)) ≡ a ++ b
 mapped f one two a b p q =
     ap (map f) (reverse-append two one) ∙ map-append f (reverse one) (reverse two) ∙ ap (λ l. l ++ map f (reverse two)) p ∙ ap (λ l. a ++ l) q
 
 -- the call is no reset, nor a tick that finds a request of the port so old that it is restarted
-abbrev Spares : JointState Device → Port → Calls → Happening Device DeviceStep → Type 0
+abbrev Spares : JointState Device → Port → Calls → JointEvent Device DeviceStep → Type 0
 Spares first port before h = (h.event.ask ≢ Reset) × (h.event.ask ≡ Tick → HasTimedOut (now first before).abstract port → ⊥)
 
 -- ---- between two calls
@@ -189,7 +189,7 @@ told_well (RevokeOf client number) said old evidence steps new e told answered h
 told_well ask said old evidence steps new e told answered here calm rests = let r = rests calm in (calm, r.0, r.1, r.2, r.3)
 
 module _ (laws : HistoryLaws) where
-  served_well : (wanted : List Wanted) (first : JointState Device) (past : List (Happening Device DeviceStep)) (h : Happening Device DeviceStep) (port : Port)
+  served_well : (wanted : List Wanted) (first : JointState Device) (past : List (JointEvent Device DeviceStep)) (h : JointEvent Device DeviceStep) (port : Port)
       → IsDriverHistory wanted first (h ∷ past) → IsHealthyFor (now first past) h port → IsServedWell port (now first past) h
   served_well wanted first past h port history healthy =
       let goes = laws.well wanted first past h port history healthy in
@@ -246,7 +246,7 @@ module _ (laws : HistoryLaws) where
       driver = record { leads = leads; serves = tt; healthy = λ port ready stays spared. (tt, ready, stays.well) };
     }
 
-    module _ (old new : ServerView A) (first : JointState Device) (past : Calls) (h : Happening Device DeviceStep)
+    module _ (old new : ServerView A) (first : JointState Device) (past : Calls) (h : JointEvent Device DeviceStep)
         (leads : LeadsToServer first past (server_of device old)) (here : LeadsToServer first (h ∷ past) (server_of device new)) (port : Port) where
       -- a call on which nothing goes wrong on a port that runs well
       goes_well : state_of (probe_result_of old.ports port.0) ≡ Ready → StaysHealthy port.0 (device old.adapter) (device new.adapter)
@@ -356,7 +356,7 @@ module _ (law : ReadyRunWell) {A : Type 0} (device : A → Device) (config : Con
       unready state e is =
           let low : port.0 < 4 = fit.few port (ap is_served e) in
           let found : probe_result_of made.host.ports port.0 ≡ Unready Ready = ap (λ (l : List ProbeResult). probe_result_of l port.0) (sym made.ports) ∙ e ∙ ap Unready is in
-          (subst (λ (f : ProbeResult). StandsBehind (wanted_of made.plan.wanted port.0) f port.0 (device s.adapter)) found (made.taken.stands port.0 low)).1
+          (subst (λ (f : ProbeResult). BacksProbeResult (wanted_of made.plan.wanted port.0) f port.0 (device s.adapter)) found (made.taken.stands port.0 low)).1
 
       by : (f : ProbeResult) → probe_result_of s.ports port.0 ≡ f → state_of f ≡ Ready → RunsWell ((device s.adapter).port port.0)
       by Unserved e is = let z : Absent ≡ Ready = is in absurd cc

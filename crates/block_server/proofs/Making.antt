@@ -9,11 +9,11 @@ use Rattle.ata_types.specs.declared.request.ClientId.{ClientId}
 use Rattle.ata_types.specs.declared.request.Frame.{Frame}
 use Rattle.ata_types.specs.declared.memory.TheConstants.{DRIVER_FRAMES}
 use Rattle.block_machine.specs.Rules.{DifferInName}
-use Rattle.block_machine.specs.Left.{IsValidRow}
+use Rattle.block_machine.specs.Expected.{IsValidRow}
 use Rattle.dma_frames.specs.Loan.{Lending}
 use Rattle.dma_frames.specs.Table.{ExtentHasFrame, FrameExtent, owner_of, lent_to}
 use Rattle.grants.specs.Rows.{SameRows}
-use Rattle.host_boot.specs.Taken.{probe_result_of}
+use Rattle.host_boot.specs.TakeOver.{probe_result_of}
 use Rattle.host_boot.specs.declared.Host.{Host}
 use Rattle.hba_regs.specs.Bits.{bit}
 use Rattle.block_machine.specs.declared.due.QueueMode.{QueueMode}
@@ -39,8 +39,8 @@ at_replicate n x place = ⊎_elim
     (cases_lt place n)
 
 -- and no loan of the four ports is kept
-none_kept : (kept : List (List Lending)) → kept ≡ [] ∷ [] ∷ [] ∷ [] ∷ [] → (length kept ≡ 4) × ((port : ℕ) → quarantined_at kept port ≡ [])
-none_kept kept is = (ap length is, λ port. ap (λ (lists : List (List Lending)). quarantined_at lists port) is ∙ empty port)
+empty_quarantines : (kept : List (List Lending)) → kept ≡ [] ∷ [] ∷ [] ∷ [] ∷ [] → (length kept ≡ 4) × ((port : ℕ) → quarantined_at kept port ≡ [])
+empty_quarantines kept is = (ap length is, λ port. ap (λ (lists : List (List Lending)). quarantined_at lists port) is ∙ empty port)
   where
     empty : (port : ℕ) → quarantined_at ([] ∷ [] ∷ [] ∷ [] ∷ []) port ≡ []
     empty zero = refl
@@ -136,7 +136,7 @@ module _ (host : Host) (four_host : length host.ports ≡ 4) (wanted_disks : Lis
             ∙ (λ i. last_disk_of (probe_result_of (found i) port) (remembered_at (forgotten i) port))
             ∙ ap (λ (one : ProbeResult). last_disk_of one (remembered_at (replicate 4 None) port)) (at_replicate 4 Unserved port) ∙ at_replicate 4 None port;
         four_kept = length-map ports (λ (p : ServedPort). p.kept) ∙ taken.four;
-        unkept = λ port. ap (λ (all : List (List Lending)). quarantined_at all port) lists ∙ (none_kept kept none).1 port;
+        unkept = λ port. ap (λ (all : List (List Lending)). quarantined_at all port) lists ∙ (empty_quarantines kept none).1 port;
         four_slots = length-map ports (λ (p : ServedPort). p.slots) ∙ taken.four;
         four_modes = length-map ports (λ (p : ServedPort). p.mode) ∙ taken.four;
         places = becoming.its_places f m first ports four_first taken.four e;

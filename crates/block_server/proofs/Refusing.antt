@@ -11,7 +11,7 @@ use Rattle.ata_types.specs.declared.request.Request.{Request}
 use Rattle.block_machine.specs.Refusals.{Applies, IsAcceptable, IsFirstRefusal}
 use Rattle.block_machine.specs.Rules.{IsNamed, BreaksNone}
 use Rattle.dma_frames.specs.Table.{owner_of, lent_to}
-use Rattle.request_queue.specs.Entries.{unanswered_entries}
+use Rattle.request_queue.specs.Entries.{entry_count_of_client}
 use Rattle.server_history.specs.Server.{ServerState, ports_of, admission_context}
 use Rattle.block_server.proofs.Ruling as ruling
 
@@ -77,7 +77,7 @@ module _ (s : ServerState) (r : Request) (none : BreaksNone s.grants (owner_of s
         never_trim : Applies (admission_context s) r TrimUnsupported → ⊥
         never_trim applies = applies.1.2 (subst (λ (x : GrantRow). IsTrue ((ports_of s).trims x.port)) (sym (the_same applies.1.0 applies.1.1)) (trims applies.0))
 
-        pub client_full : 16 ≤ unanswered_entries s.book r.client.0 → IsFirstRefusal (admission_context s) r ClientFull
+        pub client_full : 16 ≤ entry_count_of_client s.book r.client.0 → IsFirstRefusal (admission_context s) r ClientFull
         client_full full = ruling.client_full_first (admission_context s) r full (record {
           rules = none;
           ready = λ _. always_ready;
@@ -87,7 +87,7 @@ module _ (s : ServerState) (r : Request) (none : BreaksNone s.grants (owner_of s
           ids = λ h. below 13 12 (omega arith) h;
         })
 
-        module _ (room : unanswered_entries s.book r.client.0 < 16) where
+        module _ (room : entry_count_of_client s.book r.client.0 < 16) where
           pub ids_spent : 2 ^ 64 ≤ s.last + 1 → IsFirstRefusal (admission_context s) r IdsSpent
           ids_spent spent = ruling.ids_spent_first (admission_context s) r spent (record {
             rules = none;

@@ -7,7 +7,7 @@ use Rattle.ata_types.specs.declared.request.ClientId.{ClientId}
 use Rattle.ata_types.specs.declared.request.Outcome.TheVariants.{Revoked}
 use Rattle.ata_types.specs.declared.request.Reply.{Reply}
 use Rattle.adapter.specs.Device.{Device}
-use Rattle.block_machine.specs.Left.{IsValidRow}
+use Rattle.block_machine.specs.Expected.{IsValidRow}
 use Rattle.block_machine.specs.Rules.{Names, without_row}
 use Rattle.dma_frames.specs.Loan.{Lending}
 use Rattle.dma_frames.specs.Table.{Table}
@@ -17,7 +17,7 @@ use Rattle.server_history.specs.Revoked.{RevokesGrant}
 use Rattle.server_history.specs.Served.{IssuesAll}
 use Rattle.server_history.specs.Server.{InCallInvariant, ServerState, quarantined_at}
 use Rattle.slots.specs.Uses.{PortSlots}
-use Rattle.port_driver.specs.Dispositions.{holding}
+use Rattle.port_driver.specs.Dispositions.{book_and_loans}
 use Rattle.port_driver.specs.Parts.{HasPortAt}
 use Rattle.port_driver.specs.Ports.{HasFoundPort, with_port_slots}
 use Rattle.port_driver.specs.declared.served_port.ServedPort.{ServedPort}
@@ -29,7 +29,7 @@ TakesRow rows client number row left = Contains rows row × Names client number 
 -- the requests that wait in this book were told so, by replies that came after these
 abbrev pub AreTold : ClientId → ℕ → List BookEntry → Table → List Reply → List BookEntry → Table → List Reply → Type 0
 AreTold client number book table before later then replies = (kept : List Lending) → (its : List Reply) × (replies ≡ before ++ its)
-    × CompletesAllWith (waits_under client number) Revoked its (holding book table kept) (holding later then kept)
+    × CompletesAllWith (waits_under client number) Revoked its (book_and_loans book table kept) (book_and_loans later then kept)
 
 module _ (s : ServerState) (client : ClientId) (number : ℕ) (row : GrantRow) (grants : List GrantRow) (takes : TakesRow s.grants client number row grants)
     (marked : List BookEntry) (marked_is : marked ≡ all_marked_under client number s.book) (table : Table) (table_is : table ≡ s.table) (before : List Reply) (none : before ≡ [])
@@ -41,12 +41,12 @@ module _ (s : ServerState) (client : ClientId) (number : ℕ) (row : GrantRow) (
   abbrev kept : List Lending
   kept = quarantined_at s.kept row.port.0
 
-  pub answered : CompletesAllWith (waits_under client number) Revoked replies (holding (all_marked_under client number s.book) s.table kept) (holding book then kept)
+  pub answered : CompletesAllWith (waits_under client number) Revoked replies (book_and_loans (all_marked_under client number s.book) s.table kept) (book_and_loans book then kept)
   answered =
       let its = told kept in
-      subst (λ (r : List Reply). CompletesAllWith (waits_under client number) Revoked r (holding (all_marked_under client number s.book) s.table kept) (holding book then kept)) (sym (its.1 ∙ ap (λ (b : List Reply). b ++ its.0) none))
-      (subst (λ (b : List BookEntry). CompletesAllWith (waits_under client number) Revoked its.0 (holding b s.table kept) (holding book then kept)) marked_is
-      (subst (λ (t : Table). CompletesAllWith (waits_under client number) Revoked its.0 (holding marked t kept) (holding book then kept)) table_is its.2))
+      subst (λ (r : List Reply). CompletesAllWith (waits_under client number) Revoked r (book_and_loans (all_marked_under client number s.book) s.table kept) (book_and_loans book then kept)) (sym (its.1 ∙ ap (λ (b : List Reply). b ++ its.0) none))
+      (subst (λ (b : List BookEntry). CompletesAllWith (waits_under client number) Revoked its.0 (book_and_loans b s.table kept) (book_and_loans book then kept)) marked_is
+      (subst (λ (t : Table). CompletesAllWith (waits_under client number) Revoked its.0 (book_and_loans marked t kept) (book_and_loans book then kept)) table_is its.2))
 
   abbrev pub revokes : RevokesGrant client number replies s mid
   revokes = record {

@@ -8,7 +8,7 @@ use Rattle.ata_types.specs.declared.refusal.Rule as rules
 use Rattle.ata_types.specs.declared.refusal.Rule.TheVariants.{NoGrant, NoRight, BadCount, OutsideGrant, FrameCount, Frames}
 use Rattle.ata_types.specs.declared.request.Request.{Request}
 use Rattle.block_machine.specs.Refusals.{Situation, Applies, IsAcceptable, IsFirstRefusal}
-use Rattle.block_machine.specs.Rules.{BreaksNone, IsFirstBroken, IsBefore, rank}
+use Rattle.block_machine.specs.Rules.{BreaksNone, IsFirstBroken, RanksBefore, rank}
 
 rule_small : (rule : rules.Rule) → (rank (Rule rule)).0 ≤ 8
 rule_small NoGrant = omega arith
@@ -22,10 +22,10 @@ rule_small (Frames (FrameLent i)) = omega arith
 
 module _ (s : Situation) (r : Request) where
   -- a number that is too large to come before a rule's
-  not_before : {A : Type 0} (n m i j : ℕ) → m < n → IsBefore (n, i) (m, j) → A
+  not_before : {A : Type 0} (n m i j : ℕ) → m < n → RanksBefore (n, i) (m, j) → A
   not_before n m i j large before = elim before [ inl lower ↦ absurd (omega arith) | inr same ↦ absurd (omega (arith, same.0)) ]
 
-  before_rule : (rule : rules.Rule) → IsFirstBroken s.rows s.owner s.lent r rule → (other : Refusal) → IsBefore (rank other) (rank (Rule rule)) → Applies s r other → ⊥
+  before_rule : (rule : rules.Rule) → IsFirstBroken s.rows s.owner s.lent r rule → (other : Refusal) → RanksBefore (rank other) (rank (Rule rule)) → Applies s r other → ⊥
   before_rule rule first (Rule other) before applies = first.1 other before applies
   before_rule rule first (PortNotReady state) before applies = let small = rule_small rule in not_before 9 (rank (Rule rule)).0 0 (rank (Rule rule)).1 (omega arith) before
   before_rule rule first OutsideDisk before applies = let small = rule_small rule in not_before 10 (rank (Rule rule)).0 0 (rank (Rule rule)).1 (omega arith) before
@@ -45,31 +45,31 @@ module _ (s : Situation) (r : Request) where
     pub full : 12 < n → Applies s r ClientFull → ⊥
     pub ids : 13 < n → Applies s r IdsSpent → ⊥
 
-  none_before : (n : ℕ) → NoneBelow n → (other : Refusal) → IsBefore (rank other) (n, 0) → Applies s r other → ⊥
+  none_before : (n : ℕ) → NoneBelow n → (other : Refusal) → RanksBefore (rank other) (n, 0) → Applies s r other → ⊥
   none_before n none (Rule rule) before = none.rules rule
   none_before n none (PortNotReady state) before = none.ready (below before) state
     where
-      below : IsBefore (9, 0) (n, 0) → 9 < n
+      below : RanksBefore (9, 0) (n, 0) → 9 < n
       below (inl lower) = lower
       below (inr same) = absurd (omega (arith, same.1))
   none_before n none OutsideDisk before = none.disk (below before)
     where
-      below : IsBefore (10, 0) (n, 0) → 10 < n
+      below : RanksBefore (10, 0) (n, 0) → 10 < n
       below (inl lower) = lower
       below (inr same) = absurd (omega (arith, same.1))
   none_before n none TrimUnsupported before = none.trim (below before)
     where
-      below : IsBefore (11, 0) (n, 0) → 11 < n
+      below : RanksBefore (11, 0) (n, 0) → 11 < n
       below (inl lower) = lower
       below (inr same) = absurd (omega (arith, same.1))
   none_before n none ClientFull before = none.full (below before)
     where
-      below : IsBefore (12, 0) (n, 0) → 12 < n
+      below : RanksBefore (12, 0) (n, 0) → 12 < n
       below (inl lower) = lower
       below (inr same) = absurd (omega (arith, same.1))
   none_before n none IdsSpent before = none.ids (below before)
     where
-      below : IsBefore (13, 0) (n, 0) → 13 < n
+      below : RanksBefore (13, 0) (n, 0) → 13 < n
       below (inl lower) = lower
       below (inr same) = absurd (omega (arith, same.1))
 

@@ -15,8 +15,8 @@ use Rattle.host_boot.specs.declared.ProbeResult.TheVariants.{Unserved, Ready, Un
 use Rattle.ata_types.specs.declared.call.AdapterStuck.{AdapterStuck}
 use Rattle.request_queue.specs.Entries.{BookEntry}
 use Rattle.server_history.specs.Resets.{IssuePorts, ResolvePorts}
-use Rattle.commands.specs.Batches.{SlotTask}
-use Rattle.server_history.specs.Served.{IssuesBatchOf, PutsInSlots}
+use Rattle.commands.specs.Batches.{PlacedTask}
+use Rattle.server_history.specs.Served.{IssuesTogetherIfAny, PutsInSlots}
 use Rattle.server_history.specs.Server.{ServerState}
 use Rattle.server_history.specs.Turns.{ServesPort, EachPortTakesTurn, TicksPort, ProbesUnready, a_tick_older}
 use Rattle.block_server.specs.Calls.{ServicesBy, Services, Submits, TicksBy, TicksServer}
@@ -46,13 +46,13 @@ settles port [] replies old new s = ap (λ (s : ServerState). s.wanted) s.1
 settles port (found ∷ rest) replies old new (mid, its, later, are, does, more) =
     settles (port + 1) rest later mid new more ∙ ap (λ (s : ServerState). s.wanted) does.server
 
-puts : (port : Port) (ids : List RequestId) (tasks : List SlotTask) (old new : ServerState) → PutsInSlots port ids tasks old new → SameWanted old new
+puts : (port : Port) (ids : List RequestId) (tasks : List PlacedTask) (old new : ServerState) → PutsInSlots port ids tasks old new → SameWanted old new
 puts port [] [] old new same = ap (λ (s : ServerState). s.wanted) same
 puts port [] (t ∷ tasks) old new none = absurd none
 puts port (id ∷ ids) [] old new none = absurd none
 puts port (id ∷ ids) (t ∷ tasks) old new (mid, one, more) = puts port ids tasks mid new more ∙ ap (λ (s : ServerState). s.wanted) one.server
 
-issues_batch : (port : Port) (ids : List RequestId) (old new : ServerState) → IssuesBatchOf port ids old new → SameWanted old new
+issues_batch : (port : Port) (ids : List RequestId) (old new : ServerState) → IssuesTogetherIfAny port ids old new → SameWanted old new
 issues_batch port [] old new same = ap (λ (s : ServerState). s.wanted) same
 issues_batch port (id ∷ ids) old new issues = ap (λ (s : ServerState). s.wanted) issues.server ∙ puts port (id ∷ ids) issues.tasks old issues.taken issues.puts
 

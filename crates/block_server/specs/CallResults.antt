@@ -4,7 +4,7 @@ use Rattle.arrayvec.specs.ArrayVec.{ArrayVec}
 use Rattle.ata_types.specs.declared.call.CallResult.{CallResult}
 use Rattle.ata_types.specs.declared.call.CallResult.TheVariants as said
 use Rattle.ata_types.specs.declared.request.Reply.{Reply}
-use Rattle.block_server.specs.declared.sayings.CallResults.{CallResults}
+use Rattle.block_server.specs.declared.call_results.CallResults.{CallResults}
 
 -- what a call said, where what a service, a tick, a reset or a revocation answered stands in a list aside
 abbrev pub with_replies : CallResult (Unit {0}) → List Reply → CallResult (ArrayVec Reply)

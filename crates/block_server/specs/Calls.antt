@@ -23,7 +23,7 @@ use Rattle.dma_frames.specs.Table.{owner_of, lent_to}
 use Rattle.host_boot.specs.declared.ProbeResult.{ProbeResult}
 use Rattle.block_machine.specs.Due.{due_of}
 use Rattle.request_queue.specs.Entries.{IsAnyOverdue, asks_of}
-use Rattle.server_history.specs.Served.{Accepts, accepting}
+use Rattle.server_history.specs.Served.{Accepts, with_accepted}
 use Rattle.server_history.specs.Turns.{ServePorts, Ticks, a_tick_older}
 use Rattle.server_history.specs.Resets.{ResolvePorts}
 use Rattle.server_history.specs.Server.{ServerState, mode_in, admission_context}
@@ -33,8 +33,8 @@ abbrev pub SameServer : {A : Type 0} → ServerView A → ServerView A → Type 
 SameServer old new = new ≡ record old { adapter = new.adapter }
 
 -- the request is of a row for this port
-abbrev pub IsFor : List GrantRow → Request → Port → Type 0
-IsFor rows r port = (row : GrantRow) × IsNamed rows r row × (row.port ≡ port)
+abbrev pub IsRequestForPort : List GrantRow → Request → Port → Type 0
+IsRequestForPort rows r port = (row : GrantRow) × IsNamed rows r row × (row.port ≡ port)
 
 -- The request is acceptable, and was accepted, on its row's port; then what is due there was issued. Where nothing was,
 -- no access was made. The adapter is on, as before.
@@ -45,7 +45,7 @@ pub record AcceptsRequest {A : Type 0} (device : A → Device) (old new : Server
   pub accepts : Accepts port r id (server_of device old) (server_of device new)
   pub stuck : new.stuck ≡ old.stuck
   pub same : due_of (mode_in (server_of device old) port) port
-      (asks_of (accepting port r id accepts.table (server_of device old)).book) ≡ [] → new.adapter ≡ old.adapter
+      (asks_of (with_accepted port r id accepts.table (server_of device old)).book) ≡ [] → new.adapter ≡ old.adapter
 
 -- A refused request is told the first cause that applies, and changes nothing: neither server nor adapter.
 abbrev pub Submits : {A : Type 0} → (A → Device) → ServerView A → ServerView A → Request → Result RequestId Refusal

@@ -14,11 +14,11 @@ use Rattle.adapter.specs.declared.tape.Entry.{Entry}
 use Rattle.refinement.specs.Relation.{IsDiskOf, SameMemory, SameSectors}
 use Rattle.refinement.specs.Tape.{PutsInDisks, TellsDeviceSteps}
 use Rattle.block_machine.specs.Events.{AbstractCall, CallResult, EveryReadHolds, EmptyUnlessReady, IsRun, steps_of}
-use Rattle.block_machine.specs.Histories.{Happening, JointState, events_of, now}
-use Rattle.durability.specs.Durable.{EveryPlugFinds}
-use Rattle.driver_history.specs.Holds.{ShowsDiskInfo}
+use Rattle.block_machine.specs.Histories.{JointEvent, JointState, events_of, now}
+use Rattle.durability.specs.Durable.{EveryPlugFindsFlushed}
+use Rattle.driver_history.specs.PortInvariants.{ShowsDiskInfo}
 use Rattle.driver_history.specs.Moves.{MovesConfined}
-use Rattle.host_boot.specs.Taken.{IsServed, wanted_of}
+use Rattle.host_boot.specs.TakeOver.{IsServed, wanted_of}
 use Rattle.identify.specs.Wanted.{serial_of}
 use Rattle.identify.specs.declared.DiskInfo.{DiskInfo}
 use Rattle.identify.specs.declared.wanted.Wanted.{Wanted}
@@ -80,8 +80,8 @@ pub record BetweenCallsInvariant (wanted : List Wanted) (i : JointState Device) 
 -- The call's device steps are those that its tape tells of, one by one: what moved, was cleared or ended is of a
 -- request that was issued then, or kept; a move is of a sector of its own, to or from its place in a frame that was
 -- lent to it. The disks that were put in are the device's. And after the call there holds what holds between calls.
-pub record MatchesTape (wanted : List Wanted) (first : JointState Device) (past : List (Happening Device DeviceStep))
-    (h : Happening Device DeviceStep) : Type 0 where
+pub record MatchesTape (wanted : List Wanted) (first : JointState Device) (past : List (JointEvent Device DeviceStep))
+    (h : JointEvent Device DeviceStep) : Type 0 where
   pub gained : List Entry
   pub tape : h.device.tape ≡ (now first past).device.tape ++ gained
   pub tells : TellsDeviceSteps (now first past).abstract.machine gained h.event.steps
@@ -94,7 +94,7 @@ pub record MatchesTape (wanted : List Wanted) (first : JointState Device) (past 
 -- server as it is seen after them; in it each read that was answered Ok has what was left, where the adapter's disks
 -- tell their sectors. The device stands behind its steps in each of the calls, and before and after it there holds what
 -- holds between calls; the disks that are wanted stay so.
-pub record ServesClients (first : JointState Device) (past added : List (Happening Device DeviceStep))
+pub record ServesClients (first : JointState Device) (past added : List (JointEvent Device DeviceStep))
     (old new : ObservedState) (asked : List (AbstractCall DeviceStep)) (said : List CallResult) : Type 0 where
   pub asks : map (λ h. h.event.ask) (reverse added) ≡ asked
   pub says : map (λ h. h.event.said) (reverse added) ≡ said
@@ -108,7 +108,7 @@ pub record ServesClients (first : JointState Device) (past added : List (Happeni
 
 -- What is promised of moves of data, which follows: in each of these calls moves and clears keep to their places, of
 -- requests that were accepted when they broke no rule.
-abbrev pub ConfinesMoves : JointState Device → List (Happening Device DeviceStep) → List (Happening Device DeviceStep)
+abbrev pub ConfinesMoves : JointState Device → List (JointEvent Device DeviceStep) → List (JointEvent Device DeviceStep)
     → Type 0
 ConfinesMoves first past added = AllAdded (λ before h. MovesConfined first.abstract.machine
     (steps_of (events_of before))
@@ -118,5 +118,5 @@ ConfinesMoves first past added = AllAdded (λ before h. MovesConfined first.abst
 -- its port was accepted that was answered Ok, too, with its disk in from the acceptance of the write to the answer of
 -- the flush, and no other one put in since: where that disk comes back it has, in each sector of it, the bytes that it
 -- put there, or those of a write or trim accepted later, where the adapter's disks tell their sectors.
-pub record FlushesSurviveReplug (first : JointState Device) (calls : List (Happening Device DeviceStep)) : Type 0 where
-  pub finds : first.device.telling ≡ true → EveryPlugFinds first.abstract.machine (steps_of (events_of calls))
+pub record FlushesSurviveReplug (first : JointState Device) (calls : List (JointEvent Device DeviceStep)) : Type 0 where
+  pub finds : first.device.telling ≡ true → EveryPlugFindsFlushed first.abstract.machine (steps_of (events_of calls))

@@ -7,7 +7,7 @@ use Rattle.adapter.specs.declared.access.DeviceStep.{DeviceStep}
 use Rattle.host_boot.specs.Costs.{RESET_ACCESSES, TAKE_OVER_ACCESSES}
 use Rattle.commands.specs.Costs.{ISSUE_ACCESSES}
 use Rattle.port_control.specs.declared.events.PortError.TheVariants.{TimedOut}
-use Rattle.port_driver.specs.Costs.{ISSUES_ACCESSES, TURN_ACCESSES, port_error_accesses}
+use Rattle.port_driver.specs.Costs.{ISSUE_DUE_ACCESSES, TURN_ACCESSES, port_error_accesses}
 
 -- a new server takes its adapter over
 abbrev pub MOST_NEW_ACCESSES : ℕ
@@ -27,11 +27,11 @@ MOST_TICK_ACCESSES = PORTS * port_error_accesses TimedOut
 
 -- a reset ends, the adapter is taken over, and what is due on each port is issued
 abbrev pub MOST_RESET_ACCESSES : ℕ
-MOST_RESET_ACCESSES = RESET_ACCESSES + TAKE_OVER_ACCESSES + PORTS * ISSUES_ACCESSES
+MOST_RESET_ACCESSES = RESET_ACCESSES + TAKE_OVER_ACCESSES + PORTS * ISSUE_DUE_ACCESSES
 
 -- a revocation issues what is due on the grant's port
 abbrev pub MOST_REVOKE_ACCESSES : ℕ
-MOST_REVOKE_ACCESSES = ISSUES_ACCESSES
+MOST_REVOKE_ACCESSES = ISSUE_DUE_ACCESSES
 
 -- a call of a list: a client's bytes are stored or loaded by one access, and a step of the device is none
 abbrev pub most_accesses_of : Call DeviceStep → ℕ

@@ -1,6 +1,6 @@
 -- What a server has of its four ports, by port (this project's own).
 use Rattle.std.specs.Prelude.{ℕ, ◌≡◌, ◌<◌, ◌+◌, ◌/◌, ◌%◌, List, [], length, map, slice_index_or}
-use Rattle.host_boot.specs.Taken.{probe_result_of}
+use Rattle.host_boot.specs.TakeOver.{probe_result_of}
 use Rattle.host_boot.specs.declared.Host.{Host}
 use Rattle.hba_regs.specs.Bits.{bit}
 use Rattle.server_history.specs.Server.{probed_mode}

@@ -11,7 +11,7 @@ use Rattle.configuration.specs.Rules.{LacksEveryFault, IsLeastFault}
 use Rattle.configuration.specs.declared.Config.{Config}
 use Rattle.dma_frames.specs.Table.{FrameExtent, owner_of, lent_to, ExtentHasFrame}
 use Rattle.grants.specs.Rows.{SameRows}
-use Rattle.host_boot.specs.Taken.{TakesOver}
+use Rattle.host_boot.specs.TakeOver.{TakesOver}
 use Rattle.host_boot.specs.declared.Host.{Host}
 use Rattle.configuration.specs.Plan.{PlanView, IsPlan, IsPlanOf}
 use Rattle.server_history.specs.Histories.{StartsHistory}
@@ -54,6 +54,6 @@ pub record IsInitialServer {A : Type 0} (device : A → Device) (config : Config
   pub begun : StartsHistory (server_of device s)
 
 -- why no server is made
-abbrev pub Refuses : Config → ServerError → Type 0
-Refuses config (BadConfig kind) = IsLeastFault config kind
-Refuses config NoMemory = LacksEveryFault config
+abbrev pub RefusesConfig : Config → ServerError → Type 0
+RefusesConfig config (BadConfig kind) = IsLeastFault config kind
+RefusesConfig config NoMemory = LacksEveryFault config

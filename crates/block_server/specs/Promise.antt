@@ -11,17 +11,17 @@ use Rattle.ata_types.specs.declared.request.Reply.{Reply}
 use Rattle.ata_types.specs.declared.request.RequestId.{RequestId}
 use Rattle.adapter.specs.Device.{Device}
 use Rattle.adapter.specs.declared.access.DeviceStep.{DeviceStep}
-use Rattle.refinement.specs.Facts.{RunsWell}
+use Rattle.refinement.specs.PortFacts.{RunsWell}
 use Rattle.refinement.specs.Slots.{ServesRequest}
 use Rattle.block_machine.specs.Events.{CallRecord, AbstractCall, AbstractState, Reset, RevokeOf, Service, Tick, AnswersEnded, HasTimedOut, WasIssued, abstract_after}
-use Rattle.block_machine.specs.Histories.{Happening, JointState, now}
+use Rattle.block_machine.specs.Histories.{JointEvent, JointState, now}
 use Rattle.block_machine.specs.Ports.{SamePort}
 use Rattle.block_machine.specs.State.{Machine, Pending}
 use Rattle.block_machine.specs.Steps.{Answer, AllTouched}
 use Rattle.driver_history.specs.Claims.{GoesWellFor, IsHealthyFor}
 use Rattle.driver_history.specs.Evidence.{StaysHealthy}
 use Rattle.driver_history.specs.Histories.{IssuesAllDue}
-use Rattle.host_boot.specs.Taken.{probe_result_of}
+use Rattle.host_boot.specs.TakeOver.{probe_result_of}
 use Rattle.server_history.specs.Histories.{LeadsToServer}
 use Rattle.server_history.specs.Server.{state_of}
 use Rattle.block_server.specs.Clients.{ConfinesMoves, AllAdded, FlushesSurviveReplug, ServesClients}
@@ -48,13 +48,13 @@ pub record ServesClientsOf (port : Port) (old : AbstractState) (call : CallRecor
   pub issues : IssuesAllDue call.ask call.steps (abstract_after old call).machine call.ports port
 
 -- The call goes well for the port, with its engine running all the time and after it, and serves the port's clients.
-abbrev pub IsServedWell : Port → JointState Device → Happening Device DeviceStep → Type 0
+abbrev pub IsServedWell : Port → JointState Device → JointEvent Device DeviceStep → Type 0
 IsServedWell port old h = GoesWellFor old h port × ServesClientsOf port old.abstract h.event
 
 -- In a call after these ones, a service answers each request of a port that is ready when it begins of which the bits
 -- of PxCI and PxSACT were clear then; and each port is served well that the call is healthy for.
-pub record KeepsPortPromise (first : JointState Device) (past : List (Happening Device DeviceStep))
-    (h : Happening Device DeviceStep) : Type 0 where
+pub record KeepsPortPromise (first : JointState Device) (past : List (JointEvent Device DeviceStep))
+    (h : JointEvent Device DeviceStep) : Type 0 where
   pub seen : (port : Port) (slot : ℕ) (id : RequestId) → h.event.ask ≡ Service
       → (now first past).abstract.ports.state port ≡ Ready
       → ServesRequest (now first past).abstract.machine (now first past).device.memory
@@ -71,7 +71,7 @@ pub record KeepsPortPromise (first : JointState Device) (past : List (Happening 
 -- is ready and runs well after it, unless one of them is a reset, which boots each port, or a tick that brings a
 -- request of the port to its age of three: that restarts the port, since nothing else tells that a request hangs.
 pub record DrivesDevice {A : Type 0} (device : A → Device) (first : JointState Device)
-    (past added : List (Happening Device DeviceStep)) (old new : ServerView A) : Type 0 where
+    (past added : List (JointEvent Device DeviceStep)) (old new : ServerView A) : Type 0 where
   pub leads : LeadsToServer first (added ++ past) (server_of device new)
   pub serves : AllAdded (KeepsPortPromise first) past added
   pub healthy : (port : Port) → state_of (probe_result_of old.ports port.0) ≡ Ready
@@ -85,9 +85,9 @@ pub record DrivesDevice {A : Type 0} (device : A → Device) (first : JointState
 -- After a history that leads to the server before them, the calls of a list, which said this, add theirs: with what is
 -- promised to clients, of the calls, of moves and of disks that come back, and of the device.
 pub record KeepsPromise {A : Type 0} (device : A → Device) (first : JointState Device)
-    (past : List (Happening Device DeviceStep))
+    (past : List (JointEvent Device DeviceStep))
     (old new : ServerView A) (calls : List (Call DeviceStep)) (said : List (CallResult (ArrayVec Reply))) : Type 0 where
-  pub added : List (Happening Device DeviceStep)
+  pub added : List (JointEvent Device DeviceStep)
   pub clients : ServesClients first past added (visible_of device old) (visible_of device new) (map ask_of calls)
       (map machine_result_of said)
   pub moves : ConfinesMoves first past added
@@ -98,7 +98,7 @@ pub record KeepsPromise {A : Type 0} (device : A → Device) (first : JointState
 -- calls it leads to the server after them.)
 abbrev pub Simulates : {A : Type 0} → (A → Device) → ServerView A → ServerView A → List (Call DeviceStep)
     → List (CallResult (ArrayVec Reply)) → Type 0
-Simulates device old new calls said = (first : JointState Device) (past : List (Happening Device DeviceStep))
+Simulates device old new calls said = (first : JointState Device) (past : List (JointEvent Device DeviceStep))
     → LeadsToServer first past (server_of device old) → KeepsPromise device first past old new calls said
 
 -- What the calls of a list said, one thing each, stands at the end of what had been said; and they keep the promise.

@@ -8,8 +8,8 @@ use Rattle.block_server.specs.FourPorts.{by_port}
 use Rattle.block_server.specs.declared.server.Server.TheInside.{Inside}
 use Rattle.block_server.specs.View.{ServerView, server_of}
 
-abbrev pub seen : {A : Type 0} → Inside A → ServerView A
-seen s = record {
+abbrev pub server_view_of : {A : Type 0} → Inside A → ServerView A
+server_view_of s = record {
   adapter = s.adapter;
   grants = s.grants;
   table = s.shared.table.value;
@@ -26,7 +26,7 @@ seen s = record {
 
 -- the server, with this device, these loans and requests, and these ports
 abbrev pub with_ports : ServerState → Device → Shared → List ServedPort → ServerState
-with_ports s device shared ports = server_of (λ d. d) (seen {A = Device} (record {
+with_ports s device shared ports = server_of (λ d. d) (server_view_of {A = Device} (record {
   adapter = device;
   grants = s.grants;
   shared = shared;

@@ -5,7 +5,7 @@ ghost use Rattle.block_server.specs.FourPorts.{by_port, port_in};
 ghost use Rattle.host_boot.specs.declared.ProbeResult.TheVariants.{Unserved};
 ghost use Rattle.refinement.specs.Relation.{port_at};
 ghost use Rattle.request_queue.specs.Entries.{IsAnyOverdue, IsOverdue, is_among};
-ghost use Rattle.server_history.specs.ErrorHandling.{AreEmptySlots};
+ghost use Rattle.server_history.specs.ErrorHandling.{HasNoUsedSlot};
 ghost use Rattle.server_history.specs.Server.{quarantined_at, plain_mode};
 ghost use Rattle.server_history.specs.Turns.{is_ready};
 
@@ -30,7 +30,7 @@ fn none_of_two(alloc: Global) -> Result<(Quarantine, Quarantine), AllocError>
 }
 
 /// No loans of any port. The only error is want of memory.
-pub(crate) fn none_kept(alloc: Global) -> Result<[Quarantine; PORTS], AllocError>
+pub(crate) fn empty_quarantines(alloc: Global) -> Result<[Quarantine; PORTS], AllocError>
     ensures { IfOk result (λ kept. kept ≡ [] ∷ [] ∷ [] ∷ [] ∷ []) }
 {
     let (first, second) = none_of_two(alloc)?;
@@ -45,7 +45,7 @@ pub(crate) fn none_kept(alloc: Global) -> Result<[Quarantine; PORTS], AllocError
 }
 
 /// Ends the lists, which have no loans.
-pub(crate) fn end_all(kept: [Quarantine; PORTS])
+pub(crate) fn destroy_quarantines(kept: [Quarantine; PORTS])
     requires { (port : ℕ) → quarantined_at kept port ≡ [] }
 {
     let [first, second, third, fourth] = kept;
@@ -66,7 +66,7 @@ pub(crate) fn unserved_ports(
     ensures found { by_port (λ p. p.found) result ≡ replicate 4 Unserved }
     ensures forgotten { by_port (λ p. p.remembered) result ≡ replicate 4 None }
     ensures modes { by_port (λ p. p.mode) result ≡ replicate 4 plain_mode }
-    ensures unused { (number : ℕ) → number < 4 → AreEmptySlots plain_mode (port_in result number).slots }
+    ensures unused { (number : ℕ) → number < 4 → HasNoUsedSlot plain_mode (port_in result number).slots }
 {
     let [first, second, third, fourth] = kept;
     [
@@ -90,7 +90,7 @@ pub(crate) fn wanted_disks(ports: &[ServedPort; PORTS]) -> [Wanted; PORTS]
 }
 
 /// The loans of the ports, by port.
-pub(crate) fn into_loans(ports: [ServedPort; PORTS]) -> [Quarantine; PORTS]
+pub(crate) fn into_quarantines(ports: [ServedPort; PORTS]) -> [Quarantine; PORTS]
     ensures { result ≡ by_port (λ p. p.kept) ports }
 {
     let [first, second, third, fourth] = ports;

@@ -11,14 +11,14 @@
 #![tactic(auto)]
 
 mod by_port;
+mod call_results;
 pub mod laws;
 mod limits;
 mod resetting;
 mod run;
-mod sayings;
 mod server;
 mod types;
 
-pub use sayings::CallResults;
+pub use call_results::CallResults;
 pub use server::Server;
 pub use types::{RunStopped, ServerError};

@@ -4,7 +4,7 @@ ghost use Rattle.std.specs.Prelude.{◌≢◌, ◌<◌, ◌+◌, ◌↔◌, IsTr
 use ata_types::{Op, Request};
 
 /// Unanswered requests of one client at most.
-pub(crate) const CLIENT_PLACES: usize = 16;
+pub(crate) const MOST_CLIENT_UNANSWERED: usize = 16;
 
 /// Whether sectors of a request leave a disk of so many. A flush has none.
 pub(crate) fn leaves_disk(r: &Request, sectors: u64) -> bool

@@ -2,14 +2,14 @@
 ghost use Rattle.std.specs.Prelude.{◌≡◌, ◌<◌, ◌≤◌, ◌+◌, ◌*◌, ◌++◌, List, length, map};
 ghost use Rattle.adapter.specs.Counted.{MakesAtMost};
 ghost use Rattle.ata_types.specs.declared.request.Reply.{Reply};
-ghost use Rattle.port_driver.specs.Costs.{ISSUES_ACCESSES};
+ghost use Rattle.port_driver.specs.Costs.{ISSUE_DUE_ACCESSES};
 ghost use Rattle.block_server.specs.FourPorts.{EachBecomes, BeginsAsHostFound, by_port, without_loans};
 ghost use Rattle.block_server.specs.Seen.{with_ports};
 ghost use Rattle.port_driver.specs.Parts.{NotesProbeResult};
 ghost use Rattle.server_history.specs.Kept.{IsKeptIn, MayGiveBack, TakesBack};
 ghost use Rattle.server_history.specs.Resets.{IssuePorts, MayResolve, ResolvePorts};
 ghost use Rattle.server_history.specs.Server.{InCallInvariant, ServerState, plain_mode};
-ghost use Rattle.server_history.specs.StuckServer.{stuck_found};
+ghost use Rattle.server_history.specs.StuckServer.{found_after_stuck_reset};
 
 use adapter::Adapter;
 use ata_types::{MOST_UNANSWERED, PORTS, Port, Replies};
@@ -35,7 +35,8 @@ pub(crate) fn give_all_back(ports: &mut [ServedPort; PORTS], table: &mut FrameTa
 
 /// Notes that a reset of the adapter got stuck: each port that is served is dead.
 pub(crate) fn note_stuck_reset(ports: &mut [ServedPort; PORTS])
-    ensures { EachBecomes (λ number old new. NotesProbeResult (stuck_found old.found) plain_mode old new) ports.old
+    ensures { EachBecomes (λ number old new. NotesProbeResult (found_after_stuck_reset old.found) plain_mode old new)
+        ports.old
         ports.new }
 {
     for number in 0..PORTS {
@@ -88,7 +89,7 @@ pub(crate) fn issue_ports<A: Adapter>(
         → IssuePorts 0 (by_port (λ p. p.found) ports.old)
         (with_ports s (A.device adapter.old) shared.old ports.old)
         (with_ports s (A.device adapter.new) shared.new ports.new) }
-    ensures cost { MakesAtMost (PORTS * ISSUES_ACCESSES) (A.access_count adapter.old) (A.access_count adapter.new) }
+    ensures cost { MakesAtMost (PORTS * ISSUE_DUE_ACCESSES) (A.access_count adapter.old) (A.access_count adapter.new) }
 {
     law_a_port_goes_on_after_its_errors();
     law_requests_preserve_invariant();

@@ -113,7 +113,7 @@ impl<A: Stepped> Server<A> {
             if out.reserve(1).is_err() {
                 return Err(RunStopped { at });
             }
-            out.go_on();
+            out.begin_next_result();
             let said = self.make_call(call, &mut out.replies);
             out.last = Some(said);
         }

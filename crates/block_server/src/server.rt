@@ -6,9 +6,10 @@ mod revoking;
 
 use crate::ServerError;
 use crate::by_port::{
-    end_all, into_loans, none_kept, overdue_ports, ready_ports, unserved_ports, wanted_disks,
+    destroy_quarantines, empty_quarantines, into_quarantines, overdue_ports, ready_ports,
+    unserved_ports, wanted_disks,
 };
-use crate::limits::{CLIENT_PLACES, leaves_disk};
+use crate::limits::{MOST_CLIENT_UNANSWERED, leaves_disk};
 use crate::resetting::{
     give_all_back, issue_ports, note_probe_result, note_stuck_reset, resolve_ports,
 };
@@ -55,25 +56,25 @@ pub struct Server<A: Adapter> {
 }
 
 impl<A: Adapter> Model for Server<A> {
-    ghost use Rattle.block_server.specs.Seen.{seen};
-    ghost use Rattle.server_history.specs.Histories.{InvariantBy};
+    ghost use Rattle.block_server.specs.Seen.{server_view_of};
+    ghost use Rattle.server_history.specs.Histories.{InvariantByStuck};
     ghost use Rattle.block_server.specs.View.{ServerView, server_of};
 
     ghost Value = { ServerView A };
 
-    ghost view = { seen };
+    ghost view = { server_view_of };
 
-    ghost invariant = { λ s. InvariantBy s.stuck (server_of A.device (seen s)) };
+    ghost invariant = { λ s. InvariantByStuck s.stuck (server_of A.device (server_view_of s)) };
 }
 
 impl<A: Adapter> Server<A> {
     ghost use Rattle.block_machine.specs.Events.{Reset, Service, Served, Submit, Submitted, State, Shown, Tick, WasReset};
     ghost use Rattle.block_machine.specs.Refusals.{IsAcceptable, IsFirstRefusal};
-    ghost use Rattle.block_server.specs.Calls.{AcceptsRequest, IsFor, Submits, Services, TicksServer};
-    ghost use Rattle.block_server.specs.Made.{IsReadyFor, IsInitialServer, Refuses};
+    ghost use Rattle.block_server.specs.Calls.{AcceptsRequest, IsRequestForPort, Submits, Services, TicksServer};
+    ghost use Rattle.block_server.specs.Made.{IsReadyFor, IsInitialServer, RefusesConfig};
     ghost use Rattle.block_server.specs.View.{server_of};
     ghost use Rattle.configuration.specs.Rules.{LacksEveryFault};
-    ghost use Rattle.host_boot.specs.Taken.{probe_result_of};
+    ghost use Rattle.host_boot.specs.TakeOver.{probe_result_of};
     ghost use Rattle.server_history.specs.Histories.{ExtendsHistory};
     ghost use Rattle.block_server.specs.Resetting.{DoesReset, reset_said};
     ghost use Rattle.server_history.specs.Server.{last_disk_of, remembered_at, admission_context, state_of, last_sectors_of, trims_of};
@@ -91,7 +92,7 @@ impl<A: Adapter> Server<A> {
         requires ready { IsReadyFor config.now (A.device adapter) }
         ensures made { IfOk result (IsInitialServer A.device config.now adapter) }
         ensures sound { OnOk result (LacksEveryFault config.now) }
-        ensures refused { IfErr result (λ e. Refuses config.now e.0 × (e.1 ≡ adapter)) }
+        ensures refused { IfErr result (λ e. RefusesConfig config.now e.0 × (e.1 ≡ adapter)) }
         ensures cost { IfOk result (λ server. MakesAtMost MOST_NEW_ACCESSES
             (A.access_count adapter) (A.access_count server.adapter)) }
     {
@@ -106,11 +107,11 @@ impl<A: Adapter> Server<A> {
             return Err((ServerError::NoMemory, adapter));
         };
         // Loans can't be dropped, nor a book, so these come last of what can be refused.
-        let Ok(kept) = none_kept(alloc) else {
+        let Ok(kept) = empty_quarantines(alloc) else {
             return Err((ServerError::NoMemory, adapter));
         };
         let Ok(book) = Book::new(alloc) else {
-            end_all(kept);
+            destroy_quarantines(kept);
             return Err((ServerError::NoMemory, adapter));
         };
         let mut ports = unserved_ports(plan.wanted(), kept);
@@ -198,7 +199,7 @@ impl<A: Adapter> Server<A> {
     /// The first cause to refuse the request, if there is one; else the port that it is for.
     fn admit(&self, r: &Request) -> Result<Port, Refusal>
         ensures admitted { IfOk result (λ port. IsAcceptable (admission_context (server_of A.device self.now)) r.now
-            × IsFor self.now.grants r.now port) }
+            × IsRequestForPort self.now.grants r.now port) }
         ensures refused { IfErr result (λ refusal. IsFirstRefusal
             (admission_context (server_of A.device self.now)) r.now
             refusal) }
@@ -219,7 +220,7 @@ impl<A: Adapter> Server<A> {
         if self.lacks_trim(r, row.port) {
             return Err(Refusal::TrimUnsupported);
         }
-        if self.shared.book.unanswered(r.client) >= CLIENT_PLACES {
+        if self.shared.book.unanswered(r.client) >= MOST_CLIENT_UNANSWERED {
             return Err(Refusal::ClientFull);
         }
         if self.last >= u64::MAX {
@@ -232,7 +233,7 @@ impl<A: Adapter> Server<A> {
     fn accept(&mut self, r: &Request, port: Port) -> RequestId
         requires on { self.old.stuck ≡ false }
         requires acceptable { IsAcceptable (admission_context (server_of A.device self.old)) r.now }
-        requires port { IsFor self.old.grants r.now port }
+        requires port { IsRequestForPort self.old.grants r.now port }
         ensures on { self.new.stuck ≡ false }
         ensures accepts { AcceptsRequest A.device self.old self.new r.now result }
         ensures adds { ExtendsHistory (server_of A.device self.old) (server_of A.device self.new) (Submit r.now)
@@ -484,7 +485,7 @@ impl<A: Adapter> Server<A> {
         let Shared { mut table, book } = shared;
         book.give_all_back(&mut table);
         give_all_back(&mut ports, &mut table);
-        end_all(into_loans(ports));
+        destroy_quarantines(into_quarantines(ports));
         adapter
     }
 }

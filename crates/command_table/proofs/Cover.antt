@@ -9,7 +9,7 @@ use Rattle.adapter.specs.declared.command.Prd.{Prd}
 use Rattle.adapter.specs.Decoding.{pieces, piece_addresses, IsWholePieces}
 use Rattle.adapter.specs.Encoding.{IsAllowedPrd}
 use Rattle.command_table.specs.Places.{place_of, places_of, frame_number}
-use Rattle.command_table.specs.Runs.{IsLongestRun, CoversRun, PrdsCoverFrames, frame_count_in}
+use Rattle.command_table.specs.FrameRuns.{IsLongestRun, CoversRun, PrdsCoverFrames, frame_count_in}
 
 -- the frames hold so many bytes, and the last of them at least one
 pub record Fits (frames : List Frame) (bytes : ℕ) : Type 0 where

@@ -10,16 +10,16 @@ use Rattle.adapter.specs.Encoding.{EncodesCommand, EncodesHeader, EncodesPrd}
 use Rattle.adapter.specs.declared.command.Command.{Command}
 use Rattle.adapter.specs.declared.command.Operation.{Operation}
 use Rattle.adapter.specs.declared.command.Prd.{Prd}
-use Rattle.command_table.specs.Bytes.{part}
+use Rattle.command_table.specs.Bytes.{bytes_from}
 use Rattle.command_table.specs.Laws.{MemoryLaws}
 use Rattle.command_table.specs.Written.{IsTableFor}
 use Rattle.command_table.proofs.Parts.{numbers_alike}
 
 -- where memory holds the front of some bytes, it holds each part of that front
-pub part_at : MemoryLaws → (memory : ℕ → ℕ) (at n : ℕ) (bs : List ℕ) (i k : ℕ) → bytes_at memory at n ≡ take n bs → n ≤ length bs → i + k ≤ n → bytes_at memory (at + i) k ≡ part bs i k
+pub part_at : MemoryLaws → (memory : ℕ → ℕ) (at n : ℕ) (bs : List ℕ) (i k : ℕ) → bytes_at memory at n ≡ take n bs → n ≤ length bs → i + k ≤ n → bytes_at memory (at + i) k ≡ bytes_from bs i k
 part_at laws memory at n bs i k e fits le =
-    let size : length (part bs i k) ≡ k = simp (length-take, length-drop) (omega arith) in
-    numbers_alike (bytes_at memory (at + i) k) (part bs i k) (laws.counts memory (at + i) k ∙ sym size) (λ j lt.
+    let size : length (bytes_from bs i k) ≡ k = simp (length-take, length-drop) (omega arith) in
+    numbers_alike (bytes_at memory (at + i) k) (bytes_from bs i k) (laws.counts memory (at + i) k ∙ sym size) (λ j lt.
     let small : j < k = omega (arith, laws.counts memory (at + i) k) in
     let place : at + i + j ≡ at + (i + j) = omega arith in
     laws.each memory (at + i) k j small
@@ -44,13 +44,13 @@ prds_stand memory (e ∷ es) at each =
 -- a table at the head of some bytes, which memory holds with FIS and PRDs, and a header
 module _ (laws : MemoryLaws) (memory : ℕ → ℕ) (list slot at : ℕ) (prds : List Prd) (table header : List ℕ) (few : length prds ≤ MOST_REQUEST_FRAMES) (size : TABLE_HEAD + PRD_BYTES * length prds ≤ length table)
     (here : bytes_at memory at (TABLE_HEAD + PRD_BYTES * length prds) ≡ take (TABLE_HEAD + PRD_BYTES * length prds) table) (head : bytes_at memory (list + 32 * slot) 32 ≡ header)
-    (writes : Bool) (command : Command) (direction : (o : Operation) (s first count : ℕ) → command ≡ command_of o s first count → writes ≡ reads_memory o) (fis : EncodesCommand (part table 0 20) command)
-    (each : (i : ℕ) (d : Prd) → i < length prds → EncodesPrd (part table (TABLE_HEAD + PRD_BYTES * i) 16) (slice_index_or prds i d))
+    (writes : Bool) (command : Command) (direction : (o : Operation) (s first count : ℕ) → command ≡ command_of o s first count → writes ≡ reads_memory o) (fis : EncodesCommand (bytes_from table 0 20) command)
+    (each : (i : ℕ) (d : Prd) → i < length prds → EncodesPrd (bytes_from table (TABLE_HEAD + PRD_BYTES * i) 16) (slice_index_or prds i d))
     (heads : EncodesHeader header writes (length prds) at) where
-  part_here : (i k : ℕ) → i + k ≤ TABLE_HEAD + PRD_BYTES * length prds → bytes_at memory (at + i) k ≡ part table i k
+  part_here : (i k : ℕ) → i + k ≤ TABLE_HEAD + PRD_BYTES * length prds → bytes_at memory (at + i) k ≡ bytes_from table i k
   part_here i k fits = part_at laws memory at (TABLE_HEAD + PRD_BYTES * length prds) table i k here size fits
 
-  fis_here : bytes_at memory at 20 ≡ part table 0 20
+  fis_here : bytes_at memory at 20 ≡ bytes_from table 0 20
   fis_here = let same : at + 0 ≡ at = omega arith in ap (λ (a : ℕ). bytes_at memory a 20) (sym same) ∙ part_here 0 20 (omega arith)
 
   pub table_says : (m : Meaning) (places : List ℕ) → IsTableFor slot command prds m places →

@@ -23,7 +23,7 @@ use Rattle.refinement.specs.Links.{SameAdapter}
 use Rattle.refinement.specs.Driver.{KeepsTables, MayStore, MissesTable}
 use Rattle.refinement.specs.Places.{list_of, scratch_of, table_of}
 use Rattle.refinement.specs.Slots.{SlotStates, SlotDecodesTo}
-use Rattle.command_table.specs.Bytes.{part}
+use Rattle.command_table.specs.Bytes.{bytes_from}
 use Rattle.command_table.specs.Laws.{Laws}
 use Rattle.command_table.specs.Laws.AccessPurpose.{Tables, TablesAndBlock}
 use Rattle.command_table.specs.Written.{IsTableFor, IsHeader, IsInTable, IsStoreWithBlock, IsTableStore, IsUnused}
@@ -87,8 +87,8 @@ module _ (laws : Laws) (port slot : ℕ) (below : port < 4) (small : slot < 32) 
 module _ (laws : Laws) (port slot : ℕ) (below : port < 4) (small : slot < 32) (uses : SlotStates) (free : IsUnused port slot uses) (old mid new : Device) (on : IsOn old) (a : IsRelated uses old)
     (prds : List Prd) (table header : List ℕ) (few : length prds ≤ MOST_REQUEST_FRAMES) (size : TABLE_HEAD + PRD_BYTES * length prds ≤ length table) (front : length (take (TABLE_HEAD + PRD_BYTES * length prds) table) ≡ TABLE_HEAD + PRD_BYTES * length prds)
     (first : Stores (table_of port slot) (take (TABLE_HEAD + PRD_BYTES * length prds) table) old mid) (second : Stores (list_of port + 32 * slot) header mid new)
-    (writes : Bool) (command : Command) (direction : (o : Operation) (s first count : ℕ) → command ≡ command_of o s first count → writes ≡ reads_memory o) (fis : EncodesCommand (part table 0 20) command)
-    (each : (i : ℕ) (d : Prd) → i < length prds → EncodesPrd (part table (TABLE_HEAD + PRD_BYTES * i) 16) (slice_index_or prds i d))
+    (writes : Bool) (command : Command) (direction : (o : Operation) (s first count : ℕ) → command ≡ command_of o s first count → writes ≡ reads_memory o) (fis : EncodesCommand (bytes_from table 0 20) command)
+    (each : (i : ℕ) (d : Prd) → i < length prds → EncodesPrd (bytes_from table (TABLE_HEAD + PRD_BYTES * i) 16) (slice_index_or prds i d))
     (heads : EncodesHeader header writes (length prds) (table_of port slot)) (none_moved : little_from 4 4 header ≡ 0) where
   in_table : IsTableStore port slot (Storing (table_of port slot) (take (TABLE_HEAD + PRD_BYTES * length prds) table))
   in_table = inr (omega arith, omega (arith, front, few))

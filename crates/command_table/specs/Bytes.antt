@@ -9,5 +9,5 @@ pub record StoresBytes (old new : List ℕ) (at : ℕ) (bytes : List ℕ) : Type
   pub after : (i : ℕ) → at + length bytes ≤ i → slice_index new i ≡ slice_index old i
 
 -- the n bytes from a place on
-abbrev pub part : List ℕ → ℕ → ℕ → List ℕ
-part bytes at n = take n (drop at bytes)
+abbrev pub bytes_from : List ℕ → ℕ → ℕ → List ℕ
+bytes_from bytes at n = take n (drop at bytes)

@@ -23,13 +23,13 @@ pub data AccessPurpose : Type 0 where
   Tables : (port slot : ℕ) → AccessPurpose
   TablesAndBlock : (port : ℕ) → AccessPurpose
 
-abbrev pub may_of : AccessPurpose → Access → Type 0
-may_of (Tables port slot) = IsTableStore port slot
-may_of (TablesAndBlock port) = IsStoreWithBlock port 0
+abbrev pub accesses_for : AccessPurpose → Access → Type 0
+accesses_for (Tables port slot) = IsTableStore port slot
+accesses_for (TablesAndBlock port) = IsStoreWithBlock port 0
 
-abbrev pub fits_of : AccessPurpose → SlotStates → Type 0
-fits_of (Tables port slot) = IsUnused port slot
-fits_of (TablesAndBlock port) = IsUnused port 0
+abbrev pub slot_uses_for : AccessPurpose → SlotStates → Type 0
+slot_uses_for (Tables port slot) = IsUnused port slot
+slot_uses_for (TablesAndBlock port) = IsUnused port 0
 
 -- bytes that are put into memory, and read
 pub record MemoryLaws : Type 0 where
@@ -61,4 +61,4 @@ pub record Laws : Type 0 where
       (places : List ℕ) → port < 4 → slot < 32 → MissesTable port slot at (length bytes)
       → SlotDecodesTo old.memory (list_of port) port slot c places
       → SlotDecodesTo new.memory (list_of port) port slot c places
-  pub fragments : FragmentLaws AccessPurpose may_of fits_of
+  pub fragments : FragmentLaws AccessPurpose accesses_for slot_uses_for

@@ -1,6 +1,6 @@
 pub mod Laws
 pub mod Places
-pub mod Runs
+pub mod FrameRuns
 pub mod Bytes
 pub mod Written
 pub mod Costs

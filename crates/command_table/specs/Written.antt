@@ -15,16 +15,16 @@ use Rattle.adapter.specs.declared.command.Prd.{Prd}
 use Rattle.refinement.specs.Driven.{RelatesWith}
 use Rattle.refinement.specs.Places.{list_of, scratch_of, table_of}
 use Rattle.refinement.specs.Slots.{Free, SlotStates}
-use Rattle.command_table.specs.Bytes.{part}
+use Rattle.command_table.specs.Bytes.{bytes_from}
 
 -- A command table (AHCI 1.3.1, 4.2.3) at the head of some bytes: the FIS at 00h, the PRDs from 80h on, and zeros
 -- between them, where ACMD stands at 40h.
 pub record IsTable (bytes : List ℕ) (command : Command) (prds : List Prd) : Type 0 where
   pub size : TABLE_HEAD + PRD_BYTES * length prds ≤ length bytes
-  pub fis : EncodesCommand (part bytes 0 20) command
+  pub fis : EncodesCommand (bytes_from bytes 0 20) command
   pub between : AreZero bytes 20 TABLE_HEAD
   pub entries : (i : ℕ) (d : Prd) → i < length prds
-      → EncodesPrd (part bytes (TABLE_HEAD + PRD_BYTES * i) 16) (slice_index_or prds i d)
+      → EncodesPrd (bytes_from bytes (TABLE_HEAD + PRD_BYTES * i) 16) (slice_index_or prds i d)
 
 -- The slot is one of 32, and its table has room for the PRDs, which are allowed, as is the command's address (AHCI
 -- 1.3.1, 4.2.3.3).

@@ -19,13 +19,13 @@ ghost use Rattle.refinement.specs.Places.{list_of, scratch_of};
 ghost use Rattle.refinement.specs.Slots.{SlotDecodesTo};
 ghost use Rattle.command_table.specs.Written.{FitsTable, IsStoreWithBlock, IsTable, IsTableFor, IsTableStore, IsUnused, MayWriteTable, StoresTable};
 ghost use Rattle.command_table.specs.Places.{places_of};
-ghost use Rattle.command_table.specs.Runs.{PrdsCoverFrames, FillFrames, IsLongestRun};
+ghost use Rattle.command_table.specs.FrameRuns.{PrdsCoverFrames, FillFrames, IsLongestRun};
 ghost use Rattle.command_table.specs.Bytes.{StoresBytes};
 ghost use Rattle.adapter.specs.Counted.{MakesAtMost};
-ghost use Rattle.command_table.specs.Costs.{BLOCK_ACCESSES, TABLE_ACCESSES};
+ghost use Rattle.command_table.specs.Costs.{TABLE_WITH_BLOCK_ACCESSES, TABLE_ACCESSES};
 
-mod lawful;
 pub mod laws;
+mod prerequisites;
 
 use adapter::{Adapter, Command, Prd};
 use arrayvec::ArrayVec;
@@ -35,7 +35,7 @@ use ata_types::{
     TABLE_ALIGNMENT, TABLE_BYTES, TABLE_HEAD, TABLES_OFFSET, WRITE_DMA_EXT, WRITE_FPDMA_QUEUED,
 };
 use fis::encode_h2d;
-use lawful::law_base;
+use prerequisites::law_prerequisites;
 use refinement::fragments::law_other_ports_are_left;
 
 const FIS_DWORDS: u32 = 5;
@@ -214,7 +214,7 @@ pub fn write_table<A: Adapter>(
 {
     let list = PORT_BYTES * u32::from(port.0);
     let table = list + TABLES_OFFSET + TABLE_BYTES * u32::from(slot.0);
-    law_base();
+    law_prerequisites();
     store_table(adapter, table, command, prds);
     let head = header(is_write(command), prds.len() as u16, table);
     adapter.store(list + HEADER_BYTES * u32::from(slot.0), &head);
@@ -238,10 +238,10 @@ pub fn write_table_with_block<A: Adapter>(
         → piece_count m.operation m.count ≡ 1 → SlotDecodesTo (A.device adapter.new).memory (list_of port.0) port.0 0 m
         (scratch_of port.0 ∷ []) }
     ensures block { bytes_at (A.device adapter.new).memory (scratch_of port.0) 512 ≡ block.now }
-    ensures cost { MakesAtMost BLOCK_ACCESSES (A.access_count adapter.old) (A.access_count adapter.new) }
+    ensures cost { MakesAtMost TABLE_WITH_BLOCK_ACCESSES (A.access_count adapter.old) (A.access_count adapter.new) }
 {
     law_other_ports_are_left();
-    law_base();
+    law_prerequisites();
     let scratch = Frame(PORT_FRAMES * u16::from(port.0) + SCRATCH_FRAME);
     let prds = prds(&[scratch], BLOCK_BYTES);
     write_table(adapter, port, Slot(0), command, prds.as_slice());

@@ -20,7 +20,7 @@ use Rattle.refinement.specs.Driven.{RelatesWith, IsSoleBit, IsSimulated}
 use Rattle.refinement.specs.Places.{list_of, scratch_of}
 use Rattle.refinement.specs.Slots.{Free, SlotDecodesTo}
 use Rattle.command_table.specs.Written.{IsStoreWithBlock, IsTableFor, IsTableStore, IsUnused}
-use Rattle.commands.specs.Batches.{AreUnused, HasBitsOf, IsBatchStored, IsStoreForBatch, SaysTask, SlotTask, StoresTransfer, only_task}
+use Rattle.commands.specs.Batches.{AreUnused, HasBitsOf, IsBatchStored, IsStoreForBatch, SaysTask, PlacedTask, StoresTransfer, batch_of_one}
 use Rattle.commands.specs.Issuing.{IsArmedFor, MayIssueTransfer}
 use Rattle.commands.specs.Tasks.{Arms, IsFitTransfer, IsStoreFor, RunsItsList, meaning_of}
 use Rattle.commands.specs.PlainTasks.{flush_task, trim_task}
@@ -47,7 +47,7 @@ pub is_trim : IsMeaning trim
 is_trim = record { ranged = λ e. absurd cc; not_ranged = λ _. (refl, refl) }
 
 -- a task alone is armed
-pub armed_one : (port : Port) (t : SlotTask) (own : ℕ) (old mid armed : Device) → IsOn old → HasPort old port.0 → t.slot < 32 → t.slot ≤ old.cap / 256 % 32 → RunsItsList port.0 old → RelatesWith (IsUnused port.0 t.slot) old →
+pub armed_one : (port : Port) (t : PlacedTask) (own : ℕ) (old mid armed : Device) → IsOn old → HasPort old port.0 → t.slot < 32 → t.slot ≤ old.cap / 256 % 32 → RunsItsList port.0 old → RelatesWith (IsUnused port.0 t.slot) old →
     is_queued (meaning_of t.task).operation ≡ t.task.queued → (t.task.op ≡ Trim → t.slot ≡ 0) → IsSimulated (IsStoreFor t.task.op port.0 t.slot) (IsUnused port.0 t.slot) old mid → SaysTask port.0 t mid.memory →
     IsSoleBit t.slot own → Arms t.task.queued port own mid armed → IsArmedFor port t.task.queued (t ∷ []) own old armed
 armed_one port t own old mid armed on there small usable may agreed kind head stores say sole arms = record {
@@ -71,24 +71,24 @@ armed_one port t own old mid armed on there small usable may agreed kind head st
 
 module _ (port : Port) (range : Range) (frames : List Frame) (own : ℕ) (old mid : Device) (on : IsOn old) (there : HasPort old port.0) (agreed : RelatesWith (IsUnused port.0 0) old)
     (may : RunsItsList port.0 old) (alone : IsSoleBit 0 own) where
-  pub armed_flush : IsSimulated (IsTableStore port.0 0) (IsUnused port.0 0) old mid → SlotDecodesTo mid.memory (list_of port.0) port.0 0 flush [] → IsArmedFor port false (only_task 0 (flush_task range) frames) own old mid
+  pub armed_flush : IsSimulated (IsTableStore port.0 0) (IsUnused port.0 0) old mid → SlotDecodesTo mid.memory (list_of port.0) port.0 0 flush [] → IsArmedFor port false (batch_of_one 0 (flush_task range) frames) own old mid
   armed_flush stores told =
       armed_one port (record { slot = 0; task = flush_task range; frames = frames }) own old mid mid on there (omega arith) (omega arith) may agreed refl (λ trim. refl) stores (record { told = told; block = tt }) alone refl
 
   pub armed_trim : IsSimulated (IsStoreWithBlock port.0 0) (IsUnused port.0 0) old mid → SlotDecodesTo mid.memory (list_of port.0) port.0 0 trim (scratch_of port.0 ∷ []) →
-      trim_sectors (bytes_at mid.memory (scratch_of port.0) 512) ≡ consecutive range.first.0 range.count → IsArmedFor port false (only_task 0 (trim_task range) frames) own old mid
+      trim_sectors (bytes_at mid.memory (scratch_of port.0) 512) ≡ consecutive range.first.0 range.count → IsArmedFor port false (batch_of_one 0 (trim_task range) frames) own old mid
   armed_trim stores told block =
       armed_one port (record { slot = 0; task = trim_task range; frames = frames }) own old mid mid on there (omega arith) (omega arith) may agreed refl (λ trim. refl) stores (record { told = told; block = block }) alone refl
 
 -- a transfer that was stored
-pub armed_transfer : (port : Port) (t : SlotTask) (own : ℕ) (old mid armed : Device) → MayIssueTransfer port t.slot t.task t.frames old → StoresTransfer port t old mid → IsSoleBit t.slot own → Arms t.task.queued port own mid armed →
+pub armed_transfer : (port : Port) (t : PlacedTask) (own : ℕ) (old mid armed : Device) → MayIssueTransfer port t.slot t.task t.frames old → StoresTransfer port t old mid → IsSoleBit t.slot own → Arms t.task.queued port own mid armed →
     IsArmedFor port t.task.queued (t ∷ []) own old armed
 armed_transfer port t own old mid armed may x sole arms =
     armed_one port t own old mid armed may.may.on may.may.there may.small may.usable may.may.may may.may.agreed (kind_of t.task.queued t.task.op may.fits.transfers) (never_trim t.slot t.task.op may.fits.transfers)
     (stored_for port.0 t.slot old mid t.task.op may.fits.transfers x.stores) x.says sole arms
 
 -- a batch that was stored, whose bits of PxSACT are written
-pub armed_batch : (port : Port) (tasks : List SlotTask) (mask : ℕ) (old mid armed : Device) → IsBatchStored port tasks old mid → HasBitsOf tasks mask → Writes (Px port Sact) mask mid armed → IsArmedFor port true tasks mask old armed
+pub armed_batch : (port : Port) (tasks : List PlacedTask) (mask : ℕ) (old mid armed : Device) → IsBatchStored port tasks old mid → HasBitsOf tasks mask → Writes (Px port Sact) mask mid armed → IsArmedFor port true tasks mask old armed
 armed_batch port tasks mask old mid armed x bits call = record {
   on = x.on;
   there = x.there;

@@ -18,7 +18,7 @@ use Rattle.block_machine.specs.State.{Pending}
 use Rattle.refinement.specs.Acts.{DriverSlots}
 use Rattle.refinement.specs.Driven.{IsSoleBit}
 use Rattle.refinement.specs.Slots.{SlotState, Armed, Serves, SlotStates, put}
-use Rattle.commands.specs.Batches.{HasBitsOf, HaveOwnSlots, IsSlotOf, SlotTask, with_serving_batch}
+use Rattle.commands.specs.Batches.{HasBitsOf, HaveOwnSlots, IsSlotOf, PlacedTask, with_serving_batch}
 
 -- ---- lists
 
@@ -63,22 +63,22 @@ zip_at P (z ∷ xs) (y ∷ ys) zip x is = ⊎_elim
 
 -- ---- slots
 
-pub slot_here : (t : SlotTask) (ts : List SlotTask) → IsSlotOf (t ∷ ts) t.slot
+pub slot_here : (t : PlacedTask) (ts : List PlacedTask) → IsSlotOf (t ∷ ts) t.slot
 slot_here t ts = (t, contains_here t ts, refl)
 
-pub slot_there : (t : SlotTask) (ts : List SlotTask) (k : ℕ) → IsSlotOf ts k → IsSlotOf (t ∷ ts) k
+pub slot_there : (t : PlacedTask) (ts : List PlacedTask) (k : ℕ) → IsSlotOf ts k → IsSlotOf (t ∷ ts) k
 slot_there t ts k is = (is.0, contains_there t ts is.0 is.1, is.2)
 
-slot_split : (t : SlotTask) (ts : List SlotTask) (k : ℕ) → IsSlotOf (t ∷ ts) k → (k ≡ t.slot) ⊎ IsSlotOf ts k
+slot_split : (t : PlacedTask) (ts : List PlacedTask) (k : ℕ) → IsSlotOf (t ∷ ts) k → (k ≡ t.slot) ⊎ IsSlotOf ts k
 slot_split t ts k is = ⊎_elim
-    (λ (e : is.0 ≡ t). inl (sym is.2 ∙ ap (λ (x : SlotTask). x.slot) e))
+    (λ (e : is.0 ≡ t). inl (sym is.2 ∙ ap (λ (x : PlacedTask). x.slot) e))
     (λ (later : Contains ts is.0). inr (is.0, later, is.2))
     (contains_cases t ts is.0 is.1)
 
 no_slot : (k : ℕ) → IsSlotOf [] k → ⊥
 no_slot k is = let lt = is.1.1 in omega (arith, lt)
 
-pub slot_cases : (ts : List SlotTask) (k : ℕ) → IsSlotOf ts k ⊎ (IsSlotOf ts k → ⊥)
+pub slot_cases : (ts : List PlacedTask) (k : ℕ) → IsSlotOf ts k ⊎ (IsSlotOf ts k → ⊥)
 slot_cases [] k = inr (no_slot k)
 slot_cases (t ∷ ts) k = ⊎_elim
     (λ (e : k ≡ t.slot). inl (t, contains_here t ts, sym e))
@@ -89,18 +89,18 @@ slot_cases (t ∷ ts) k = ⊎_elim
     (cases_eq k t.slot)
 
 -- the first one's slot is no other's
-pub first_apart : (t : SlotTask) (ts : List SlotTask) → HaveOwnSlots (t ∷ ts) → IsSlotOf ts t.slot → ⊥
+pub first_apart : (t : PlacedTask) (ts : List PlacedTask) → HaveOwnSlots (t ∷ ts) → IsSlotOf ts t.slot → ⊥
 first_apart t ts apart is =
     let lt = is.1.1 in
-    apart 0 (suc is.1.0) is.0 (omega arith) (omega (arith, lt)) (sym (ap (λ (x : SlotTask). x.slot) is.1.2 ∙ is.2))
+    apart 0 (suc is.1.0) is.0 (omega arith) (omega (arith, lt)) (sym (ap (λ (x : PlacedTask). x.slot) is.1.2 ∙ is.2))
 
-pub rest_apart : (t : SlotTask) (ts : List SlotTask) → HaveOwnSlots (t ∷ ts) → HaveOwnSlots ts
+pub rest_apart : (t : PlacedTask) (ts : List PlacedTask) → HaveOwnSlots (t ∷ ts) → HaveOwnSlots ts
 rest_apart t ts apart = λ i j d less small. apart (suc i) (suc j) d (omega (arith, less)) (omega (arith, small))
 
-pub one_apart : (t : SlotTask) → HaveOwnSlots (t ∷ [])
+pub one_apart : (t : PlacedTask) → HaveOwnSlots (t ∷ [])
 one_apart t = λ i j d less small. absurd (omega (arith, less, small))
 
-pub one_has_bits : (t : SlotTask) (v : ℕ) → IsSoleBit t.slot v → HasBitsOf (t ∷ []) v
+pub one_has_bits : (t : PlacedTask) (v : ℕ) → IsSoleBit t.slot v → HasBitsOf (t ∷ []) v
 one_has_bits t v sole = record {
   here = all_one (λ x. bit v x.slot ≡ true) t sole.here;
   alone = λ k set. ⊎_elim
@@ -111,12 +111,12 @@ one_has_bits t v sole = record {
 
 pub none_has_bits : HasBitsOf [] 0
 none_has_bits = record {
-  here = All-nil (λ (t : SlotTask). bit 0 t.slot ≡ true);
+  here = All-nil (λ (t : PlacedTask). bit 0 t.slot ≡ true);
   alone = λ k set. absurd (true≢false (sym set ∙ ap (λ (n : ℕ). n == 1) (bit_at-zero k)));
 }
 
 -- a bit more, of a value of 32 bits
-pub bits_grow : (tasks : List SlotTask) (t : SlotTask) (mask new : ℕ) → mask < 2 ^ 32 → new < 2 ^ 32 → HasBitsOf tasks mask → bit new t.slot ≡ true → ((k : ℕ) → k < 32 → k ≢ t.slot → bit new k ≡ bit mask k) →
+pub bits_grow : (tasks : List PlacedTask) (t : PlacedTask) (mask new : ℕ) → mask < 2 ^ 32 → new < 2 ^ 32 → HasBitsOf tasks mask → bit new t.slot ≡ true → ((k : ℕ) → k < 32 → k ≢ t.slot → bit new k ≡ bit mask k) →
     HasBitsOf (tasks ++ t ∷ []) new
 bits_grow tasks t mask new fits new_fits has set others = record {
   here = All-push (λ x. bit new x.slot ≡ true) tasks t (all_as (λ x. bit mask x.slot ≡ true) (λ x. bit new x.slot ≡ true) (λ x was. stays x.slot was) tasks has.here) set;
@@ -147,29 +147,29 @@ abbrev pub PutsNoOther : Type 0
 PutsNoOther = (uses : SlotStates) (port slot : ℕ) (u : SlotState) (other_port other_slot : ℕ) → (other_port ≡ port → other_slot ≡ slot → ⊥) → put uses port slot u other_port other_slot ≡ uses other_port other_slot
 
 -- each slot is armed
-abbrev pub uses_armed : ℕ → List SlotTask → SlotStates → SlotStates
+abbrev pub uses_armed : ℕ → List PlacedTask → SlotStates → SlotStates
 uses_armed port [] uses = uses
 uses_armed port (t ∷ ts) uses = uses_armed port ts (put uses port t.slot Armed)
 
 -- each slot serves the request in its place
-abbrev pub uses_served : ℕ → List SlotTask → List Pending → SlotStates → SlotStates
+abbrev pub uses_served : ℕ → List PlacedTask → List Pending → SlotStates → SlotStates
 uses_served port (t ∷ ts) (e ∷ es) uses = uses_served port ts es (put uses port t.slot (Serves e.request.id))
 uses_served port [] es uses = uses
 uses_served port (t ∷ ts) [] uses = uses
 
-pub serving_batch_is : (port : Port) (ts : List SlotTask) (es : List Pending) (s : DriverSlots) → record s { uses = uses_served port.0 ts es s.uses } ≡ with_serving_batch port ts es s
+pub serving_batch_is : (port : Port) (ts : List PlacedTask) (es : List Pending) (s : DriverSlots) → record s { uses = uses_served port.0 ts es s.uses } ≡ with_serving_batch port ts es s
 serving_batch_is port [] es s = refl
 serving_batch_is port (t ∷ ts) [] s = refl
 serving_batch_is port (t ∷ ts) (e ∷ es) s = serving_batch_is port ts es (record s { uses = put s.uses port.0 t.slot (Serves e.request.id) })
 
 module _ (here : PutsHere) (no_other : PutsNoOther) (port : ℕ) where
-  pub armed_others : (ts : List SlotTask) (uses : SlotStates) (q k : ℕ) → (q ≡ port → IsSlotOf ts k → ⊥) → uses_armed port ts uses q k ≡ uses q k
+  pub armed_others : (ts : List PlacedTask) (uses : SlotStates) (q k : ℕ) → (q ≡ port → IsSlotOf ts k → ⊥) → uses_armed port ts uses q k ≡ uses q k
   armed_others [] uses q k other = refl
   armed_others (t ∷ ts) uses q k other =
       armed_others ts (put uses port t.slot Armed) q k (λ e is. other e (slot_there t ts k is))
       ∙ no_other uses port t.slot Armed q k (λ e is. other e (t, contains_here t ts, sym is))
 
-  pub armed_here : (ts : List SlotTask) (uses : SlotStates) → HaveOwnSlots ts → (k : ℕ) → IsSlotOf ts k → uses_armed port ts uses port k ≡ Armed
+  pub armed_here : (ts : List PlacedTask) (uses : SlotStates) → HaveOwnSlots ts → (k : ℕ) → IsSlotOf ts k → uses_armed port ts uses port k ≡ Armed
   armed_here [] uses apart k is = absurd (no_slot k is)
   armed_here (t ∷ ts) uses apart k is = ⊎_elim
       (λ (later : IsSlotOf ts k). armed_here ts (put uses port t.slot Armed) (rest_apart t ts apart) k later)
@@ -179,14 +179,14 @@ module _ (here : PutsHere) (no_other : PutsNoOther) (port : ℕ) where
       ∙ (ap (put uses port t.slot Armed port) e ∙ here uses port t.slot Armed))
       (slot_cases ts k)
 
-  pub served_others : (ts : List SlotTask) (es : List Pending) (uses : SlotStates) (q k : ℕ) → (q ≡ port → IsSlotOf ts k → ⊥) → uses_served port ts es uses q k ≡ uses q k
+  pub served_others : (ts : List PlacedTask) (es : List Pending) (uses : SlotStates) (q k : ℕ) → (q ≡ port → IsSlotOf ts k → ⊥) → uses_served port ts es uses q k ≡ uses q k
   served_others [] es uses q k other = refl
   served_others (t ∷ ts) [] uses q k other = refl
   served_others (t ∷ ts) (e ∷ es) uses q k other =
       served_others ts es (put uses port t.slot (Serves e.request.id)) q k (λ x is. other x (slot_there t ts k is))
       ∙ no_other uses port t.slot (Serves e.request.id) q k (λ x is. other x (t, contains_here t ts, sym is))
 
-  pub served_here : (R : SlotTask → Pending → Type 0) (ts : List SlotTask) (es : List Pending) (uses : SlotStates) → HaveOwnSlots ts → AllZip R ts es →
+  pub served_here : (R : PlacedTask → Pending → Type 0) (ts : List PlacedTask) (es : List Pending) (uses : SlotStates) → HaveOwnSlots ts → AllZip R ts es →
       AllZip (λ t e. uses_served port ts es uses port t.slot ≡ Serves e.request.id) ts es
   served_here R [] [] uses apart zip = tt
   served_here R [] (e ∷ es) uses apart zip = zip
@@ -197,7 +197,7 @@ module _ (here : PutsHere) (no_other : PutsNoOther) (port : ℕ) where
   )
 
   -- how these slots were used before is all one
-  same_served_at : (R : SlotTask → Pending → Type 0) (ts : List SlotTask) (es : List Pending) (one other : SlotStates) (q k : ℕ) → AllZip R ts es → ((q ≡ port → IsSlotOf ts k → ⊥) → one q k ≡ other q k) →
+  same_served_at : (R : PlacedTask → Pending → Type 0) (ts : List PlacedTask) (es : List Pending) (one other : SlotStates) (q k : ℕ) → AllZip R ts es → ((q ≡ port → IsSlotOf ts k → ⊥) → one q k ≡ other q k) →
       uses_served port ts es one q k ≡ uses_served port ts es other q k
   same_served_at R [] [] one other q k zip same = same (λ _ is. no_slot k is)
   same_served_at R [] (e ∷ es) one other q k zip same = absurd zip
@@ -222,7 +222,7 @@ module _ (here : PutsHere) (no_other : PutsNoOther) (port : ℕ) where
           ∙ (same (λ x is. ⊎_elim (ne x) (beside x) (slot_split t ts k is)) ∙ sym (no_other other port t.slot u q k ne))
 
   -- so an armed slot serves as a free one does
-  pub served_armed : (R : SlotTask → Pending → Type 0) (ts : List SlotTask) (es : List Pending) (uses : SlotStates) → AllZip R ts es → uses_served port ts es (uses_armed port ts uses) ≡ uses_served port ts es uses
+  pub served_armed : (R : PlacedTask → Pending → Type 0) (ts : List PlacedTask) (es : List Pending) (uses : SlotStates) → AllZip R ts es → uses_served port ts es (uses_armed port ts uses) ≡ uses_served port ts es uses
   served_armed R ts es uses zip = λ i q k. same_served_at R ts es (uses_armed port ts uses) uses q k zip (armed_others ts uses q k) i
 
 -- ---- bits
@@ -238,29 +238,29 @@ own_bit_is slot = record {
 }
 
 -- these bits, and then the slots' ones
-abbrev pub with_bits : List SlotTask → (ℕ → Bool) → ℕ → Bool
+abbrev pub with_bits : List PlacedTask → (ℕ → Bool) → ℕ → Bool
 with_bits [] bits = bits
 with_bits (t ∷ ts) bits = with_bits ts (λ k. bits k || bit (own_bit t.slot) k)
 
-bits_stay : (ts : List SlotTask) (bits : ℕ → Bool) (k : ℕ) → bits k ≡ true → with_bits ts bits k ≡ true
+bits_stay : (ts : List PlacedTask) (bits : ℕ → Bool) (k : ℕ) → bits k ≡ true → with_bits ts bits k ≡ true
 bits_stay [] bits k set = set
 bits_stay (t ∷ ts) bits k set = bits_stay ts (λ j. bits j || bit (own_bit t.slot) j) k (or_left (bits k) (bit (own_bit t.slot) k) set)
 
-bits_set : (ts : List SlotTask) (bits : ℕ → Bool) (k : ℕ) → IsSlotOf ts k → with_bits ts bits k ≡ true
+bits_set : (ts : List PlacedTask) (bits : ℕ → Bool) (k : ℕ) → IsSlotOf ts k → with_bits ts bits k ≡ true
 bits_set [] bits k is = absurd (no_slot k is)
 bits_set (t ∷ ts) bits k is = ⊎_elim
     (λ (e : k ≡ t.slot). bits_stay ts (λ j. bits j || bit (own_bit t.slot) j) k (or_right (bits k) (bit (own_bit t.slot) k) (ap (bit (own_bit t.slot)) e ∙ (own_bit_is t.slot).here)))
     (λ (later : IsSlotOf ts k). bits_set ts (λ j. bits j || bit (own_bit t.slot) j) k later)
     (slot_split t ts k is)
 
-bits_unset : (ts : List SlotTask) (bits : ℕ → Bool) (k : ℕ) → bits k ≡ false → (IsSlotOf ts k → ⊥) → with_bits ts bits k ≡ false
+bits_unset : (ts : List PlacedTask) (bits : ℕ → Bool) (k : ℕ) → bits k ≡ false → (IsSlotOf ts k → ⊥) → with_bits ts bits k ≡ false
 bits_unset [] bits k clear not = clear
 bits_unset (t ∷ ts) bits k clear not =
     bits_unset ts (λ j. bits j || bit (own_bit t.slot) j) k
     (ap (λ (b : Bool). b || bit (own_bit t.slot) k) clear ∙ (own_bit_is t.slot).alone k (λ e. not (t, contains_here t ts, sym e))) (λ is. not (slot_there t ts k is))
 
 -- bit by bit, or all at once
-pub bits_at_once : (ts : List SlotTask) (v : ℕ) → HasBitsOf ts v → (bits : ℕ → Bool) → with_bits ts bits ≡ (λ k. bits k || bit v k)
+pub bits_at_once : (ts : List PlacedTask) (v : ℕ) → HasBitsOf ts v → (bits : ℕ → Bool) → with_bits ts bits ≡ (λ k. bits k || bit v k)
 bits_at_once ts v has bits = λ i k. at k i
   where
     at : (k : ℕ) → with_bits ts bits k ≡ (bits k || bit v k)
@@ -343,5 +343,5 @@ module _ (r : BitReg) (port : Port) (d : Device) where
   bits_end v = ap (λ (p : DevicePort). with_port d port.0 p) (r.writes v (length d.tape) (d.port port.0))
 
   -- the slots' bits, one after another, are those that are written at once
-  pub bits_written : (ts : List SlotTask) (v : ℕ) → HasBitsOf ts v → written (Px port r.reg) v d ≡ bits_on r port d (with_bits ts (r.get (d.port port.0)))
+  pub bits_written : (ts : List PlacedTask) (v : ℕ) → HasBitsOf ts v → written (Px port r.reg) v d ≡ bits_on r port d (with_bits ts (r.get (d.port port.0)))
   bits_written ts v has = bits_end v ∙ ap (bits_on r port d) (sym (bits_at_once ts v has (r.get (d.port port.0))))

@@ -13,7 +13,7 @@ use Rattle.adapter.specs.Commands.{Meaning}
 use Rattle.adapter.specs.Device.{Device}
 use Rattle.adapter.specs.Rules.{IsOn, HasPort}
 use Rattle.block_machine.specs.Histories.{IsReachable}
-use Rattle.block_machine.specs.Left.{after}
+use Rattle.block_machine.specs.Expected.{after}
 use Rattle.block_machine.specs.State.{Machine}
 use Rattle.refinement.specs.Acts.{Act, ActsReach, AreActsDone, DriverSlots, accesses_of, act_steps, driver_state}
 use Rattle.refinement.specs.Driven.{OnlyDeviceActs, RelatesWith}
@@ -22,7 +22,7 @@ use Rattle.refinement.specs.Links.{SameAdapter}
 use Rattle.refinement.specs.Readying.{IsStored, LeavesStored}
 use Rattle.refinement.specs.Slots.{Free, Armed, SlotDecodesTo, SlotStates, put}
 use Rattle.command_table.specs.Written.{IsHeader, IsInTable, IsTableStore, IsUnused}
-use Rattle.commands.specs.Batches.{AreUnused, IsBatchStored, IsSlotOf, IsStoreForBatch, SaysTask, SlotTask, StoresTransfer}
+use Rattle.commands.specs.Batches.{AreUnused, IsBatchStored, IsSlotOf, IsStoreForBatch, SaysTask, PlacedTask, StoresTransfer}
 use Rattle.commands.specs.Issuing.{MayIssueTransfer}
 use Rattle.commands.specs.Tasks.{IsFitTransfer, IsStoreFor, IsTransfer, RunsItsList, addresses_of, meaning_of}
 use Rattle.commands.proofs.Batch.{PutsHere, PutsNoOther, all_as, all_in, contains_here}
@@ -47,12 +47,12 @@ none_stored port d on there room may agreed = record {
   may = may;
   agreed = agreed;
   apart = λ i j x less small. absurd (omega (arith, small));
-  small = All-nil (λ (t : SlotTask). t.slot < 32);
-  usable = All-nil (λ (t : SlotTask). t.slot ≤ d.cap / 256 % 32);
-  fit = All-nil (λ (t : SlotTask). IsFitTransfer t.task t.frames);
-  queued = All-nil (λ (t : SlotTask). t.task.queued ≡ true);
+  small = All-nil (λ (t : PlacedTask). t.slot < 32);
+  usable = All-nil (λ (t : PlacedTask). t.slot ≤ d.cap / 256 % 32);
+  fit = All-nil (λ (t : PlacedTask). IsFitTransfer t.task t.frames);
+  queued = All-nil (λ (t : PlacedTask). t.task.queued ≡ true);
   stores = simulated_none (IsStoreForBatch port.0 []) (AreUnused port.0 []) d;
-  say = All-nil (λ (t : SlotTask). SaysTask port.0 t d.memory);
+  say = All-nil (λ (t : PlacedTask). SaysTask port.0 t d.memory);
 }
 
 -- what is stored for one slot misses header and table of another
@@ -91,9 +91,9 @@ module _ (laws : Laws) (port : Port) (slot other : ℕ) (low : port.0 < 4) (smal
 store_of_table : (port slot : ℕ) (access : Access) (op : Op) → IsTransfer op → IsTableStore port slot access → IsStoreFor op port slot access
 store_of_table port slot access op is here = of_transfer (λ o. IsStoreFor o port slot access) here here op is
 
-module _ (laws : Laws) (port : Port) (tasks : List SlotTask) (t : SlotTask) (start mid : Device) (b : IsBatchStored port tasks start mid) (agreed : RelatesWith (AreUnused port.0 (tasks ++ t ∷ [])) start)
+module _ (laws : Laws) (port : Port) (tasks : List PlacedTask) (t : PlacedTask) (start mid : Device) (b : IsBatchStored port tasks start mid) (agreed : RelatesWith (AreUnused port.0 (tasks ++ t ∷ [])) start)
     (apart : IsSlotOf tasks t.slot → ⊥) (small : t.slot < 32) (usable : t.slot ≤ start.cap / 256 % 32) (fit : IsFitTransfer t.task t.frames) (queued : t.task.queued ≡ true) where
-  abbrev both : List SlotTask
+  abbrev both : List PlacedTask
   both = tasks ++ t ∷ []
 
   kinds : (access : Access) → IsStoreForBatch port.0 tasks access → IsStoring access
@@ -155,7 +155,7 @@ module _ (laws : Laws) (port : Port) (tasks : List SlotTask) (t : SlotTask) (sta
     new_may : RunsItsList port.0 new
     new_may = stores_may laws.leaving port (IsTableStore port.0 t.slot) (table_stores port.0 t.slot) mid new w.stores.driven mid_on mid_may
 
-    stays : (y : SlotTask) → Contains tasks y → SaysTask port.0 y new.memory
+    stays : (y : PlacedTask) → Contains tasks y → SaysTask port.0 y new.memory
     unfolding s m
     stays y is =
         let says : SaysTask port.0 y mid.memory = All-contains (λ z. SaysTask port.0 z mid.memory) tasks y b.say is in
@@ -180,7 +180,7 @@ module _ (laws : Laws) (port : Port) (tasks : List SlotTask) (t : SlotTask) (sta
       room = b.room;
       may = b.may;
       agreed = agreed;
-      apart = all_pairs_push (λ (one other : SlotTask). one.slot ≡ other.slot → ⊥) tasks t b.apart (λ k d below e. apart (_, (k, below, get_or_default tasks k _ d below), e));
+      apart = all_pairs_push (λ (one other : PlacedTask). one.slot ≡ other.slot → ⊥) tasks t b.apart (λ k d below e. apart (_, (k, below, get_or_default tasks k _ d below), e));
       small = All-push (λ y. y.slot < 32) tasks t b.small small;
       usable = All-push (λ y. y.slot ≤ start.cap / 256 % 32) tasks t b.usable usable;
       fit = All-push (λ y. IsFitTransfer y.task y.frames) tasks t b.fit fit;

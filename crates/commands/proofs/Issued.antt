@@ -23,7 +23,7 @@ use Rattle.adapter.specs.declared.command.Operation.{Operation}
 use Rattle.block_machine.specs.Due.{is_plain}
 use Rattle.block_machine.specs.Events.{AllByDevice, AllMay}
 use Rattle.block_machine.specs.Histories.{IsReachable, IsSimulatedBySteps}
-use Rattle.block_machine.specs.Left.{after}
+use Rattle.block_machine.specs.Expected.{after}
 use Rattle.block_machine.specs.State.{Accepted, Pending, Machine}
 use Rattle.block_machine.specs.Steps.{Step, Issue, May, after_step}
 use Rattle.block_machine.specs.declared.due.QueueMode.{QueueMode}
@@ -34,11 +34,11 @@ use Rattle.refinement.specs.Driver.{ByDevice, DriverAdvances, DriverRelation, Dr
 use Rattle.refinement.specs.Follows.{SimulatesSteps}
 use Rattle.refinement.specs.Links.{DoesNotWrite, LeavesControls, SameAdapter}
 use Rattle.refinement.specs.Readying.{IsReadied, IsReadyToIssue, IsStored}
-use Rattle.refinement.specs.Slots.{SlotState, Free, Armed, Own, Serves, SlotStates, put, Means, HasTrimBlock, IsArmed, IsPlaced, RelatesSlot, SlotDecodesTo}
+use Rattle.refinement.specs.Slots.{SlotState, Free, Armed, Own, Serves, SlotStates, put, MeansRequest, HasTrimBlock, IsArmed, HasListInPlace, RelatesSlot, SlotDecodesTo}
 use Rattle.refinement.specs.Started.{ClearsNoStart}
-use Rattle.commands.specs.Batches.{AreUnused, HaveOwnSlots, IsBatchIssued, IsIssuingOn, IsSlotOf, IsStoreForBatch, IssuesBatchAtEnd, MayServeBatch, SaysTask, SlotTask, StoresThenWritesAll, issues_of, with_serving_batch}
+use Rattle.commands.specs.Batches.{AreUnused, HaveOwnSlots, IsBatchIssued, IsBatchAccess, IsSlotOf, IsStoreForBatch, IssuesBatchAtEnd, MayServeBatch, SaysTask, PlacedTask, StoresThenWritesAll, issues_of, with_serving_batch}
 use Rattle.commands.specs.Issuing.{IsArmedFor}
-use Rattle.commands.specs.Tasks.{Arms, HasBlockOf, IsBeingIssued, IsTaskOf, RunsItsList, addresses_of, meaning_of, task_operation, writes_of}
+use Rattle.commands.specs.Tasks.{Arms, HasBlockOf, IsBeingIssued, IsTaskOf, RunsItsList, addresses_of, meaning_of, task_operation, issuing_writes}
 use Rattle.commands.proofs.Batch.{all_as, all_in, all_one, armed_here, armed_others, uses_armed, bits_begin, bits_more, bits_on, bits_written, changed_here, ci_bits, contains_here, contains_there, first_apart, own_bit, own_bit_is, rest_apart, sact_bits, served_armed, served_here, served_others, uses_served, serving_batch_is, with_bits, zip_as}
 use Rattle.commands.proofs.Stores.{ActLaws, IsStoring, Leaving, batch_stores, does_then, store_for, stored_in, stores_may, stores_on, stores_same, stores_there, storing_writes_none}
 use Rattle.commands.proofs.Telling.{task_block, task_means}
@@ -74,7 +74,7 @@ pub record Laws : Type 0 where
       → (d.port port.0).st ≡ true → ((slot : ℕ) → bit v slot ≡ true → IsReadyToIssue uses d port.0 slot) → IsStable (MayWrite (Px port Ci) v) d
   pub prepared : (uses : SlotStates) (m : Machine) (d : Device) (port slot : ℕ) (c : Meaning) (places : List ℕ) (mode : QueueMode) (e : Pending) (v : ℕ)
       → IsReadied uses d port slot c places → May m (Issue mode e) → e.request.port.0 ≡ port → slot < mode.usable → (is_plain mode e.request.asked.op ≡ true → slot ≡ 0)
-      → Means port slot e.request c places → is_queued c.operation ≡ not (is_plain mode e.request.asked.op)
+      → MeansRequest port slot e.request c places → is_queued c.operation ≡ not (is_plain mode e.request.asked.op)
       → HasTrimBlock e.request.asked.op d.memory port e.request → bit v slot ≡ true → ((k : ℕ) → k ≢ slot → bit v k ≡ false) → IsPrepared uses m d port slot mode e v
   pub follows : (uses : SlotStates) (m : Machine) (old new : Device) → IsReachable m → StateRelation uses m old → Steps old new → SimulatesSteps uses m old new
   pub leaves : (uses : SlotStates) (m : Machine) (old new : Device) → IsReachable m → StateRelation uses m old → old.hr ≡ false → (r : Reg) (v : ℕ) → Writes r v old new → KeepsTables uses old new
@@ -97,7 +97,7 @@ issues_decide port v (step ∷ []) all = tt
 issues_decide port v (step ∷ other ∷ own) all = all
 
 -- they are of the tasks' port
-issues_on : (port : Port) (mode : QueueMode) (tasks : List SlotTask) (es : List Pending) → AllZip (λ t e. IsTaskOf port t.slot t.task t.frames mode e) tasks es → All (IsIssueOn port) (issues_of mode es)
+issues_on : (port : Port) (mode : QueueMode) (tasks : List PlacedTask) (es : List Pending) → AllZip (λ t e. IsTaskOf port t.slot t.task t.frames mode e) tasks es → All (IsIssueOn port) (issues_of mode es)
 issues_on port mode [] [] zip = All-nil (IsIssueOn port)
 issues_on port mode [] (e ∷ es) zip = absurd zip
 issues_on port mode (t ∷ tasks) [] zip = absurd zip
@@ -113,7 +113,7 @@ may_split laws m (step ∷ late) early all =
 
 -- ---- slots are armed, or left alone
 
-abbrev with_armed : Bool → Port → List SlotTask → DriverSlots → DriverSlots
+abbrev with_armed : Bool → Port → List PlacedTask → DriverSlots → DriverSlots
 with_armed true port tasks s = record s { uses = uses_armed port.0 tasks s.uses }
 with_armed false port tasks s = s
 
@@ -135,21 +135,21 @@ use_of true queued e = cond-true queued Armed Free e
 use_of false queued e = cond-false queued Armed Free e
 
 -- Acts with these accesses lead to armed slots, or to ones that are free still. The device alone makes steps, and other slots go on as they are used.
-record Reaches (port : Port) (tasks : List SlotTask) (queued : Bool) (accesses : List Access) (s : DriverSlots) (m : Machine) (from armed : Device) : Type 0 where
+record Reaches (port : Port) (tasks : List PlacedTask) (queued : Bool) (accesses : List Access) (s : DriverSlots) (m : Machine) (from armed : Device) : Type 0 where
   acts : List Act
   done : AreActsDone acts (driver_state s from) m (driver_state (with_armed queued port tasks s) armed)
   accesses_are : accesses_of acts ≡ accesses
   device : AllByDevice (act_steps acts)
-  own : (t : SlotTask) → Contains tasks t → All (λ act. IsUnissued (act.later.uses port.0 t.slot)) acts
+  own : (t : PlacedTask) → Contains tasks t → All (λ act. IsUnissued (act.later.uses port.0 t.slot)) acts
   others : (q k : ℕ) → (q ≡ port.0 → IsSlotOf tasks k → ⊥) → All (λ act. act.later.uses q k ≡ s.uses q k) acts
 
-abbrev places_for : Port → SlotTask → List ℕ
+abbrev places_for : Port → PlacedTask → List ℕ
 places_for port t = addresses_of port.0 t.task.op t.task.range.count t.frames
 
 module _ (laws : Laws) (port : Port) where
   -- bit by bit
-  all_armed : (ts : List SlotTask) (uses : SlotStates) (parked : ℕ → List RequestId) (bits : ℕ → Bool) (d : Device) (m : Machine) → HaveOwnSlots ts → AreUnused port.0 ts uses →
-      ((t : SlotTask) → Contains ts t → (d.port port.0).st ≡ true) → DriverRelation m (known uses parked (bits_on sact_bits port d bits)) →
+  all_armed : (ts : List PlacedTask) (uses : SlotStates) (parked : ℕ → List RequestId) (bits : ℕ → Bool) (d : Device) (m : Machine) → HaveOwnSlots ts → AreUnused port.0 ts uses →
+      ((t : PlacedTask) → Contains ts t → (d.port port.0).st ≡ true) → DriverRelation m (known uses parked (bits_on sact_bits port d bits)) →
       DriverAdvances (known uses parked (bits_on sact_bits port d bits)) m [] (known (uses_armed port.0 ts uses) parked (bits_on sact_bits port d (with_bits ts bits)))
   all_armed [] uses parked bits d m apart free runs knows = laws.none (known uses parked (bits_on sact_bits port d bits)) m knows
   all_armed (t ∷ ts) uses parked bits d m apart free runs knows =
@@ -174,19 +174,19 @@ module _ (laws : Laws) (port : Port) where
       let same : (bits_on ci_bits port d bits).port port.0 ≡ record (d.port port.0) { ci = bits } = changed_here d.port port.0 (record (d.port port.0) { ci = bits }) in
       record {
         started = ap (λ (p : DevicePort). p.st) same ∙ x.started;
-        placed = subst (λ (p : DevicePort). IsPlaced p port.0 slot) (sym same) (record { port_below = x.placed.port_below; slot_below = x.placed.slot_below; list = x.placed.list });
+        placed = subst (λ (p : DevicePort). HasListInPlace p port.0 slot) (sym same) (record { port_below = x.placed.port_below; slot_below = x.placed.slot_below; list = x.placed.list });
         told = subst (λ (p : DevicePort). SlotDecodesTo d.memory p.bases.clb port.0 slot c places) (sym same) x.told;
       }
 
   -- request by request
   module _ (mode : QueueMode) where
-    abbrev ItsTask : SlotTask → Pending → Type 0
+    abbrev ItsTask : PlacedTask → Pending → Type 0
     ItsTask t e = IsTaskOf port t.slot t.task t.frames mode e
 
-    all_issued : (ts : List SlotTask) (es : List Pending) (uses : SlotStates) (parked : ℕ → List RequestId) (bits : ℕ → Bool) (d : Device) (m : Machine) → AllZip ItsTask ts es → HaveOwnSlots ts →
+    all_issued : (ts : List PlacedTask) (es : List Pending) (uses : SlotStates) (parked : ℕ → List RequestId) (bits : ℕ → Bool) (d : Device) (m : Machine) → AllZip ItsTask ts es → HaveOwnSlots ts →
         IsReachable m → DriverRelation m (known uses parked (bits_on ci_bits port d bits)) → AllMay m (issues_of mode es) →
-        ((t : SlotTask) → Contains ts t → is_queued (meaning_of t.task).operation ≡ t.task.queued) →
-        ((t : SlotTask) → Contains ts t → IsReadied uses d port.0 t.slot (meaning_of t.task) (places_for port t)) → ((t : SlotTask) → Contains ts t → HasBlockOf t.task.op t.task.range port.0 d.memory) →
+        ((t : PlacedTask) → Contains ts t → is_queued (meaning_of t.task).operation ≡ t.task.queued) →
+        ((t : PlacedTask) → Contains ts t → IsReadied uses d port.0 t.slot (meaning_of t.task) (places_for port t)) → ((t : PlacedTask) → Contains ts t → HasBlockOf t.task.op t.task.range port.0 d.memory) →
         DriverAdvances (known uses parked (bits_on ci_bits port d bits)) m (issues_of mode es) (known (uses_served port.0 ts es uses) parked (bits_on ci_bits port d (with_bits ts bits)))
     all_issued [] [] uses parked bits d m zip apart reached knows may kinds readied blocks = laws.none (known uses parked (bits_on ci_bits port d bits)) m knows
     all_issued [] (e ∷ es) uses parked bits d m zip apart reached knows may kinds readied blocks = absurd zip
@@ -214,10 +214,10 @@ module _ (laws : Laws) (port : Port) where
         (λ y is. blocks y (contains_there t ts y is)) in
         laws.compose k next last m (Issue mode e ∷ []) (issues_of mode es) first rest
       where
-        kind : (t : SlotTask) (e : Pending) → ItsTask t e → is_queued (meaning_of t.task).operation ≡ t.task.queued → is_queued (meaning_of t.task).operation ≡ not (is_plain mode e.request.asked.op)
+        kind : (t : PlacedTask) (e : Pending) → ItsTask t e → is_queued (meaning_of t.task).operation ≡ t.task.queued → is_queued (meaning_of t.task).operation ≡ not (is_plain mode e.request.asked.op)
         kind t e is its = its ∙ (is.kind ∙ sym (ap (λ (o : Op). not (is_plain mode o)) is.operation))
 
-        head : (t : SlotTask) (e : Pending) → ItsTask t e → is_plain mode e.request.asked.op ≡ true → t.slot ≡ 0
+        head : (t : PlacedTask) (e : Pending) → ItsTask t e → is_plain mode e.request.asked.op ≡ true → t.slot ≡ 0
         head t e is plain = is.head (is.kind ∙ ap not (sym (ap (is_plain mode) is.operation) ∙ plain))
 
   -- a trim's block stands still, where no command of the driver's own is in slot 0
@@ -238,7 +238,7 @@ module _ (laws : Laws) (port : Port) where
 
   -- ---- the whole
 
-  module _ (queued : Bool) (tasks : List SlotTask) (own : ℕ) (old armed : Device) (b : IsArmedFor port queued tasks own old armed) where
+  module _ (queued : Bool) (tasks : List PlacedTask) (own : ℕ) (old armed : Device) (b : IsArmedFor port queued tasks own old armed) where
     abbrev stores_only : (access : Access) → IsStoreForBatch port.0 tasks access → IsStoring access
     stores_only = batch_stores port.0 tasks
 
@@ -251,18 +251,18 @@ module _ (laws : Laws) (port : Port) where
     mid_there : HasPort b.mid port.0
     mid_there = stores_there laws.leaving port (IsStoreForBatch port.0 tasks) stores_only old b.mid b.stores.driven b.there
 
-    stored : (t : SlotTask) → Contains tasks t → IsStored b.mid port.0 t.slot (meaning_of t.task) (places_for port t)
+    stored : (t : PlacedTask) → Contains tasks t → IsStored b.mid port.0 t.slot (meaning_of t.task) (places_for port t)
     stored t is =
         let says = All-contains (λ x. SaysTask port.0 x b.mid.memory) tasks t b.say is in
         stored_in port t.slot (meaning_of t.task) (places_for port t) b.mid mid_there (All-contains (λ x. x.slot < 32) tasks t b.small is) mid_may says.told
 
-    kind : (t : SlotTask) → Contains tasks t → is_queued (meaning_of t.task).operation ≡ t.task.queued
+    kind : (t : PlacedTask) → Contains tasks t → is_queued (meaning_of t.task).operation ≡ t.task.queued
     kind = λ t is. All-contains (λ x. is_queued (meaning_of x.task).operation ≡ x.task.queued) tasks t b.kind is
 
-    its_kind : (t : SlotTask) → Contains tasks t → t.task.queued ≡ queued
+    its_kind : (t : PlacedTask) → Contains tasks t → t.task.queued ≡ queued
     its_kind = λ t is. All-contains (λ x. x.task.queued ≡ queued) tasks t b.kinds is
 
-    unused : (s : DriverSlots) → AreUnused port.0 tasks s.uses → (t : SlotTask) → Contains tasks t → s.uses port.0 t.slot ≡ Free
+    unused : (s : DriverSlots) → AreUnused port.0 tasks s.uses → (t : PlacedTask) → Contains tasks t → s.uses port.0 t.slot ≡ Free
     unused s free t is = All-contains (λ x. s.uses port.0 x.slot ≡ Free) tasks t free is
 
     -- ---- arming
@@ -327,18 +327,18 @@ module _ (laws : Laws) (port : Port) where
     armed_runs true call = ((laws.controls port (Writing (Px port Sact) own) b.mid armed mid_on.no_reset call).command (λ e. absurd cc)).0 ∙ mid_may.started
     armed_runs false same = ap (λ (d : Device). (d.port port.0).st) same ∙ mid_may.started
 
-    armed_stored : (kind : Bool) → Arms kind port own b.mid armed → (uses : SlotStates) (m : Machine) → IsReachable m → StateRelation uses m b.mid → (t : SlotTask) → Contains tasks t →
+    armed_stored : (kind : Bool) → Arms kind port own b.mid armed → (uses : SlotStates) (m : Machine) → IsReachable m → StateRelation uses m b.mid → (t : PlacedTask) → Contains tasks t →
         IsStored armed port.0 t.slot (meaning_of t.task) (places_for port t)
     armed_stored true call uses m reached agrees t is =
         laws.stays uses m port t.slot (meaning_of t.task) (places_for port t) (Writing (Px port Sact) own) b.mid armed reached agrees mid_on.no_reset (λ v e. absurd cc) (λ e. absurd cc) (λ at bytes e. absurd cc) call (stored t is)
     armed_stored false same uses m reached agrees t is = subst (λ (d : Device). IsStored d port.0 t.slot (meaning_of t.task) (places_for port t)) (sym same) (stored t is)
 
-    armed_used : (kind : Bool) (s : DriverSlots) → AreUnused port.0 tasks s.uses → (t : SlotTask) → Contains tasks t → (with_armed kind port tasks s).uses port.0 t.slot ≡ unused_use kind
+    armed_used : (kind : Bool) (s : DriverSlots) → AreUnused port.0 tasks s.uses → (t : PlacedTask) → Contains tasks t → (with_armed kind port tasks s).uses port.0 t.slot ≡ unused_use kind
     armed_used true s free t is = armed_here laws.put_here laws.put_others port.0 tasks s.uses b.apart t.slot (t, is, refl)
     armed_used false s free t is = unused s free t is
 
     -- a trim isn't queued, so its slot 0 is free
-    trim_free : (s : DriverSlots) → AreUnused port.0 tasks s.uses → (t : SlotTask) → Contains tasks t → t.task.op ≡ Trim → (with_armed queued port tasks s).uses port.0 0 ≡ Free
+    trim_free : (s : DriverSlots) → AreUnused port.0 tasks s.uses → (t : PlacedTask) → Contains tasks t → t.task.op ≡ Trim → (with_armed queued port tasks s).uses port.0 0 ≡ Free
     trim_free s free t is trim =
         let plain : t.task.queued ≡ false = sym (kind t is) ∙ ap (λ (o : Op). is_queued (task_operation t.task.queued o)) trim ∙ never t.task.queued in
         ap (λ (q : Bool). (with_armed q port tasks s).uses port.0 0) (sym (its_kind t is) ∙ plain)
@@ -349,7 +349,7 @@ module _ (laws : Laws) (port : Port) where
         never false = refl
 
     -- a queued task has no block, and a plain one's is as it was
-    armed_block : (kind : Bool) → Arms kind port own b.mid armed → kind ≡ queued → (t : SlotTask) → Contains tasks t → (op : Op) → t.task.op ≡ op → HasBlockOf op t.task.range port.0 b.mid.memory → HasBlockOf op t.task.range port.0 armed.memory
+    armed_block : (kind : Bool) → Arms kind port own b.mid armed → kind ≡ queued → (t : PlacedTask) → Contains tasks t → (op : Op) → t.task.op ≡ op → HasBlockOf op t.task.range port.0 b.mid.memory → HasBlockOf op t.task.range port.0 armed.memory
     armed_block true call is_kind t is Trim trim block =
         absurd (let z : true ≡ false = is_kind ∙ sym (its_kind t is) ∙ sym (kind t is) ∙ ap (λ (o : Op). is_queued (task_operation t.task.queued o)) trim ∙ never t.task.queued in cc)
       where
@@ -361,7 +361,7 @@ module _ (laws : Laws) (port : Port) where
     armed_block kind call is_kind t is Write e block = tt
     armed_block kind call is_kind t is Flush e block = tt
 
-    block_then : (t : SlotTask) → Contains tasks t → HasBlockOf t.task.op t.task.range port.0 armed.memory
+    block_then : (t : PlacedTask) → Contains tasks t → HasBlockOf t.task.op t.task.range port.0 armed.memory
     block_then t is = let says = All-contains (λ x. SaysTask port.0 x b.mid.memory) tasks t b.say is in armed_block queued b.arms refl t is t.task.op refl says.block
 
     -- from a machine that agrees, acts lead to the armed slots, which are ready for PxCI
@@ -369,7 +369,7 @@ module _ (laws : Laws) (port : Port) where
       reaches : Reaches port tasks queued (b.stores.driven.accesses ++ arming_of port queued own) s m old armed
       goes : DriverAdvances (driver_state s old) m (act_steps reaches.acts) (driver_state (with_armed queued port tasks s) armed)
       reached : IsReachable (after m (act_steps reaches.acts))
-      readied : (t : SlotTask) → Contains tasks t → IsReadied (with_armed queued port tasks s).uses armed port.0 t.slot (meaning_of t.task) (places_for port t)
+      readied : (t : PlacedTask) → Contains tasks t → IsReadied (with_armed queued port tasks s).uses armed port.0 t.slot (meaning_of t.task) (places_for port t)
 
     stage : (s : DriverSlots) (m : Machine) → IsReachable m → DriverRelation m (driver_state s old) → AreUnused port.0 tasks s.uses → Stage s m
     stage s m reached knows free = record { reaches = reaches; goes = goes; reached = laws.acts.reached (driver_state s old) later m (act_steps reaches.acts) reached goes; readied = readied }
@@ -411,7 +411,7 @@ module _ (laws : Laws) (port : Port) where
         goes : DriverAdvances (driver_state s old) m (act_steps reaches.acts) later
         goes = laws.acts.goes reaches.acts (driver_state s old) later m knows reaches.done
 
-        readied : (t : SlotTask) → Contains tasks t → IsReadied (with_armed queued port tasks s).uses armed port.0 t.slot (meaning_of t.task) (places_for port t)
+        readied : (t : PlacedTask) → Contains tasks t → IsReadied (with_armed queued port tasks s).uses armed port.0 t.slot (meaning_of t.task) (places_for port t)
         readied t is = record {
           used = armed_used queued s free t is ∙ sym (use_of queued (is_queued (meaning_of t.task).operation) (kind t is ∙ its_kind t is));
           stored = armed_stored queued b.arms s.uses (after m (act_steps x.acts)) mid_reached g.knows.agrees t is;
@@ -447,11 +447,11 @@ module _ (laws : Laws) (port : Port) where
       arming_does true arms = (armed, arms, refl)
       arming_does false arms = arms
 
-      arming_only : (kind : Bool) → All (IsIssuingOn port) (arming_of port kind own)
-      arming_only true = all_one (IsIssuingOn port) (Writing (Px port Sact) own) (inl refl)
-      arming_only false = All-nil (IsIssuingOn port)
+      arming_only : (kind : Bool) → All (IsBatchAccess port) (arming_of port kind own)
+      arming_only true = all_one (IsBatchAccess port) (Writing (Px port Sact) own) (inl refl)
+      arming_only false = All-nil (IsBatchAccess port)
 
-      is_issuing : (access : Access) → IsStoreForBatch port.0 tasks access → IsIssuingOn port access
+      is_issuing : (access : Access) → IsStoreForBatch port.0 tasks access → IsBatchAccess port access
       is_issuing (Storing at bytes) here = (here.0.slot, All-contains (λ x. x.slot < 32) tasks here.0 b.small here.1, store_for here.0.task.op port.0 here.0.slot (Storing at bytes) here.2)
       is_issuing (Reading q v) here = absurd (stores_only (Reading q v) here)
       is_issuing (Writing q v) here = absurd (stores_only (Writing q v) here)
@@ -460,9 +460,9 @@ module _ (laws : Laws) (port : Port) where
       abbrev accesses : List Access
       accesses = (b.stores.driven.accesses ++ arming_of port queued own) ++ Writing (Px port Ci) own ∷ []
 
-      driven_only : All (IsIssuingOn port) accesses
+      driven_only : All (IsBatchAccess port) accesses
       driven_only =
-          let P : Access → Type 0 = IsIssuingOn port in
+          let P : Access → Type 0 = IsBatchAccess port in
           All-append P (b.stores.driven.accesses ++ arming_of port queued own) (Writing (Px port Ci) own ∷ [])
           (All-append P b.stores.driven.accesses (arming_of port queued own) (all_as (IsStoreForBatch port.0 tasks) P is_issuing b.stores.driven.accesses b.stores.driven.only) (arming_only queued))
           (all_one P (Writing (Px port Ci) own) (inr refl))
@@ -472,7 +472,7 @@ module _ (laws : Laws) (port : Port) where
           does_then (b.stores.driven.accesses ++ arming_of port queued own) (Writing (Px port Ci) own ∷ []) old armed new
           (does_then b.stores.driven.accesses (arming_of port queued own) old b.mid armed b.stores.driven.all (arming_does queued b.arms)) (new, call, refl)
 
-      writes_are : (kind : Bool) → arming_of port kind own ++ Writing (Px port Ci) own ∷ [] ≡ writes_of port kind own
+      writes_are : (kind : Bool) → arming_of port kind own ++ Writing (Px port Ci) own ∷ [] ≡ issuing_writes port kind own
       writes_are true = refl
       writes_are false = refl
 
@@ -496,7 +496,7 @@ module _ (laws : Laws) (port : Port) where
 
         -- the write of PxCI
         module _ (s : DriverSlots) (m : Machine) (reached : IsReachable m) (knows : DriverRelation m (driver_state s armed)) (may : AllMay m (issues_of mode es))
-            (readied : (t : SlotTask) → Contains tasks t → IsReadied s.uses armed port.0 t.slot (meaning_of t.task) (places_for port t)) (trims : (t : SlotTask) → Contains tasks t → t.task.op ≡ Trim → s.uses port.0 0 ≡ Free) where
+            (readied : (t : PlacedTask) → Contains tasks t → IsReadied s.uses armed port.0 t.slot (meaning_of t.task) (places_for port t)) (trims : (t : PlacedTask) → Contains tasks t → t.task.op ≡ Trim → s.uses port.0 0 ≡ Free) where
           abbrev k : DriverState
           k = driver_state s armed
 
@@ -584,23 +584,23 @@ module _ (laws : Laws) (port : Port) where
       abbrev m0 : Machine
       m0 = after b.agreed.2.machine (act_steps known_stage.reaches.acts)
 
-      set : (t : SlotTask) → Contains tasks t → (new.port port.0).ci t.slot ≡ true
+      set : (t : PlacedTask) → Contains tasks t → (new.port port.0).ci t.slot ≡ true
       set t is = ap (λ (d : Device). (d.port port.0).ci t.slot) call.effect
           ∙ (ap (λ (p : DevicePort). p.ci t.slot) (changed_here call.mid.port port.0 _)
           ∙ or_right ((call.mid.port port.0).ci t.slot) (bit own t.slot) (All-contains (λ x. bit own x.slot ≡ true) tasks t b.bits.here is))
 
-      stored_then : (t : SlotTask) → Contains tasks t → IsStored new port.0 t.slot (meaning_of t.task) (places_for port t)
+      stored_then : (t : PlacedTask) → Contains tasks t → IsStored new port.0 t.slot (meaning_of t.task) (places_for port t)
       stored_then t is =
           laws.stays uses0 m0 port t.slot (meaning_of t.task) (places_for port t) (Writing (Px port Ci) own) armed new known_stage.reached known_stage.goes.knows.agrees on_armed.no_reset
           (λ v e. absurd cc) (λ e. absurd cc) (λ at bytes e. absurd cc) call (known_stage.readied t is).stored
 
-      block_new : (t : SlotTask) → Contains tasks t → HasBlockOf t.task.op t.task.range port.0 new.memory
+      block_new : (t : PlacedTask) → Contains tasks t → HasBlockOf t.task.op t.task.range port.0 new.memory
       block_new t is =
           block_stays uses0 armed new b.there.0 (laws.leaves uses0 m0 armed new known_stage.reached known_stage.goes.knows.agrees on_armed.no_reset (Px port Ci) own call) t.task.op t.task.range
           (trim_free s0 b.agreed.1 t is) (block_then t is)
 
       -- an armed slot's bit of PxSACT goes as ST does
-      active : (t : SlotTask) → Contains tasks t → t.task.queued ≡ true → (new.port port.0).sact t.slot ≡ true
+      active : (t : PlacedTask) → Contains tasks t → t.task.queued ≡ true → (new.port port.0).sact t.slot ≡ true
       active t is its_queued =
           let f : SimulatesSteps uses0 m0 armed call.mid = laws.follows uses0 m0 armed call.mid known_stage.reached known_stage.goes.knows.agrees call.steps in
           let used : uses0 port.0 t.slot ≡ Armed = (known_stage.readied t is).used ∙ cond-true (is_queued (meaning_of t.task).operation) Armed Free (kind t is ∙ its_queued) in

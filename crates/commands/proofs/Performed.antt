@@ -13,7 +13,7 @@ use Rattle.adapter.specs.Device.{Device}
 use Rattle.adapter.specs.declared.command.Operation.{Operation}
 use Rattle.block_machine.specs.Events.{AllMay}
 use Rattle.block_machine.specs.Histories.{IsReachable}
-use Rattle.block_machine.specs.Left.{after}
+use Rattle.block_machine.specs.Expected.{after}
 use Rattle.block_machine.specs.State.{Machine, Pending}
 use Rattle.block_machine.specs.Steps.{Step}
 use Rattle.block_machine.specs.declared.due.QueueMode.{QueueMode}
@@ -22,7 +22,7 @@ use Rattle.refinement.specs.Driven.{AnyUse, IsSimulated, SparesOtherPorts, Gains
 use Rattle.refinement.specs.Driver.{EndsInSteps, DriverAdvances, IsBacked, DriverState, DriverRelation}
 use Rattle.refinement.specs.Slots.{Own, SlotState, op_of}
 use Rattle.commands.specs.Masks.{ReadsDone, ReadsCiOrSact}
-use Rattle.commands.specs.Batches.{IsIssuingOn, IsSlotOf, IssuesBatch, IssuesBatchAtEnd, MayServeBatch, SlotTask, issues_of, with_serving_batch}
+use Rattle.commands.specs.Batches.{IsBatchAccess, IsSlotOf, IssuesBatch, IssuesBatchAtEnd, MayServeBatch, PlacedTask, issues_of, with_serving_batch}
 use Rattle.commands.specs.Tasks.{IsBeingIssued, IsTaskOf}
 use Rattle.commands.proofs.Batch.{all_as, slot_cases, zip_at}
 
@@ -34,7 +34,7 @@ reading_own port r place v e = subst (λ (w : Reg). SparesOtherPorts port (Readi
 writing_own : (port : Port) (r : PortReg) (place : Reg) (v : ℕ) → place ≡ Px port r → SparesOtherPorts port (Writing place v)
 writing_own port r place v e = subst (λ (w : Reg). SparesOtherPorts port (Writing w v)) (sym e) refl
 
-pub issuing_of : (port : Port) (access : Access) → IsIssuingOn port access → SparesOtherPorts port access
+pub issuing_of : (port : Port) (access : Access) → IsBatchAccess port access → SparesOtherPorts port access
 issuing_of port (Writing r v) here = ⊎_elim (λ e. writing_own port _ r v e) (λ e. writing_own port _ r v e) here
 issuing_of port (Storing place bytes) here = tt
 issuing_of port (Reading r v) here = absurd here
@@ -60,7 +60,7 @@ not_own id o u (inl e) own = absurd cc
 not_own id o u (inr (inl e)) own = absurd cc
 not_own id o u (inr (inr e)) own = absurd cc
 
-module _ (laws : Laws) (port : Port) (tasks : List SlotTask) (mode : QueueMode) (es : List Pending) (old new : Device) (s : DriverSlots) (m : Machine) (i : IssuesBatch port tasks old new)
+module _ (laws : Laws) (port : Port) (tasks : List PlacedTask) (mode : QueueMode) (es : List Pending) (old new : Device) (s : DriverSlots) (m : Machine) (i : IssuesBatch port tasks old new)
     (is : AllZip (λ t e. IsTaskOf port t.slot t.task t.frames mode e) tasks es) (reached : IsReachable m) (knows : DriverRelation m (driver_state s old)) (fits : MayServeBatch port tasks mode es s m) where
   later : DriverState
   later = driver_state (with_serving_batch port tasks es s) new

@@ -15,13 +15,13 @@ use Rattle.adapter.specs.Rules.{IsOn}
 use Rattle.adapter.specs.Steps.{Steps}
 use Rattle.block_machine.specs.Events.{AllByDevice}
 use Rattle.block_machine.specs.Histories.{IsReachable, IsSimulatedBySteps}
-use Rattle.block_machine.specs.Left.{after}
+use Rattle.block_machine.specs.Expected.{after}
 use Rattle.block_machine.specs.State.{Machine}
 use Rattle.block_machine.specs.Steps.{Step, NoneQuarantined}
 use Rattle.refinement.specs.Acts.{Act, DriverSlots, IsActDone, ActsReach, driver_state}
 use Rattle.refinement.specs.Relation.{StateRelation}
 use Rattle.refinement.specs.Driver.{DriverState, DriverRelation, ByDevice, DriverAdvances}
-use Rattle.refinement.specs.Facts.{EndedIn, IsSlotClear}
+use Rattle.refinement.specs.PortFacts.{EndedIn, IsSlotClear}
 use Rattle.refinement.specs.Links.{LeavesControls}
 use Rattle.refinement.specs.Slots.{Serves, SlotStates}
 use Rattle.commands.specs.Masks.{IsDoneMask, ReadsDone, FindsEnds, ReadsCiOrSact, SeesClear}

@@ -12,28 +12,28 @@ use Rattle.adapter.specs.Memory.{changed}
 use Rattle.block_machine.specs.State.{Pending}
 use Rattle.block_machine.specs.declared.due.QueueMode.{QueueMode}
 use Rattle.refinement.specs.Relation.{port_at}
-use Rattle.refinement.specs.Served.{ReadsIntoFrame, TwoStoredReads, two_memory}
+use Rattle.refinement.specs.TwoReads.{ReadsIntoFrame, TwoStoredReads, two_memory}
 use Rattle.refinement.specs.Slots.{Free}
 use Rattle.refinement.specs.Witness.{ready_with}
-use Rattle.commands.specs.Batches.{AreUnused, HasBitsOf, IsSlotOf, IsStoreForBatch, SaysTask, SlotTask}
+use Rattle.commands.specs.Batches.{AreUnused, HasBitsOf, IsSlotOf, IsStoreForBatch, SaysTask, PlacedTask}
 use Rattle.commands.specs.Tasks.{IsFitTransfer, IsTaskOf}
 use Rattle.commands.specs.Witness.{BatchMayBeIssued}
 use Rattle.commands.proofs.Batch.{all_one, contains_here, contains_there, one_apart}
 use Rattle.commands.proofs.Stores.{simulated_none}
 
 -- a queued read of eight sectors into a frame
-abbrev read_in : ℕ → ℕ → ℕ → SlotTask
+abbrev read_in : ℕ → ℕ → ℕ → PlacedTask
 read_in slot first frame = record {
   slot = slot;
   task = record { op = Read; range = record { first = record { 0 = first }; count = 8 }; queued = true };
   frames = record { 0 = frame } ∷ [];
 }
 
-abbrev tasks : List SlotTask
+abbrev tasks : List PlacedTask
 tasks = read_in 0 100 100 ∷ read_in 1 108 101 ∷ []
 
 -- what holds of both
-both : (P : SlotTask → Type 0) → P (read_in 0 100 100) → P (read_in 1 108 101) → All P tasks
+both : (P : PlacedTask → Type 0) → P (read_in 0 100 100) → P (read_in 1 108 101) → All P tasks
 both P one other = All-cons P (read_in 0 100 100) (read_in 1 108 101 ∷ []) one (all_one P (read_in 1 108 101) other)
 
 fits : (slot first frame : ℕ) → first < 281474976710656 → IsFitTransfer (read_in slot first frame).task (read_in slot first frame).frames
@@ -72,7 +72,7 @@ module _ (known : TwoStoredReads) where
       room = omega arith;
       may = record { started = refl; list = refl };
       agreed = (λ port slot. Free, both (λ t. Free ≡ Free) refl refl, record { machine = known.machine; parked = λ port. []; reached = known.reached; knows = known.knows });
-      apart = AllPairs-cons (λ (a b : SlotTask). a.slot ≡ b.slot → ⊥) (read_in 0 100 100) (read_in 1 108 101 ∷ []) (all_one (λ (b : SlotTask). 0 ≡ b.slot → ⊥) (read_in 1 108 101) (λ e. omega (arith, e))) (one_apart (read_in 1 108 101));
+      apart = AllPairs-cons (λ (a b : PlacedTask). a.slot ≡ b.slot → ⊥) (read_in 0 100 100) (read_in 1 108 101 ∷ []) (all_one (λ (b : PlacedTask). 0 ≡ b.slot → ⊥) (read_in 1 108 101) (λ e. omega (arith, e))) (one_apart (read_in 1 108 101));
       small = both (λ t. t.slot < 32) (omega arith) (omega arith);
       usable = both (λ t. t.slot ≤ (ready_with two_memory).cap / 256 % 32) (omega arith) (omega arith);
       fit = both (λ t. IsFitTransfer t.task t.frames) (fits 0 100 100 (omega arith)) (fits 1 108 101 (omega arith));

@@ -13,7 +13,7 @@ use Rattle.adapter.specs.Device.{Bases, Device}
 use Rattle.adapter.specs.Rules.{IsOn, HasPort}
 use Rattle.block_machine.specs.Events.{AllByDevice}
 use Rattle.block_machine.specs.Histories.{IsReachable}
-use Rattle.block_machine.specs.Left.{after}
+use Rattle.block_machine.specs.Expected.{after}
 use Rattle.block_machine.specs.State.{Machine}
 use Rattle.block_machine.specs.Steps.{Step}
 use Rattle.refinement.specs.Acts.{Act, AreActsDone, driver_state, accesses_of, act_steps}
@@ -24,7 +24,7 @@ use Rattle.refinement.specs.Places.{list_of}
 use Rattle.refinement.specs.Readying.{IsStored}
 use Rattle.refinement.specs.Slots.{SlotDecodesTo, SlotStates}
 use Rattle.command_table.specs.Written.{IsStoreWithBlock, IsTableStore}
-use Rattle.commands.specs.Batches.{IsStoreForBatch, SlotTask}
+use Rattle.commands.specs.Batches.{IsStoreForBatch, PlacedTask}
 use Rattle.commands.specs.Tasks.{IsStoreFor, RunsItsList}
 use Rattle.commands.proofs.Batch.{all_as}
 
@@ -48,7 +48,7 @@ store_for Read port slot access here = inl here
 store_for Write port slot access here = inl here
 store_for Flush port slot access here = inl here
 
-pub batch_stores : (port : ℕ) (tasks : List SlotTask) (access : Access) → IsStoreForBatch port tasks access → IsStoring access
+pub batch_stores : (port : ℕ) (tasks : List PlacedTask) (access : Access) → IsStoreForBatch port tasks access → IsStoring access
 batch_stores port tasks access here = with_block_stores port here.0.slot access (store_for here.0.task.op port here.0.slot access here.2)
 
 pub table_stores : (port slot : ℕ) (access : Access) → IsTableStore port slot access → IsStoring access

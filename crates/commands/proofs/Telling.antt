@@ -21,10 +21,10 @@ use Rattle.block_machine.specs.State.{Accepted, Pending}
 use Rattle.block_machine.specs.declared.due.QueueMode.{QueueMode}
 use Rattle.refinement.specs.Driven.{IsSimulated}
 use Rattle.refinement.specs.Places.{place_in}
-use Rattle.refinement.specs.Slots.{ArePlaces, HasTrimBlock, Means, op_of}
+use Rattle.refinement.specs.Slots.{ArePlaces, HasTrimBlock, MeansRequest, op_of}
 use Rattle.command_table.specs.Places.{place_of, places_of}
 use Rattle.command_table.specs.Written.{IsTableFor, IsTableStore, IsUnused}
-use Rattle.commands.specs.Tasks.{HasBlockOf, IsStoreFor, IsTransfer, IsTaskOf, addresses_of, in_fis, meaning_of, task_operation}
+use Rattle.commands.specs.Tasks.{HasBlockOf, IsStoreFor, IsTransfer, IsTaskOf, addresses_of, value_in_fis, meaning_of, task_operation}
 use Rattle.commands.specs.declared.ncq.Task.{Task}
 
 -- what holds of a read and of a write holds of a transfer
@@ -46,8 +46,8 @@ ranged = of_command (λ queued op. is_ranged (task_operation queued op) ≡ true
 moves_all : (count : ℕ) (queued : Bool) (op : Op) → IsTransfer op → piece_count (task_operation queued op) count ≡ count
 moves_all count = of_command (λ queued op. piece_count (task_operation queued op) count ≡ count) refl refl refl refl
 
-pub in_its_fis : (n : ℕ) (op : Op) → IsTransfer op → in_fis op n ≡ n
-in_its_fis n = of_transfer (λ op. in_fis op n ≡ n) refl refl
+pub in_its_fis : (n : ℕ) (op : Op) → IsTransfer op → value_in_fis op n ≡ n
+in_its_fis n = of_transfer (λ op. value_in_fis op n ≡ n) refl refl
 
 pub in_frames : (port count : ℕ) (frames : List Frame) (op : Op) → IsTransfer op → addresses_of port op count frames ≡ places_of frames count
 in_frames port count frames = of_transfer (λ op. addresses_of port op count frames ≡ places_of frames count) refl refl
@@ -73,7 +73,7 @@ pub table_says : (r : Task) (frames : List Frame) (port slot : ℕ) → IsTransf
     command ≡ command_of (task_operation r.queued r.op) slot r.range.first.0 r.range.count → All IsWholePieces prds → pieces prds ≡ places_of frames r.range.count →
     IsTableFor slot command prds (meaning_of r) (addresses_of port r.op r.range.count frames)
 table_says r frames port slot transfers some few first command prds fields whole places =
-    subst (λ (first : ℕ). IsTableFor slot command prds (record { operation = task_operation r.queued r.op; first = first; count = in_fis r.op r.range.count }) (addresses_of port r.op r.range.count frames)) (sym (in_its_fis r.range.first.0 r.op transfers))
+    subst (λ (first : ℕ). IsTableFor slot command prds (record { operation = task_operation r.queued r.op; first = first; count = value_in_fis r.op r.range.count }) (addresses_of port r.op r.range.count frames)) (sym (in_its_fis r.range.first.0 r.op transfers))
     (subst (λ (count : ℕ). IsTableFor slot command prds (record { operation = task_operation r.queued r.op; first = r.range.first.0; count = count }) (addresses_of port r.op r.range.count frames)) (sym (in_its_fis r.range.count r.op transfers))
     (subst (IsTableFor slot command prds (record { operation = task_operation r.queued r.op; first = r.range.first.0; count = r.range.count })) (sym (in_frames port r.range.count frames r.op transfers)) (record {
       meaning = record {
@@ -118,7 +118,7 @@ module _ (port : Port) (slot : ℕ) (r : Task) (frames : List Frame) (mode : Que
   head : r.op ≡ Trim → slot ≡ 0
   head trim = is.head (is.kind ∙ ap (λ (op : Op). not (is_plain mode op)) trim)
 
-  names_first : (queued : Bool) (op : Op) → is_ranged (task_operation queued op) ≡ true → in_fis op r.range.first.0 ≡ e.request.asked.first.0
+  names_first : (queued : Bool) (op : Op) → is_ranged (task_operation queued op) ≡ true → value_in_fis op r.range.first.0 ≡ e.request.asked.first.0
   names_first true Read named = sym (ap (λ (s : Sector). s.0) is.first)
   names_first false Read named = sym (ap (λ (s : Sector). s.0) is.first)
   names_first true Write named = sym (ap (λ (s : Sector). s.0) is.first)
@@ -126,7 +126,7 @@ module _ (port : Port) (slot : ℕ) (r : Task) (frames : List Frame) (mode : Que
   names_first queued Trim named = absurd (true≢false (sym named))
   names_first queued Flush named = absurd (true≢false (sym named))
 
-  pub task_means : Means port.0 slot e.request (meaning_of r) (addresses_of port.0 r.op r.range.count frames)
+  pub task_means : MeansRequest port.0 slot e.request (meaning_of r) (addresses_of port.0 r.op r.range.count frames)
   task_means = record {
     op = op_is r.queued r.op ∙ ap Some (sym is.operation);
     first = names_first r.queued r.op;

@@ -12,7 +12,7 @@ use Rattle.adapter.specs.ReadDone.{read_of}
 use Rattle.adapter.specs.Decoding.{DecodesTo, piece_addresses}
 use Rattle.block_machine.specs.Confined.{WasAccepted}
 use Rattle.block_machine.specs.Due.{is_plain}
-use Rattle.block_machine.specs.Left.{IsLegal, IsInitial, after}
+use Rattle.block_machine.specs.Expected.{IsLegal, IsInitial, after}
 use Rattle.block_machine.specs.Rules.{frame_count_for}
 use Rattle.block_machine.specs.State.{Accepted, Machine, Pending}
 use Rattle.block_machine.specs.Steps.{Issue, May, Step}

@@ -23,40 +23,40 @@ use Rattle.refinement.specs.Places.{list_of}
 use Rattle.refinement.specs.Readying.{IsStored}
 use Rattle.refinement.specs.Slots.{Free, SlotDecodesTo, SlotStates}
 use Rattle.command_table.specs.Written.{IsStoreWithBlock, IsTableStore, IsUnused}
-use Rattle.commands.specs.Tasks.{HasBlockOf, IsBeingIssued, IsFitTransfer, IsStoreFor, IsTaskOf, RunsItsList, addresses_of, meaning_of, with_serving, writes_of}
+use Rattle.commands.specs.Tasks.{HasBlockOf, IsBeingIssued, IsFitTransfer, IsStoreFor, IsTaskOf, RunsItsList, addresses_of, meaning_of, with_serving, issuing_writes}
 use Rattle.commands.specs.declared.ncq.Task.{Task}
 
 -- ---- a batch
 
 -- a task, the slot of its command, and the frames of its sectors
-pub record SlotTask : Type 0 where
+pub record PlacedTask : Type 0 where
   pub slot : ℕ
   pub task : Task
   pub frames : List Frame
 
 -- a batch of one
-abbrev pub only_task : ℕ → Task → List Frame → List SlotTask
-only_task slot task frames = record { slot = slot; task = task; frames = frames } ∷ []
+abbrev pub batch_of_one : ℕ → Task → List Frame → List PlacedTask
+batch_of_one slot task frames = record { slot = slot; task = task; frames = frames } ∷ []
 
 -- a task of the batch has this slot
-abbrev pub IsSlotOf : List SlotTask → ℕ → Type 0
-IsSlotOf tasks slot = (t : SlotTask) × Contains tasks t × (t.slot ≡ slot)
+abbrev pub IsSlotOf : List PlacedTask → ℕ → Type 0
+IsSlotOf tasks slot = (t : PlacedTask) × Contains tasks t × (t.slot ≡ slot)
 
 -- no two of them have the same slot
-abbrev pub HaveOwnSlots : List SlotTask → Type 0
+abbrev pub HaveOwnSlots : List PlacedTask → Type 0
 HaveOwnSlots tasks = AllPairs (λ a b. a.slot ≡ b.slot → ⊥) tasks
 
 -- the slot of none is in use
-abbrev pub AreUnused : ℕ → List SlotTask → SlotStates → Type 0
+abbrev pub AreUnused : ℕ → List PlacedTask → SlotStates → Type 0
 AreUnused port tasks uses = All (λ t. uses port t.slot ≡ Free) tasks
 
 -- the value has the bits of their slots, and no other
-pub record HasBitsOf (tasks : List SlotTask) (v : ℕ) : Type 0 where
+pub record HasBitsOf (tasks : List PlacedTask) (v : ℕ) : Type 0 where
   pub here : All (λ t. bit v t.slot ≡ true) tasks
   pub alone : (slot : ℕ) → bit v slot ≡ true → IsSlotOf tasks slot
 
 -- the slot's header and table say what the task is to do, and a trim's block names its sectors
-pub record SaysTask (port : ℕ) (t : SlotTask) (memory : ℕ → ℕ) : Type 0 where
+pub record SaysTask (port : ℕ) (t : PlacedTask) (memory : ℕ → ℕ) : Type 0 where
   pub told : SlotDecodesTo memory (list_of port) port t.slot (meaning_of t.task)
       (addresses_of port t.task.op t.task.range.count t.frames)
   pub block : HasBlockOf t.task.op t.task.range port memory
@@ -64,18 +64,18 @@ pub record SaysTask (port : ℕ) (t : SlotTask) (memory : ℕ → ℕ) : Type 0 
 -- ---- it is stored
 
 -- it stores what a task of the batch needs
-abbrev pub IsStoreForBatch : ℕ → List SlotTask → Access → Type 0
-IsStoreForBatch port tasks access = (t : SlotTask) × Contains tasks t × IsStoreFor t.task.op port t.slot access
+abbrev pub IsStoreForBatch : ℕ → List PlacedTask → Access → Type 0
+IsStoreForBatch port tasks access = (t : PlacedTask) × Contains tasks t × IsStoreFor t.task.op port t.slot access
 
 -- What a transfer's command needs was stored in its slot, and nothing else was done: header and table, which say it.
-pub record StoresTransfer (port : Port) (t : SlotTask) (old new : Device) : Type 0 where
+pub record StoresTransfer (port : Port) (t : PlacedTask) (old new : Device) : Type 0 where
   pub on : IsOn new
   pub stores : IsSimulated (IsTableStore port.0 t.slot) (IsUnused port.0 t.slot) old new
   pub says : SaysTask port.0 t new.memory
 
 -- Accesses that store for queued transfers led there, and no others: each transfer has a slot of its own that the
 -- adapter has (AHCI 1.3.1, 3.1.1, CAP.NCS) and that wasn't in use, and the slot says it. The port runs.
-pub record IsBatchStored (port : Port) (tasks : List SlotTask) (old stored : Device) : Type 0 where
+pub record IsBatchStored (port : Port) (tasks : List PlacedTask) (old stored : Device) : Type 0 where
   pub on : IsOn old
   pub there : HasPort old port.0
   pub room : DRIVER_BYTES ≤ old.size
@@ -92,19 +92,19 @@ pub record IsBatchStored (port : Port) (tasks : List SlotTask) (old stored : Dev
 -- ---- it is issued
 
 -- it stores header or table of a slot of the port, or a block, or writes the port's PxSACT or PxCI
-abbrev pub IsIssuingOn : Port → Access → Type 0
-IsIssuingOn port (Writing r v) = (r ≡ Px port Sact) ⊎ (r ≡ Px port Ci)
-IsIssuingOn port (Storing at bytes) = (slot : ℕ) × (slot < 32) × IsStoreWithBlock port.0 slot (Storing at bytes)
-IsIssuingOn port access = ⊥
+abbrev pub IsBatchAccess : Port → Access → Type 0
+IsBatchAccess port (Writing r v) = (r ≡ Px port Sact) ⊎ (r ≡ Px port Ci)
+IsBatchAccess port (Storing at bytes) = (slot : ℕ) × (slot < 32) × IsStoreWithBlock port.0 slot (Storing at bytes)
+IsBatchAccess port access = ⊥
 
 -- Stores of what the commands need come first, and then the writes of their slots' bits, all at once.
-pub record StoresThenWritesAll (port : Port) (queued : Bool) (tasks : List SlotTask) (accesses : List Access) : Type 0
+pub record StoresThenWritesAll (port : Port) (queued : Bool) (tasks : List PlacedTask) (accesses : List Access) : Type 0
   where
     pub stores : List Access
     pub only : All (IsStoreForBatch port.0 tasks) stores
     pub mask : ℕ
     pub bits : HasBitsOf tasks mask
-    pub order : accesses ≡ stores ++ writes_of port queued mask
+    pub order : accesses ≡ stores ++ issuing_writes port queued mask
 
 -- the requests' issues, the last one first
 abbrev pub issues_of : QueueMode → List Pending → List Step
@@ -112,13 +112,14 @@ issues_of mode [] = []
 issues_of mode (e ∷ es) = issues_of mode es ++ Issue mode e ∷ []
 
 -- the slots are free, and the requests may be issued one after another
-pub record MayServeBatch (port : Port) (tasks : List SlotTask) (mode : QueueMode) (es : List Pending) (s : DriverSlots)
+pub record MayServeBatch (port : Port) (tasks : List PlacedTask) (mode : QueueMode) (es : List Pending) (s :
+    DriverSlots)
     (m : Machine) : Type 0 where
   pub free : AreUnused port.0 tasks s.uses
   pub may : AllMay m (issues_of mode es)
 
 -- each slot serves the request in its place
-abbrev pub with_serving_batch : Port → List SlotTask → List Pending → DriverSlots → DriverSlots
+abbrev pub with_serving_batch : Port → List PlacedTask → List Pending → DriverSlots → DriverSlots
 with_serving_batch port (t ∷ tasks) (e ∷ es) s =
     with_serving_batch port tasks es (with_serving port t.slot e.request.id s)
 with_serving_batch port _ _ s = s
@@ -126,7 +127,7 @@ with_serving_batch port _ _ s = s
 -- The device makes steps, and last of all the requests are issued, in this order, by the last act: before it the device
 -- alone makes steps. Their slots are put to no other use meanwhile, and each other one is used after each act as before
 -- the first.
-pub record IssuesBatchAtEnd (port : Port) (tasks : List SlotTask) (mode : QueueMode) (es : List Pending)
+pub record IssuesBatchAtEnd (port : Port) (tasks : List PlacedTask) (mode : QueueMode) (es : List Pending)
     (uses : SlotStates) (acts : List Act) : Type 0 where
   pub once : (early : List Act) × (act : Act) × (acts ≡ early ++ act ∷ []) × AllByDevice (act_steps early)
   pub before : List Step
@@ -138,12 +139,12 @@ pub record IssuesBatchAtEnd (port : Port) (tasks : List SlotTask) (mode : QueueM
 -- Such accesses led there, in this order. And from each machine that agrees with the slots free, and on which requests
 -- that are these tasks may be issued one after another, acts with these accesses lead to one that agrees with a driver
 -- whose slots serve them.
-pub record IssuesBatch (port : Port) (tasks : List SlotTask) (old new : Device) : Type 0 where
+pub record IssuesBatch (port : Port) (tasks : List PlacedTask) (old new : Device) : Type 0 where
   pub queued : Bool
   pub kinds : All (λ t. t.task.queued ≡ queued) tasks
   pub small : All (λ t. t.slot < 32) tasks
   pub apart : HaveOwnSlots tasks
-  pub driven : IsDrivenBy (IsIssuingOn port) old new
+  pub driven : IsDrivenBy (IsBatchAccess port) old new
   pub order : StoresThenWritesAll port queued tasks driven.accesses
   pub comes : (mode : QueueMode) (es : List Pending)
       → AllZip (λ t e. IsTaskOf port t.slot t.task t.frames mode e) tasks es
@@ -151,7 +152,7 @@ pub record IssuesBatch (port : Port) (tasks : List SlotTask) (old new : Device) 
       (λ s m. IssuesBatchAtEnd port tasks mode es s.uses) old new
 
 -- What the write of PxCI makes of a batch: each slot's bytes say its task, and its bits are set.
-pub record IsBatchIssued (port : Port) (tasks : List SlotTask) (old new : Device) : Type 0 where
+pub record IsBatchIssued (port : Port) (tasks : List PlacedTask) (old new : Device) : Type 0 where
   pub on : IsOn new
   pub issues : IssuesBatch port tasks old new
   pub stored : All (λ t. IsStored new port.0 t.slot (meaning_of t.task)

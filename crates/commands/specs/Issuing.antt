@@ -10,7 +10,7 @@ use Rattle.adapter.specs.Device.{Device}
 use Rattle.adapter.specs.Rules.{IsOn, HasPort}
 use Rattle.refinement.specs.Driven.{RelatesWith, IsSimulated}
 use Rattle.command_table.specs.Written.{IsUnused}
-use Rattle.commands.specs.Batches.{AreUnused, HasBitsOf, HaveOwnSlots, IsBatchIssued, IsStoreForBatch, SaysTask, SlotTask, only_task}
+use Rattle.commands.specs.Batches.{AreUnused, HasBitsOf, HaveOwnSlots, IsBatchIssued, IsStoreForBatch, SaysTask, PlacedTask, batch_of_one}
 use Rattle.commands.specs.Tasks.{Arms, IsFitTransfer, RunsItsList, meaning_of}
 use Rattle.commands.specs.declared.ncq.Task.{Task}
 
@@ -33,7 +33,7 @@ pub record MayIssueTransfer (port : Port) (slot : ℕ) (r : Task) (frames : List
 
 -- The commands of these tasks might be issued in their slots, all queued or none, and a trim's in slot 0. What they
 -- need was stored, and says them; and the slots' bits of PxSACT were set for queued commands.
-pub record IsArmedFor (port : Port) (queued : Bool) (tasks : List SlotTask) (own : ℕ) (old armed : Device) : Type 0
+pub record IsArmedFor (port : Port) (queued : Bool) (tasks : List PlacedTask) (own : ℕ) (old armed : Device) : Type 0
   where
     pub on : IsOn old
     pub there : HasPort old port.0
@@ -53,4 +53,4 @@ pub record IsArmedFor (port : Port) (queued : Bool) (tasks : List SlotTask) (own
 
 -- What the write of PxCI makes of one task.
 abbrev pub IsIssued : Port → ℕ → Task → List Frame → Device → Device → Type 0
-IsIssued port slot r frames old new = IsBatchIssued port (only_task slot r frames) old new
+IsIssued port slot r frames old new = IsBatchIssued port (batch_of_one slot r frames) old new

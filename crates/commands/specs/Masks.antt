@@ -9,12 +9,12 @@ use Rattle.adapter.specs.Access.{Access}
 use Rattle.adapter.specs.Access.Access.{Reading}
 use Rattle.adapter.specs.Device.{Device}
 use Rattle.block_machine.specs.Events.{AllByDevice}
-use Rattle.block_machine.specs.Left.{after}
+use Rattle.block_machine.specs.Expected.{after}
 use Rattle.block_machine.specs.State.{Machine}
 use Rattle.block_machine.specs.Steps.{NoneQuarantined}
 use Rattle.refinement.specs.Acts.{Act, DriverSlots, ActsReachWith, act_steps}
 use Rattle.refinement.specs.Driven.{IsDrivenBy}
-use Rattle.refinement.specs.Facts.{EndedIn}
+use Rattle.refinement.specs.PortFacts.{EndedIn}
 use Rattle.refinement.specs.Slots.{Serves, IsOver}
 
 -- it reads PxCI or PxSACT

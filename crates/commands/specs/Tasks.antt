@@ -53,18 +53,18 @@ task_operation queued Trim = operation.Trim
 task_operation queued Flush = operation.Flush
 
 -- of a range, what the command's FIS says: a trim's sectors stand in its block, and a flush has none
-abbrev pub in_fis : Op → ℕ → ℕ
-in_fis Read n = n
-in_fis Write n = n
-in_fis Trim n = 0
-in_fis Flush n = 0
+abbrev pub value_in_fis : Op → ℕ → ℕ
+value_in_fis Read n = n
+value_in_fis Write n = n
+value_in_fis Trim n = 0
+value_in_fis Flush n = 0
 
 -- what the task's command says
 abbrev pub meaning_of : Task → Meaning
 meaning_of r = record {
   operation = task_operation r.queued r.op;
-  first = in_fis r.op r.range.first.0;
-  count = in_fis r.op
+  first = value_in_fis r.op r.range.first.0;
+  count = value_in_fis r.op
       r.range.count;
 }
 
@@ -108,9 +108,9 @@ IsStoreFor Trim port slot access = IsStoreWithBlock port slot access
 IsStoreFor _ port slot access = IsTableStore port slot access
 
 -- What stands behind the stores: for a queued command PxSACT is written before PxCI (AHCI 1.3.1, 5.5.1).
-abbrev pub writes_of : Port → Bool → ℕ → List Access
-writes_of port true v = Writing (Px port Sact) v ∷ Writing (Px port Ci) v ∷ []
-writes_of port false v = Writing (Px port Ci) v ∷ []
+abbrev pub issuing_writes : Port → Bool → ℕ → List Access
+issuing_writes port true v = Writing (Px port Sact) v ∷ Writing (Px port Ci) v ∷ []
+issuing_writes port false v = Writing (Px port Ci) v ∷ []
 
 -- PxSACT was written, for a queued command; for a plain one nothing was done
 abbrev pub Arms : Bool → Port → ℕ → Device → Device → Type 0

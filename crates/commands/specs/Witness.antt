@@ -10,9 +10,9 @@ use Rattle.block_machine.specs.declared.due.QueueMode.{QueueMode}
 use Rattle.refinement.specs.Relation.{port_at}
 use Rattle.refinement.specs.Driven.{IsRelated}
 use Rattle.refinement.specs.Slots.{Free}
-use Rattle.refinement.specs.Served.{two_memory}
+use Rattle.refinement.specs.TwoReads.{two_memory}
 use Rattle.refinement.specs.Witness.{prepared_read, ready_with}
-use Rattle.commands.specs.Batches.{HasBitsOf, IsBatchStored, MayServeBatch, SlotTask}
+use Rattle.commands.specs.Batches.{HasBitsOf, IsBatchStored, MayServeBatch, PlacedTask}
 use Rattle.commands.specs.Tasks.{IsFitTransfer, IsTaskOf, RunsItsList}
 use Rattle.commands.specs.declared.ncq.Task.{Task}
 
@@ -38,7 +38,7 @@ pub record FirstMayBeIssued : Type 0 where
 -- issued; and a value has the slots' bits. So what is asked before a batch is issued can be met, and what is said of
 -- issuing it speaks of something.
 pub record BatchMayBeIssued : Type 0 where
-  pub tasks : List SlotTask
+  pub tasks : List PlacedTask
   pub two : length tasks ≡ 2
   pub stored : IsBatchStored (port_at 0) tasks (ready_with two_memory) (ready_with two_memory)
   pub mask : ℕ

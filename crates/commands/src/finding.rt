@@ -9,12 +9,12 @@ ghost use Rattle.adapter.specs.Device.{Device};
 ghost use Rattle.adapter.specs.Rules.{IsOn};
 ghost use Rattle.commands.specs.Masks.{IsDoneMask, ReadsDone, SeesClear};
 
-use adapter::laws::law_steps_guarantee;
-use refinement::acts::law_acts_are_done;
-use refinement::facts::{law_adapter_stays, law_controls_stay, law_ended_is_clear};
+use adapter::laws::law_step_lists_keep_what_steps_keep;
+use refinement::acts::law_accesses_and_decisions_are_acts;
 use refinement::laws::{
     law_advances_compose, law_histories_compose, law_reading_is_followed, law_steps_spare_the_book,
 };
+use refinement::port_facts::{law_adapter_stays, law_controls_stay, law_ended_is_clear};
 
 /// PxCI and then PxSACT are read: they tell what is done.
 pub fn law_reading_finds_done()
@@ -22,13 +22,13 @@ pub fn law_reading_finds_done()
         → Reads (Px port Ci) issued old mid → Reads (Px port Sact) active mid new → IsDoneMask mask issued active done
         → ReadsDone port mask done old new × SeesClear port mask done old }
 {
-    law_acts_are_done();
+    law_accesses_and_decisions_are_acts();
     law_adapter_stays();
     law_controls_stay();
     law_ended_is_clear();
     law_advances_compose();
     law_histories_compose();
     law_reading_is_followed();
-    law_steps_guarantee();
+    law_step_lists_keep_what_steps_keep();
     law_steps_spare_the_book();
 }

@@ -11,10 +11,10 @@ ghost use Rattle.adapter.specs.Commands.{command_of};
 ghost use Rattle.adapter.specs.Trim.{consecutive, trim_sectors};
 ghost use Rattle.adapter.specs.declared.command.Operation.TheVariants as operation;
 ghost use Rattle.commands.specs.Issuing.{IsIssued, MayIssueTask};
-ghost use Rattle.commands.specs.Block.{IsCut, entry_first, entry_length, first_of, length_of};
+ghost use Rattle.commands.specs.Block.{IsRangeCut, entry_first, entry_length, entry_first_for, entry_length_for};
 ghost use Rattle.commands.specs.PlainTasks.{flush_task, trim_task};
 ghost use Rattle.adapter.specs.Counted.{MakesAtMost};
-ghost use Rattle.command_table.specs.Costs.{BLOCK_ACCESSES, TABLE_ACCESSES};
+ghost use Rattle.command_table.specs.Costs.{TABLE_WITH_BLOCK_ACCESSES, TABLE_ACCESSES};
 
 use super::ncq::bit_of;
 use crate::laws::law_writing_issues;
@@ -45,8 +45,8 @@ const ENTRY_SECTORS: u32 = 65_535;
 fn entry_of(range: &Range, place: usize) -> [u8; ENTRY_BYTES]
     requires place { place < 64 }
     requires sectors { 0 < range.now.count → range.now.first.0 + range.now.count ≤ 2 ^ 48 }
-    ensures first { entry_first result 0 ≡ first_of range.now.first.0 range.now.count place }
-    ensures length { entry_length result 0 ≡ length_of range.now.count place }
+    ensures first { entry_first result 0 ≡ entry_first_for range.now.first.0 range.now.count place }
+    ensures length { entry_length result 0 ≡ entry_length_for range.now.count place }
 {
     let before = ENTRY_SECTORS * place as u32;
     let length = range.count.saturating_sub(before).min(ENTRY_SECTORS);
@@ -64,7 +64,7 @@ pub fn trim_block(range: &Range) -> [u8; 512]
     requires count { range.now.count ≤ 4194240 }
     requires sectors { 0 < range.now.count → range.now.first.0 + range.now.count ≤ 2 ^ 48 }
     ensures means { trim_sectors result ≡ consecutive range.now.first.0 range.now.count }
-    ensures cut { IsCut result range.now.first.0 range.now.count }
+    ensures cut { IsRangeCut result range.now.first.0 range.now.count }
 {
     let mut block = [0; ENTRIES * ENTRY_BYTES];
     for place in 0..ENTRIES {
@@ -122,7 +122,8 @@ pub fn issue_trim<A: Adapter>(adapter: &mut A, port: Port, range: &Range)
     requires sectors { 0 < range.now.count → range.now.first.0 + range.now.count ≤ 2 ^ 48 }
     ensures issued { (frames : List Frame) → IsIssued port 0 (trim_task range.now) frames (A.device adapter.old)
         (A.device adapter.new) }
-    ensures cost { MakesAtMost (BLOCK_ACCESSES + 1) (A.access_count adapter.old) (A.access_count adapter.new) }
+    ensures cost { MakesAtMost (TABLE_WITH_BLOCK_ACCESSES + 1) (A.access_count adapter.old)
+        (A.access_count adapter.new) }
 {
     law_writing_issues();
     write_table_with_block(adapter, port, &trim_command(), &trim_block(range));

@@ -17,7 +17,7 @@ ghost use Rattle.refinement.specs.Acts.{DriverSlots, driver_state};
 ghost use Rattle.refinement.specs.Driven.{AnyUse, IsSimulated, RelatesWith, SparesOtherPorts, GainsNoMove};
 ghost use Rattle.refinement.specs.Driver.{EndsInSteps, DriverRelation};
 ghost use Rattle.refinement.specs.Slots.{Own, op_of};
-ghost use Rattle.commands.specs.Batches.{AreUnused, HasBitsOf, IsBatchIssued, IsBatchStored, IsIssuingOn, IsSlotOf, IssuesBatch, MayServeBatch, SlotTask, StoresTransfer, issues_of, with_serving_batch};
+ghost use Rattle.commands.specs.Batches.{AreUnused, HasBitsOf, IsBatchIssued, IsBatchStored, IsBatchAccess, IsSlotOf, IssuesBatch, MayServeBatch, PlacedTask, StoresTransfer, issues_of, with_serving_batch};
 ghost use Rattle.commands.specs.Issuing.{IsArmedFor, MayIssueTransfer};
 ghost use Rattle.commands.specs.Masks.{ReadsDone, ReadsCiOrSact};
 ghost use Rattle.commands.specs.Tasks.{IsFitTransfer, IsTaskOf, RunsItsList};
@@ -25,34 +25,36 @@ ghost use Rattle.commands.specs.Witness.{BatchMayBeIssued, FirstMayBeIssued};
 
 use adapter::laws::{law_a_first_read_exists, law_decoding_is_unique};
 use block_machine::laws::law_issues_keep_the_rules;
-use refinement::acts::{law_acts_advance_driver, law_acts_are_done, law_acts_compose};
-use refinement::facts::{law_adapter_stays, law_controls_stay};
+use refinement::acts::{
+    law_accesses_and_decisions_are_acts, law_acts_advance_driver, law_acts_compose,
+};
 use refinement::fragments::law_other_ports_are_left;
 use refinement::laws::{
     law_a_prepared_read_agrees, law_advances_compose, law_device_is_followed,
     law_device_steps_are_parts, law_due_stays, law_free_slots_are_left, law_histories_compose,
     law_putting_is_of_one_slot, law_stored_commands_stay, law_two_reads_are_stored,
 };
+use refinement::port_facts::{law_adapter_stays, law_controls_stay};
 use refinement::readying::{
-    law_bits_are_followed_in_turn, law_readied_is_issued, law_readied_stays,
+    law_bits_are_followed_in_turn, law_readied_is_issued, law_stored_stays,
     law_stored_stays_over_acts,
 };
 
 /// No call touches a register of another port, nor another port's bit of IS: so what is said of such accesses
 /// (`SparesOtherPorts`) is so of each.
 pub fn law_calls_are_of_one_port()
-    ensures issuing_on { (port : Port) (access : Access) → IsIssuingOn port access → SparesOtherPorts port access }
+    ensures issuing_on { (port : Port) (access : Access) → IsBatchAccess port access → SparesOtherPorts port access }
     ensures finding { (port : Port) (access : Access) → ReadsCiOrSact port access → SparesOtherPorts port access }
 {}
 
 /// Once all is stored that the tasks' commands need, and their slots are armed, the slots' bits of PxCI may be written,
 /// and that issues the commands.
 pub fn law_writing_issues()
-    ensures { (port : Port) (queued : Bool) (tasks : List SlotTask) (own : ℕ) (old armed : Device)
+    ensures { (port : Port) (queued : Bool) (tasks : List PlacedTask) (own : ℕ) (old armed : Device)
         → IsArmedFor port queued tasks own old armed → IsStable (MayWrite (Px port Ci) own) armed
         × ((new : Device) → Writes (Px port Ci) own armed new → IsBatchIssued port tasks old new) }
 {
-    law_acts_are_done();
+    law_accesses_and_decisions_are_acts();
     law_acts_compose();
     law_acts_advance_driver();
     law_adapter_stays();
@@ -67,7 +69,7 @@ pub fn law_writing_issues()
     law_other_ports_are_left();
     law_putting_is_of_one_slot();
     law_readied_is_issued();
-    law_readied_stays();
+    law_stored_stays();
     law_stored_commands_stay();
 }
 
@@ -76,7 +78,7 @@ pub fn law_writing_issues()
 pub fn law_batches_grow()
     ensures none { (port : Port) (d : Device) → IsOn d → HasPort d port.0 → DRIVER_BYTES ≤ d.size
         → RunsItsList port.0 d → RelatesWith (AreUnused port.0 []) d → IsBatchStored port [] d d }
-    ensures more { (port : Port) (tasks : List SlotTask) (t : SlotTask) (start mid : Device)
+    ensures more { (port : Port) (tasks : List PlacedTask) (t : PlacedTask) (start mid : Device)
         → IsBatchStored port tasks start mid → RelatesWith (AreUnused port.0 (tasks ++ t ∷ [])) start
         → (IsSlotOf tasks t.slot → ⊥) → t.slot < 32 → t.slot ≤ start.cap / 256 % 32
         → IsFitTransfer t.task t.frames → t.task.queued ≡ true
@@ -96,7 +98,7 @@ pub fn law_batches_grow()
 /// So does its mask, of 32 bits: it begins with none, and has the bit of the task's slot more.
 pub fn law_batch_masks_grow()
     ensures none { HasBitsOf [] 0 }
-    ensures more { (tasks : List SlotTask) (t : SlotTask) (mask later : ℕ) → mask < 2 ^ 32 → later < 2 ^ 32
+    ensures more { (tasks : List PlacedTask) (t : PlacedTask) (mask later : ℕ) → mask < 2 ^ 32 → later < 2 ^ 32
         → HasBitsOf tasks mask → bit later t.slot ≡ true
         → ((k : ℕ) → k < 32 → k ≢ t.slot → bit later k ≡ bit mask k) → HasBitsOf (tasks ++ t ∷ []) later }
 {}
@@ -104,14 +106,14 @@ pub fn law_batch_masks_grow()
 /// Issuing a batch is a part of a call. From a machine that agrees with the slots free, and on which requests that are
 /// the tasks may be issued one after another: by its two ends it is the device's steps, and then the requests' issues;
 /// and no disk sends a page meanwhile, but to a slot 0 that has a command of the driver's own.
-pub fn law_a_batch_performs()
-    ensures ends { (port : Port) (tasks : List SlotTask) (mode : QueueMode) (es : List Pending) (old new : Device)
+pub fn law_batch_issues_come_last()
+    ensures ends { (port : Port) (tasks : List PlacedTask) (mode : QueueMode) (es : List Pending) (old new : Device)
         (s : DriverSlots) (m : Machine) → IssuesBatch port tasks old new
         → AllZip (λ t e. IsTaskOf port t.slot t.task t.frames mode e) tasks es → IsReachable m
         → DriverRelation m (driver_state s old) → MayServeBatch port tasks mode es s m
         → EndsInSteps (driver_state s old) m (issues_of mode es)
         (driver_state (with_serving_batch port tasks es s) new) }
-    ensures silent { (port : Port) (tasks : List SlotTask) (mode : QueueMode) (es : List Pending) (old new : Device)
+    ensures silent { (port : Port) (tasks : List PlacedTask) (mode : QueueMode) (es : List Pending) (old new : Device)
         (s : DriverSlots) (m : Machine) → IssuesBatch port tasks old new
         → AllZip (λ t e. IsTaskOf port t.slot t.task t.frames mode e) tasks es → IsReachable m
         → DriverRelation m (driver_state s old) → MayServeBatch port tasks mode es s m

@@ -11,4 +11,4 @@ pub mod laws;
 mod ncq;
 
 pub use flush_trim::{issue_flush, issue_trim, trim_block};
-pub use ncq::{Task, done, issue, issue_all, prepare};
+pub use ncq::{Task, done, issue, issue_all, store_transfer};

@@ -1,7 +1,7 @@
 //! Issues reads and writes in any slot of a port, and finds out which are done.
 //!
 //! (Native command queuing, or plain commands; AHCI 1.3.1, 5.5; ACS-3.) Each call is of one port,
-//! whatever the others do. Queued transfers may be prepared one after another (`prepare`) and
+//! whatever the others do. Queued transfers may be prepared one after another (`store_transfer`) and
 //! issued together (`issue_all`). The contract on issuing is of a `Task`, which may be a trim or a
 //! flush as well. Clear bits tell that a request has ended only while ST is one, since clearing ST
 //! clears them, too. What issuing leaves of the port beside its slot follows from the kinds of its
@@ -13,7 +13,7 @@ ghost use Rattle.adapter.specs.Rules.{IsOn, HasPort};
 ghost use Rattle.refinement.specs.Driven.{IsSoleBit};
 ghost use Rattle.hba_regs.specs.declared.reg.PortReg.TheVariants.{Ci, Sact};
 ghost use Rattle.hba_regs.specs.declared.reg.Reg.TheVariants.{Px};
-ghost use Rattle.commands.specs.Batches.{HasBitsOf, IsBatchIssued, IsBatchStored, SlotTask, StoresTransfer};
+ghost use Rattle.commands.specs.Batches.{HasBitsOf, IsBatchIssued, IsBatchStored, PlacedTask, StoresTransfer};
 ghost use Rattle.commands.specs.Issuing.{IsIssued, MayIssueTask, MayIssueTransfer};
 ghost use Rattle.commands.specs.Masks.{IsDoneMask, ReadsDone, SeesClear};
 ghost use Rattle.commands.specs.Tasks.{Arms, IsFitTransfer, IsTransfer, task_operation};
@@ -30,9 +30,9 @@ use ata_types::{
 };
 use command_table::{prds_in, write_table};
 use hba_regs::{PortReg, Reg, with_bit};
-use refinement::facts::law_adapter_stays;
 use refinement::fragments::law_other_ports_are_left;
 use refinement::laws::law_writing_is_permitted;
+use refinement::port_facts::law_adapter_stays;
 
 /// Where a queued command has its tag, which is its slot: bits 7:3 of the count field (ACS-3).
 const TAG_FACTOR: u16 = 8;
@@ -110,7 +110,7 @@ fn arm<A: Adapter>(adapter: &mut A, port: Port, own: u32, queued: bool)
 
 /// Stores header and table of an unused slot, so that they say the transfer, eight sectors to a frame. No register is
 /// written: so the device knows nothing of it yet.
-pub fn prepare<A: Adapter>(
+pub fn store_transfer<A: Adapter>(
     adapter: &mut A,
     port: Port,
     slot: Slot,
@@ -123,14 +123,14 @@ pub fn prepare<A: Adapter>(
     ensures cost { MakesAtMost TABLE_ACCESSES (A.access_count adapter.old) (A.access_count adapter.new) }
 {
     if frames.len() <= FEW_FRAMES {
-        prepare_in::<A, FEW_FRAMES>(adapter, port, slot, transfer, frames);
+        store_transfer_in::<A, FEW_FRAMES>(adapter, port, slot, transfer, frames);
     } else {
-        prepare_in::<A, MOST_REQUEST_FRAMES>(adapter, port, slot, transfer, frames);
+        store_transfer_in::<A, MOST_REQUEST_FRAMES>(adapter, port, slot, transfer, frames);
     }
 }
 
 /// Does so with a list of PRDs that has room for so many frames.
-fn prepare_in<A: Adapter, const ROOM: usize>(
+fn store_transfer_in<A: Adapter, const ROOM: usize>(
     adapter: &mut A,
     port: Port,
     slot: Slot,
@@ -165,7 +165,7 @@ pub fn issue<A: Adapter>(adapter: &mut A, port: Port, slot: Slot, transfer: &Tas
     ensures cost { MakesAtMost ISSUE_ACCESSES (A.access_count adapter.old) (A.access_count adapter.new) }
 {
     law_other_ports_are_left();
-    prepare(adapter, port, slot, transfer, frames);
+    store_transfer(adapter, port, slot, transfer, frames);
     let own = bit_of(slot);
     arm(adapter, port, own, transfer.queued);
     law_writing_issues();
@@ -175,9 +175,9 @@ pub fn issue<A: Adapter>(adapter: &mut A, port: Port, slot: Slot, transfer: &Tas
 /// Issues the queued transfers whose headers and tables were stored: all bits of PxSACT are written at once, and then
 /// all of PxCI.
 pub fn issue_all<A: Adapter>(adapter: &mut A, port: Port, mask: u32)
-    requires stored { (start : Device) × (tasks : List SlotTask)
+    requires stored { (start : Device) × (tasks : List PlacedTask)
         × IsBatchStored port tasks start (A.device adapter.old) × HasBitsOf tasks mask }
-    ensures issued { (start : Device) (tasks : List SlotTask)
+    ensures issued { (start : Device) (tasks : List PlacedTask)
         → IsBatchStored port tasks start (A.device adapter.old) → HasBitsOf tasks mask
         → IsBatchIssued port tasks start (A.device adapter.new) }
     ensures cost { MakesAtMost BATCH_ACCESSES (A.access_count adapter.old) (A.access_count adapter.new) }

@@ -4,7 +4,7 @@ use Rattle.toml.specs.Data.{Members}
 use Rattle.configuration.specs.declared.Config.{Config}
 use Rattle.configuration.specs.declared.FaultKind.{FaultKind}
 use Rattle.configuration.specs.declared.FaultKind.TheVariants.{NotToml, WrongKeys, WrongTypes, OutOfRange, Duplicate, SharedFrames, UnknownClient, UnknownPort}
-use Rattle.configuration.specs.Document.{IsDocument, IsDocumentFault, IsRead, IsReadFrom, IsTextFault, document, keys, negative, rule, types, unreadable}
+use Rattle.configuration.specs.Document.{IsDocument, IsDocumentFault, DocumentReadsAs, TextReadsAs, IsTextFault, document, keys, negative, rule, types, unreadable}
 use Rattle.configuration.specs.Rules.{IsLeastFault, kind_number}
 use Rattle.configuration.specs.Tables.{Spells}
 use Rattle.configuration.proofs.Same.{meets-alike, same-values}
@@ -75,14 +75,14 @@ told-kind-is-one text _ _ (document k m is fault) (unreadable wrong) = absurd (w
 told-kind-is-one text _ _ (document k m is fault) (document l n is' fault') =
     one-fault m k l fault (subst (λ o. IsDocumentFault o l) (one-document text n m is' is) fault')
 
-read-has-no-fault : (m : Members) (c : Config) (k : FaultKind) → IsRead m c → IsDocumentFault m k → ⊥
+read-has-no-fault : (m : Members) (c : Config) (k : FaultKind) → DocumentReadsAs m c → IsDocumentFault m k → ⊥
 read-has-no-fault m c _ read (keys wrong) = wrong read.keys
 read-has-no-fault m c _ read (types right wrong) = wrong read.types
 read-has-no-fault m c _ read (negative right t none) = none c read.values
 read-has-no-fault m c _ read (rule k d right t s b) =
     b.0 (meets-alike c d k (same-values m c d read.values s) (read.sound k))
 
-pub read-text-has-no-fault : (text : List ℕ) (c : Config) (k : FaultKind) → IsReadFrom text c → IsTextFault text k → ⊥
+pub read-text-has-no-fault : (text : List ℕ) (c : Config) (k : FaultKind) → TextReadsAs text c → IsTextFault text k → ⊥
 read-text-has-no-fault text c _ read (unreadable wrong) = wrong read.0 read.1
 read-text-has-no-fault text c _ read (document k m is fault) =
-    read-has-no-fault m c k (subst (λ o. IsRead o c) (one-document text read.0 m read.1 is) read.2) fault
+    read-has-no-fault m c k (subst (λ o. DocumentReadsAs o c) (one-document text read.0 m read.1 is) read.2) fault

@@ -11,8 +11,8 @@ use Rattle.configuration.specs.declared.FaultKind.{FaultKind}
 use Rattle.configuration.specs.declared.FaultKind.TheVariants.{NotToml, WrongKeys, WrongTypes, OutOfRange, Duplicate, SharedFrames, UnknownClient, UnknownPort}
 use Rattle.configuration.specs.declared.PortConfig.{PortConfig}
 use Rattle.configuration.specs.Ranges.{IsClientConfig, IsGrant, IsPort, IsRights, IsSerialText}
-use Rattle.configuration.specs.Rules.{FramesApart, DifferInId, DifferInGrant, DifferInNumber, HasClient, ConfiguresPort, IsTrim, LacksFault}
-use Rattle.configuration.specs.Tables.{HasNumber, HasText, MayHaveText, Spells, SpellsClient, SpellsGrant, SpellsPort, tables_at}
+use Rattle.configuration.specs.Rules.{FramesApart, DifferInId, DifferInGrant, DifferInNumber, HasClient, ConfiguresPort, IsTrimWord, LacksFault}
+use Rattle.configuration.specs.Tables.{HasNumber, HasText, HasTextOrIsAbsent, Spells, SpellsClient, SpellsGrant, SpellsPort, tables_at}
 use Rattle.configuration.proofs.Zips.{All-alike, AllPairs-alike, Any-alike, same-length, same-list, zips-alike}
 
 one-number : (m : Members) (name : List ℕ) (n k : ℕ) → HasNumber m name n → HasNumber m name k → n ≡ k
@@ -21,7 +21,7 @@ one-number m name n k a b = let both = sym a ∙ b in cc
 one-text : (m : Members) (name s t : List ℕ) → HasText m name s → HasText m name t → s ≡ t
 one-text m name s t a b = let both = sym a ∙ b in cc
 
-one-serial : (m : Members) (name : List ℕ) (s t : Option (List ℕ)) → MayHaveText m name s → MayHaveText m name t → s ≡ t
+one-serial : (m : Members) (name : List ℕ) (s t : Option (List ℕ)) → HasTextOrIsAbsent m name s → HasTextOrIsAbsent m name t → s ≡ t
 one-serial m name None None a b = refl
 one-serial m name None (Some t) a b = let both = sym a ∙ b in cc
 one-serial m name (Some s) None a b = let both = sym a ∙ b in cc
@@ -130,7 +130,7 @@ meets-alike c d OutOfRange same h = record {
     few_grants = subst (λ n. n ≤ MOST_GRANTS) (same-length SameGrant c.grant.items d.grant.items same.grants)
         h.numbers.few_grants;
   };
-  trim = subst IsTrim same.trim h.trim;
+  trim = subst IsTrimWord same.trim h.trim;
   parts = record {
     ports = All-alike SamePort IsPort IsPort port-alike c.port.items d.port.items same.ports h.parts.ports;
     clients = subst (λ n. All (IsClientConfig n) d.client.items) same.frames

@@ -13,7 +13,7 @@ use Rattle.configuration.specs.Rules.{LacksEveryFault, IsLeastFault}
 use Rattle.configuration.specs.Tables.{Spells}
 
 -- the document has the right keys and types, and these values, which meet every rule
-pub record IsRead (document : Members) (c : Config) : Type 0 where
+pub record DocumentReadsAs (document : Members) (c : Config) : Type 0 where
   pub keys : HasAllKeys document
   pub types : HasAllTypes document
   pub values : Spells document c
@@ -35,8 +35,8 @@ pub record IsDocument (text : List ℕ) (document : Members) : Type 0 where
   pub is : parse_document text ≡ Some document
 
 -- the text is a document with these values, which meet every rule
-abbrev pub IsReadFrom : List ℕ → Config → Type 0
-IsReadFrom text c = (document : Members) × IsDocument text document × IsRead document c
+abbrev pub TextReadsAs : List ℕ → Config → Type 0
+TextReadsAs text c = (document : Members) × IsDocument text document × DocumentReadsAs document c
 
 -- the least kind of fault that a text has
 pub data IsTextFault (text : List ℕ) : FaultKind → Type 0 where

@@ -20,8 +20,8 @@ pub record PlanView : Type 0 where
   pub wanted : List Wanted
 
 -- a plan that says this
-abbrev pub planned : ℕ → List FrameExtent → List GrantRow → List Wanted → PlanView
-planned frames owners grants wanted =
+abbrev pub plan_view_of : ℕ → List FrameExtent → List GrantRow → List Wanted → PlanView
+plan_view_of frames owners grants wanted =
     record { frames = frames; owners = owners; grants = grants; wanted = wanted }
 
 -- ---- what a server can serve

@@ -25,19 +25,20 @@ pub record IsClientConfig (memory_frames : ℕ) (c : ClientConfig) : Type 0 wher
   pub within : c.first_frame + c.frames ≤ memory_frames
 
 -- what is left of a text after a letter that it may begin with
-abbrev pub without_first : ℕ → List ℕ → List ℕ
-without_first letter [] = []
-without_first letter (c ∷ cs) = if c == letter then cs else c ∷ cs
+abbrev pub without_first_letter : ℕ → List ℕ → List ℕ
+without_first_letter letter [] = []
+without_first_letter letter (c ∷ cs) = if c == letter then cs else c ∷ cs
 
 -- a letter that is chosen, or none
-abbrev pub chosen : Bool → List ℕ → List ℕ
-chosen is_chosen letter = if is_chosen then letter else []
+abbrev pub letter_if : Bool → List ℕ → List ℕ
+letter_if is_chosen letter = if is_chosen then letter else []
 
 -- a choice of r, w, t and f, in this order, that isn't empty
 pub record IsRights (text : List ℕ) : Type 0 where
   pub some : text ≢ []
   pub choice : (r : Bool) × (w : Bool) × (t : Bool) × (f : Bool)
-      × (text ≡ chosen r (codes "r") ++ (chosen w (codes "w") ++ (chosen t (codes "t") ++ chosen f (codes "f"))))
+      × (text ≡ letter_if r (codes "r") ++ (letter_if w (codes "w") ++ (letter_if t (codes "t") ++ letter_if f (codes
+      "f"))))
 
 pub record IsGrant (g : GrantConfig) : Type 0 where
   pub least : 1 ≤ g.client

@@ -18,8 +18,8 @@ pub record HasNumbersInRange (c : Config) : Type 0 where
   pub depth : (1 ≤ c.depth) × (c.depth ≤ SLOTS)
   pub few_grants : length c.grant.items ≤ MOST_GRANTS
 
-abbrev pub IsTrim : List ℕ → Type 0
-IsTrim text = (text ≡ codes "full") ⊎ ((text ≡ codes "weak") ⊎ (text ≡ codes "none"))
+abbrev pub IsTrimWord : List ℕ → Type 0
+IsTrimWord text = (text ≡ codes "full") ⊎ ((text ≡ codes "weak") ⊎ (text ≡ codes "none"))
 
 pub record HasPartsInRange (c : Config) : Type 0 where
   pub ports : All IsPort c.port.items
@@ -29,7 +29,7 @@ pub record HasPartsInRange (c : Config) : Type 0 where
 -- every number and text is in its range, and there are at most 64 grants
 pub record IsInRange (c : Config) : Type 0 where
   pub numbers : HasNumbersInRange c
-  pub trim : IsTrim (string_bytes c.trim)
+  pub trim : IsTrimWord (string_bytes c.trim)
   pub parts : HasPartsInRange c
 
 abbrev pub DifferInNumber : PortConfig → PortConfig → Type 0

@@ -37,8 +37,8 @@ grant_keys = required (codes "client") Integer ∷ required (codes "number") Int
     ∷ required (codes "first") Integer ∷ required (codes "count") Integer ∷ required (codes "rights") Text ∷ []
 
 -- the rule that a key of the code stands for
-abbrev pub rule_of : Key → KeyRule
-rule_of key = record { name = key.name.now; value_type = key.value_type; is_required = key.is_required }
+abbrev pub key_rule_of : Key → KeyRule
+key_rule_of key = record { name = key.name.now; value_type = key.value_type; is_required = key.is_required }
 
 abbrev pub AreTables : Items → Type 0
 AreTables no_items = Unit {0}

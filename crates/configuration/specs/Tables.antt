@@ -34,18 +34,18 @@ abbrev pub HasText : Members → List ℕ → List ℕ → Type 0
 HasText members name text = get_member name members ≡ Some (string text)
 
 -- the key has this text, or there is no such key
-abbrev pub MayHaveText : Members → List ℕ → Option (List ℕ) → Type 0
-MayHaveText members name None = get_member name members ≡ None
-MayHaveText members name (Some text) = HasText members name text
+abbrev pub HasTextOrIsAbsent : Members → List ℕ → Option (List ℕ) → Type 0
+HasTextOrIsAbsent members name None = get_member name members ≡ None
+HasTextOrIsAbsent members name (Some text) = HasText members name text
 
 -- the key is set so; where there is no such key it isn't
-abbrev pub MayBeSet : Members → List ℕ → Bool → Type 0
-MayBeSet members name is_set =
+abbrev pub IsSetOrAbsent : Members → List ℕ → Bool → Type 0
+IsSetOrAbsent members name is_set =
     (get_member name members ≡ Some (boolean is_set)) ⊎ ((get_member name members ≡ None) × (is_set ≡ false))
 
 pub record SpellsPort (members : Members) (p : PortConfig) : Type 0 where
   pub number : HasNumber members (codes "number") p.number
-  pub serial : MayHaveText members (codes "serial") (option_map string_bytes p.serial)
+  pub serial : HasTextOrIsAbsent members (codes "serial") (option_map string_bytes p.serial)
 
 pub record SpellsClient (members : Members) (c : ClientConfig) : Type 0 where
   pub id : HasNumber members (codes "id") c.id
@@ -67,7 +67,7 @@ pub record Spells (document : Members) (c : Config) : Type 0 where
   pub ncq : get_member (codes "ncq") document ≡ Some (boolean c.ncq)
   pub depth : HasNumber document (codes "depth") c.depth
   pub trim : HasText document (codes "trim") (string_bytes c.trim)
-  pub cache : MayBeSet document (codes "cache") c.cache
+  pub cache : IsSetOrAbsent document (codes "cache") c.cache
   pub ports : AllZip SpellsPort (tables_at (codes "port") document) c.port.items
   pub clients : AllZip SpellsClient (tables_at (codes "client") document) c.client.items
   pub grants : AllZip SpellsGrant (tables_at (codes "grant") document) c.grant.items

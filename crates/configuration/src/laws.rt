@@ -1,7 +1,7 @@
 //! Laws of what is told of a text.
 
 ghost use Rattle.std.specs.Prelude.{◌≡◌, ℕ, List};
-ghost use Rattle.configuration.specs.Document.{IsReadFrom, IsTextFault};
+ghost use Rattle.configuration.specs.Document.{TextReadsAs, IsTextFault};
 ghost use Rattle.configuration.specs.declared.Config.{Config};
 ghost use Rattle.configuration.specs.declared.FaultKind.{FaultKind};
 
@@ -12,5 +12,5 @@ pub fn law_fault_kind_is_unique()
 
 /// A text from which a configuration is read has no fault.
 pub fn law_read_text_has_no_fault()
-    ensures { (text : List ℕ) (c : Config) (kind : FaultKind) → IsReadFrom text c → IsTextFault text kind → ⊥ }
+    ensures { (text : List ℕ) (c : Config) (kind : FaultKind) → TextReadsAs text c → IsTextFault text kind → ⊥ }
 {}

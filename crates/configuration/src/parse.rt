@@ -193,11 +193,11 @@ fn has_all_types(table: &Table) -> bool
 }
 
 impl Config {
-    ghost use Rattle.configuration.specs.Document.{IsNoMemoryOr, IsDocumentFault, IsRead, IsReadFrom, IsTextFault};
+    ghost use Rattle.configuration.specs.Document.{IsNoMemoryOr, IsDocumentFault, DocumentReadsAs, TextReadsAs, IsTextFault};
 
     /// The values of a document, or the least kind of fault that it has.
     fn from_document(alloc: Global, table: &Table) -> Result<Config, ConfigFault>
-        ensures ok { IfOk result (IsRead (table_view table.now)) }
+        ensures ok { IfOk result (DocumentReadsAs (table_view table.now)) }
         ensures refused { IfErr result (IsNoMemoryOr (IsDocumentFault (table_view table.now))) }
         ensures memory { result ≡ Err ConfigFault.NoMemory
             → HasAllKeys (table_view table.now) × HasAllTypes (table_view table.now) }
@@ -223,7 +223,7 @@ impl Config {
     /// told. A number that isn't within 64 bits with a sign is of the kind `NotToml`; a negative one is out of range
     /// (this project's own).
     pub fn parse(alloc: Global, text: &[u8]) -> Result<Config, ConfigFault>
-        ensures ok { IfOk result (IsReadFrom text.now) }
+        ensures ok { IfOk result (TextReadsAs text.now) }
         ensures refused { IfErr result (IsNoMemoryOr (IsTextFault text.now)) }
 
         // When memory runs out is no matter of the text; but a text with white space and comments alone takes none.

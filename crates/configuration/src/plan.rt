@@ -30,13 +30,13 @@ pub struct Plan {
 }
 
 impl Model for Plan {
-    ghost use Rattle.configuration.specs.Plan.{PlanView, planned, IsPlan};
+    ghost use Rattle.configuration.specs.Plan.{PlanView, plan_view_of, IsPlan};
 
     ghost Value = { PlanView };
 
-    ghost view = { λ p. planned p.frames p.owners.items p.grants.items p.wanted };
+    ghost view = { λ p. plan_view_of p.frames p.owners.items p.grants.items p.wanted };
 
-    ghost invariant = { λ p. IsPlan (planned p.frames p.owners.items p.grants.items p.wanted) };
+    ghost invariant = { λ p. IsPlan (plan_view_of p.frames p.owners.items p.grants.items p.wanted) };
 }
 
 impl Plan {

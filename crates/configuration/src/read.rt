@@ -4,7 +4,7 @@ ghost use Rattle.std.specs.Prelude.{◌≡◌, ℕ, Bool, List, Option, Some, No
 ghost use Rattle.std.specs.List.{AllZip};
 ghost use Rattle.toml.specs.Data.{Members};
 ghost use Rattle.toml.specs.View.{table_view, items_view};
-ghost use Rattle.configuration.specs.Tables.{HasNumber, HasText, MayBeSet, MayHaveText, tables_of};
+ghost use Rattle.configuration.specs.Tables.{HasNumber, HasText, IsSetOrAbsent, HasTextOrIsAbsent, tables_of};
 
 use super::table::{find, items_at};
 use super::{ClientConfig, Config, GrantConfig, PortConfig};
@@ -61,9 +61,9 @@ fn text(alloc: Global, table: &Table, name: &str) -> Result<String, ReadFault>
 }
 
 fn optional_text(alloc: Global, table: &Table, name: &str) -> Result<Option<String>, ReadFault>
-    ensures ok { IfOk result (λ t. MayHaveText (table_view table.now) name.now (option_map string_bytes t)) }
+    ensures ok { IfOk result (λ t. HasTextOrIsAbsent (table_view table.now) name.now (option_map string_bytes t)) }
     ensures none { result ≡ Err ReadFault.NoValue
-        → (t : Option (List ℕ)) → MayHaveText (table_view table.now) name.now t → ⊥ }
+        → (t : Option (List ℕ)) → HasTextOrIsAbsent (table_view table.now) name.now t → ⊥ }
 {
     match find(table, name) {
         Some(_) => Ok(Some(text(alloc, table, name)?)),
@@ -73,9 +73,9 @@ fn optional_text(alloc: Global, table: &Table, name: &str) -> Result<Option<Stri
 
 /// Whether a key is set; where there is none it isn't.
 fn is_set(table: &Table, name: &str) -> Result<bool, ReadFault>
-    ensures ok { IfOk result (MayBeSet (table_view table.now) name.now) }
+    ensures ok { IfOk result (IsSetOrAbsent (table_view table.now) name.now) }
     ensures none { result ≡ Err ReadFault.NoValue
-        → (is_set : Bool) → MayBeSet (table_view table.now) name.now is_set → ⊥ }
+        → (is_set : Bool) → IsSetOrAbsent (table_view table.now) name.now is_set → ⊥ }
 {
     match find(table, name) {
         Some(value) => value.as_bool().ok_or(ReadFault::NoValue),

@@ -1,7 +1,7 @@
 //! The rules that the values of a configuration have to meet.
 
 ghost use Rattle.std.specs.Prelude.{◌≡◌, ◌↔◌, IsTrue, IfErr, OnOk, All, AllPairs, string_bytes};
-ghost use Rattle.configuration.specs.Ranges.{IsClientConfig, IsGrant, IsPort, IsRights, IsSerialText, without_first};
+ghost use Rattle.configuration.specs.Ranges.{IsClientConfig, IsGrant, IsPort, IsRights, IsSerialText, without_first_letter};
 ghost use Rattle.configuration.specs.Rules.{FramesApart, DifferInId, DifferInGrant, DifferInNumber, HasClient, ConfiguresPort};
 
 use super::{ClientConfig, Config, FaultKind, GrantConfig, PortConfig};
@@ -23,8 +23,8 @@ const SECTORS_END: u64 = 1 << 48;
 const SERIAL_LENGTH: usize = 20;
 
 /// What is left of a text after a letter that it may begin with.
-fn without_first(letter: u8, text: &[u8]) -> &[u8]
-    ensures { result.now ≡ without_first letter text.now }
+fn without_first_letter(letter: u8, text: &[u8]) -> &[u8]
+    ensures { result.now ≡ without_first_letter letter text.now }
 {
     match text.split_first() {
         Some((first, rest)) if *first == letter => rest,
@@ -36,8 +36,8 @@ fn without_first(letter: u8, text: &[u8]) -> &[u8]
 fn are_rights(text: &str) -> bool
     ensures { IsTrue result ↔ IsRights text.now }
 {
-    let rest = without_first(b'w', without_first(b'r', text.as_bytes()));
-    !text.is_empty() && without_first(b'f', without_first(b't', rest)).is_empty()
+    let rest = without_first_letter(b'w', without_first_letter(b'r', text.as_bytes()));
+    !text.is_empty() && without_first_letter(b'f', without_first_letter(b't', rest)).is_empty()
 }
 
 /// Whether a text may be a disk's serial number.
@@ -109,7 +109,7 @@ fn are_grants(grants: &[GrantConfig]) -> bool
 }
 
 /// In what two parts of a configuration have to differ.
-pub trait Apart<T> {
+pub trait MustDiffer<T> {
     ghost apart: { T → T → Type 0 };
 
     fn are_apart(first: &T, second: &T) -> bool
@@ -119,7 +119,7 @@ pub trait Apart<T> {
 /// Ports differ in their numbers.
 pub struct PortNumbers;
 
-impl Apart<PortConfig> for PortNumbers {
+impl MustDiffer<PortConfig> for PortNumbers {
     ghost apart = { DifferInNumber };
 
     fn are_apart(first: &PortConfig, second: &PortConfig) -> bool {
@@ -130,7 +130,7 @@ impl Apart<PortConfig> for PortNumbers {
 /// Clients differ in their ids.
 pub struct ClientIds;
 
-impl Apart<ClientConfig> for ClientIds {
+impl MustDiffer<ClientConfig> for ClientIds {
     ghost apart = { DifferInId };
 
     fn are_apart(first: &ClientConfig, second: &ClientConfig) -> bool {
@@ -141,7 +141,7 @@ impl Apart<ClientConfig> for ClientIds {
 /// Grants of one client differ in their numbers.
 pub struct GrantNames;
 
-impl Apart<GrantConfig> for GrantNames {
+impl MustDiffer<GrantConfig> for GrantNames {
     ghost apart = { DifferInGrant };
 
     fn are_apart(first: &GrantConfig, second: &GrantConfig) -> bool {
@@ -152,7 +152,7 @@ impl Apart<GrantConfig> for GrantNames {
 /// Clients have no frame in common.
 pub struct ClientFrames;
 
-impl Apart<ClientConfig> for ClientFrames {
+impl MustDiffer<ClientConfig> for ClientFrames {
     ghost apart = { FramesApart };
 
     fn are_apart(first: &ClientConfig, second: &ClientConfig) -> bool {
@@ -164,14 +164,14 @@ impl Apart<ClientConfig> for ClientFrames {
 }
 
 /// Whether a part is apart from each of these.
-fn is_apart_from<T, A: Apart<T>>(part: &T, others: &[T]) -> bool
+fn is_apart_from<T, A: MustDiffer<T>>(part: &T, others: &[T]) -> bool
     ensures { IsTrue result ↔ All (A.apart part.now) others.now }
 {
     others.iter().all(|other| A::are_apart(part, other))
 }
 
 /// Whether each two of these parts are apart.
-fn all_apart<T, A: Apart<T>>(parts: &[T]) -> bool
+fn all_apart<T, A: MustDiffer<T>>(parts: &[T]) -> bool
     ensures { IsTrue result ↔ AllPairs A.apart parts.now }
 {
     let mut rest = parts;
@@ -213,7 +213,7 @@ fn has_client(clients: &[ClientConfig], id: u64) -> bool
 }
 
 impl Config {
-    ghost use Rattle.configuration.specs.Rules.{IsInRange, HasNumbersInRange, HasPartsInRange, IsLeastFault, LacksEveryFault, IsTrim, NamesOnce};
+    ghost use Rattle.configuration.specs.Rules.{IsInRange, HasNumbersInRange, HasPartsInRange, IsLeastFault, LacksEveryFault, IsTrimWord, NamesOnce};
 
     fn has_numbers_in_range(&self) -> bool
         ensures { IsTrue result ↔ HasNumbersInRange self.now }
@@ -225,7 +225,7 @@ impl Config {
     }
 
     fn has_trim(&self) -> bool
-        ensures { IsTrue result ↔ IsTrim (string_bytes self.now.trim) }
+        ensures { IsTrue result ↔ IsTrimWord (string_bytes self.now.trim) }
     {
         let trim = self.trim.as_str();
         trim == "full" || trim == "weak" || trim == "none"

@@ -5,7 +5,7 @@ ghost use Rattle.std.specs.BTreeMap.{keys};
 ghost use Rattle.toml.specs.Data.{as_table};
 ghost use Rattle.toml.specs.View.{view, table_view};
 ghost use Rattle.configuration.specs.Tables.{tables_at};
-ghost use Rattle.configuration.specs.Schema.{HasKeys, HasTypes, rule_of};
+ghost use Rattle.configuration.specs.Schema.{HasKeys, HasTypes, key_rule_of};
 
 use super::table::{find, items_at};
 use toml::{Table, Value};
@@ -62,13 +62,13 @@ impl Key {
     ghost use Rattle.configuration.specs.Schema.{HasItsType, IsKnown, IsPresent};
 
     fn is_present(&self, table: &Table) -> bool
-        ensures { IsTrue result ↔ IsPresent (table_view table.now) (rule_of self.now) }
+        ensures { IsTrue result ↔ IsPresent (table_view table.now) (key_rule_of self.now) }
     {
         !self.is_required || find(table, self.name).is_some()
     }
 
     fn has_its_type(&self, table: &Table) -> bool
-        ensures { IsTrue result ↔ HasItsType (table_view table.now) (rule_of self.now) }
+        ensures { IsTrue result ↔ HasItsType (table_view table.now) (key_rule_of self.now) }
     {
         match find(table, self.name) {
             Some(value) => self.value_type.fits(value),
@@ -77,48 +77,49 @@ impl Key {
     }
 
     fn has_name(known: &[Key], name: &str) -> bool
-        ensures { IsTrue result ↔ Any (λ key. (rule_of key).name ≡ name.now) known.now }
+        ensures { IsTrue result ↔ Any (λ key. (key_rule_of key).name ≡ name.now) known.now }
     {
         known.iter().any(|key| key.name == name)
     }
 
     /// Whether one of the keys has this name.
     fn is_known(known: &[Key], name: &str) -> bool
-        ensures { IsTrue result ↔ IsKnown (map rule_of known.now) name.now }
+        ensures { IsTrue result ↔ IsKnown (map key_rule_of known.now) name.now }
     {
         Key::has_name(known, name)
     }
 
     /// Whether the keys that have to be there are there.
     fn are_present(keys: &[Key], table: &Table) -> bool
-        ensures { IsTrue result ↔ All (λ key. IsPresent (table_view table.now) (rule_of key)) keys.now }
+        ensures { IsTrue result ↔ All (λ key. IsPresent (table_view table.now) (key_rule_of key)) keys.now }
     {
         keys.iter().all(|key| key.is_present(table))
     }
 
     /// Whether no other keys are there.
     fn know_all(known: &[Key], table: &Table) -> bool
-        ensures { IsTrue result ↔ All (λ name. IsKnown (map rule_of known.now) (string_bytes name)) (keys table.now) }
+        ensures { IsTrue result
+            ↔ All (λ name. IsKnown (map key_rule_of known.now) (string_bytes name)) (keys table.now) }
     {
         table.keys().all(|name| Key::is_known(known, name.as_str()))
     }
 
     fn have_their_types(keys: &[Key], table: &Table) -> bool
-        ensures { IsTrue result ↔ All (λ key. HasItsType (table_view table.now) (rule_of key)) keys.now }
+        ensures { IsTrue result ↔ All (λ key. HasItsType (table_view table.now) (key_rule_of key)) keys.now }
     {
         keys.iter().all(|key| key.has_its_type(table))
     }
 
     /// Whether a table has the keys that it has to have, and none that isn't listed.
     pub fn are_keys_of(keys: &[Key], table: &Table) -> bool
-        ensures { IsTrue result ↔ HasKeys (map rule_of keys.now) (table_view table.now) }
+        ensures { IsTrue result ↔ HasKeys (map key_rule_of keys.now) (table_view table.now) }
     {
         Key::are_present(keys, table) && Key::know_all(keys, table)
     }
 
     /// Whether the value of each key is of the key's type.
     pub fn are_types_of(keys: &[Key], table: &Table) -> bool
-        ensures { IsTrue result ↔ HasTypes (map rule_of keys.now) (table_view table.now) }
+        ensures { IsTrue result ↔ HasTypes (map key_rule_of keys.now) (table_view table.now) }
     {
         Key::have_their_types(keys, table)
     }
@@ -126,7 +127,7 @@ impl Key {
 
 /// Whether a value, if it is a table, has its keys.
 fn item_has_keys(keys: &[Key], item: &Value) -> bool
-    ensures { IsTrue result ↔ IfSome (as_table (view item.now)) (HasKeys (map rule_of keys.now)) }
+    ensures { IsTrue result ↔ IfSome (as_table (view item.now)) (HasKeys (map key_rule_of keys.now)) }
 {
     match item.as_table() {
         Some(table) => Key::are_keys_of(keys, table),
@@ -135,7 +136,7 @@ fn item_has_keys(keys: &[Key], item: &Value) -> bool
 }
 
 fn item_has_types(keys: &[Key], item: &Value) -> bool
-    ensures { IsTrue result ↔ IfSome (as_table (view item.now)) (HasTypes (map rule_of keys.now)) }
+    ensures { IsTrue result ↔ IfSome (as_table (view item.now)) (HasTypes (map key_rule_of keys.now)) }
 {
     match item.as_table() {
         Some(table) => Key::are_types_of(keys, table),
@@ -144,27 +145,29 @@ fn item_has_types(keys: &[Key], item: &Value) -> bool
 }
 
 fn values_have_keys(keys: &[Key], items: &[Value]) -> bool
-    ensures { IsTrue result ↔ All (λ item. IfSome (as_table (view item)) (HasKeys (map rule_of keys.now))) items.now }
+    ensures { IsTrue result
+        ↔ All (λ item. IfSome (as_table (view item)) (HasKeys (map key_rule_of keys.now))) items.now }
 {
     items.iter().all(|item| item_has_keys(keys, item))
 }
 
 fn values_have_types(keys: &[Key], items: &[Value]) -> bool
-    ensures { IsTrue result ↔ All (λ item. IfSome (as_table (view item)) (HasTypes (map rule_of keys.now))) items.now }
+    ensures { IsTrue result ↔ All (λ item. IfSome (as_table (view item)) (HasTypes (map key_rule_of keys.now)))
+        items.now }
 {
     items.iter().all(|item| item_has_types(keys, item))
 }
 
 /// Whether each table in the array at a key has its keys.
 pub fn tables_have_keys(keys: &[Key], table: &Table, name: &str) -> bool
-    ensures { IsTrue result ↔ All (HasKeys (map rule_of keys.now)) (tables_at name.now (table_view table.now)) }
+    ensures { IsTrue result ↔ All (HasKeys (map key_rule_of keys.now)) (tables_at name.now (table_view table.now)) }
 {
     values_have_keys(keys, items_at(table, name))
 }
 
 /// Whether in each table in the array at a key the value of each key is of the key's type.
 pub fn tables_have_types(keys: &[Key], table: &Table, name: &str) -> bool
-    ensures { IsTrue result ↔ All (HasTypes (map rule_of keys.now)) (tables_at name.now (table_view table.now)) }
+    ensures { IsTrue result ↔ All (HasTypes (map key_rule_of keys.now)) (tables_at name.now (table_view table.now)) }
 {
     values_have_types(keys, items_at(table, name))
 }

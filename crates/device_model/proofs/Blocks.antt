@@ -4,7 +4,7 @@ use Rattle.std.proofs.Common.{ℕ, true, ◌≡◌, ◌≢◌, ◌<◌, ◌^◌,
 use Rattle.std.specs.declared.snapshot.Snapshot.{Snapshot}
 use Rattle.std.proofs.lemmas.Bool.Decides.{eqb_tells}
 use Rattle.adapter.specs.Memory.{changed}
-use Rattle.adapter.specs.Steps.{noted_bytes}
+use Rattle.adapter.specs.Steps.{snapshot_of_bytes}
 use Rattle.device_model.proofs.Absurd.{some-none, some_one, true-false}
 use Rattle.device_model.proofs.Places.{changed_same, changed_other}
 use Rattle.device_model.specs.Block.{HasBlock, brought}
@@ -124,7 +124,7 @@ module _ (taken : ℕ → Option TakenCommand) (block : List ℕ) (slot : ℕ) (
     }
 
     -- a trim has brought a block
-    pub block_moved : (bytes : List ℕ) → old.command_kind ≡ Trim → new.block ≡ Some (noted_bytes bytes) → HasBlock (changed taken slot (Some new)) bytes
+    pub block_moved : (bytes : List ℕ) → old.command_kind ≡ Trim → new.block ≡ Some (snapshot_of_bytes bytes) → HasBlock (changed taken slot (Some new)) bytes
     block_moved bytes trim is_new = record {
       alone = goes_alone;
       low = goes_low;
@@ -132,7 +132,7 @@ module _ (taken : ℕ → Option TakenCommand) (block : List ℕ) (slot : ℕ) (
           elim (at_set taken slot (Some new) a t here) [
             | inl first ↦
                 let one : new ≡ t = some_one first.1 in
-                let same : noted_bytes bytes ≡ b = some_one (sym is_new ∙ (ap (λ (x : TakenCommand). x.block) one ∙ brought)) in
+                let same : snapshot_of_bytes bytes ≡ b = some_one (sym is_new ∙ (ap (λ (x : TakenCommand). x.block) one ∙ brought)) in
                 (ap (λ (x : TakenCommand). x.command_kind) (sym one) ∙ (kind ∙ trim), ap (λ (x : Snapshot (List ℕ)). x.value) (sym same))
             | inr first ↦ let ne = first.0 in absurd (ne (has.alone slot a old t held first.1 trim))
           ];

@@ -13,15 +13,15 @@ use Rattle.adapter.specs.declared.command.Operation.TheVariants.{Trim}
 use Rattle.ata_types.specs.declared.Port.{Port}
 use Rattle.ata_types.specs.declared.Slot.{Slot}
 use Rattle.sector_store.specs.declared.store.Failures.{Failures}
-use Rattle.device_model.specs.Disks.{bay_of, port_has_cache, disk_over, failing, disk_failures, has_cache, lasting_of, says_of}
+use Rattle.device_model.specs.Disks.{bay_of, port_has_cache, disk_over, bay_failures, disk_failures, has_cache, lasting_of, page_source_of}
 use Rattle.device_model.specs.Does.{ClearsFewer, HasCleared, CommandFails, IsSectorFault}
-use Rattle.device_model.specs.Modelled.{device_at, media_of, outside_at}
-use Rattle.device_model.specs.Paged.{GainsPages, naming}
+use Rattle.device_model.specs.Modelled.{device_at, media_of, all_media_at}
+use Rattle.device_model.specs.Paged.{GainsOwnPages, with_logged_error}
 use Rattle.device_model.specs.Sent.{SendsFault}
 use Rattle.device_model.specs.Slots.{IsNextRun}
-use Rattle.device_model.specs.Trims.{HasClear, next_uncleared, span, uncleared}
+use Rattle.device_model.specs.Trims.{HasClear, next_uncleared, next_run_length, uncleared}
 use Rattle.device_model.specs.View.{taken_of}
-use Rattle.device_model.specs.Whole.{HasDisks, Outside, device_of, outside_cleared}
+use Rattle.device_model.specs.WholeAdapter.{HasDisks, AllMedia, device_of, all_media_cleared}
 use Rattle.device_model.specs.declared.bay.Bay.{Bay}
 use Rattle.device_model.specs.declared.clearing.SectorExtent.{SectorExtent}
 use Rattle.device_model.specs.declared.hardware.Hardware.{Hardware}
@@ -35,7 +35,7 @@ use Rattle.device_model.proofs.TwoDisks.{has_disks, outside_kept, outside_zeros,
 
 -- where sectors can be cleared, each number of them that can be cleared at once, and is on the disk, may be
 pub may_clear : (d : Device) (port slot most first count : ℕ) (t : FetchedCommand) → HasClear d port slot most t → first ≡ next_uncleared t →
-    count ≤ span most t → first + count ≤ (d.port port).disk.size → MayClear d port slot t first count
+    count ≤ next_run_length most t → first + count ≤ (d.port port).disk.size → MayClear d port slot t first count
 may_clear d port slot most first count t has start few on_disk =
     let some = has.some in
     let enough = has.enough in
@@ -83,7 +83,7 @@ module _ (old new : Device) (port slot most first count : ℕ) (t : FetchedComma
   disks has none = has (sym (ap (λ (p : DevicePort). p.plugged) cleared_port) ∙ none)
 
   -- all that could be is cleared
-  pub all_cleared : count ≡ span most t → HasCleared old new port slot most
+  pub all_cleared : count ≡ next_run_length most t → HasCleared old new port slot most
   all_cleared whole = record {
     t = t;
     was = has.works.taken;
@@ -91,7 +91,7 @@ module _ (old new : Device) (port slot most first count : ℕ) (t : FetchedComma
   }
 
   -- or the next one still can be
-  pub more_clear : count < span most t → HasClear new port slot 1 further
+  pub more_clear : count < next_run_length most t → HasClear new port slot 1 further
   more_clear more =
       let next = next_on most count t more has.enough in
       let P : DevicePort → Type 0 = λ p. IsWorking p Trim in
@@ -111,22 +111,22 @@ module _ (old new : Device) (port slot most first count : ℕ) (t : FetchedComma
   cleared_size = ap (λ (p : DevicePort). p.disk.size) cleared_port
 
 -- what the hardware has found to clear can be, on a port that has disks
-pub found_clear : (h : Hardware) (o : Outside) (d : Device) (port slot most : ℕ) (run : SectorExtent) (r : TakenCommand) → HasDisks d port → device_of h o ≡ d →
+pub found_clear : (h : Hardware) (o : AllMedia) (d : Device) (port slot most : ℕ) (run : SectorExtent) (r : TakenCommand) → HasDisks d port → device_of h o ≡ d →
     IsNextRun h port slot most run r → HasClear d port slot most (taken_of r)
 found_clear h o d port slot most run r has same is = next_has_clear h o d port slot most r has same is.holds is.can
 
 -- So many of the next sectors of a trim are cleared, or none: the rest is as it was, and the next one, if there is one, can be cleared.
 pub record IsPart {S : Type 0} (size : S → ℕ) (told : S → Option (ℕ → List ℕ)) (p : Port) (slot : Slot) (most first count : ℕ) (t : FetchedCommand) (old new : Model S) : Type 0 where
-  pub before : count < span most t → (device_at size told new ≡ device_at size told old) ⊎ ClearsFewer p.0 slot.0 most (device_at size told old) (device_at size told new)
+  pub before : count < next_run_length most t → (device_at size told new ≡ device_at size told old) ⊎ ClearsFewer p.0 slot.0 most (device_at size told old) (device_at size told new)
   pub whole : 1 ≤ count → DoesClear p.0 slot.0 most (device_at size told old) (device_at size told new)
-  pub all : 1 ≤ count → count ≡ span most t → HasCleared (device_at size told old) (device_at size told new) p.0 slot.0 most
-  pub more : count < span most t → HasClear (device_at size told new) p.0 slot.0 1 (record t { cleared = t.cleared + count })
+  pub all : 1 ≤ count → count ≡ next_run_length most t → HasCleared (device_at size told old) (device_at size told new) p.0 slot.0 most
+  pub more : count < next_run_length most t → HasClear (device_at size told new) p.0 slot.0 1 (record t { cleared = t.cleared + count })
   pub disk_size : ((device_at size told new).port p.0).disk.size ≡ ((device_at size told old).port p.0).disk.size
-  pub pages : GainsPages size old new
+  pub pages : GainsOwnPages size old new
 
 module _ {S : Type 0} (size : S → ℕ) (told : S → Option (ℕ → List ℕ)) (failures : S → Option Failures) (p : Port) (slot : Slot) (most : ℕ) (m then_model : Model S)
     (a b : Bay S) (was : bay_of m p.0 ≡ Some a) (items : then_model.bays.items ≡ slice_set m.bays.items p.0 (Some b)) (rest : b ≡ with_store a b.disk.store b.cache) (lasts : lasting_of told b ≡ lasting_of told a)
-    (h : Hardware) (first count : ℕ) (r : TakenCommand) (same : (o : Outside) → device_of h o ≡ device_of m.hardware o) where
+    (h : Hardware) (first count : ℕ) (r : TakenCommand) (same : (o : AllMedia) → device_of h o ≡ device_of m.hardware o) where
   abbrev old_device : Device
   old_device = device_at size told m
 
@@ -139,15 +139,15 @@ module _ {S : Type 0} (size : S → ℕ) (told : S → Option (ℕ → List ℕ)
   pub size_is : (old_device.port p.0).disk.size ≡ size a.disk.store
   size_is = ap (λ x. (media_of size told x).disk.size) was
 
-  module _ (cleared : (o : Outside) → device_of then_model.hardware (outside_cleared o p.0 first count) ≡ device_after (Clear p.0 slot.0 (taken_of r) first count) (device_of h o))
+  module _ (cleared : (o : AllMedia) → device_of then_model.hardware (all_media_cleared o p.0 first count) ≡ device_after (Clear p.0 slot.0 (taken_of r) first count) (device_of h o))
       (zeros : new_disk ≡ disk_cleared old_disk first count) where
     clear_effect : device_at size told then_model ≡ device_after (Clear p.0 slot.0 (taken_of r) first count) old_device
     clear_effect =
-        let o : Outside = outside_at size told m in
-        ap (λ (x : Outside). device_of then_model.hardware x) (outside_zeros m then_model p.0 a b was items rest size told first count lasts zeros)
+        let o : AllMedia = all_media_at size told m in
+        ap (λ (x : AllMedia). device_of then_model.hardware x) (outside_zeros m then_model p.0 a b was items rest size told first count lasts zeros)
         ∙ (cleared o ∙ ap (λ (d : Device). device_after (Clear p.0 slot.0 (taken_of r) first count) d) (same o))
 
-    some_part : HasClear old_device p.0 slot.0 most (taken_of r) → first ≡ next_uncleared (taken_of r) → 1 ≤ count → count ≤ span most (taken_of r) →
+    some_part : HasClear old_device p.0 slot.0 most (taken_of r) → first ≡ next_uncleared (taken_of r) → 1 ≤ count → count ≤ next_run_length most (taken_of r) →
         first + count ≤ size a.disk.store → IsPart size told p slot most first count (taken_of r) m then_model
     some_part has start some few on_disk =
         let end : first + count ≤ (old_device.port p.0).disk.size = let is = size_is in omega (arith, on_disk, is) in
@@ -174,8 +174,8 @@ module _ {S : Type 0} (size : S → ℕ) (told : S → Option (ℕ → List ℕ)
   none_part : count ≡ 0 → then_model.hardware ≡ h → told b.disk.store ≡ told a.disk.store → size b.disk.store ≡ size a.disk.store →
       HasClear old_device p.0 slot.0 most (taken_of r) → IsPart size told p slot most first count (taken_of r) m then_model
   none_part none left tells sizes has =
-      let around : outside_at size told then_model ≡ outside_at size told m = outside_kept m then_model p.0 a b was items rest size told sizes tells lasts in
-      let kept : device_at size told then_model ≡ old_device = (λ i. device_of (left i) (around i)) ∙ same (outside_at size told m) in
+      let around : all_media_at size told then_model ≡ all_media_at size told m = outside_kept m then_model p.0 a b was items rest size told sizes tells lasts in
+      let kept : device_at size told then_model ≡ old_device = (λ i. device_of (left i) (around i)) ∙ same (all_media_at size told m) in
       let t : FetchedCommand = taken_of r in
       let here : t ≡ record t { cleared = t.cleared + count } =
       let number : t.cleared ≡ t.cleared + count = omega (arith, none) in ap (λ (n : ℕ). record t { cleared = n }) number in
@@ -195,10 +195,10 @@ module _ {S : Type 0} (size : S → ℕ) (told : S → Option (ℕ → List ℕ)
       }
 
   -- as many as the store has cleared
-  pub is_part : HasClear old_device p.0 slot.0 most (taken_of r) → first ≡ next_uncleared (taken_of r) → count ≤ span most (taken_of r) →
+  pub is_part : HasClear old_device p.0 slot.0 most (taken_of r) → first ≡ next_uncleared (taken_of r) → count ≤ next_run_length most (taken_of r) →
       (1 ≤ count → first + count ≤ size a.disk.store) → (count ≡ 0 → then_model.hardware ≡ h) → (count ≡ 0 → told b.disk.store ≡ told a.disk.store) →
       size b.disk.store ≡ size a.disk.store →
-      (1 ≤ count → (o : Outside) → device_of then_model.hardware (outside_cleared o p.0 first count) ≡ device_after (Clear p.0 slot.0 (taken_of r) first count) (device_of h o)) →
+      (1 ≤ count → (o : AllMedia) → device_of then_model.hardware (all_media_cleared o p.0 first count) ≡ device_after (Clear p.0 slot.0 (taken_of r) first count) (device_of h o)) →
       (1 ≤ count → new_disk ≡ disk_cleared old_disk first count) → IsPart size told p slot most first count (taken_of r) m then_model
   is_part has start few on_disk left tells sizes cleared zeros =
       elim (cases_lt 0 count) [
@@ -211,19 +211,19 @@ module _ {S : Type 0} (size : S → ℕ) (told : S → Option (ℕ → List ℕ)
       on.count ≡ min run.count (sectors - run.first) → (1 ≤ on.count → on.first ≡ run.first) → count ≤ on.count →
       new_disk ≡ disk_cleared old_disk on.first count → (count ≡ 0 → told b.disk.store ≡ told a.disk.store) → size b.disk.store ≡ size a.disk.store →
       (count ≡ 0 → then_model.hardware ≡ h) →
-      (1 ≤ count → (o : Outside) → device_of then_model.hardware (outside_cleared o p.0 first count) ≡ device_after (Clear p.0 slot.0 (taken_of r) first count) (device_of h o)) →
+      (1 ≤ count → (o : AllMedia) → device_of then_model.hardware (all_media_cleared o p.0 first count) ≡ device_after (Clear p.0 slot.0 (taken_of r) first count) (device_of h o)) →
       IsPart size told p slot most first count (taken_of r) m then_model
   cut_part run on sectors at is listed inside cut begins few zeros tells sizes left cleared =
-      let whole : run.count ≡ span most (taken_of r) = is.count_is in
+      let whole : run.count ≡ next_run_length most (taken_of r) = is.count_is in
       let start : first ≡ next_uncleared (taken_of r) = at ∙ is.first_is in
       let on_first : 1 ≤ count → on.first ≡ first = λ (some : 1 ≤ count). begins (omega (arith, some, few)) ∙ sym at in
-      is_part (found_clear h (outside_at size told m) old_device p.0 slot.0 most run r (has_disks size told m p.0 a was) (same (outside_at size told m)) is) start
+      is_part (found_clear h (all_media_at size told m) old_device p.0 slot.0 most run r (has_disks size told m p.0 a was) (same (all_media_at size told m)) is) start
       (omega (arith, few, cut, whole)) (λ some. let here = on_first some in omega (arith, here, inside, listed, few)) left tells sizes cleared
       (λ some. zeros ∙ ap (λ (k : ℕ). disk_cleared old_disk k count) (on_first some))
 
   -- the next one can't be: its command fails on it
   pub part_fails : (small : slot.0 < 32) → HasClear old_device p.0 slot.0 most (taken_of r) → IsPart size told p slot most first count (taken_of r) m then_model →
-      count < span most (taken_of r) → (error : ℕ) → (last : Model S) → disk_failures failures last p.0 ≡ failures b.disk.store →
+      count < next_run_length most (taken_of r) → (error : ℕ) → (last : Model S) → disk_failures failures last p.0 ≡ failures b.disk.store →
       IsSectorFault a.cache.is_on true (first + count) (size a.disk.store) error (failures a.disk.store) (failures b.disk.store) → first ≡ next_uncleared (taken_of r) →
       IsFailed size told failures p slot error (record (taken_of r) { cleared = r.cleared + count }) then_model last →
       CommandFails size told failures (asked.Clear p slot most) m last
@@ -238,7 +238,7 @@ module _ {S : Type 0} (size : S → ℕ) (told : S → Option (ℕ → List ℕ)
       let Q : ℕ → Type 0 = λ n. IsSectorFault (port_has_cache m p.0) true (next_uncleared t) n error (failures a.disk.store) (failures b.disk.store) in
       let R : ℕ → Type 0 = λ k. IsSectorFault (port_has_cache m p.0) true k (size a.disk.store) error (failures a.disk.store) (failures b.disk.store) in
       let O : Bool → Type 0 = λ on. IsSectorFault on true (first + count) (size a.disk.store) error (failures a.disk.store) (failures b.disk.store) in
-      let before : failures a.disk.store ≡ disk_failures failures m p.0 = sym (ap (failing failures) was) in
+      let before : failures a.disk.store ≡ disk_failures failures m p.0 = sym (ap (bay_failures failures) was) in
       let plain : is_queued t.meaning.operation ≡ false = ap is_queued has.trim in
       let one : failed.fails.fault.t ≡ t = failed.same in
       let T : FetchedCommand → Device → Type 0 = λ x d. SendsFault (is_queued x.meaning.operation) p.0 d (device_at size told last) in (
@@ -253,7 +253,7 @@ module _ {S : Type 0} (size : S → ℕ) (told : S → Option (ℕ → List ℕ)
           sends = subst (T t) (failed.fails.fault.effect ∙ ap (λ (x : FetchedCommand). device_after (Fault p.0 slot.0 error 0 x) (device_at size told then_model)) one)
               (subst (λ (x : FetchedCommand). T x failed.fails.mid) one failed.fails.posts);
           log = failed.says
-              ∙ (ap (λ (x : Bool). if x then option_map (naming (record { tag = slot.0; error = error })) (says_of then_model p.0) else says_of then_model p.0) plain
+              ∙ (ap (λ (x : Bool). if x then option_map (with_logged_error (record { tag = slot.0; error = error })) (page_source_of then_model p.0) else page_source_of then_model p.0) plain
               ∙ store_says m then_model p.0 a b was items rest p.0);
         },
       )

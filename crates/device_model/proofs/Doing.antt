@@ -12,10 +12,10 @@ use Rattle.adapter.proofs.Runs.{Steps-refl}
 use Rattle.adapter.specs.Steps.{Can, Steps}
 use Rattle.adapter.specs.Steps.DeviceTransition.{Fault}
 use Rattle.sector_store.specs.declared.store.Failures.{Failures}
-use Rattle.device_model.specs.Does.{AnswersStep, AsksStore, ClearsFewer, Completes, DidStep, FailsToClear, FailsToMove, OwnStepsKeep, CommandFails, IsLeftOut, LacksMemory, IsAddressable, NoCallFailed, StepKeeps, Possible, asked_port, says_failed}
-use Rattle.device_model.specs.Disks.{bay_of, port_has_cache, disk_in_bay, numbered_disk, disk_failures, identity_of, says_of, which_of}
+use Rattle.device_model.specs.Does.{AnswersStep, AsksStore, ClearsFewer, Completes, DidStep, FailsToClear, FailsToMove, OwnStepsKeep, CommandFails, IsLeftOut, LacksMemory, IsAddressable, NoCallFailed, StepKeeps, Possible, asked_port, page_source_after_failure}
+use Rattle.device_model.specs.Disks.{bay_of, port_has_cache, disk_in_bay, numbered_disk, disk_failures, identity_of, page_source_of, disk_index_of}
 use Rattle.device_model.specs.Modelled.{device_at}
-use Rattle.device_model.specs.Paged.{GainsPages}
+use Rattle.device_model.specs.Paged.{GainsOwnPages}
 use Rattle.device_model.proofs.TwoDisks.{each_port, failures_kept, identity_kept}
 use Rattle.device_model.specs.Sent.{SendsEnd, SendsFailed}
 use Rattle.device_model.proofs.Posting.{did_may}
@@ -32,10 +32,10 @@ use Rattle.std.specs.Global.{Vec}
 -- what stays while a command of a port goes on
 pub record Meanwhile {S : Type 0} (size : S → ℕ) (port : ℕ) (old new : Model S) : Type 0 where
   pub held : new.held ≡ old.held
-  pub says : says_of new port ≡ says_of old port
-  pub which : which_of new port ≡ which_of old port
+  pub says : page_source_of new port ≡ page_source_of old port
+  pub which : disk_index_of new port ≡ disk_index_of old port
   pub others : (q : ℕ) → q ≢ port → bay_of new q ≡ bay_of old q
-  pub pages : GainsPages size old new
+  pub pages : GainsOwnPages size old new
   pub keeps : StepKeeps size old new
   pub starved : new.hardware.starved ≡ old.hardware.starved
 
@@ -49,7 +49,7 @@ module _ {S : Type 0} (size : S → ℕ) (told : S → Option (ℕ → List ℕ)
   pub keeps_same : (m : Model S) → StepKeeps size m m
   keeps_same m = record { identities = λ _ _. refl; out = λ _ _ _. refl; port_has_cache = λ _. refl; queue = refl; accesses = refl }
 
-  pub keeps_on : (a b c : Model S) → ((q : ℕ) → which_of b q ≡ which_of a q) → StepKeeps size a b → StepKeeps size b c → StepKeeps size a c
+  pub keeps_on : (a b c : Model S) → ((q : ℕ) → disk_index_of b q ≡ disk_index_of a q) → StepKeeps size a b → StepKeeps size b c → StepKeeps size a c
   keeps_on a b c same first then = record {
     out = λ q w ne. then.out q w (λ is. ne (sym (same q) ∙ is)) ∙ first.out q w ne;
     identities = λ q w. then.identities q w ∙ first.identities q w;
@@ -59,19 +59,19 @@ module _ {S : Type 0} (size : S → ℕ) (told : S → Option (ℕ → List ℕ)
   }
 
   -- what is so of the port is so of each, where no other one's disks are others
-  pub whichs : (port : ℕ) (a b : Model S) → which_of b port ≡ which_of a port → ((q : ℕ) → q ≢ port → bay_of b q ≡ bay_of a q) → (q : ℕ) → which_of b q ≡ which_of a q
+  pub whichs : (port : ℕ) (a b : Model S) → disk_index_of b port ≡ disk_index_of a port → ((q : ℕ) → q ≢ port → bay_of b q ≡ bay_of a q) → (q : ℕ) → disk_index_of b q ≡ disk_index_of a q
   whichs port a b here others = each_port (option_map (λ (x : Bay S). x.which)) a b port here others
 
-  pub all_say : (port : ℕ) (a b : Model S) → says_of b port ≡ says_of a port → ((q : ℕ) → q ≢ port → bay_of b q ≡ bay_of a q) → (q : ℕ) → says_of b q ≡ says_of a q
+  pub all_say : (port : ℕ) (a b : Model S) → page_source_of b port ≡ page_source_of a port → ((q : ℕ) → q ≢ port → bay_of b q ≡ bay_of a q) → (q : ℕ) → page_source_of b q ≡ page_source_of a q
   all_say port a b here others = each_port (option_map (λ (x : Bay S). x.says)) a b port here others
 
-  pub all_identities : (port : ℕ) (a b : Model S) → which_of b port ≡ which_of a port → ((q : ℕ) → q ≢ port → bay_of b q ≡ bay_of a q) → StepKeeps size a b →
+  pub all_identities : (port : ℕ) (a b : Model S) → disk_index_of b port ≡ disk_index_of a port → ((q : ℕ) → q ≢ port → bay_of b q ≡ bay_of a q) → StepKeeps size a b →
       (q : ℕ) → identity_of size b q ≡ identity_of size a q
   all_identities port a b which others keeps q = identity_kept size a b q (whichs port a b which others q) (keeps.identities q)
 
   -- pages that are gained later are as the disks said before
-  pub pages_on : (port : ℕ) (a b c : Model S) → says_of b port ≡ says_of a port → which_of b port ≡ which_of a port → ((q : ℕ) → q ≢ port → bay_of b q ≡ bay_of a q) →
-      StepKeeps size a b → GainsPages size a b → GainsPages size b c → GainsPages size a c
+  pub pages_on : (port : ℕ) (a b c : Model S) → page_source_of b port ≡ page_source_of a port → disk_index_of b port ≡ disk_index_of a port → ((q : ℕ) → q ≢ port → bay_of b q ≡ bay_of a q) →
+      StepKeeps size a b → GainsOwnPages size a b → GainsOwnPages size b c → GainsOwnPages size a c
   pages_on port a b c says which others keeps first then =
       gains_on size a b c (all_say port a b says others) (all_identities port a b which others keeps) first then
 
@@ -191,8 +191,8 @@ module _ {S : Type 0} (size : S → ℕ) (told : S → Option (ℕ → List ℕ)
       all : Meanwhile size p.0 old new
       all = meanwhile_on p.0 old mid new meanwhile (record {
         held = step.held;
-        says = of_port says_of step.says;
-        which = of_port which_of step.which;
+        says = of_port page_source_of step.says;
+        which = of_port disk_index_of step.which;
         others = others;
         pages = gains_none size mid new (ap (λ (d : Device). d.tape) step.device);
         keeps = step.keeps;
@@ -250,7 +250,7 @@ module _ {S : Type 0} (size : S → ℕ) (told : S → Option (ℕ → List ℕ)
     fine = failures_kept failures old mid p.0 meanwhile.which (none p.0)
 
     -- a Finish came to a sector on which its command failed
-    fails_finish : new.held ≡ mid.held → which_of new p.0 ≡ which_of mid p.0 → ((q : ℕ) → q ≢ p.0 → bay_of new q ≡ bay_of mid q) → GainsPages size mid new →
+    fails_finish : new.held ≡ mid.held → disk_index_of new p.0 ≡ disk_index_of mid p.0 → ((q : ℕ) → q ≢ p.0 → bay_of new q ≡ bay_of mid q) → GainsOwnPages size mid new →
         StepKeeps size mid new → new.hardware.starved ≡ mid.hardware.starved →
         CommandFails size told failures (asked.Finish p slot) old new → AnswersStep size told failures (asked.Finish p slot) true old new
     fails_finish held which others pages keeps starved failed = (
@@ -273,9 +273,9 @@ module _ {S : Type 0} (size : S → ℕ) (told : S → Option (ℕ → List ℕ)
         fails_finish step.held step.which step.others step.pages step.keeps step.starved (
           device_at size told mid,
           before_it p slot did _ _ went stayed,
-          inl (subst (λ on. FailsToMove on p.0 slot.0 (disk_failures failures old p.0) (disk_failures failures new p.0) (says_of old p.0) (says_of new p.0) (device_at size told mid) (device_at size told new)) (meanwhile.keeps.port_has_cache p.0)
-              (subst (λ was. FailsToMove (port_has_cache mid p.0) p.0 slot.0 was (disk_failures failures new p.0) (says_of old p.0) (says_of new p.0) (device_at size told mid) (device_at size told new)) fine
-              (subst (λ says. FailsToMove (port_has_cache mid p.0) p.0 slot.0 (disk_failures failures mid p.0) (disk_failures failures new p.0) says (says_of new p.0) (device_at size told mid) (device_at size told new)) meanwhile.says f))),
+          inl (subst (λ on. FailsToMove on p.0 slot.0 (disk_failures failures old p.0) (disk_failures failures new p.0) (page_source_of old p.0) (page_source_of new p.0) (device_at size told mid) (device_at size told new)) (meanwhile.keeps.port_has_cache p.0)
+              (subst (λ was. FailsToMove (port_has_cache mid p.0) p.0 slot.0 was (disk_failures failures new p.0) (page_source_of old p.0) (page_source_of new p.0) (device_at size told mid) (device_at size told new)) fine
+              (subst (λ says. FailsToMove (port_has_cache mid p.0) p.0 slot.0 (disk_failures failures mid p.0) (disk_failures failures new p.0) says (page_source_of new p.0) (device_at size told mid) (device_at size told new)) meanwhile.says f))),
         )
 
     pub clear_fails : (most : ℕ) → DidStep size told failures (asked.Clear p slot most) mid new → CommandFails size told failures (asked.Clear p slot most) mid new →
@@ -284,9 +284,9 @@ module _ {S : Type 0} (size : S → ℕ) (told : S → Option (ℕ → List ℕ)
         fails_finish step.held step.which step.others step.pages step.keeps step.starved (
           last,
           on cleared,
-          inr (subst (λ on. FailsToClear on p.0 slot.0 (disk_failures failures old p.0) (disk_failures failures new p.0) (says_of old p.0) (says_of new p.0) last (device_at size told new)) (meanwhile.keeps.port_has_cache p.0)
-              (subst (λ was. FailsToClear (port_has_cache mid p.0) p.0 slot.0 was (disk_failures failures new p.0) (says_of old p.0) (says_of new p.0) last (device_at size told new)) fine
-              (subst (λ says. FailsToClear (port_has_cache mid p.0) p.0 slot.0 (disk_failures failures mid p.0) (disk_failures failures new p.0) says (says_of new p.0) last (device_at size told new)) meanwhile.says f))),
+          inr (subst (λ on. FailsToClear on p.0 slot.0 (disk_failures failures old p.0) (disk_failures failures new p.0) (page_source_of old p.0) (page_source_of new p.0) last (device_at size told new)) (meanwhile.keeps.port_has_cache p.0)
+              (subst (λ was. FailsToClear (port_has_cache mid p.0) p.0 slot.0 was (disk_failures failures new p.0) (page_source_of old p.0) (page_source_of new p.0) last (device_at size told new)) fine
+              (subst (λ says. FailsToClear (port_has_cache mid p.0) p.0 slot.0 (disk_failures failures mid p.0) (disk_failures failures new p.0) says (page_source_of new p.0) last (device_at size told new)) meanwhile.says f))),
         )
       where
         on : (last ≡ device_at size told mid) ⊎ ClearsFewer p.0 slot.0 most (device_at size told mid) last →
@@ -302,11 +302,11 @@ module _ {S : Type 0} (size : S → ℕ) (told : S → Option (ℕ → List ℕ)
   pub record IsFailed (p : Port) (slot : Slot) (error : ℕ) (t : FetchedCommand) (old new : Model S) : Type 0 where
     pub fails : Fails SendsFailed p.0 slot.0 error 0 (device_at size told old) (device_at size told new)
     pub same : fails.fault.t ≡ t
-    pub says : says_of new p.0 ≡ says_failed (Some t) slot.0 error (says_of old p.0)
+    pub says : page_source_of new p.0 ≡ page_source_after_failure (Some t) slot.0 error (page_source_of old p.0)
     pub held : new.held ≡ old.held
-    pub which : which_of new p.0 ≡ which_of old p.0
+    pub which : disk_index_of new p.0 ≡ disk_index_of old p.0
     pub others : (q : ℕ) → q ≢ p.0 → bay_of new q ≡ bay_of old q
-    pub pages : GainsPages size old new
+    pub pages : GainsOwnPages size old new
     pub disks : (which : DiskIndex) → numbered_disk new p.0 which ≡ numbered_disk old p.0 which
     pub keeps : StepKeeps size old new
     pub starved : new.hardware.starved ≡ old.hardware.starved
@@ -321,7 +321,7 @@ module _ {S : Type 0} (size : S → ℕ) (told : S → Option (ℕ → List ℕ)
             record {
               fails = whole.asked;
               same = one;
-              says = whole.says ∙ ap (λ (x : Option FetchedCommand). says_failed x slot.0 error (says_of old p.0)) can.taken;
+              says = whole.says ∙ ap (λ (x : Option FetchedCommand). page_source_after_failure x slot.0 error (page_source_of old p.0)) can.taken;
               held = a.1.held;
               which = a.1.which;
               others = a.1.others;
@@ -346,7 +346,7 @@ module _ {S : Type 0} (size : S → ℕ) (told : S → Option (ℕ → List ℕ)
   }
 
   pub finish_goes_so : (p : Port) (slot : Slot) (answer : Bool) (old new : Model S) → AnswersStep size told failures (asked.Finish p slot) answer old new →
-      (answer ≡ true → says_of new p.0 ≡ says_of old p.0) → OwnStepsKeep size old new
+      (answer ≡ true → page_source_of new p.0 ≡ page_source_of old p.0) → OwnStepsKeep size old new
   finish_goes_so p slot true old new a says = record {
     held = a.1.held;
     says = all_say p.0 old new (says refl) a.1.others;

@@ -19,9 +19,9 @@ use Rattle.adapter.specs.declared.tape.Entry.TheVariants as entry
 use Rattle.device_model.specs.Exchanged.{IsTransferred, piece_of}
 use Rattle.device_model.specs.Fetched.{bytes_of}
 use Rattle.device_model.specs.Finishing.{TapeHasRoom}
-use Rattle.device_model.specs.Slots.{WorksOnIn, IsNext}
+use Rattle.device_model.specs.Slots.{WorksOnIn, IsNextMove}
 use Rattle.device_model.specs.View.{blank_port, taken_in, media_after, operation_of_kind, port_of, taken_of}
-use Rattle.device_model.specs.Whole.{Outside, device_of, outside_after}
+use Rattle.device_model.specs.WholeAdapter.{AllMedia, device_of, all_media_after}
 use Rattle.device_model.specs.declared.hardware.Hardware.{Hardware}
 use Rattle.device_model.specs.declared.port.PortModel.{PortModel}
 use Rattle.device_model.specs.declared.port.TakenCommand.{TakenCommand}
@@ -124,7 +124,7 @@ exchanged h next k d b is whole small size takes =
         ∙ (put ∙ (λ i. patched (bytes_of (is i)) next.address (sym (piece_is h next k d b is whole small size) i)))
 
 -- where it is what stood there, nothing is another
-pub piece_stays : (h : Hardware) (o : Outside) (next : NextMove) (k : ℕ) (d b : List ℕ) → d ≡ h.memory.items → k ≡ 512 →
+pub piece_stays : (h : Hardware) (o : AllMedia) (next : NextMove) (k : ℕ) (d b : List ℕ) → d ≡ h.memory.items → k ≡ 512 →
     next.address + 512 ≤ length h.memory.items → b ≡ take k (drop next.address d) →
     device_of (with_piece h next.address k d b) o ≡ device_of h o
 piece_stays h o next k d b is whole small same =
@@ -136,9 +136,9 @@ piece_stays h o next k d b is whole small same =
     λ i. record (device_of h o) { size = length (items i); memory = bytes_of (items i) }
 
 -- the next piece of a command is noted, where it was exchanged
-pub port_moves_over : (old h : Hardware) (o : Outside) (p port slot : ℕ) (next : NextMove) (new : PortModel)
+pub port_moves_over : (old h : Hardware) (o : AllMedia) (p port slot : ℕ) (next : NextMove) (new : PortModel)
     (t : TakenCommand) (tape : Vec Entry) (operation : Operation) (direction : Direction) →
-    IsTransferred old h next → p ≡ port → p < length h.ports → IsNext old port slot next t →
+    IsTransferred old h next → p ≡ port → p < length h.ports → IsNextMove old port slot next t →
     port_of new (media_after (o.media p) (taken_of t) (piece_of h next))
     ≡ with_move (port_of (slice_index_or h.ports p blank_port) (o.media p)) slot (taken_of t) (piece_of h next) →
     operation ≡ operation_of_kind next.command_kind → direction ≡ direction_of (operation_of_kind next.command_kind) →
@@ -146,7 +146,7 @@ pub port_moves_over : (old h : Hardware) (o : Outside) (p port slot : ℕ) (next
     ≡ h.tape.items
     ++ entry.Move (moved_by port slot operation next.sector next.address direction (piece_of h next)) ∷ [] →
     device_of (record h { ports = slice_set h.ports p new; tape = tape })
-    (outside_after o port (taken_of t) (piece_of h next))
+    (all_media_after o port (taken_of t) (piece_of h next))
     ≡ device_after (Move port slot (taken_of t) (piece_of h next)) (device_of old o)
 port_moves_over old h o p port slot next new t tape operation direction is e small at moves named way more =
     let noted : Vec Entry = tape in
@@ -161,11 +161,11 @@ port_moves_over old h o p port slot next new t tape operation direction is e sma
     (moved_by port slot operation next.sector next.address direction bytes) ∷ []) is.rest more)
     is.size is.put in
     subst (λ (x : Hardware). device_of (record x { ports = slice_set x.ports p new; tape = noted })
-    (outside_after o port (taken_of t) bytes) ≡ effect) (sym is.rest) moved
+    (all_media_after o port (taken_of t) bytes) ≡ effect) (sym is.rest) moved
 
 -- it is the next one still
 pub next_over : {old h : Hardware} {next : NextMove} {t : TakenCommand} → (port slot : ℕ) → IsTransferred old h next →
-    IsNext old port slot next t → IsNext h port slot next t
+    IsNextMove old port slot next t → IsNextMove h port slot next t
 next_over {old} {h} {next} {t} port slot is at = record {
   holds = subst (λ (x : Hardware). WorksOnIn (slice_index_or x.ports port blank_port) slot t) (sym is.rest) at.holds;
   left = at.left;
@@ -186,7 +186,7 @@ next_over {old} {h} {next} {t} port slot is at = record {
 
 -- it is the next one still, where the tape has grown
 pub next_grown : {old h : Hardware} {next : NextMove} {t : TakenCommand} → (port slot : ℕ) → h ≡ record old { tape = h.tape } →
-    IsNext old port slot next t → IsNext h port slot next t
+    IsNextMove old port slot next t → IsNextMove h port slot next t
 next_grown {old} {h} {next} {t} port slot is at =
     let size : length h.memory.items ≡ length old.memory.items = ap (λ (x : Hardware). length x.memory.items) is in
     record {
@@ -218,10 +218,10 @@ one_further t sector ranged is =
 
 -- once the next piece of a command is noted, the one behind it is next
 pub next_after : (old : Hardware) (p port slot : ℕ) (next : NextMove) (t : TakenCommand) (new : PortModel) (tape : Vec Entry) (starved : Bool) →
-    IsNext old port slot next t → 1 ≤ next.behind → p ≡ port → p < length old.ports →
+    IsNextMove old port slot next t → 1 ≤ next.behind → p ≡ port → p < length old.ports →
     new ≡ record (slice_index_or old.ports p blank_port) { taken = new.taken } →
     taken_in new.taken slot ≡ Some (record t { moved = t.moved + 1 }) →
-    IsNext (record old { ports = slice_set old.ports p new; tape = tape; starved = starved }) port slot
+    IsNextMove (record old { ports = slice_set old.ports p new; tape = tape; starved = starved }) port slot
     (record next { sector = next.sector + 1; address = next.address + 512; behind = next.behind - 1 })
     (record t { moved = t.moved + 1 })
 next_after old p port slot next t new tape starved at some e small same held =

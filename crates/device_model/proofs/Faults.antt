@@ -10,12 +10,12 @@ use Rattle.adapter.specs.declared.access.DeviceStep.TheVariants as asked
 use Rattle.ata_types.specs.declared.Port.{Port}
 use Rattle.ata_types.specs.declared.Slot.{Slot}
 use Rattle.sector_store.specs.declared.store.Failures.{Failures}
-use Rattle.device_model.specs.Disks.{bay_of, port_has_cache, disk_failures, says_of, which_of}
-use Rattle.device_model.specs.Does.{AsksStore, DidStep, CommandFails, IsSectorFault, StepKeeps, asked_port, says_failed, which_after}
+use Rattle.device_model.specs.Disks.{bay_of, port_has_cache, disk_failures, page_source_of, disk_index_of}
+use Rattle.device_model.specs.Does.{AsksStore, DidStep, CommandFails, IsSectorFault, StepKeeps, asked_port, page_source_after_failure, disk_index_after}
 use Rattle.device_model.specs.Finishing.{HasMove}
 use Rattle.device_model.specs.Held.{held_after}
 use Rattle.device_model.specs.Modelled.{device_at}
-use Rattle.device_model.specs.Paged.{GainsPages}
+use Rattle.device_model.specs.Paged.{GainsOwnPages}
 use Rattle.device_model.specs.Sent.{SendsFault}
 use Rattle.device_model.specs.declared.disks.ModelDisk.{ModelDisk}
 use Rattle.device_model.specs.declared.model.Model.{Model}
@@ -31,7 +31,7 @@ fine_on {S} size told failures p slot error t mid last failed =
 module _ {S : Type 0} (size : S → ℕ) (told : S → Option (ℕ → List ℕ)) (failures : S → Option Failures) (p : Port) (slot : Slot) (error : ℕ) (t : FetchedCommand)
     (m mid last : Model S) (failed : IsFailed size told failures p slot error t mid last) where
   -- as the next sector was to be moved
-  pub fails_to_move : device_at size told mid ≡ device_at size told m → says_of mid p.0 ≡ says_of m p.0 → HasMove (device_at size told m) p.0 slot.0 t →
+  pub fails_to_move : device_at size told mid ≡ device_at size told m → page_source_of mid p.0 ≡ page_source_of m p.0 → HasMove (device_at size told m) p.0 slot.0 t →
       is_ranged t.meaning.operation ≡ true →
       IsSectorFault (port_has_cache m p.0) (reads_memory t.meaning.operation) (next_sector t) ((device_at size told m).port p.0).disk.size error (disk_failures failures m p.0) (disk_failures failures mid p.0) →
       CommandFails size told failures (asked.Move p slot) m last
@@ -49,18 +49,18 @@ module _ {S : Type 0} (size : S → ℕ) (told : S → Option (ℕ → List ℕ)
         can = subst (λ (d : Device). Q t d) same (subst (λ (x : FetchedCommand). Q x (device_at size told mid)) failed.same failed.fails.fault.can);
         sends = subst (R t) (failed.fails.fault.effect ∙ (λ i. device_after (Fault p.0 slot.0 error 0 (failed.same i)) (same i)))
             (subst (λ (x : FetchedCommand). R x failed.fails.mid) failed.same failed.fails.posts);
-        log = failed.says ∙ ap (λ says. says_failed (Some t) slot.0 error says) says;
+        log = failed.says ∙ ap (λ says. page_source_after_failure (Some t) slot.0 error says) says;
       }
 
   -- the step is done, as far as that
   pub did_fail : (s : DeviceStep) → asked_port s ≡ p.0 → CommandFails size told failures s m last → held_after s m.held ≡ m.held →
-      which_after s (which_of m (asked_port s)) ≡ which_of m (asked_port s) → mid.held ≡ m.held → says_of mid p.0 ≡ says_of m p.0 → which_of mid p.0 ≡ which_of m p.0 →
-      ((q : ℕ) → q ≢ p.0 → bay_of mid q ≡ bay_of m q) → GainsPages size m mid → StepKeeps size m mid → mid.hardware.starved ≡ m.hardware.starved →
+      disk_index_after s (disk_index_of m (asked_port s)) ≡ disk_index_of m (asked_port s) → mid.held ≡ m.held → page_source_of mid p.0 ≡ page_source_of m p.0 → disk_index_of mid p.0 ≡ disk_index_of m p.0 →
+      ((q : ℕ) → q ≢ p.0 → bay_of mid q ≡ bay_of m q) → GainsOwnPages size m mid → StepKeeps size m mid → mid.hardware.starved ≡ m.hardware.starved →
       AsksStore s (device_at size told m) → DidStep size told failures s m last
   did_fail s at fails held_on which_on held says which others pages keeps starved asks = record {
     came = inr fails;
     held = failed.held ∙ (held ∙ sym held_on);
-    which = subst (λ q. which_of last q ≡ which_of m q) (sym at) (failed.which ∙ which) ∙ sym which_on;
+    which = subst (λ q. disk_index_of last q ≡ disk_index_of m q) (sym at) (failed.which ∙ which) ∙ sym which_on;
     others = λ q ne. let apart : q ≢ p.0 = λ is. ne (is ∙ sym at) in failed.others q apart ∙ others q apart;
     pages = pages_on size told failures p.0 m mid last says which others keeps pages failed.pages;
     disks = λ never. absurd (never asks);

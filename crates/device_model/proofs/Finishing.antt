@@ -15,12 +15,12 @@ use Rattle.device_model.proofs.Absurd.{some-none, some_one, true-false}
 use Rattle.device_model.proofs.Places.{changed_same}
 use Rattle.adapter.proofs.SaysLemmas.{says_meaning, says_places}
 use Rattle.device_model.specs.Does.{HasCleared, HasEndedSlot}
-use Rattle.device_model.specs.Finishing.{HasDisk, HasMove, IsCovered, IsGoing, MayFinish}
+use Rattle.device_model.specs.Finishing.{HasDisk, HasMove, IsCovered, IsInProgress, MayFinish}
 use Rattle.device_model.specs.Sent.{SendsEnd}
-use Rattle.device_model.specs.Slots.{CanClear, WorksOnIn, IsNext}
-use Rattle.device_model.specs.Trims.{HasClear, WillClear, span, uncleared}
+use Rattle.device_model.specs.Slots.{CanClear, WorksOnIn, IsNextMove}
+use Rattle.device_model.specs.Trims.{HasClear, HasClearsLeft, next_run_length, uncleared}
 use Rattle.device_model.specs.View.{halt_of, taken_in, operation_of_kind, taken_of, blank_port}
-use Rattle.device_model.specs.Whole.{HasDisks, Outside, device_of}
+use Rattle.device_model.specs.WholeAdapter.{HasDisks, AllMedia, device_of}
 use Rattle.device_model.specs.declared.port.PortModel.{PortModel}
 use Rattle.device_model.specs.declared.hardware.Hardware.{Hardware}
 use Rattle.device_model.specs.declared.port.TakenCommand.{TakenCommand}
@@ -60,8 +60,8 @@ still_works p new o w cr present fresh halt broken = record {
 module _ (port slot : ℕ) where
   -- it was just taken
   just_fetched : (left clears : ℕ) (old new : Device) (m : Meaning) (places : List ℕ) → IsCovered (begun m places) old.size left →
-      WillClear m.operation old.memory (begun m places) clears → Can (Fetch port slot m places) old → DoesFetch port slot old new →
-      IsGoing new port slot left clears
+      HasClearsLeft m.operation old.memory (begun m places) clears → Can (Fetch port slot m places) old → DoesFetch port slot old new →
+      IsInProgress new port slot left clears
   just_fetched left clears old new m places covered clearing can f =
       let p : DevicePort = old.port port in
       let state : DevicePort = with_fetch p slot f.meaning f.places in
@@ -75,7 +75,7 @@ module _ (port slot : ℕ) where
       record {
         t = begun m places;
         covered = subst Q (sym (ap (λ (d : Device). d.size) f.effect)) covered;
-        clearing = subst (λ (memory : ℕ → ℕ). WillClear m.operation memory (begun m places) clears) (sym (ap (λ (d : Device). d.memory) f.effect)) clearing;
+        clearing = subst (λ (memory : ℕ → ℕ). HasClearsLeft m.operation memory (begun m places) clears) (sym (ap (λ (d : Device). d.memory) f.effect)) clearing;
         works = subst P (sym there)
             (record { taken = taken; working = still_works p state m.operation can.working refl refl refl refl refl });
       }
@@ -83,25 +83,25 @@ module _ (port slot : ℕ) where
   -- it is taken, or was
   pub fetched_goes : (left clears : ℕ) (did : Bool) (old new : Device) → MayFinish old port slot left clears → (did ≡ true → DoesFetch port slot old new) →
       (did ≡ false → new ≡ old) →
-      (did ≡ false → (m : Meaning) (places : List ℕ) → Can (Fetch port slot m places) old → ⊥) → IsGoing new port slot left clears
+      (did ≡ false → (m : Meaning) (places : List ℕ) → Can (Fetch port slot m places) old → ⊥) → IsInProgress new port slot left clears
   fetched_goes left clears did old new ready fetched same only =
       by did refl ready.begins
     where
       by : (b : Bool) → did ≡ b → WorksOn (old.port port) slot ready.t ready.t.meaning.operation
-          ⊎ (Can (Fetch port slot ready.t.meaning ready.t.places) old × (ready.t ≡ begun ready.t.meaning ready.t.places)) → IsGoing new port slot left clears
+          ⊎ (Can (Fetch port slot ready.t.meaning ready.t.places) old × (ready.t ≡ begun ready.t.meaning ready.t.places)) → IsInProgress new port slot left clears
       by true e (inl works) = some-none works.taken (fetched e).can.fetchable.free
       by true e (inr (can, is)) =
           let P : FetchedCommand → Type 0 = λ t. IsCovered t old.size left in
-          let Q : FetchedCommand → Type 0 = λ t. WillClear t.meaning.operation old.memory t clears in
+          let Q : FetchedCommand → Type 0 = λ t. HasClearsLeft t.meaning.operation old.memory t clears in
           just_fetched left clears old new ready.t.meaning ready.t.places (subst P is ready.covered) (subst Q is ready.clearing) can (fetched e)
       by false e (inl works) =
-          let P : Device → Type 0 = λ d. IsGoing d port slot left clears in
+          let P : Device → Type 0 = λ d. IsInProgress d port slot left clears in
           subst P (sym (same e)) (record { t = ready.t; covered = ready.covered; clearing = ready.clearing; works = works })
       by false e (inr (can, is)) = absurd (only e ready.t.meaning ready.t.places can)
 
   -- a piece of it is moved
-  pub moved_goes : (left clears : ℕ) (old new : Device) → IsGoing old port slot (suc left) clears → DoesMove port slot old new →
-      IsGoing new port slot left clears
+  pub moved_goes : (left clears : ℕ) (old new : Device) → IsInProgress old port slot (suc left) clears → DoesMove port slot old new →
+      IsInProgress new port slot left clears
   moved_goes left clears old new going m =
       let p : DevicePort = old.port port in
       let t : FetchedCommand = going.t in
@@ -115,9 +115,9 @@ module _ (port slot : ℕ) where
       let covered : IsCovered m.t old.size (suc left) = subst Q (sym same) going.covered in
       record {
         t = u;
-        clearing = subst (λ (memory : ℕ → ℕ). WillClear m.t.meaning.operation memory u clears) (sym (ap (λ (d : Device). d.memory) m.effect))
+        clearing = subst (λ (memory : ℕ → ℕ). HasClearsLeft m.t.meaning.operation memory u clears) (sym (ap (λ (d : Device). d.memory) m.effect))
             (moved_clears m.t.meaning.operation p.disk old.memory m.t m.bytes clears m.can.left m.can.brings
-            (subst (λ (x : FetchedCommand). WillClear x.meaning.operation old.memory x clears) (sym same) going.clearing));
+            (subst (λ (x : FetchedCommand). HasClearsLeft x.meaning.operation old.memory x clears) (sym same) going.clearing));
         covered = record {
           left_is = omega (arith, covered.left_is);
           inside = λ k small. omega (arith, size, covered.inside k small);
@@ -130,17 +130,17 @@ module _ (port slot : ℕ) where
       }
 
   -- a run of its sectors is cleared
-  pub cleared_goes : (clears : ℕ) (old new : Device) → (going : IsGoing old port slot 0 (suc clears)) → (most : ℕ) →
-      most ≡ length (uncleared going.t) → (c : DoesClear port slot most old new) → HasCleared old new port slot most → IsGoing new port slot 0 clears
+  pub cleared_goes : (clears : ℕ) (old new : Device) → (going : IsInProgress old port slot 0 (suc clears)) → (most : ℕ) →
+      most ≡ length (uncleared going.t) → (c : DoesClear port slot most old new) → HasCleared old new port slot most → IsInProgress new port slot 0 clears
   cleared_goes clears old new going most whole c has =
       let p : DevicePort = old.port port in
       let t : FetchedCommand = going.t in
-      let u : FetchedCommand = record t { cleared = t.cleared + span (length (uncleared t)) t } in
+      let u : FetchedCommand = record t { cleared = t.cleared + next_run_length (length (uncleared t)) t } in
       let state : DevicePort = with_clear p slot c.t c.first c.count in
       let there : new.port port ≡ state = ap (λ (d : Device). d.port port) c.effect ∙ changed_same old.port port state in
       let same : has.t ≡ t = some_one (sym has.was ∙ going.works.taken) in
       let taken : (new.port port).taken slot ≡ Some u =
-      has.is ∙ (λ i. Some (record (same i) { cleared = (same i).cleared + span (whole i) (same i) })) in
+      has.is ∙ (λ i. Some (record (same i) { cleared = (same i).cleared + next_run_length (whole i) (same i) })) in
       let size : new.size ≡ old.size = ap (λ (d : Device). d.size) c.effect in
       let all : t.moved ≡ length t.places = omega (arith, going.covered.left_is) in
       record {
@@ -149,7 +149,7 @@ module _ (port slot : ℕ) where
           left_is = going.covered.left_is;
           inside = λ k small. omega (arith, size, going.covered.inside k small);
         };
-        clearing = subst (λ (memory : ℕ → ℕ). WillClear t.meaning.operation memory u clears) (sym (ap (λ (d : Device). d.memory) c.effect))
+        clearing = subst (λ (memory : ℕ → ℕ). HasClearsLeft t.meaning.operation memory u clears) (sym (ap (λ (d : Device). d.memory) c.effect))
             (span_less old.memory t clears all going.clearing);
         works = record {
           taken = taken;
@@ -233,7 +233,7 @@ module _ (port slot : ℕ) where
       }
 
   -- a plain one is issued no more
-  pub done_frees : (old new : Device) (going : IsGoing old port slot 0 0) → is_queued going.t.meaning.operation ≡ false → EndsAndPosts (SendsEnd slot) port slot old new →
+  pub done_frees : (old new : Device) (going : IsInProgress old port slot 0 0) → is_queued going.t.meaning.operation ≡ false → EndsAndPosts (SendsEnd slot) port slot old new →
       IsFreeSlot (new.port port) slot
   done_frees old new going plain e =
       let f : DoesDone port slot old e.mid = e.done in
@@ -248,7 +248,7 @@ module _ (port slot : ℕ) where
       }
 
   -- when nothing is left, it may end
-  pub going_may_end : (d : Device) (going : IsGoing d port slot 0 0) → Can (Done port slot 0 going.t) d
+  pub going_may_end : (d : Device) (going : IsInProgress d port slot 0 0) → Can (Done port slot 0 going.t) d
   going_may_end d going = record {
     works = going.works;
     finished = record {
@@ -261,7 +261,7 @@ module _ (port slot : ℕ) where
 -- ---- what a move and an end find
 
 -- a command that a port works on is one that its slot holds
-pub holds : (h : Hardware) (o : Outside) (port slot : ℕ) (t : FetchedCommand) → WorksOn ((device_of h o).port port) slot t t.meaning.operation →
+pub holds : (h : Hardware) (o : AllMedia) (port slot : ℕ) (t : FetchedCommand) → WorksOn ((device_of h o).port port) slot t t.meaning.operation →
     (r : TakenCommand) × WorksOnIn (slice_index_or h.ports port blank_port) slot r × (t ≡ taken_of r)
 holds h o port slot t works =
     let p : PortModel = slice_index_or h.ports port blank_port in
@@ -290,7 +290,7 @@ pub record MoveFits (h : Hardware) (port slot : ℕ) : Type 0 where
   pub left : r.moved < length (pieces r.prds)
   pub inside : slice_index (pieces r.prds) r.moved + 512 ≤ length h.memory.items
 
-pub move_fits : (h : Hardware) (o : Outside) (d : Device) (port slot : ℕ) (t : FetchedCommand) → device_of h o ≡ d → HasMove d port slot t → MoveFits h port slot
+pub move_fits : (h : Hardware) (o : AllMedia) (d : Device) (port slot : ℕ) (t : FetchedCommand) → device_of h o ≡ d → HasMove d port slot t → MoveFits h port slot
 move_fits h o d port slot t same move =
     let P : Device → Type 0 = λ x. HasMove x port slot t in
     let on_port : HasMove (device_of h o) port slot t = subst P (sym same) move in
@@ -300,8 +300,8 @@ move_fits h o d port slot t same move =
     record { r = w.0; holds = w.1; left = here.left; inside = here.inside }
 
 -- what the hardware finds to move next is possible on a port that has disks
-pub next_has_move : (h : Hardware) (o : Outside) (d : Device) (port slot : ℕ) (next : NextMove) (r : TakenCommand) → HasDisks d port → device_of h o ≡ d →
-    IsNext h port slot next r → HasMove d port slot (taken_of r)
+pub next_has_move : (h : Hardware) (o : AllMedia) (d : Device) (port slot : ℕ) (next : NextMove) (r : TakenCommand) → HasDisks d port → device_of h o ≡ d →
+    IsNextMove h port slot next r → HasMove d port slot (taken_of r)
 next_has_move h o d port slot next r has same is =
     let P : Device → Type 0 = λ x. HasMove x port slot (taken_of r) in
     let place : next.address ≡ slice_index (pieces r.prds) r.moved = is.address_is in
@@ -334,7 +334,7 @@ has_move d port slot t bytes sized has inside can =
         sized (next_sector t) (brings_on_disk (d.port port).disk d.memory t kind.0 bytes (ap is_ranged (sym kind.1) ∙ ranged) (subst P kind.1 can.brings))
 
 -- where a move is left, one is possible
-pub going_has_move : (d : Device) (port slot left clears : ℕ) → HasDisks d port → (going : IsGoing d port slot (suc left) clears) → HasMove d port slot going.t
+pub going_has_move : (d : Device) (port slot left clears : ℕ) → HasDisks d port → (going : IsInProgress d port slot (suc left) clears) → HasMove d port slot going.t
 going_has_move d port slot left clears has going =
     let t : FetchedCommand = going.t in
     record {
@@ -345,7 +345,7 @@ going_has_move d port slot left clears has going =
     }
 
 -- where a clear is left, one is possible
-pub going_has_clear : (d : Device) (port slot clears : ℕ) → HasDisks d port → (going : IsGoing d port slot 0 (suc clears)) →
+pub going_has_clear : (d : Device) (port slot clears : ℕ) → HasDisks d port → (going : IsInProgress d port slot 0 (suc clears)) →
     HasClear d port slot (length (uncleared going.t)) going.t
 going_has_clear d port slot clears has going =
     let t : FetchedCommand = going.t in
@@ -361,7 +361,7 @@ going_has_clear d port slot clears has going =
     }
 
 -- what a clear that is possible says of the command
-pub clear_fits : (h : Hardware) (o : Outside) (d : Device) (port slot most : ℕ) (t : FetchedCommand) → device_of h o ≡ d → HasClear d port slot most t →
+pub clear_fits : (h : Hardware) (o : AllMedia) (d : Device) (port slot most : ℕ) (t : FetchedCommand) → device_of h o ≡ d → HasClear d port slot most t →
     (r : TakenCommand) × WorksOnIn (slice_index_or h.ports port blank_port) slot r × CanClear r most × (t ≡ taken_of r)
 clear_fits h o d port slot most t same clear =
     let P : Device → Type 0 = λ x. HasClear x port slot most t in
@@ -372,7 +372,7 @@ clear_fits h o d port slot most t same clear =
     (w.0, w.1, record { trim = is_trim w.0.command_kind here.trim; moved = here.moved; some = here.some; enough = here.enough }, w.2)
 
 -- and where the hardware finds one, it is possible on a port that has disks
-pub next_has_clear : (h : Hardware) (o : Outside) (d : Device) (port slot most : ℕ) (r : TakenCommand) → HasDisks d port → device_of h o ≡ d →
+pub next_has_clear : (h : Hardware) (o : AllMedia) (d : Device) (port slot most : ℕ) (r : TakenCommand) → HasDisks d port → device_of h o ≡ d →
     WorksOnIn (slice_index_or h.ports port blank_port) slot r → CanClear r most → HasClear d port slot most (taken_of r)
 next_has_clear h o d port slot most r has same holds can =
     let P : Device → Type 0 = λ x. HasClear x port slot most (taken_of r) in
@@ -400,7 +400,7 @@ past_last (x ∷ xs) zero d past = absurd (omega (arith, past))
 past_last (x ∷ xs) (suc k) d past = past_last xs k d (omega (arith, past))
 
 -- nothing can be done on it
-pub never_past : (h : Hardware) (o : Outside) (port slot left clears : ℕ) → length h.ports ≤ port → MayFinish (device_of h o) port slot left clears → ⊥
+pub never_past : (h : Hardware) (o : AllMedia) (port slot left clears : ℕ) → length h.ports ≤ port → MayFinish (device_of h o) port slot left clears → ⊥
 never_past h o port slot left clears past may = by may.begins
   where
     d : Device

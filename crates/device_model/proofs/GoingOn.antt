@@ -12,7 +12,7 @@ use Rattle.device_model.specs.Bits.{word_bits}
 use Rattle.device_model.specs.Held.{IsPortHeld, IsPortLoose}
 use Rattle.device_model.specs.Sent.{SendsEnd, SendsRegisters, signature_fis}
 use Rattle.device_model.proofs.Posting.{end_rest}
-use Rattle.device_model.specs.Settled.{LeadsOwn, Settles, GoesTo, IsSettled, IsSettledPort}
+use Rattle.device_model.specs.Settled.{LeadsOwn, Settles, SettlesPort, IsSettled, IsSettledPort}
 use Rattle.device_model.specs.View.{Media, port_of, blank_port}
 use Rattle.device_model.specs.declared.port.PortModel.{PortModel}
 use Rattle.device_model.proofs.NewModel.{zero_bit}
@@ -34,10 +34,10 @@ with_twice d port a b =
           ∙ (changed_other d.port port a k differ.1 ∙ sym (changed_other d.port port b k differ.1))
     ]))
 
-pub goes_nowhere : (p : DevicePort) → GoesTo p p
+pub goes_nowhere : (p : DevicePort) → SettlesPort p p
 goes_nowhere p held d port loose is = let P : Device → Type 0 = λ x. LeadsOwn (Settles held) d x in subst P (sym (with_same d port p is)) (own_none (Settles held) d)
 
-pub goes_on : (a b c : DevicePort) → GoesTo a b → GoesTo b c → GoesTo a c
+pub goes_on : (a b c : DevicePort) → SettlesPort a b → SettlesPort b c → SettlesPort a c
 goes_on a b c first then held d port loose is =
     let P : Device → Type 0 = λ x. LeadsOwn (Settles held) (with_port d port b) x in
     own_on (Settles held) d (with_port d port b) (with_port d port c) (first held d port loose is)
@@ -46,7 +46,7 @@ goes_on a b c first then held d port loose is =
 abbrev fallen : DevicePort → DevicePort
 fallen p = record p { cr = false; taken = λ _. None }
 
-pub goes_fallen : (old new : DevicePort) → old.st ≡ false → old.cr ≡ true → new ≡ fallen old → GoesTo old new
+pub goes_fallen : (old new : DevicePort) → old.st ≡ false → old.cr ≡ true → new ≡ fallen old → SettlesPort old new
 goes_fallen old new st cr is held d port loose here =
     own_one (Settles held) (Fall port) d _ (loose, tt) (ap (λ (p : DevicePort). p.st) here ∙ st, ap (λ (p : DevicePort). p.cr) here ∙ cr)
     (ap (λ (p : DevicePort). with_port d port p) (is ∙ ap fallen (sym here)))
@@ -54,7 +54,7 @@ goes_fallen old new st cr is held d port loose here =
 abbrev area_fallen : DevicePort → DevicePort
 area_fallen p = record p { fr = false }
 
-pub goes_area_fallen : (old new : DevicePort) → old.fre ≡ false → old.cr ≡ false → old.fr ≡ true → new ≡ area_fallen old → GoesTo old new
+pub goes_area_fallen : (old new : DevicePort) → old.fre ≡ false → old.cr ≡ false → old.fr ≡ true → new ≡ area_fallen old → SettlesPort old new
 goes_area_fallen old new fre cr fr is held d port loose here =
     own_one (Settles held) (FrFall port) d _ (loose, tt)
     (ap (λ (p : DevicePort). p.fre) here ∙ fre, ap (λ (p : DevicePort). p.cr) here ∙ cr, ap (λ (p : DevicePort). p.fr) here ∙ fr)

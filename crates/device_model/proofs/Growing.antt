@@ -9,13 +9,13 @@ use Rattle.adapter.specs.declared.command.Operation.TheVariants.{Trim}
 use Rattle.adapter.specs.declared.command.Operation.TheVariants as operation
 use Rattle.adapter.specs.declared.access.DeviceStep.{DeviceStep}
 use Rattle.sector_store.specs.declared.store.Failures.{Failures}
-use Rattle.device_model.specs.Cached.{HasOldRoom, KeepsTheSame}
-use Rattle.device_model.specs.Disks.{HasOldRoomAt, HasOldRoomIn, HasOldRoomOf, bay_of, disk_in_bay, numbered_disk, lasting_of}
+use Rattle.device_model.specs.Cached.{HasRoomForOld, KeepsSameOldSectors}
+use Rattle.device_model.specs.Disks.{HasRoomForOldAt, HasRoomForOldIn, HasRoomForOldOf, bay_of, disk_in_bay, numbered_disk, lasting_of}
 use Rattle.device_model.specs.Does.{HasCleared, IsLeftOut, LacksMemory, IsAddressable, Possible, StepKeeps, asked_port, cleared_on_disk}
-use Rattle.device_model.specs.Modelled.{device_at, outside_at}
-use Rattle.device_model.specs.OldSectors.{with_old}
-use Rattle.device_model.specs.Trims.{HasClear, changes_ahead, next_uncleared, span, written_ahead}
-use Rattle.device_model.specs.Whole.{Outside, device_of}
+use Rattle.device_model.specs.Modelled.{device_at, all_media_at}
+use Rattle.device_model.specs.OldSectors.{with_old_bytes}
+use Rattle.device_model.specs.Trims.{HasClear, changes_ahead, next_uncleared, next_run_length, written_ahead}
+use Rattle.device_model.specs.WholeAdapter.{AllMedia, device_of}
 use Rattle.device_model.specs.declared.bay.Bay.{Bay}
 use Rattle.device_model.specs.declared.cache.Cache.{Cache}
 use Rattle.device_model.specs.declared.disks.DiskIndex.{DiskIndex}
@@ -27,23 +27,23 @@ use Rattle.device_model.proofs.Trimming.{cleared_changes, moved_changes}
 use Rattle.device_model.proofs.TwoDisks.{outside_kept, seated_here, seated_others, store_keeps, store_says, store_whichs}
 
 -- what is lasting of a disk, where the same is kept
-pub grown_lasts : {S : Type 0} (told : S → Option (ℕ → List ℕ)) (a : Bay S) (cache : Cache) → KeepsTheSame a.cache cache → lasting_of told (record a { cache = cache }) ≡ lasting_of told a
+pub grown_lasts : {S : Type 0} (told : S → Option (ℕ → List ℕ)) (a : Bay S) (cache : Cache) → KeepsSameOldSectors a.cache cache → lasting_of told (record a { cache = cache }) ≡ lasting_of told a
 grown_lasts told a cache same =
-    λ i. if same.is_on i then option_map (with_old (same.items i)) (told a.disk.store) else told a.lasting.value
+    λ i. if same.is_on i then option_map (with_old_bytes (same.items i)) (told a.disk.store) else told a.lasting.value
 
 -- there is room in the cache of a port
-pub room_here : {S : Type 0} (m : Model S) (port more : ℕ) (b : Bay S) → bay_of m port ≡ Some b → HasOldRoomAt m port more → HasOldRoom b.cache more
-room_here m port more b is = subst (λ x. HasOldRoomIn x more) is
+pub room_here : {S : Type 0} (m : Model S) (port more : ℕ) (b : Bay S) → bay_of m port ≡ Some b → HasRoomForOldAt m port more → HasRoomForOld b.cache more
+room_here m port more b is = subst (λ x. HasRoomForOldIn x more) is
 
-pub room_there : {S : Type 0} (m : Model S) (port more : ℕ) (b : Bay S) → bay_of m port ≡ Some b → HasOldRoom b.cache more → HasOldRoomAt m port more
-room_there m port more b is = subst (λ x. HasOldRoomIn x more) (sym is)
+pub room_there : {S : Type 0} (m : Model S) (port more : ℕ) (b : Bay S) → bay_of m port ≡ Some b → HasRoomForOld b.cache more → HasRoomForOldAt m port more
+room_there m port more b is = subst (λ x. HasRoomForOldIn x more) (sym is)
 
 module _ {S : Type 0} (size : S → ℕ) (told : S → Option (ℕ → List ℕ)) (failures : S → Option Failures) (m new : Model S) (port : ℕ) (a : Bay S) (cache : Cache)
-    (was : bay_of m port ≡ Some a) (items : new.bays.items ≡ slice_set m.bays.items port (Some (record a { cache = cache }))) (same : KeepsTheSame a.cache cache) where
+    (was : bay_of m port ≡ Some a) (items : new.bays.items ≡ slice_set m.bays.items port (Some (record a { cache = cache }))) (same : KeepsSameOldSectors a.cache cache) where
   abbrev grown : Bay S
   grown = record a { cache = cache }
 
-  pub grown_outside : outside_at size told new ≡ outside_at size told m
+  pub grown_outside : all_media_at size told new ≡ all_media_at size told m
   grown_outside = outside_kept m new port a grown was items refl size told refl refl (grown_lasts told a cache same)
 
   pub grown_disks : (q : ℕ) (w : DiskIndex) → q ≡ port → numbered_disk new q w ≡ numbered_disk m q w
@@ -55,14 +55,14 @@ module _ {S : Type 0} (size : S → ℕ) (told : S → Option (ℕ → List ℕ)
   grown_keeps queue accesses = store_keeps m new port a grown was items refl size refl same.is_on queue accesses
 
   -- a step is left
-  pub grown_left : (s : DeviceStep) → asked_port s ≡ port → device_of new.hardware (outside_at size told m) ≡ device_at size told m → new.held ≡ m.held → new.queue ≡ m.queue →
+  pub grown_left : (s : DeviceStep) → asked_port s ≡ port → device_of new.hardware (all_media_at size told m) ≡ device_at size told m → new.held ≡ m.held → new.queue ≡ m.queue →
       new.accesses ≡ m.accesses →
       (IsAddressable s (device_at size told m) → Possible s (device_at size told m) → LacksMemory s (device_at size told m) m.hardware m.bays.items × (new.hardware.starved ≡ true)) →
       (m.hardware.starved ≡ true → new.hardware.starved ≡ true) →
       (new.hardware.starved ≡ true → (m.hardware.starved ≡ true) ⊎ (Possible s (device_at size told m) × LacksMemory s (device_at size told m) m.hardware m.bays.items)) →
       IsLeftOut size told failures s m new
   grown_left s at hardware held queue accesses why on since = record {
-    device = ap (λ (o : Outside). device_of new.hardware o) grown_outside ∙ hardware;
+    device = ap (λ (o : AllMedia). device_of new.hardware o) grown_outside ∙ hardware;
     held = held;
     says = store_says m new port a grown was items refl (asked_port s);
     which = store_whichs m new port a grown was items refl (asked_port s);
@@ -75,22 +75,22 @@ module _ {S : Type 0} (size : S → ℕ) (told : S → Option (ℕ → List ℕ)
   }
 
 -- where there is room for some, there is for fewer
-less_room_at : {S : Type 0} (m : Model S) (port more less : ℕ) → less ≤ more → HasOldRoomAt m port more → HasOldRoomAt m port less
+less_room_at : {S : Type 0} (m : Model S) (port more less : ℕ) → less ≤ more → HasRoomForOldAt m port more → HasRoomForOldAt m port less
 less_room_at {S} m port more less le = by (bay_of m port)
   where
-    by : (x : Option (Bay S)) → HasOldRoomIn x more → HasOldRoomIn x less
+    by : (x : Option (Bay S)) → HasRoomForOldIn x more → HasRoomForOldIn x less
     by None room = tt
     by (Some b) room = less_room b.cache more less le room
 
 -- there is room for the old bytes of what the command that is taken in a slot is going to change, of so many moves
 abbrev pub RoomAhead : {S : Type 0} → (S → ℕ) → (S → Option (ℕ → List ℕ)) → Model S → (port slot left : ℕ) → Type 0
 RoomAhead size told m port slot left = (t : FetchedCommand) → ((device_at size told m).port port).taken slot ≡ Some t →
-    HasOldRoomAt m port (changes_ahead t.meaning.operation (device_at size told m).memory t left)
+    HasRoomForOldAt m port (changes_ahead t.meaning.operation (device_at size told m).memory t left)
 
 module _ {S : Type 0} (size : S → ℕ) (told : S → Option (ℕ → List ℕ)) (port slot : ℕ) (old new : Model S) where
   -- a piece was moved
   pub moved_room : (left : ℕ) → DoesMove port slot (device_at size told old) (device_at size told new) → RoomAhead size told old port slot (suc left) →
-      ((t : FetchedCommand) → ((device_at size told old).port port).taken slot ≡ Some t → (n : ℕ) → HasOldRoomAt old port (written_ahead t.meaning.operation 1 + n) → HasOldRoomAt new port n) →
+      ((t : FetchedCommand) → ((device_at size told old).port port).taken slot ≡ Some t → (n : ℕ) → HasRoomForOldAt old port (written_ahead t.meaning.operation 1 + n) → HasRoomForOldAt new port n) →
       RoomAhead size told new port slot left
   moved_room left m ahead takes t taken =
       let d : Device = device_at size told old in
@@ -101,30 +101,30 @@ module _ {S : Type 0} (size : S → ℕ) (told : S → Option (ℕ → List ℕ)
       let same : u ≡ t = some_one (sym (ap (λ (x : DevicePort). x.taken slot) there ∙ taken_after p slot (Some u)) ∙ taken) in
       let memory = ap (λ (x : Device). x.memory) m.effect in
       let is = moved_changes m.t.meaning.operation p.disk d.memory m.t m.bytes left m.can.left m.can.brings in
-      let P : ℕ → Type 0 = λ n. HasOldRoomAt old port n in
-      let Q : (ℕ → ℕ) → FetchedCommand → Type 0 = λ f x. HasOldRoomAt new port (changes_ahead x.meaning.operation f x left) in
+      let P : ℕ → Type 0 = λ n. HasRoomForOldAt old port n in
+      let Q : (ℕ → ℕ) → FetchedCommand → Type 0 = λ f x. HasRoomForOldAt new port (changes_ahead x.meaning.operation f x left) in
       let now = takes m.t m.can.works.taken _ (subst P is (ahead m.t m.can.works.taken)) in
       subst (Q (device_at size told new).memory) same (subst (λ f. Q f u) (sym memory) now)
 
   -- a run was cleared
   pub cleared_room : (most : ℕ) → DoesClear port slot most (device_at size told old) (device_at size told new) →
       HasCleared (device_at size told old) (device_at size told new) port slot most → RoomAhead size told old port slot 0 →
-      ((t : FetchedCommand) → ((device_at size told old).port port).taken slot ≡ Some t → (n : ℕ) → HasOldRoomAt old port (span most t + n) → HasOldRoomAt new port n) →
+      ((t : FetchedCommand) → ((device_at size told old).port port).taken slot ≡ Some t → (n : ℕ) → HasRoomForOldAt old port (next_run_length most t + n) → HasRoomForOldAt new port n) →
       RoomAhead size told new port slot 0
   cleared_room most c has ahead takes t taken =
       let d : Device = device_at size told old in
-      let u : FetchedCommand = record has.t { cleared = has.t.cleared + span most has.t } in
+      let u : FetchedCommand = record has.t { cleared = has.t.cleared + next_run_length most has.t } in
       let same : u ≡ t = some_one (sym has.is ∙ taken) in
       let one : c.t ≡ has.t = some_one (sym c.can.works.taken ∙ has.was) in
       let memory = ap (λ (x : Device). x.memory) c.effect in
       let less = cleared_changes d.memory has.t most (subst (λ (x : FetchedCommand). x.moved ≡ length x.places) one c.can.moved) (subst (λ (x : FetchedCommand). x.meaning.operation ≡ Trim) one c.can.trim) in
-      let Q : (ℕ → ℕ) → FetchedCommand → Type 0 = λ f x. HasOldRoomAt new port (changes_ahead x.meaning.operation f x 0) in
+      let Q : (ℕ → ℕ) → FetchedCommand → Type 0 = λ f x. HasRoomForOldAt new port (changes_ahead x.meaning.operation f x 0) in
       let now = takes has.t has.was (changes_ahead u.meaning.operation d.memory u 0) (less_room_at old port _ _ less (ahead has.t has.was)) in
       subst (Q (device_at size told new).memory) same (subst (λ f. Q f u) (sym memory) now)
 
 -- there is room for the next piece
 pub one_room : {S : Type 0} (bays : List (Option (Bay S))) (port : ℕ) (t : FetchedCommand) (memory : ℕ → ℕ) (left : ℕ) →
-    HasOldRoomOf bays port (changes_ahead t.meaning.operation memory t (suc left)) → HasOldRoomOf bays port (written_ahead t.meaning.operation 1)
+    HasRoomForOldOf bays port (changes_ahead t.meaning.operation memory t (suc left)) → HasRoomForOldOf bays port (written_ahead t.meaning.operation 1)
 one_room {S} bays port t memory left = by (slice_index_or bays port None)
   where
     few : (o : Operation) → written_ahead o 1 ≤ changes_ahead o memory t (suc left)
@@ -137,17 +137,17 @@ one_room {S} bays port t memory left = by (slice_index_or bays port None)
     few operation.Trim = omega arith
     few operation.ReadLog = omega arith
 
-    by : (x : Option (Bay S)) → HasOldRoomIn x (changes_ahead t.meaning.operation memory t (suc left)) → HasOldRoomIn x (written_ahead t.meaning.operation 1)
+    by : (x : Option (Bay S)) → HasRoomForOldIn x (changes_ahead t.meaning.operation memory t (suc left)) → HasRoomForOldIn x (written_ahead t.meaning.operation 1)
     by None room = tt
     by (Some b) room = less_room b.cache _ _ (few t.meaning.operation) room
 
 -- and for the next run
 pub run_room : {S : Type 0} (size : S → ℕ) (told : S → Option (ℕ → List ℕ)) (m : Model S) (port slot most : ℕ) (t : FetchedCommand) → HasClear (device_at size told m) port slot most t →
-    RoomAhead size told m port slot 0 → HasOldRoomAt m port (cleared_on_disk ((device_at size told m).port port).disk.size most t)
+    RoomAhead size told m port slot 0 → HasRoomForOldAt m port (cleared_on_disk ((device_at size told m).port port).disk.size most t)
 run_room size told m port slot most t has ahead =
     let d : Device = device_at size told m in
     let disk = (d.port port).disk.size in
     let less = cleared_changes d.memory t most has.moved has.trim in
-    let on : min (span most t) (disk - next_uncleared t) ≤ span most t = omega arith in
+    let on : min (next_run_length most t) (disk - next_uncleared t) ≤ next_run_length most t = omega arith in
     let taken = subst (λ (o : Operation). WorksOn (d.port port) slot t o) (sym has.trim) has.works in
     less_room_at m port _ _ (omega (arith, less, on)) (ahead t taken.taken)

@@ -10,12 +10,12 @@ use Rattle.ata_types.specs.declared.Port.{Port}
 use Rattle.sector_store.specs.Stores.{AreSectors}
 use Rattle.sector_store.specs.declared.store.Failures.{Failures}
 use Rattle.std.proofs.lemmas.Option.{same_Some}
-use Rattle.device_model.specs.Cached.{TurnsBack, WritesFail, lasting_in, sector_told}
+use Rattle.device_model.specs.Cached.{RollsBack, WritesFail, lasting_in, sector_told}
 use Rattle.device_model.specs.Disks.{LosesCache, bay_of, disk_in_bay, disk_number, identity, is_same, lasting_of, plugged_as}
 use Rattle.device_model.specs.Does.{LosesCacheIn, DidStep, IsLeftOut, LacksMemory, Possible}
-use Rattle.device_model.specs.Modelled.{device_at, media_of, outside_at, tells}
-use Rattle.device_model.specs.OldSectors.{with_old}
-use Rattle.device_model.specs.Whole.{Outside, device_of, outside_plugged}
+use Rattle.device_model.specs.Modelled.{device_at, media_of, all_media_at, tells}
+use Rattle.device_model.specs.OldSectors.{with_old_bytes}
+use Rattle.device_model.specs.WholeAdapter.{AllMedia, device_of, all_media_plugged}
 use Rattle.device_model.specs.declared.bay.Bay.{Bay}
 use Rattle.device_model.specs.declared.disks.ModelDisk.{ModelDisk}
 use Rattle.device_model.specs.declared.disks.DiskIndex.{DiskIndex}
@@ -37,12 +37,12 @@ module _ {S : Type 0} (size : S → ℕ) (told : S → Option (ℕ → List ℕ)
   olds = a.cache.kept.sectors.items
 
   -- with one what is lasting is what it tells, with its old sectors
-  with_cache : a.cache.is_on ≡ true → lasting_of told a ≡ option_map (with_old olds) (told a.disk.store)
-  with_cache e = ap (λ on. if on then option_map (with_old olds) (told a.disk.store) else told a.lasting.value) e
+  with_cache : a.cache.is_on ≡ true → lasting_of told a ≡ option_map (with_old_bytes olds) (told a.disk.store)
+  with_cache e = ap (λ on. if on then option_map (with_old_bytes olds) (told a.disk.store) else told a.lasting.value) e
 
   tells_back : a.cache.is_on ≡ true → TellsBack olds (told a.disk.store) (told b.disk.store)
   tells_back e =
-      let P : Option (ℕ → List ℕ) → Type 0 = λ into. TurnsBack size told failures into a.disk.store b.disk.store in
+      let P : Option (ℕ → List ℕ) → Type 0 = λ into. RollsBack size told failures into a.disk.store b.disk.store in
       turned_tells size told failures olds a.disk.store b.disk.store (subst P (with_cache e) (lost.back e))
 
   lost_size : (on : Bool) → a.cache.is_on ≡ on → size b.disk.store ≡ size a.disk.store
@@ -55,7 +55,7 @@ module _ {S : Type 0} (size : S → ℕ) (told : S → Option (ℕ → List ℕ)
 
   lost_lasts : (on : Bool) → a.cache.is_on ≡ on → lasting_in a.cache (told b.disk.store) (told a.lasting.value) ≡ lasting_of told a
   lost_lasts true e =
-      let Q : Option (ℕ → List ℕ) → Bool → Option (ℕ → List ℕ) = λ x on. if on then option_map (with_old olds) x else told a.lasting.value in
+      let Q : Option (ℕ → List ℕ) → Bool → Option (ℕ → List ℕ) = λ x on. if on then option_map (with_old_bytes olds) x else told a.lasting.value in
       ap (Q (told b.disk.store)) e
       ∙ (back_lasts olds (told a.disk.store) (told b.disk.store) (tells_back e) ∙ sym (ap (Q (told a.disk.store)) e))
   lost_lasts false e = ap (λ (s : S). lasting_in a.cache (told s) (told a.lasting.value)) (lost.as_it_was e)
@@ -97,7 +97,7 @@ none_failed l was now fail few same k at =
     let one : g.calls ≡ f.calls = ap (λ (x : Failures). x.calls) (same_Some g f (sym c.3 ∙ (same ∙ c.2))) in
     again_never f.calls (length l) (omega (arith, at.1)) few (sym one ∙ c.4)
 
-module _ {S : Type 0} (size : S → ℕ) (told : S → Option (ℕ → List ℕ)) (failures : S → Option Failures) (into : Option (ℕ → List ℕ)) (was now : S) (t : TurnsBack size told failures into was now)
+module _ {S : Type 0} (size : S → ℕ) (told : S → Option (ℕ → List ℕ)) (failures : S → Option Failures) (into : Option (ℕ → List ℕ)) (was now : S) (t : RollsBack size told failures into was now)
     (fits : size was < 2 ^ 64) where
   pub all_back : failures now ≡ failures was → (k : ℕ) → k < size was → sector_told (told now) k ≡ sector_told into k
   all_back same k lt = t.back k lt (none_failed t.failed (failures was) (failures now) t.fails (let few = t.few in omega (arith, few, fits)) same k)
@@ -125,14 +125,14 @@ module _ {S : Type 0} (size : S → ℕ) (told : S → Option (ℕ → List ℕ)
     (held : new.held ≡ m.held) (queue : new.queue ≡ m.queue) (accesses : new.accesses ≡ m.accesses) (a b : Bay S) (was : bay_of m p.0 ≡ Some a)
     (items : new.bays.items ≡ slice_set m.bays.items p.0 (Some b)) where
   -- the tape had no room, and no disk is put in
-  pub lose_left : b ≡ a → ((o : Outside) → device_of new.hardware o ≡ device_of m.hardware o) → Possible (asked.LosePlug p) (device_at size told m) →
+  pub lose_left : b ≡ a → ((o : AllMedia) → device_of new.hardware o ≡ device_of m.hardware o) → Possible (asked.LosePlug p) (device_at size told m) →
       LacksMemory (asked.LosePlug p) (device_at size told m) m.hardware m.bays.items → new.hardware.starved ≡ true → IsLeftOut size told failures (asked.LosePlug p) m new
   lose_left rest same may lacks starved =
       let kept : (w : DiskIndex) → disk_in_bay b w ≡ disk_in_bay a w = λ (w : DiskIndex). ap (λ (x : Bay S). disk_in_bay x w) rest in
       record {
-        device = ap (λ (o : Outside). device_of new.hardware o) (seated_behind m new p.0 a b was items size told (ap (λ (x : Bay S). media_of size told (Some x)) rest)
+        device = ap (λ (o : AllMedia). device_of new.hardware o) (seated_behind m new p.0 a b was items size told (ap (λ (x : Bay S). media_of size told (Some x)) rest)
             (ap (λ (x : Bay S). tells told (Some x)) rest))
-            ∙ same (outside_at size told m);
+            ∙ same (all_media_at size told m);
         held = held;
         says = seated_same m new p.0 a b was items (option_map (λ (x : Bay S). x.says)) (ap (λ (x : Bay S). Some x.says) rest) p.0;
         which = seated_same m new p.0 a b was items (option_map (λ (x : Bay S). x.which)) (ap (λ (x : Bay S). Some x.which) rest) p.0;
@@ -176,14 +176,14 @@ module _ {S : Type 0} (size : S → ℕ) (told : S → Option (ℕ → List ℕ)
     lost_kept f same w = ap (λ (x : Bay S). f (disk_in_bay x w)) rest ∙ kept_in f (is_same w a.which) (record a.disk { store = b.disk.store }) a.disk a.other same
 
     pub did_lose : p.0 < 4 → ((d : Device) → d ≡ device_at size told m → ((d.port p.0).present ≡ false)) → ((s : S) → AreSectors (size s) (told s)) →
-        ((o : Outside) (disk : Disk) → disk.name ≡ disk_number a.which → true ≡ nat_eq disk.name (o.media p.0).disk.name → device_of new.hardware (outside_plugged o p.0 disk) ≡ device_after (Plug p.0 disk) (device_of m.hardware o)) →
+        ((o : AllMedia) (disk : Disk) → disk.name ≡ disk_number a.which → true ≡ nat_eq disk.name (o.media p.0).disk.name → device_of new.hardware (all_media_plugged o p.0 disk) ≡ device_after (Plug p.0 disk) (device_of m.hardware o)) →
         new.hardware.starved ≡ m.hardware.starved →
         Possible (asked.LosePlug p) (device_at size told m) × DidStep size told failures (asked.LosePlug p) m new
     did_lose small free are did starved =
         let may : Possible (asked.LosePlug p) (device_at size told m) = (small, has_disks size told m p.0 a was, free _ refl) in
         let name : disk_number a.which ≡ ((device_at size told m).port p.0).disk.name = sym (ap (λ x. (media_of size told x).disk.name) was) in
-        let so : (o : Outside) (disk : Disk) → disk.name ≡ disk_number a.which → is_same b.which a.which ≡ nat_eq disk.name (o.media p.0).disk.name →
-        device_of new.hardware (outside_plugged o p.0 disk) ≡ device_after (Plug p.0 disk) (device_of m.hardware o) =
+        let so : (o : AllMedia) (disk : Disk) → disk.name ≡ disk_number a.which → is_same b.which a.which ≡ nat_eq disk.name (o.media p.0).disk.name →
+        device_of new.hardware (all_media_plugged o p.0 disk) ≡ device_after (Plug p.0 disk) (device_of m.hardware o) =
         λ o disk named same. did o disk named (sym (ap (λ (w : DiskIndex). is_same w a.which) which_is ∙ same_self a.which) ∙ same) in
         let P : ℕ → Type 0 = λ n. DoesPlug p.0 n (device_at size told m) (device_at size told new) in
         let both : Option (Bay S) → Option (Bay S) → Type 0 = λ x y. LosesCacheIn size told failures x y in (

@@ -5,7 +5,7 @@ use Rattle.std.proofs.lemmas.Nat.Bits.{bit_at-zero}
 use Rattle.hba_regs.specs.Bits.{bit}
 use Rattle.adapter.specs.Device.{IsDisk}
 use Rattle.adapter.specs.Idle.{IsIdlePort}
-use Rattle.device_model.specs.Disks.{given_for}
+use Rattle.device_model.specs.Disks.{disks_given_for}
 use Rattle.device_model.specs.Modelled.{IsNewMedia, IsNewPort, HasResetValues, all_tell, media_of}
 use Rattle.device_model.specs.declared.disks.Disks.{Disks}
 use Rattle.device_model.specs.declared.disks.PortDisks.{PortDisks}
@@ -78,7 +78,7 @@ new_port size told None p m present since is = (present, ap (λ (x : Media). x.p
 new_port size told (Some disks) p m present since is = (present, is.0, is.1, λ i. record { sectors = is.2 i; since = since i })
 
 -- for a port past the last one none is given
-pub past_given : {S : Type 0} (d : Disks S) (k : ℕ) → 4 ≤ k → given_for d k ≡ None
+pub past_given : {S : Type 0} (d : Disks S) (k : ℕ) → 4 ≤ k → disks_given_for d k ≡ None
 past_given d zero past = absurd (omega (arith, past))
 past_given d (suc zero) past = absurd (omega (arith, past))
 past_given d (suc (suc zero)) past = absurd (omega (arith, past))

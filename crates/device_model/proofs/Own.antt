@@ -17,7 +17,7 @@ use Rattle.adapter.specs.Steps.DeviceTransition.{Fetch, FetchFault, Move, Clear,
 use Rattle.device_model.specs.Finishing.{sends_page}
 use Rattle.device_model.specs.Held.{IsPortHeld, IsPortLoose}
 use Rattle.device_model.specs.Sent.{SendsAfter, SendsEnd, SendsFailed, SendsFault}
-use Rattle.device_model.specs.Settled.{DoesOwn, EndsReset, SendsPages, IsOwn, LeadsOwn, LeadsSending}
+use Rattle.device_model.specs.Settled.{DoesOwn, EndsReset, SendsPages, IsOwnStep, LeadsOwn, LeadsSending}
 use Rattle.device_model.proofs.Posting.{after_rest, after_steps, end_rest, fault_rest}
 use Rattle.device_model.proofs.Transfers.{page_plain}
 
@@ -193,7 +193,7 @@ module _ (held : List Bool) (port : ℕ) (is : IsPortHeld held port) where
   elsewhere : (q : ℕ) (p : DevicePort) (d : Device) → IsPortLoose held q → changed d.port q p port ≡ d.port port
   elsewhere q p d loose = changed_other d.port q p port (λ same. true-false is (ap (λ k. slice_index_or held k false) same ∙ loose))
 
-  one_stays : (step : DeviceTransition) (d : Device) → IsOwn held step → (device_after step d).port port ≡ d.port port
+  one_stays : (step : DeviceTransition) (d : Device) → IsOwnStep held step → (device_after step d).port port ≡ d.port port
   one_stays (Fall q) d own = elsewhere q _ d own
   one_stays (FrFall q) d own = elsewhere q _ d own
   one_stays (LinkUp q sig n) d own = elsewhere q _ d own.0
@@ -209,7 +209,7 @@ module _ (held : List Bool) (port : ℕ) (is : IsPortHeld held port) where
   one_stays ResetEnds d own = absurd own
   one_stays (Scribble q slot at bytes) d own = absurd own
 
-  held_stays : (steps : List DeviceTransition) (old new : Device) → All (IsOwn held) steps → LeadsSending steps old new → new.port port ≡ old.port port
+  held_stays : (steps : List DeviceTransition) (old new : Device) → All (IsOwnStep held) steps → LeadsSending steps old new → new.port port ≡ old.port port
   held_stays [] old new own e = ap (λ (d : Device). d.port port) e
   held_stays (step ∷ steps) old new own (can, next, sends, lead) =
       held_stays steps next new (λ k d small. own (suc k) d (omega (arith, small))) lead

@@ -25,10 +25,10 @@ use Rattle.device_model.specs.Does.{AnswersStep, LeavesMoves, AsksStore, Complet
 use Rattle.device_model.specs.Finishing.{AreInside, HasPageCommand, LooksForPage, HasTakenCommand, IsCovered, MayFinish, MayTakePage, sends_page}
 use Rattle.device_model.specs.Modelled.{device_at}
 use Rattle.device_model.specs.Sent.{SendsEnd}
-use Rattle.device_model.specs.Slots.{IsNext}
+use Rattle.device_model.specs.Slots.{IsNextMove}
 use Rattle.device_model.specs.View.{operation_of_kind, taken_of}
 use Rattle.device_model.specs.Disks.{disk_in_bay, numbered_disk}
-use Rattle.device_model.specs.Whole.{HasDisks, Outside, device_of}
+use Rattle.device_model.specs.WholeAdapter.{HasDisks, AllMedia, device_of}
 use Rattle.device_model.specs.declared.bay.Bay.{Bay}
 use Rattle.device_model.specs.declared.disks.DiskIndex.{DiskIndex}
 use Rattle.device_model.specs.declared.hardware.Hardware.{Hardware}
@@ -162,8 +162,8 @@ pub finish_clears : (p : Port) (s : Slot) (old : Device) (left clears : ℕ) →
 finish_clears p s old left clears here small some ready = (here, small, left, clears, ready, inr some)
 
 -- what the hardware moves next is a sector only where a Move moves one
-pub next_moves : (h : Hardware) (o : Outside) (d : Device) (p : Port) (s : Slot) (next : NextMove) (r : TakenCommand) → HasDisks d p.0 → s.0 < 32 →
-    device_of h o ≡ d → IsNext h p.0 s.0 next r → is_ranged (operation_of_kind next.command_kind) ≡ true → AsksStore (asked.Move p s) d
+pub next_moves : (h : Hardware) (o : AllMedia) (d : Device) (p : Port) (s : Slot) (next : NextMove) (r : TakenCommand) → HasDisks d p.0 → s.0 < 32 →
+    device_of h o ≡ d → IsNextMove h p.0 s.0 next r → is_ranged (operation_of_kind next.command_kind) ≡ true → AsksStore (asked.Move p s) d
 next_moves h o d p s next r here small same is ranged = (
   small,
   taken_of r,
@@ -172,8 +172,8 @@ next_moves h o d p s next r here small same is ranged = (
 )
 
 -- and else it is none
-pub next_unranged : (h : Hardware) (o : Outside) (d : Device) (p : Port) (s : Slot) (next : NextMove) (r : TakenCommand) → HasDisks d p.0 → s.0 < 32 →
-    device_of h o ≡ d → IsNext h p.0 s.0 next r → (AsksStore (asked.Move p s) d → ⊥) → is_ranged (operation_of_kind next.command_kind) ≡ false
+pub next_unranged : (h : Hardware) (o : AllMedia) (d : Device) (p : Port) (s : Slot) (next : NextMove) (r : TakenCommand) → HasDisks d p.0 → s.0 < 32 →
+    device_of h o ≡ d → IsNextMove h p.0 s.0 next r → (AsksStore (asked.Move p s) d → ⊥) → is_ranged (operation_of_kind next.command_kind) ≡ false
 next_unranged h o d p s next r here small same is none = by (is_ranged (operation_of_kind next.command_kind)) refl
   where
     by : (b : Bool) → is_ranged (operation_of_kind next.command_kind) ≡ b → is_ranged (operation_of_kind next.command_kind) ≡ false

@@ -14,15 +14,15 @@ use Rattle.sector_store.specs.Stores.{AreSectors}
 use Rattle.sector_store.specs.declared.store.Failures.{Failures}
 use Rattle.device_model.specs.Disks.{bay_of, disk_in_bay, disk_number, disk_over, identity, is_same, lasting_of, plugged_as}
 use Rattle.device_model.specs.Does.{DidStep, IsLeftOut, LacksMemory, Possible}
-use Rattle.device_model.specs.Modelled.{device_at, media_of, outside_at, tells}
+use Rattle.device_model.specs.Modelled.{device_at, media_of, all_media_at, tells}
 use Rattle.device_model.specs.Tells.{bay_told, each_tells}
-use Rattle.device_model.specs.Whole.{Outside, device_of, media_plugged, outside_plugged}
+use Rattle.device_model.specs.WholeAdapter.{AllMedia, device_of, media_plugged, all_media_plugged}
 use Rattle.device_model.specs.declared.bay.Bay.{Bay}
 use Rattle.device_model.specs.declared.disks.ModelDisk.{ModelDisk}
 use Rattle.device_model.specs.declared.disks.DiskIndex.{DiskIndex}
 use Rattle.device_model.specs.declared.disks.DiskIndex.TheVariants.{Disk0, Disk1}
 use Rattle.device_model.specs.declared.model.Model.{Model}
-use Rattle.device_model.specs.Paged.{GainsPages}
+use Rattle.device_model.specs.Paged.{GainsOwnPages}
 use Rattle.device_model.proofs.Absurd.{true-false}
 use Rattle.device_model.proofs.NewModel.{disks_are}
 use Rattle.device_model.proofs.Telling.{gains_one}
@@ -42,15 +42,15 @@ module _ {S : Type 0} (size : S → ℕ) (told : S → Option (ℕ → List ℕ)
     (held : new.held ≡ m.held) (queue : new.queue ≡ m.queue) (accesses : new.accesses ≡ m.accesses) (a b : Bay S) (was : bay_of m p.0 ≡ Some a)
     (items : new.bays.items ≡ slice_set m.bays.items p.0 (Some b)) where
   -- the tape had no room, and no disk is put in
-  pub plug_left : (number : DiskNumber) → b ≡ a → ((o : Outside) → device_of new.hardware o ≡ device_of m.hardware o) →
+  pub plug_left : (number : DiskNumber) → b ≡ a → ((o : AllMedia) → device_of new.hardware o ≡ device_of m.hardware o) →
       Possible (asked.Plug p number) (device_at size told m) → LacksMemory (asked.Plug p number) (device_at size told m) m.hardware m.bays.items →
       new.hardware.starved ≡ true → IsLeftOut size told failures (asked.Plug p number) m new
   plug_left number rest same may lacks starved =
       let kept : (w : DiskIndex) → disk_in_bay b w ≡ disk_in_bay a w = λ (w : DiskIndex). ap (λ (x : Bay S). disk_in_bay x w) rest in
       record {
-        device = ap (λ (o : Outside). device_of new.hardware o) (seated_behind m new p.0 a b was items size told (ap (λ (x : Bay S). media_of size told (Some x)) rest)
+        device = ap (λ (o : AllMedia). device_of new.hardware o) (seated_behind m new p.0 a b was items size told (ap (λ (x : Bay S). media_of size told (Some x)) rest)
             (ap (λ (x : Bay S). tells told (Some x)) rest))
-            ∙ same (outside_at size told m);
+            ∙ same (all_media_at size told m);
         held = held;
         says = seated_same m new p.0 a b was items (option_map (λ (x : Bay S). x.says)) (ap (λ (x : Bay S). Some x.says) rest) p.0;
         which = seated_same m new p.0 a b was items (option_map (λ (x : Bay S). x.which)) (ap (λ (x : Bay S). Some x.which) rest) p.0;
@@ -87,10 +87,10 @@ module _ {S : Type 0} (size : S → ℕ) (told : S → Option (ℕ → List ℕ)
     same_named = same_number b.which a.which ∙ ap (λ (d : Disk). nat_eq (disk_number b.which) d.name) (sym disk_is)
 
     pub plugged_so : (number : ℕ) → disk_number b.which ≡ number → ((d : Device) → d ≡ device_at size told m → ((d.port p.0).present ≡ false)) → ((s : S) → AreSectors (size s) (told s)) →
-        ((o : Outside) (disk : Disk) → disk.name ≡ number → is_same b.which a.which ≡ nat_eq disk.name (o.media p.0).disk.name → device_of new.hardware (outside_plugged o p.0 disk) ≡ device_after (Plug p.0 disk) (device_of m.hardware o)) →
+        ((o : AllMedia) (disk : Disk) → disk.name ≡ number → is_same b.which a.which ≡ nat_eq disk.name (o.media p.0).disk.name → device_of new.hardware (all_media_plugged o p.0 disk) ≡ device_after (Plug p.0 disk) (device_of m.hardware o)) →
         DoesPlug p.0 number (device_at size told m) (device_at size told new)
     plugged_so number name free are did =
-        let o : Outside = outside_at size told m in
+        let o : AllMedia = all_media_at size told m in
         record {
           disk = put_disk;
           name = name;
@@ -110,14 +110,14 @@ module _ {S : Type 0} (size : S → ℕ) (told : S → Option (ℕ → List ℕ)
                       ];
                 },
           );
-          effect = ap (λ (x : Outside). device_of new.hardware x) (seated_outside m new p.0 a b was items size told _ tells_so media) ∙ did o put_disk name same_named;
+          effect = ap (λ (x : AllMedia). device_of new.hardware x) (seated_outside m new p.0 a b was items size told _ tells_so media) ∙ did o put_disk name same_named;
         }
 
     pub plug_noted : (number : ℕ) → disk_number b.which ≡ number →
-        ((o : Outside) (disk : Disk) → disk.name ≡ number → is_same b.which a.which ≡ nat_eq disk.name (o.media p.0).disk.name → device_of new.hardware (outside_plugged o p.0 disk) ≡ device_after (Plug p.0 disk) (device_of m.hardware o)) →
-        GainsPages size m new
+        ((o : AllMedia) (disk : Disk) → disk.name ≡ number → is_same b.which a.which ≡ nat_eq disk.name (o.media p.0).disk.name → device_of new.hardware (all_media_plugged o p.0 disk) ≡ device_after (Plug p.0 disk) (device_of m.hardware o)) →
+        GainsOwnPages size m new
     plug_noted number name did =
-        gains_one size m new (entry.Plug p (disk_number b.which)) (ap (λ (d : Device). d.tape) (did (outside_at size told m) put_disk name same_named)) (λ x e. absurd (cc e))
+        gains_one size m new (entry.Plug p (disk_number b.which)) (ap (λ (d : Device). d.tape) (did (all_media_at size told m) put_disk name same_named)) (λ x e. absurd (cc e))
 
   -- one of the two is put in by its number, with the sectors that it had
   module _ (number : DiskNumber) (which : DiskIndex) (found : disk_number which ≡ number.0) (which_is : b.which ≡ which) (kept : (w : DiskIndex) → disk_in_bay b w ≡ disk_in_bay a w)
@@ -144,13 +144,13 @@ module _ {S : Type 0} (size : S → ℕ) (told : S → Option (ℕ → List ℕ)
     )
 
     pub did_plug : p.0 < 4 → ((d : Device) → d ≡ device_at size told m → ((d.port p.0).present ≡ false)) → ((s : S) → AreSectors (size s) (told s)) →
-        ((o : Outside) (disk : Disk) → disk.name ≡ number.0 → is_same which a.which ≡ nat_eq disk.name (o.media p.0).disk.name → device_of new.hardware (outside_plugged o p.0 disk) ≡ device_after (Plug p.0 disk) (device_of m.hardware o)) →
+        ((o : AllMedia) (disk : Disk) → disk.name ≡ number.0 → is_same which a.which ≡ nat_eq disk.name (o.media p.0).disk.name → device_of new.hardware (all_media_plugged o p.0 disk) ≡ device_after (Plug p.0 disk) (device_of m.hardware o)) →
         new.hardware.starved ≡ m.hardware.starved →
         Possible (asked.Plug p number) (device_at size told m) × DidStep size told failures (asked.Plug p number) m new
     did_plug small free are did starved =
         let few = number_small which in
         let name : disk_number b.which ≡ number.0 = ap disk_number which_is ∙ found in
-        let so : (o : Outside) (disk : Disk) → disk.name ≡ number.0 → is_same b.which a.which ≡ nat_eq disk.name (o.media p.0).disk.name → device_of new.hardware (outside_plugged o p.0 disk) ≡ device_after (Plug p.0 disk) (device_of m.hardware o) =
+        let so : (o : AllMedia) (disk : Disk) → disk.name ≡ number.0 → is_same b.which a.which ≡ nat_eq disk.name (o.media p.0).disk.name → device_of new.hardware (all_media_plugged o p.0 disk) ≡ device_after (Plug p.0 disk) (device_of m.hardware o) =
         λ o disk named same. did o disk named (ap (λ (w : DiskIndex). is_same w a.which) (sym which_is) ∙ same) in (
           (small, has_disks size told m p.0 a was, omega (arith, few, found), free _ refl),
           record {

@@ -5,7 +5,7 @@ use Rattle.std.specs.Global.{Vec}
 use Rattle.std.proofs.lemmas.Bool.Decides.{eqb_tells}
 use Rattle.adapter.specs.Memory.{changed}
 use Rattle.adapter.specs.Device.{DevicePort, Device}
-use Rattle.adapter.specs.Steps.{MayLinkUp, with_link, with_port, recorded}
+use Rattle.adapter.specs.Steps.{MayLinkUp, with_link, with_port, with_port_and_entry}
 use Rattle.adapter.specs.Access.{note, noted}
 use Rattle.adapter.specs.Rules.{MayRead, MayWrite}
 use Rattle.adapter.specs.declared.tape.Entry.{Entry}
@@ -15,17 +15,17 @@ use Rattle.hba_regs.specs.declared.reg.Reg.TheVariants.{Cap, Ghc, Is, Pi, Vs, Ca
 use Rattle.device_model.specs.Fetched.{bytes_of}
 use Rattle.device_model.specs.Held.{IsPortHeld, IsPortLoose}
 use Rattle.device_model.specs.Sent.{SendsRegisters, signature_fis}
-use Rattle.device_model.specs.Settled.{LeadsOwn, Settles, GoesTo, IsSettled}
+use Rattle.device_model.specs.Settled.{LeadsOwn, Settles, SettlesPort, IsSettled}
 use Rattle.device_model.specs.View.{Media, port_of, blank_port}
-use Rattle.device_model.specs.Whole.{Outside, device_of, HasRegister}
+use Rattle.device_model.specs.WholeAdapter.{AllMedia, device_of, HasRegister}
 use Rattle.device_model.specs.declared.port.PortModel.{PortModel}
 use Rattle.device_model.specs.declared.hardware.Hardware.{Hardware}
 use Rattle.device_model.proofs.GoingOn.{own_linked, with_same}
 
-abbrev ports_of : List PortModel → Outside → ℕ → DevicePort
+abbrev ports_of : List PortModel → AllMedia → ℕ → DevicePort
 ports_of ports o = λ port. port_of (slice_index_or ports port blank_port) (o.media port)
 
-ports_set : (ports : List PortModel) (o after : Outside) (p : ℕ) (new : PortModel) → p < length ports →
+ports_set : (ports : List PortModel) (o after : AllMedia) (p : ℕ) (new : PortModel) → p < length ports →
     ((k : ℕ) → k ≢ p → after.media k ≡ o.media k) → (k : ℕ) →
     ports_of (slice_set ports p new) after k ≡ changed (ports_of ports o) p (port_of new (after.media p)) k
 ports_set ports o after p new small others k =
@@ -41,16 +41,16 @@ ports_set ports o after p new small others k =
     ]
 
 -- and so is what is behind it
-set_both : (h : Hardware) (o : Outside) (p : ℕ) (new : PortModel) (media : Media) (state : DevicePort) → p < length h.ports →
+set_both : (h : Hardware) (o : AllMedia) (p : ℕ) (new : PortModel) (media : Media) (state : DevicePort) → p < length h.ports →
     port_of new media ≡ state →
     device_of (record h { ports = slice_set h.ports p new }) (record o { media = changed o.media p media }) ≡ with_port (device_of h o) p state
 set_both h o p new media state small is =
-    let after : Outside = record o { media = changed o.media p media } in
+    let after : AllMedia = record o { media = changed o.media p media } in
     ap (λ (f : ℕ → DevicePort). record (device_of h o) { port = f })
     (fun_ext (ports_set h.ports o after p new small (λ k other. changed_other o.media p media k other)))
     ∙ ap (λ (s : DevicePort). with_port (device_of h o) p s) (ap (port_of new) (changed_same o.media p media) ∙ is)
 
-pub set_port : (h : Hardware) (o : Outside) (p : ℕ) (new : PortModel) (state : DevicePort) → p < length h.ports →
+pub set_port : (h : Hardware) (o : AllMedia) (p : ℕ) (new : PortModel) (state : DevicePort) → p < length h.ports →
     port_of new (o.media p) ≡ state →
     device_of (record h { ports = slice_set h.ports p new }) o ≡ with_port (device_of h o) p state
 set_port h o p new state small is =
@@ -78,15 +78,15 @@ has_port_write Cap2 v d may = tt
 has_port_write Bohc v d may = tt
 
 -- one port that isn't held did what it does by itself
-pub port_settles : (h : Hardware) (o : Outside) (p : ℕ) (new : PortModel) (held : List Bool) → p < length h.ports → IsPortLoose held p →
-    GoesTo (port_of (slice_index_or h.ports p blank_port) (o.media p)) (port_of new (o.media p)) →
+pub port_settles : (h : Hardware) (o : AllMedia) (p : ℕ) (new : PortModel) (held : List Bool) → p < length h.ports → IsPortLoose held p →
+    SettlesPort (port_of (slice_index_or h.ports p blank_port) (o.media p)) (port_of new (o.media p)) →
     LeadsOwn (Settles held) (device_of h o) (device_of (record h { ports = slice_set h.ports p new }) o)
 port_settles h o p new held small loose goes =
     let P : Device → Type 0 = λ d. LeadsOwn (Settles held) (device_of h o) d in
     subst P (sym (set_port h o p new _ small refl)) (goes held (device_of h o) p loose refl)
 
 -- its link came up, and the disk's first FIS was sent
-pub port_links : (h : Hardware) (o : Outside) (p : ℕ) (linked : PortModel) (held : List Bool) (new : Device) → p < length h.ports → IsPortLoose held p →
+pub port_links : (h : Hardware) (o : AllMedia) (p : ℕ) (linked : PortModel) (held : List Bool) (new : Device) → p < length h.ports → IsPortLoose held p →
     MayLinkUp (port_of (slice_index_or h.ports p blank_port) (o.media p)) 0x101 →
     port_of linked (o.media p) ≡ with_link (port_of (slice_index_or h.ports p blank_port) (o.media p)) 0x101 true →
     SendsRegisters p (signature_fis ((device_of (record h { ports = slice_set h.ports p linked }) o).port p)) (device_of (record h { ports = slice_set h.ports p linked }) o) new →
@@ -96,35 +96,35 @@ port_links h o p linked held new small loose may is sends =
     (set_port h o p linked _ small is) sends
 
 -- one port is as it was
-pub port_same : (h : Hardware) (o : Outside) (p : ℕ) (new : PortModel) → p < length h.ports → new ≡ slice_index_or h.ports p blank_port →
+pub port_same : (h : Hardware) (o : AllMedia) (p : ℕ) (new : PortModel) → p < length h.ports → new ≡ slice_index_or h.ports p blank_port →
     device_of (record h { ports = slice_set h.ports p new }) o ≡ device_of h o
 port_same h o p new small is =
     set_port h o p new (port_of (slice_index_or h.ports p blank_port) (o.media p)) small (ap (λ (x : PortModel). port_of x (o.media p)) is)
     ∙ with_same (device_of h o) p (port_of (slice_index_or h.ports p blank_port) (o.media p)) refl
 
 -- one port is changed, and the tape has one more entry
-pub set_port_recorded : (h : Hardware) (o : Outside) (p : ℕ) (new : PortModel) (state : DevicePort) (tape : Vec Entry) (entry : Entry) →
+pub set_port_recorded : (h : Hardware) (o : AllMedia) (p : ℕ) (new : PortModel) (state : DevicePort) (tape : Vec Entry) (entry : Entry) →
     p < length h.ports → port_of new (o.media p) ≡ state → tape.items ≡ h.tape.items ++ entry ∷ [] →
-    device_of (record h { ports = slice_set h.ports p new; tape = tape }) o ≡ recorded (device_of h o) p state entry
+    device_of (record h { ports = slice_set h.ports p new; tape = tape }) o ≡ with_port_and_entry (device_of h o) p state entry
 set_port_recorded h o p new state tape entry small is more =
     set_port (record h { tape = tape }) o p new state small is
     ∙ ap (λ (entries : List Entry). record (with_port (device_of h o) p state) { tape = entries }) more
 
 -- one port is changed with what is behind it, and the tape has one more entry
-pub set_port_plugged : (h : Hardware) (o : Outside) (p : ℕ) (new : PortModel) (media : Media) (state : DevicePort) (tape : Vec Entry) (entry : Entry) →
+pub set_port_plugged : (h : Hardware) (o : AllMedia) (p : ℕ) (new : PortModel) (media : Media) (state : DevicePort) (tape : Vec Entry) (entry : Entry) →
     p < length h.ports → port_of new media ≡ state → tape.items ≡ h.tape.items ++ entry ∷ [] →
-    device_of (record h { ports = slice_set h.ports p new; tape = tape }) (record o { media = changed o.media p media }) ≡ recorded (device_of h o) p state entry
+    device_of (record h { ports = slice_set h.ports p new; tape = tape }) (record o { media = changed o.media p media }) ≡ with_port_and_entry (device_of h o) p state entry
 set_port_plugged h o p new media state tape entry small is more =
     set_both (record h { tape = tape }) o p new media state small is
     ∙ ap (λ (entries : List Entry). record (with_port (device_of h o) p state) { tape = entries }) more
 
 -- one port is changed with what is behind it, the tape has one more entry, and the memory other bytes
-pub set_port_moved : (h : Hardware) (o : Outside) (p : ℕ) (new : PortModel) (media : Media) (state : DevicePort) (tape : Vec Entry) (entry : Entry)
+pub set_port_moved : (h : Hardware) (o : AllMedia) (p : ℕ) (new : PortModel) (media : Media) (state : DevicePort) (tape : Vec Entry) (entry : Entry)
     (memory : Vec ℕ) (bytes : ℕ → ℕ) →
     p < length h.ports → port_of new media ≡ state → tape.items ≡ h.tape.items ++ entry ∷ [] →
     length memory.items ≡ length h.memory.items → bytes_of memory.items ≡ bytes →
     device_of (record h { memory = memory; ports = slice_set h.ports p new; tape = tape }) (record o { media = changed o.media p media })
-    ≡ record (recorded (device_of h o) p state entry) { memory = bytes }
+    ≡ record (with_port_and_entry (device_of h o) p state entry) { memory = bytes }
 set_port_moved h o p new media state tape entry memory bytes small is more size same =
     set_both (record h { memory = memory; tape = tape }) o p new media state small is
     ∙ (λ i. record (with_port (device_of h o) p state) { size = size i; memory = same i; tape = more i })

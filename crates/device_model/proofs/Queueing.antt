@@ -11,7 +11,7 @@ use Rattle.adapter.proofs.Runs.{Steps-refl, Steps-trans}
 use Rattle.sector_store.specs.declared.store.Failures.{Failures}
 use Rattle.device_model.specs.Does.{AnswersStep}
 use Rattle.device_model.specs.Modelled.{device_at}
-use Rattle.device_model.specs.Queue.{BeginsAccess, due, not_due, DoesEach}
+use Rattle.device_model.specs.Queue.{BeginsAccess, due_steps, later_steps, DoesEach}
 use Rattle.device_model.specs.declared.model.Model.{Model}
 use Rattle.device_model.specs.declared.model.QueuedStep.{QueuedStep}
 use Rattle.device_model.proofs.Doing.{answers_steps}
@@ -34,7 +34,7 @@ module _ {S : Type 0} (size : S → ℕ) (told : S → Option (ℕ → List ℕ)
       Steps-trans (answers_steps size told failures s old d.1 d.0 d.2) (each_steps done d.1 new d.3)
 
   pub begins_steps : (old new : Model S) → BeginsAccess size told failures old new → Steps (device_at size told old) (device_at size told new)
-  begins_steps old new b = each_steps (due new.accesses.shown old.queue.items) (record old { accesses = new.accesses; queue = new.queue }) new b.does
+  begins_steps old new b = each_steps (due_steps new.accesses.shown old.queue.items) (record old { accesses = new.accesses; queue = new.queue }) new b.does
 
 -- these steps lead from the one model to the other, whatever is queued in both
 abbrev pub DoneSo : {S : Type 0} → (S → ℕ) → (S → Option (ℕ → List ℕ)) → (S → Option Failures) → Model S → Model S → List DeviceStep → Type 0
@@ -51,8 +51,8 @@ pub record IsAt (access : ℕ) (queue now : List QueuedStep) (place left : ℕ) 
   pub is : now ≡ kept ++ rest
   pub place_is : length kept ≡ place
   pub left_is : length rest ≡ left
-  pub keeps : not_due access queue ≡ kept ++ not_due access rest
-  pub does : due access queue ≡ done ++ due access rest
+  pub keeps : later_steps access queue ≡ kept ++ later_steps access rest
+  pub does : due_steps access queue ≡ done ++ due_steps access rest
   pub did : DidStep done
 
 pub at_start : (access : ℕ) (queue : List QueuedStep) (DidStep : List DeviceStep → Type 0) → DidStep [] → IsAt access queue queue 0 (length queue) DidStep
@@ -97,8 +97,8 @@ module _ (access : ℕ) (queue now : List QueuedStep) (place left : ℕ) (Was Di
       let after : List QueuedStep = n.1 in
       let e : slice_index_or now place d ≡ x = there x after n.2 in
       let here : access < x.access = let P : QueuedStep → Type 0 = λ q. access < q.access in subst P e late in
-      let kept : not_due access (x ∷ after) ≡ x ∷ not_due access after = rw (lt-ltb access x.access here) refl in
-      let passed : due access (x ∷ after) ≡ due access after = rw (lt-leb x.access access here) refl in
+      let kept : later_steps access (x ∷ after) ≡ x ∷ later_steps access after = rw (lt-ltb access x.access here) refl in
+      let passed : due_steps access (x ∷ after) ≡ due_steps access after = rw (lt-leb x.access access here) refl in
       record {
         kept = a.kept ++ x ∷ [];
         rest = after;
@@ -106,8 +106,8 @@ module _ (access : ℕ) (queue now : List QueuedStep) (place left : ℕ) (Was Di
         is = a.is ∙ (ap (λ l. a.kept ++ l) n.2 ∙ sym (append_assoc a.kept (x ∷ []) after));
         place_is = let l = length-append a.kept (x ∷ []) in omega (arith, l, a.place_is);
         left_is = n.3;
-        keeps = a.keeps ∙ (ap (λ l. a.kept ++ not_due access l) n.2 ∙ (ap (λ l. a.kept ++ l) kept ∙ sym (append_assoc a.kept (x ∷ []) (not_due access after))));
-        does = a.does ∙ (ap (λ l. a.done ++ due access l) n.2 ∙ ap (λ l. a.done ++ l) passed);
+        keeps = a.keeps ∙ (ap (λ l. a.kept ++ later_steps access l) n.2 ∙ (ap (λ l. a.kept ++ l) kept ∙ sym (append_assoc a.kept (x ∷ []) (later_steps access after))));
+        does = a.does ∙ (ap (λ l. a.done ++ due_steps access l) n.2 ∙ ap (λ l. a.done ++ l) passed);
         did = same a.done a.did;
       }
 
@@ -120,8 +120,8 @@ module _ (access : ℕ) (queue now : List QueuedStep) (place left : ℕ) (Was Di
       let after : List QueuedStep = n.1 in
       let e : slice_index_or now place d ≡ x = there x after n.2 in
       let here : x.access ≤ access = let P : QueuedStep → Type 0 = λ q. q.access ≤ access in subst P e early in
-      let passed : not_due access (x ∷ after) ≡ not_due access after = rw (le-ltb access x.access here) refl in
-      let taken : due access (x ∷ after) ≡ x.step ∷ due access after = rw (le-leb x.access access here) refl in
+      let passed : later_steps access (x ∷ after) ≡ later_steps access after = rw (le-ltb access x.access here) refl in
+      let taken : due_steps access (x ∷ after) ≡ x.step ∷ due_steps access after = rw (le-leb x.access access here) refl in
       let Q : QueuedStep → Type 0 = λ q. DidStep (a.done ++ q.step ∷ []) in
       let here_from : place ≤ place = omega arith in
       let none : place - place ≡ 0 = omega arith in
@@ -134,8 +134,8 @@ module _ (access : ℕ) (queue now : List QueuedStep) (place left : ℕ) (Was Di
             ∙ (ap (λ k. a.kept ++ remove a.rest k) none ∙ ap (λ l. a.kept ++ remove l 0) n.2));
         place_is = a.place_is;
         left_is = n.3;
-        keeps = a.keeps ∙ (ap (λ l. a.kept ++ not_due access l) n.2 ∙ ap (λ l. a.kept ++ l) passed);
-        does = a.does ∙ (ap (λ l. a.done ++ due access l) n.2 ∙ (ap (λ l. a.done ++ l) taken ∙ sym (append_assoc a.done (x.step ∷ []) (due access after))));
+        keeps = a.keeps ∙ (ap (λ l. a.kept ++ later_steps access l) n.2 ∙ ap (λ l. a.kept ++ l) passed);
+        does = a.does ∙ (ap (λ l. a.done ++ due_steps access l) n.2 ∙ (ap (λ l. a.done ++ l) taken ∙ sym (append_assoc a.done (x.step ∷ []) (due_steps access after))));
         did = subst Q e (one a.done a.did);
       }
 
@@ -145,13 +145,13 @@ module _ (access : ℕ) (queue now : List QueuedStep) (place : ℕ) (DidStep : L
   none_left [] e = refl
   none_left (x ∷ rest) e = absurd (omega (arith, e))
 
-  pub at_end_left : now ≡ not_due access queue
+  pub at_end_left : now ≡ later_steps access queue
   at_end_left =
       let none : a.rest ≡ [] = none_left a.rest a.left_is in
-      a.is ∙ (ap (λ l. a.kept ++ l) none ∙ sym (a.keeps ∙ ap (λ l. a.kept ++ not_due access l) none))
+      a.is ∙ (ap (λ l. a.kept ++ l) none ∙ sym (a.keeps ∙ ap (λ l. a.kept ++ later_steps access l) none))
 
-  pub at_end_did : DidStep (due access queue)
+  pub at_end_did : DidStep (due_steps access queue)
   at_end_did =
       let none : a.rest ≡ [] = none_left a.rest a.left_is in
-      let all : due access queue ≡ a.done = a.does ∙ (ap (λ l. a.done ++ due access l) none ∙ append-nil a.done) in
+      let all : due_steps access queue ≡ a.done = a.does ∙ (ap (λ l. a.done ++ due_steps access l) none ∙ append-nil a.done) in
       subst DidStep (sym all) a.did

@@ -17,12 +17,12 @@ use Rattle.device_model.proofs.Absurd.{some-none, some_one, true-false}
 use Rattle.adapter.proofs.SaysLemmas.{says_meaning, says_places, cut_length, cut_index}
 use Rattle.device_model.specs.Finishing.{HasPageCommand, LooksForPage, IsInside, AreInside, IsCovered, IsRemaining, MayFinish, MayTakePage, sends_page}
 use Rattle.device_model.specs.Fetched.{IsUntouched, bytes_of}
-use Rattle.device_model.specs.Cached.{HasOldRoom}
-use Rattle.device_model.specs.Trims.{WillClear, changes_ahead}
+use Rattle.device_model.specs.Cached.{HasRoomForOld}
+use Rattle.device_model.specs.Trims.{HasClearsLeft, changes_ahead}
 use Rattle.device_model.specs.Slots.{IsOpenTo, MayTake, HasUntaken, WorksOnIn}
 use Rattle.device_model.specs.Bits.{word_bits}
 use Rattle.device_model.specs.View.{Media, halt_of, taken_in, operation_of_kind, port_of, taken_of, blank_port}
-use Rattle.device_model.specs.Whole.{Outside, device_of}
+use Rattle.device_model.specs.WholeAdapter.{AllMedia, device_of}
 use Rattle.device_model.specs.declared.port.PortModel.{PortModel}
 use Rattle.device_model.specs.declared.port.TakenCommand.{TakenCommand}
 use Rattle.device_model.specs.declared.hardware.Hardware.{Hardware}
@@ -115,7 +115,7 @@ pub may_be_taken : (p : PortModel) (slot : ℕ) (r : TakenCommand) → HasUntake
 may_be_taken p slot r may beside m =
     let w = may m (operation_of_kind r.command_kind) beside.0 in record { fetchable = w.0; working = w.1; alone = beside.1 m }
 
-module _ (h : Hardware) (o : Outside) (p port slot left clears : ℕ) (e : p ≡ port) (ready : MayFinish (device_of h o) port slot left clears) where
+module _ (h : Hardware) (o : AllMedia) (p port slot left clears : ℕ) (e : p ≡ port) (ready : MayFinish (device_of h o) port slot left clears) where
   abbrev state : PortModel
   state = slice_index_or h.ports p blank_port
 
@@ -148,7 +148,7 @@ module _ (h : Hardware) (p port slot : ℕ) (r : TakenCommand) (e : p ≡ port) 
   pub ready_to_take : (left clears : ℕ) → IsRemaining r h.memory.items left clears → IsUntouched r →
       HasUntaken (slice_index_or h.ports p blank_port) slot → IsBeside (slice_index_or h.ports p blank_port) r →
       DecodesTo (bytes_of h.memory.items) (slice_index_or h.ports p blank_port).addresses.clb slot (taken_of r).meaning (taken_of r).places →
-      (o : Outside) → MayFinish (device_of h o) port slot left clears
+      (o : AllMedia) → MayFinish (device_of h o) port slot left clears
   ready_to_take left clears rest new may beside says o =
       let P : ℕ → Type 0 = λ q. MayFinish (device_of h o) q slot left clears in
       let m = may (o.media p) (operation_of_kind r.command_kind) beside.0 in
@@ -162,23 +162,23 @@ module _ (h : Hardware) (p port slot : ℕ) (r : TakenCommand) (e : p ≡ port) 
 
   -- and so is one that is taken
   pub ready_to_go : (left clears : ℕ) → IsRemaining r h.memory.items left clears → WorksOnIn (slice_index_or h.ports p blank_port) slot r →
-      (o : Outside) → MayFinish (device_of h o) port slot left clears
+      (o : AllMedia) → MayFinish (device_of h o) port slot left clears
   ready_to_go left clears rest here o =
       let P : ℕ → Type 0 = λ q. MayFinish (device_of h o) q slot left clears in
       subst P e (record { t = taken_of r; covered = rest.0; clearing = rest.1; begins = inl (here.works (o.media p)) })
 
   -- a command that is ready, as far as these are its moves and clears
-  rest_back : (left clears : ℕ) (o : Outside) (ready : MayFinish (device_of h o) port slot left clears) → ready.t ≡ taken_of r →
+  rest_back : (left clears : ℕ) (o : AllMedia) (ready : MayFinish (device_of h o) port slot left clears) → ready.t ≡ taken_of r →
       IsRemaining r h.memory.items left clears
   rest_back left clears o ready same =
       let Q : FetchedCommand → Type 0 = λ t. IsCovered t (length h.memory.items) left in
-      let R : FetchedCommand → Type 0 = λ t. WillClear t.meaning.operation (bytes_of h.memory.items) t clears in
+      let R : FetchedCommand → Type 0 = λ t. HasClearsLeft t.meaning.operation (bytes_of h.memory.items) t clears in
       (subst Q same ready.covered, subst R same ready.clearing)
 
   -- where a command may be taken, one that is ready is the one that its slot's bytes say
   pub ready_is_one : HasUntaken (slice_index_or h.ports p blank_port) slot → IsUntouched r →
       DecodesTo (bytes_of h.memory.items) (slice_index_or h.ports p blank_port).addresses.clb slot (taken_of r).meaning (taken_of r).places →
-      (o : Outside) (left clears : ℕ) (ready : MayFinish (device_of h o) port slot left clears) → ready.t ≡ taken_of r
+      (o : AllMedia) (left clears : ℕ) (ready : MayFinish (device_of h o) port slot left clears) → ready.t ≡ taken_of r
   ready_is_one may new says o left clears ready =
       let t : FetchedCommand = ready.t in
       let memory = bytes_of h.memory.items in
@@ -190,14 +190,14 @@ module _ (h : Hardware) (p port slot : ℕ) (r : TakenCommand) (e : p ≡ port) 
 
   pub ready_is_said : HasUntaken (slice_index_or h.ports p blank_port) slot → IsUntouched r →
       DecodesTo (bytes_of h.memory.items) (slice_index_or h.ports p blank_port).addresses.clb slot (taken_of r).meaning (taken_of r).places →
-      (o : Outside) (left clears : ℕ) → MayFinish (device_of h o) port slot left clears → IsRemaining r h.memory.items left clears
+      (o : AllMedia) (left clears : ℕ) → MayFinish (device_of h o) port slot left clears → IsRemaining r h.memory.items left clears
   ready_is_said may new says o left clears ready =
       rest_back left clears o ready (ready_is_one may new says o left clears ready)
 
   -- one that may not be taken beside those that are isn't ready
   pub ready_beside : HasUntaken (slice_index_or h.ports p blank_port) slot → IsUntouched r →
       DecodesTo (bytes_of h.memory.items) (slice_index_or h.ports p blank_port).addresses.clb slot (taken_of r).meaning (taken_of r).places →
-      (o : Outside) (left clears : ℕ) → MayFinish (device_of h o) port slot left clears →
+      (o : AllMedia) (left clears : ℕ) → MayFinish (device_of h o) port slot left clears →
       (admits (halt_of (slice_index_or h.ports p blank_port).halting) (operation_of_kind r.command_kind) ≡ true)
       × IsUnmixed (port_of (slice_index_or h.ports p blank_port) (o.media p)) (operation_of_kind r.command_kind)
   ready_beside may new says o left clears ready =
@@ -210,27 +210,27 @@ module _ (h : Hardware) (p port slot : ℕ) (r : TakenCommand) (e : p ≡ port) 
 
   -- where it is taken, the one that its slot holds
   pub ready_is_held : WorksOnIn (slice_index_or h.ports p blank_port) slot r → MayTakeNone (slice_index_or h.ports p blank_port) slot →
-      (o : Outside) (left clears : ℕ) → MayFinish (device_of h o) port slot left clears → IsRemaining r h.memory.items left clears
+      (o : AllMedia) (left clears : ℕ) → MayFinish (device_of h o) port slot left clears → IsRemaining r h.memory.items left clears
   ready_is_held here never o left clears ready =
       let w = ready_held h o p port slot left clears e ready never in
       let same : r ≡ w.0 = some_one (sym here.held ∙ w.1.held) in
       rest_back left clears o ready (w.2 ∙ ap taken_of (sym same))
 
 -- what a command is going to change is what is left of the one that is ready
-pub ahead_is : (h : Hardware) (o : Outside) (cache : Cache) (port slot left changes n m : ℕ) (r : TakenCommand) (may : MayFinish (device_of h o) port slot n m) → may.t ≡ taken_of r →
+pub ahead_is : (h : Hardware) (o : AllMedia) (cache : Cache) (port slot left changes n m : ℕ) (r : TakenCommand) (may : MayFinish (device_of h o) port slot n m) → may.t ≡ taken_of r →
     left ≡ n → changes ≡ changes_ahead (operation_of_kind r.command_kind) (bytes_of h.memory.items) (taken_of r) left →
-    HasOldRoom cache (changes_ahead may.t.meaning.operation (bytes_of h.memory.items) may.t n) → HasOldRoom cache changes
+    HasRoomForOld cache (changes_ahead may.t.meaning.operation (bytes_of h.memory.items) may.t n) → HasRoomForOld cache changes
 ahead_is h o cache port slot left changes n m r may same number is =
     let memory = bytes_of h.memory.items in
     let here : changes_ahead may.t.meaning.operation memory may.t n ≡ changes = (λ i. changes_ahead (same i).meaning.operation memory (same i) (sym number i)) ∙ sym is in
-    subst (HasOldRoom cache) here
+    subst (HasRoomForOld cache) here
 
 -- and of the one that is taken
 pub ahead_of : (cache : Cache) (memory : ℕ → ℕ) (left changes : ℕ) (r : TakenCommand) (t : FetchedCommand) → taken_of r ≡ t →
-    changes ≡ changes_ahead (operation_of_kind r.command_kind) memory (taken_of r) left → HasOldRoom cache changes → HasOldRoom cache (changes_ahead t.meaning.operation memory t left)
+    changes ≡ changes_ahead (operation_of_kind r.command_kind) memory (taken_of r) left → HasRoomForOld cache changes → HasRoomForOld cache (changes_ahead t.meaning.operation memory t left)
 ahead_of cache memory left changes r t same is =
     let there : changes ≡ changes_ahead t.meaning.operation memory t left = is ∙ (λ i. changes_ahead (same i).meaning.operation memory (same i) left) in
-    subst (HasOldRoom cache) there
+    subst (HasRoomForOld cache) there
 
 -- the one that was taken just now
 pub fetched_is : (port slot : ℕ) (old new : Device) (r : TakenCommand) (f : DoesFetch port slot old new) → IsUntouched r →
@@ -261,7 +261,7 @@ module _ (h : Hardware) (port slot size : ℕ) (sized : size ≡ vec_len h.memor
   covers_back r left covered = let P : ℕ → Type 0 = λ n. IsCovered (taken_of r) n left in subst P (sym memory_size) covered
 
   -- it clears nothing
-  clears : (r : TakenCommand) → sends_page (operation_of_kind r.command_kind) ≡ true → WillClear (operation_of_kind r.command_kind) (bytes_of h.memory.items) (taken_of r) 0
+  clears : (r : TakenCommand) → sends_page (operation_of_kind r.command_kind) ≡ true → HasClearsLeft (operation_of_kind r.command_kind) (bytes_of h.memory.items) (taken_of r) 0
   clears r kind = page_clears (operation_of_kind r.command_kind) (bytes_of h.memory.items) (taken_of r) kind
 
   -- a command that can be done to its end
@@ -270,7 +270,7 @@ module _ (h : Hardware) (port slot size : ℕ) (sized : size ≡ vec_len h.memor
 
   -- one that may be taken
   pub page_said : (r : TakenCommand) → IsUntouched r → DecodesTo (bytes_of h.memory.items) here.addresses.clb slot (taken_of r).meaning (taken_of r).places →
-      sends_page (operation_of_kind r.command_kind) ≡ true → HasUntaken here slot → IsBeside here r → Ends r → (o : Outside) → HasPageCommand (device_of h o) port slot
+      sends_page (operation_of_kind r.command_kind) ≡ true → HasUntaken here slot → IsBeside here r → Ends r → (o : AllMedia) → HasPageCommand (device_of h o) port slot
   page_said r new says kind may beside ends o =
       let m = may (o.media port) (operation_of_kind r.command_kind) beside.0 in
       record {
@@ -287,13 +287,13 @@ module _ (h : Hardware) (port slot size : ℕ) (sized : size ≡ vec_len h.memor
 
   -- no other one may be
   pub page_unsaid : ((m : Meaning) (places : List ℕ) → sends_page m.operation ≡ true → DecodesTo (bytes_of h.memory.items) here.addresses.clb slot m places → ⊥) →
-      HasUntaken here slot → (o : Outside) → HasPageCommand (device_of h o) port slot → ⊥
+      HasUntaken here slot → (o : AllMedia) → HasPageCommand (device_of h o) port slot → ⊥
   page_unsaid none may o has =
       none has.ready.t.meaning has.ready.t.places has.sends (ready_said h o port port slot has.left 0 refl has.ready may)
 
   -- and where one may be taken, it is the one that is ready
   pub page_endless : (r : TakenCommand) → IsUntouched r → DecodesTo (bytes_of h.memory.items) here.addresses.clb slot (taken_of r).meaning (taken_of r).places →
-      HasUntaken here slot → ((left : ℕ) → IsCovered (taken_of r) size left → AreInside (2 ^ 32) (pieces r.prds) → ⊥) → (o : Outside) →
+      HasUntaken here slot → ((left : ℕ) → IsCovered (taken_of r) size left → AreInside (2 ^ 32) (pieces r.prds) → ⊥) → (o : AllMedia) →
       HasPageCommand (device_of h o) port slot → ⊥
   page_endless r new says may never o has =
       let same = ready_is_one h port port slot r refl may new says o has.left 0 has.ready in
@@ -301,7 +301,7 @@ module _ (h : Hardware) (port slot size : ℕ) (sized : size ≡ vec_len h.memor
       (subst (λ (t : FetchedCommand). AreInside (2 ^ 32) t.places) same has.low)
 
   -- one that is taken
-  pub page_held : (r : TakenCommand) → WorksOnIn here slot r → sends_page (operation_of_kind r.command_kind) ≡ true → Ends r → (o : Outside) → HasPageCommand (device_of h o) port slot
+  pub page_held : (r : TakenCommand) → WorksOnIn here slot r → sends_page (operation_of_kind r.command_kind) ≡ true → Ends r → (o : AllMedia) → HasPageCommand (device_of h o) port slot
   page_held r held kind ends o = record {
     left = ends.0;
     ready = record {
@@ -314,7 +314,7 @@ module _ (h : Hardware) (port slot size : ℕ) (sized : size ≡ vec_len h.memor
     low = ends.2;
   }
 
-  pub page_unheld : ((r : TakenCommand) → WorksOnIn here slot r → sends_page (operation_of_kind r.command_kind) ≡ true → Ends r → ⊥) → MayTakeNone here slot → (o : Outside) →
+  pub page_unheld : ((r : TakenCommand) → WorksOnIn here slot r → sends_page (operation_of_kind r.command_kind) ≡ true → Ends r → ⊥) → MayTakeNone here slot → (o : AllMedia) →
       HasPageCommand (device_of h o) port slot → ⊥
   page_unheld none never o has =
       let w = ready_held h o port port slot has.left 0 refl has.ready never in
@@ -333,7 +333,7 @@ module _ (h : Hardware) (port slot : ℕ) where
 
   -- one that its slot's bytes say may be taken
   pub may_page : (r : TakenCommand) → DecodesTo (bytes_of h.memory.items) first.addresses.clb slot (taken_of r).meaning (taken_of r).places →
-      sends_page (operation_of_kind r.command_kind) ≡ true → HasUntaken first slot → IsBeside first r → (o : Outside) → MayTakePage (device_of h o) port slot
+      sends_page (operation_of_kind r.command_kind) ≡ true → HasUntaken first slot → IsBeside first r → (o : AllMedia) → MayTakePage (device_of h o) port slot
   may_page r says kind may beside o =
       let m = may (o.media port) (operation_of_kind r.command_kind) beside.0 in
       record {
@@ -344,7 +344,7 @@ module _ (h : Hardware) (port slot : ℕ) where
       }
 
   -- and so may one that can be done to its end, where one may be
-  pub ready_may : HasUntaken first slot → (o : Outside) → HasPageCommand (device_of h o) port slot → MayTakePage (device_of h o) port slot
+  pub ready_may : HasUntaken first slot → (o : AllMedia) → HasPageCommand (device_of h o) port slot → MayTakePage (device_of h o) port slot
   ready_may may o has = record {
     meaning = has.ready.t.meaning;
     places = has.ready.t.places;
@@ -354,7 +354,7 @@ module _ (h : Hardware) (port slot : ℕ) where
 
   -- none may be beside others that are taken
   pub page_crowded : (r : TakenCommand) → DecodesTo (bytes_of h.memory.items) first.addresses.clb slot (taken_of r).meaning (taken_of r).places →
-      ((m : Media) → admits (halt_of first.halting) (operation_of_kind r.command_kind) ≡ true → IsUnmixed (port_of first m) (operation_of_kind r.command_kind) → ⊥) → (o : Outside) →
+      ((m : Media) → admits (halt_of first.halting) (operation_of_kind r.command_kind) ≡ true → IsUnmixed (port_of first m) (operation_of_kind r.command_kind) → ⊥) → (o : AllMedia) →
       MayTakePage (device_of h o) port slot → ⊥
   page_crowded r says crowded o may =
       let memory = bytes_of h.memory.items in
@@ -366,17 +366,17 @@ module _ (h : Hardware) (port slot : ℕ) where
 
   -- none is said
   pub page_unmeant : ((m : Meaning) (places : List ℕ) → sends_page m.operation ≡ true → DecodesTo (bytes_of h.memory.items) first.addresses.clb slot m places → ⊥) →
-      (o : Outside) → MayTakePage (device_of h o) port slot → ⊥
+      (o : AllMedia) → MayTakePage (device_of h o) port slot → ⊥
   page_unmeant none o may = none may.meaning may.places may.sends (fetch_says h o port port slot may.meaning may.places refl may.can)
 
   -- none may be taken
-  pub page_barred : MayTakeNone first slot → (o : Outside) → MayTakePage (device_of h o) port slot → ⊥
+  pub page_barred : MayTakeNone first slot → (o : AllMedia) → MayTakePage (device_of h o) port slot → ⊥
   page_barred never o may =
       never (o.media port) may.meaning.operation (fetch_takes h o port port slot may.meaning may.places refl may.can)
 
 -- nothing is issued or taken there
 pub page_unused : (h : Hardware) (port slot : ℕ) → word_bits (slice_index_or h.ports port blank_port).ci slot ≡ false → taken_in (slice_index_or h.ports port blank_port).taken slot ≡ None →
-    (o : Outside) → LooksForPage (device_of h o) port slot None
+    (o : AllMedia) → LooksForPage (device_of h o) port slot None
 page_unused h port slot unissued untaken o =
     let never : MayTakeNone (slice_index_or h.ports port blank_port) slot = λ m operation may. true-false may.fetchable.issued unissued in
     (page_barred h port slot never o, page_unheld h port slot _ refl (λ r held kind ends. some-none held.held untaken) never o)

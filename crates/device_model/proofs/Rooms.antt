@@ -2,13 +2,13 @@
 use Rattle.std.specs.Prelude.{slice_set}
 use Rattle.std.proofs.Common.{ℕ, Bool, true, ◌≡◌, ◌<◌, ◌∙◌, List, Option, Some, length, slice_index_or, ap, sym, subst}
 use Rattle.adapter.specs.Memory.{changed}
-use Rattle.adapter.specs.Steps.{noted_bytes}
+use Rattle.adapter.specs.Steps.{snapshot_of_bytes}
 use Rattle.hba_regs.specs.Bits.{bit}
 use Rattle.device_model.proofs.Absurd.{some_one}
 use Rattle.device_model.proofs.Blocks.{block_moved, block_on}
 use Rattle.device_model.proofs.SlotLemmas.{held_list, held_on, held_room, held_set, is_held}
 use Rattle.device_model.specs.View.{taken_in}
-use Rattle.device_model.specs.Block.{HasBlock, taken_by, taken_from}
+use Rattle.device_model.specs.Block.{HasBlock, taken_in_slot, taken_list_from}
 use Rattle.device_model.specs.declared.port.TakenCommand.{TakenCommand}
 use Rattle.device_model.specs.declared.port.CommandKind.TheVariants.{Trim}
 
@@ -17,15 +17,15 @@ pub record IsInRoom (filled : ℕ) (rooms : List TakenCommand) (taken : List (Op
   pub small : room < length rooms
   pub set : bit filled room ≡ true
   pub at : room ≡ slot
-  pub was : taken_by filled rooms ≡ taken_in taken
-  pub there : taken_by filled rooms room ≡ Some now
+  pub was : taken_in_slot filled rooms ≡ taken_in taken
+  pub there : taken_in_slot filled rooms room ≡ Some now
   pub held : taken_in taken slot ≡ Some now
 
 pub in_room : {filled : ℕ} {rooms : List TakenCommand} {taken : List (Option TakenCommand)} {room slot : ℕ} {now : TakenCommand} →
-    room < length rooms → taken_from 0 filled rooms ≡ taken → room ≡ slot → bit filled room ≡ true → now ≡ slice_index_or rooms room now →
+    room < length rooms → taken_list_from 0 filled rooms ≡ taken → room ≡ slot → bit filled room ≡ true → now ≡ slice_index_or rooms room now →
     IsInRoom filled rooms taken room slot now
 in_room {filled} {rooms} {taken} {room} {slot} {now} small view at set is =
-    let there : taken_by filled rooms room ≡ Some now = held_room filled rooms room now small set ∙ ap Some (sym is) in
+    let there : taken_in_slot filled rooms room ≡ Some now = held_room filled rooms room now small set ∙ ap Some (sym is) in
     record {
       small = small;
       set = set;
@@ -37,13 +37,13 @@ in_room {filled} {rooms} {taken} {room} {slot} {now} small view at set is =
 
 -- it does where its bit was seen to be a one
 pub in_seen_room : {filled : ℕ} {rooms : List TakenCommand} {taken : List (Option TakenCommand)} {room seen slot : ℕ} {is_set : Bool} {now : TakenCommand} →
-    room < length rooms → taken_from 0 filled rooms ≡ taken → room ≡ slot → seen ≡ slot → is_set ≡ bit filled seen → is_set ≡ true →
+    room < length rooms → taken_list_from 0 filled rooms ≡ taken → room ≡ slot → seen ≡ slot → is_set ≡ bit filled seen → is_set ≡ true →
     now ≡ slice_index_or rooms room now → IsInRoom filled rooms taken room slot now
 in_seen_room {filled} small view at same tells set is = in_room small view at (ap (bit filled) (at ∙ sym same) ∙ (sym tells ∙ set)) is
 
 -- it does where a command is taken in the slot
 pub in_taken_room : {filled : ℕ} {rooms : List TakenCommand} {taken : List (Option TakenCommand)} {room slot : ℕ} {now : TakenCommand} →
-    room < length rooms → taken_from 0 filled rooms ≡ taken → room ≡ slot → (t : TakenCommand) → taken_in taken slot ≡ Some t →
+    room < length rooms → taken_list_from 0 filled rooms ≡ taken → room ≡ slot → (t : TakenCommand) → taken_in taken slot ≡ Some t →
     now ≡ slice_index_or rooms room now → IsInRoom filled rooms taken room slot now
 in_taken_room {filled} {rooms} {taken} {room} {slot} small view at t held is =
     in_room small view at (held_set filled rooms room t (is_held filled rooms taken room slot view at ∙ held)) is
@@ -55,21 +55,21 @@ module _ {filled : ℕ} {rooms : List TakenCommand} {taken : List (Option TakenC
   in_it t held = some_one (sym is.held ∙ held)
 
   -- another one stands there now
-  pub room_changed : (new : TakenCommand) → taken_in (taken_from 0 filled (slice_set rooms room new)) ≡ changed (taken_in taken) slot (Some new)
+  pub room_changed : (new : TakenCommand) → taken_in (taken_list_from 0 filled (slice_set rooms room new)) ≡ changed (taken_in taken) slot (Some new)
   room_changed new =
       held_list filled (slice_set rooms room new)
       ∙ (held_on filled rooms room new is.small is.set ∙ (λ i. changed (is.was i) (is.at i) (Some new)))
 
   -- the port has the block that it had
-  pub room_keeps : (block : List ℕ) → HasBlock (taken_by filled rooms) block → (new : TakenCommand) → new.command_kind ≡ now.command_kind → new.first ≡ now.first →
-      new.block ≡ now.block → HasBlock (taken_by filled (slice_set rooms room new)) block
+  pub room_keeps : (block : List ℕ) → HasBlock (taken_in_slot filled rooms) block → (new : TakenCommand) → new.command_kind ≡ now.command_kind → new.first ≡ now.first →
+      new.block ≡ now.block → HasBlock (taken_in_slot filled (slice_set rooms room new)) block
   room_keeps block has new kind number same =
       subst (λ f. HasBlock f block) (sym (held_on filled rooms room new is.small is.set))
-      (block_on (taken_by filled rooms) block room has now new is.there kind number same)
+      (block_on (taken_in_slot filled rooms) block room has now new is.there kind number same)
 
   -- or the one that its trim has brought
-  pub room_brings : (block bytes : List ℕ) → HasBlock (taken_by filled rooms) block → (new : TakenCommand) → new.command_kind ≡ now.command_kind → new.first ≡ now.first →
-      now.command_kind ≡ Trim → new.block ≡ Some (noted_bytes bytes) → HasBlock (taken_by filled (slice_set rooms room new)) bytes
+  pub room_brings : (block bytes : List ℕ) → HasBlock (taken_in_slot filled rooms) block → (new : TakenCommand) → new.command_kind ≡ now.command_kind → new.first ≡ now.first →
+      now.command_kind ≡ Trim → new.block ≡ Some (snapshot_of_bytes bytes) → HasBlock (taken_in_slot filled (slice_set rooms room new)) bytes
   room_brings block bytes has new kind number trim brought =
       subst (λ f. HasBlock f bytes) (sym (held_on filled rooms room new is.small is.set))
-      (block_moved (taken_by filled rooms) block room has now new is.there kind number bytes trim brought)
+      (block_moved (taken_in_slot filled rooms) block room has now new is.there kind number bytes trim brought)

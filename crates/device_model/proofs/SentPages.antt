@@ -10,15 +10,15 @@ use Rattle.adapter.specs.declared.access.DeviceStep.TheVariants as asked
 use Rattle.ata_types.specs.declared.Port.{Port}
 use Rattle.ata_types.specs.declared.Slot.{Slot}
 use Rattle.sector_store.specs.declared.store.Failures.{Failures}
-use Rattle.device_model.specs.Disks.{numbered_disk, which_of}
+use Rattle.device_model.specs.Disks.{numbered_disk, disk_index_of}
 use Rattle.device_model.specs.Does.{AnswersStep, Completes, OwnStepsKeep}
 use Rattle.device_model.specs.Finishing.{LooksForPage, HasPageCommand, TapeHasRoom, HasTakenCommand, MayTakePage}
 use Rattle.device_model.specs.Held.{IsPortHeld, IsPortLoose}
 use Rattle.device_model.specs.Modelled.{device_at}
 use Rattle.device_model.specs.Pending.{TakesPage}
 use Rattle.device_model.specs.Sent.{SendsEnd}
-use Rattle.device_model.specs.Settled.{IsSettled, LeadsOwn, LeavesOne, NoneIsLeft, SendsPages}
-use Rattle.device_model.specs.Whole.{HasDisks}
+use Rattle.device_model.specs.Settled.{IsSettled, LeadsOwn, LeavesPageWithoutMemory, NoPageIsLeft, SendsPages}
+use Rattle.device_model.specs.WholeAdapter.{HasDisks}
 use Rattle.device_model.specs.declared.disks.DiskIndex.{DiskIndex}
 use Rattle.device_model.specs.declared.model.Model.{Model}
 use Rattle.device_model.proofs.Absurd.{true-false}
@@ -76,7 +76,7 @@ module _ {S : Type 0} (size : S → ℕ) (told : S → Option (ℕ → List ℕ)
   -- and one that lacks memory lacking it, where no more is found
   lacks_on : (old new : Model S) (left_out out_then : List Bool) (p : ℕ) → IsPortLoose left_out p → ((q : ℕ) → q ≢ p → IsPortHeld left_out q → IsPortHeld out_then q) →
       ((q : ℕ) → q ≢ p → (device_at size told new).port q ≡ (device_at size told old).port q) → (device_at size told new).size ≡ (device_at size told old).size →
-      ((q : ℕ) → which_of new q ≡ which_of old q) → ((n : ℕ) → TapeHasRoom new.hardware n → TapeHasRoom old.hardware n) → Lacks left_out old → Lacks out_then new
+      ((q : ℕ) → disk_index_of new q ≡ disk_index_of old q) → ((n : ℕ) → TapeHasRoom new.hardware n → TapeHasRoom old.hardware n) → Lacks left_out old → Lacks out_then new
   lacks_on old new left_out out_then p loose on others large which room one =
       let apart : one.port ≢ p = λ (same : one.port ≡ p). true-false one.out (subst (IsPortLoose left_out) (sym same) loose) in
       let same = others one.port apart in
@@ -257,7 +257,7 @@ module _ {S : Type 0} (size : S → ℕ) (told : S → Option (ℕ → List ℕ)
     held_still : (port : ℕ) → IsPortHeld first.held port → IsPortHeld m.held port
     held_still port held = ap (λ (l : List Bool). slice_index_or l port false) is.rest.held ∙ held
 
-    pub none_left : NoneIsLeft m.held m.hardware.starved (device_at size told m)
+    pub none_left : NoPageIsLeft m.held m.hardware.starved (device_at size told m)
     none_left = record {
       taken = λ port slot small low disks may.
           elim (by_port port) [
@@ -273,10 +273,10 @@ module _ {S : Type 0} (size : S → ℕ) (told : S → Option (ℕ → List ℕ)
           ];
     }
 
-    pub lacking_told : m.hardware.starved ≡ true → (first.hardware.starved ≡ true) ⊎ LeavesOne m.hardware (device_at size told m)
+    pub lacking_told : m.hardware.starved ≡ true → (first.hardware.starved ≡ true) ⊎ LeavesPageWithoutMemory m.hardware (device_at size told m)
     lacking_told starved = by lacks refl
       where
-        by : (b : Bool) → lacks ≡ b → (first.hardware.starved ≡ true) ⊎ LeavesOne m.hardware (device_at size told m)
+        by : (b : Bool) → lacks ≡ b → (first.hardware.starved ≡ true) ⊎ LeavesPageWithoutMemory m.hardware (device_at size told m)
         by false e = inl (sym (is.fed e) ∙ starved)
         by true e = let one = (is.lacking e).1 in inr (one.port, one.slot, one.small, one.low, one.disks, one.has, one.lacks)
 

@@ -14,7 +14,7 @@ use Rattle.hba_regs.specs.Bits.{bit}
 use Rattle.device_model.proofs.Absurd.{some-none, true-false}
 use Rattle.device_model.proofs.Places.{fun_ext, changed_same, changed_other}
 use Rattle.device_model.specs.Bits.{word_bits}
-use Rattle.device_model.specs.Block.{brought, taken_by, taken_from}
+use Rattle.device_model.specs.Block.{brought, taken_in_slot, taken_list_from}
 use Rattle.device_model.specs.Fetched.{IsUntouched}
 use Rattle.device_model.specs.View.{taken_in, taken_slots, taken_of, blank_port}
 use Rattle.device_model.specs.declared.port.PortModel.{PortModel}
@@ -39,7 +39,7 @@ both true x = refl
 both false x = refl
 
 -- what is in each slot of the list is what is taken there
-held_at : (slot filled : ℕ) (rooms : List TakenCommand) (k : ℕ) → taken_in (taken_from slot filled rooms) k ≡ (if bit filled (slot + k) then slice_get rooms k else None)
+held_at : (slot filled : ℕ) (rooms : List TakenCommand) (k : ℕ) → taken_in (taken_list_from slot filled rooms) k ≡ (if bit filled (slot + k) then slice_get rooms k else None)
 held_at slot filled [] k = sym (both (bit filled (slot + k)) None)
 held_at slot filled (room ∷ rooms) zero =
     let here : slot ≡ slot + 0 = omega arith in
@@ -48,45 +48,45 @@ held_at slot filled (room ∷ rooms) (suc k) =
     let here : slot + 1 + k ≡ slot + suc k = omega arith in
     held_at (slot + 1) filled rooms k ∙ ap (λ (j : ℕ). if bit filled j then slice_get rooms k else None) here
 
-pub held_list : (filled : ℕ) (rooms : List TakenCommand) → taken_in (taken_from 0 filled rooms) ≡ taken_by filled rooms
+pub held_list : (filled : ℕ) (rooms : List TakenCommand) → taken_in (taken_list_from 0 filled rooms) ≡ taken_in_slot filled rooms
 held_list filled rooms =
     fun_ext (λ k.
     let here : 0 + k ≡ k = omega arith in
     held_at 0 filled rooms k ∙ ap (λ (j : ℕ). if bit filled j then slice_get rooms k else None) here)
 
 -- what is taken in a slot of such a list
-pub is_held : (filled : ℕ) (rooms : List TakenCommand) (taken : List (Option TakenCommand)) (place slot : ℕ) → taken_from 0 filled rooms ≡ taken → place ≡ slot →
-    taken_by filled rooms place ≡ taken_in taken slot
+pub is_held : (filled : ℕ) (rooms : List TakenCommand) (taken : List (Option TakenCommand)) (place slot : ℕ) → taken_list_from 0 filled rooms ≡ taken → place ≡ slot →
+    taken_in_slot filled rooms place ≡ taken_in taken slot
 is_held filled rooms taken place slot view at =
-    ap (taken_by filled rooms) at ∙ ap (λ (f : ℕ → Option TakenCommand). f slot) (sym (held_list filled rooms) ∙ ap taken_in view)
+    ap (taken_in_slot filled rooms) at ∙ ap (λ (f : ℕ → Option TakenCommand). f slot) (sym (held_list filled rooms) ∙ ap taken_in view)
 
 -- no command is taken in a slot whose bit is a zero
-pub held_none : (filled : ℕ) (rooms : List TakenCommand) (slot : ℕ) → bit filled slot ≡ false → taken_by filled rooms slot ≡ None
+pub held_none : (filled : ℕ) (rooms : List TakenCommand) (slot : ℕ) → bit filled slot ≡ false → taken_in_slot filled rooms slot ≡ None
 held_none filled rooms slot clear = λ i. if clear i then slice_get rooms slot else None
 
 -- and where it is a one, the command in its room
 pub held_room : (filled : ℕ) (rooms : List TakenCommand) (slot : ℕ) (any : TakenCommand) → slot < length rooms → bit filled slot ≡ true →
-    taken_by filled rooms slot ≡ Some (slice_index_or rooms slot any)
+    taken_in_slot filled rooms slot ≡ Some (slice_index_or rooms slot any)
 held_room filled rooms slot any small set = (λ i. if set i then slice_get rooms slot else None) ∙ slice_get-get_or rooms slot any small
 
 -- so the bit of a slot in which one is taken is a one, and the slot has a room
-pub held_set : (filled : ℕ) (rooms : List TakenCommand) (slot : ℕ) (t : TakenCommand) → taken_by filled rooms slot ≡ Some t → bit filled slot ≡ true
+pub held_set : (filled : ℕ) (rooms : List TakenCommand) (slot : ℕ) (t : TakenCommand) → taken_in_slot filled rooms slot ≡ Some t → bit filled slot ≡ true
 held_set filled rooms slot t held = by (bit filled slot) refl
   where
     by : (b : Bool) → bit filled slot ≡ b → bit filled slot ≡ true
     by true e = e
     by false e = some-none held (held_none filled rooms slot e)
 
-pub held_within : (filled : ℕ) (rooms : List TakenCommand) (slot : ℕ) (t : TakenCommand) → taken_by filled rooms slot ≡ Some t → slot < length rooms
+pub held_within : (filled : ℕ) (rooms : List TakenCommand) (slot : ℕ) (t : TakenCommand) → taken_in_slot filled rooms slot ≡ Some t → slot < length rooms
 held_within filled rooms slot t held =
     let set = held_set filled rooms slot t held in
     slice_get_within rooms slot t (sym (λ i. if set i then slice_get rooms slot else None) ∙ held)
 
 -- whether one is, its bit tells
-pub held_tells : (filled : ℕ) (rooms : List TakenCommand) (slot : ℕ) → filled < 2 ^ 32 → length rooms ≡ 32 → bit filled slot ≡ is_some (taken_by filled rooms slot)
+pub held_tells : (filled : ℕ) (rooms : List TakenCommand) (slot : ℕ) → filled < 2 ^ 32 → length rooms ≡ 32 → bit filled slot ≡ is_some (taken_in_slot filled rooms slot)
 held_tells filled rooms slot fits long = by (bit filled slot) refl
   where
-    by : (b : Bool) → bit filled slot ≡ b → bit filled slot ≡ is_some (taken_by filled rooms slot)
+    by : (b : Bool) → bit filled slot ≡ b → bit filled slot ≡ is_some (taken_in_slot filled rooms slot)
     by false e = e ∙ ap is_some (sym (held_none filled rooms slot e))
     by true e =
         elim (cases_lt slot 32) [
@@ -100,9 +100,9 @@ held_tells filled rooms slot fits long = by (bit filled slot) refl
 
 -- a command is put into a room, whose bit is a one then
 pub held_put : (filled new : ℕ) (rooms : List TakenCommand) (slot : ℕ) (command : TakenCommand) → slot < length rooms →
-    word_bits new ≡ changed (word_bits filled) slot true → taken_by new (slice_set rooms slot command) ≡ changed (taken_by filled rooms) slot (Some command)
+    word_bits new ≡ changed (word_bits filled) slot true → taken_in_slot new (slice_set rooms slot command) ≡ changed (taken_in_slot filled rooms) slot (Some command)
 held_put filled new rooms slot command small bits =
-    let was : ℕ → Option TakenCommand = taken_by filled rooms in
+    let was : ℕ → Option TakenCommand = taken_in_slot filled rooms in
     let set : List TakenCommand = slice_set rooms slot command in
     fun_ext (λ k.
     elim (eqb_tells k slot) [
@@ -116,7 +116,7 @@ held_put filled new rooms slot command small bits =
 
 -- the command in a room goes on
 pub held_on : (filled : ℕ) (rooms : List TakenCommand) (slot : ℕ) (command : TakenCommand) → slot < length rooms → bit filled slot ≡ true →
-    taken_by filled (slice_set rooms slot command) ≡ changed (taken_by filled rooms) slot (Some command)
+    taken_in_slot filled (slice_set rooms slot command) ≡ changed (taken_in_slot filled rooms) slot (Some command)
 held_on filled rooms slot command small set =
     held_put filled filled rooms slot command small
     (fun_ext (λ k.
@@ -127,9 +127,9 @@ held_on filled rooms slot command small set =
 
 -- a command is taken no more, once its bit is a zero
 pub held_removed : (filled new : ℕ) (rooms : List TakenCommand) (slot : ℕ) → word_bits new ≡ changed (word_bits filled) slot false →
-    taken_by new rooms ≡ changed (taken_by filled rooms) slot None
+    taken_in_slot new rooms ≡ changed (taken_in_slot filled rooms) slot None
 held_removed filled new rooms slot bits =
-    let was : ℕ → Option TakenCommand = taken_by filled rooms in
+    let was : ℕ → Option TakenCommand = taken_in_slot filled rooms in
     fun_ext (λ k.
     elim (eqb_tells k slot) [
       | inl here ↦
@@ -142,21 +142,21 @@ held_removed filled new rooms slot bits =
 
 -- what is read into the room of a slot whose bit is a zero isn't taken
 unseen_from : (slot filled : ℕ) (rooms : List TakenCommand) (k : ℕ) (command : TakenCommand) → bit filled (slot + k) ≡ false →
-    taken_from slot filled (slice_set rooms k command) ≡ taken_from slot filled rooms
+    taken_list_from slot filled (slice_set rooms k command) ≡ taken_list_from slot filled rooms
 unseen_from slot filled [] k command clear = refl
 unseen_from slot filled (room ∷ rooms) zero command clear =
     let here : slot + 0 ≡ slot = omega arith in
     let off : bit filled slot ≡ false = ap (bit filled) (sym here) ∙ clear in
     let one : (if bit filled slot then Some command else None) ≡ (if bit filled slot then Some room else None) =
     (λ i. if off i then Some command else None) ∙ sym (λ i. if off i then Some room else None) in
-    ap (λ (o : Option TakenCommand). o ∷ taken_from (slot + 1) filled rooms) one
+    ap (λ (o : Option TakenCommand). o ∷ taken_list_from (slot + 1) filled rooms) one
 unseen_from slot filled (room ∷ rooms) (suc k) command clear =
     let here : slot + 1 + k ≡ slot + suc k = omega arith in
     ap (λ (l : List (Option TakenCommand)). (if bit filled slot then Some room else None) ∷ l)
     (unseen_from (slot + 1) filled rooms k command (ap (bit filled) here ∙ clear))
 
 pub held_unseen : (filled : ℕ) (rooms : List TakenCommand) (slot : ℕ) (command : TakenCommand) → bit filled slot ≡ false →
-    taken_from 0 filled (slice_set rooms slot command) ≡ taken_from 0 filled rooms
+    taken_list_from 0 filled (slice_set rooms slot command) ≡ taken_list_from 0 filled rooms
 held_unseen filled rooms slot command clear =
     let here : 0 + slot ≡ slot = omega arith in
     unseen_from 0 filled rooms slot command (ap (bit filled) here ∙ clear)

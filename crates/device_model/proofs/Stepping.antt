@@ -6,7 +6,7 @@ use Rattle.adapter.specs.Commands.{Meaning, direction_of, is_queued, is_ranged, 
 use Rattle.adapter.specs.Device.{Disk, Lasting, DevicePort, Device, IsSector}
 use Rattle.adapter.specs.Memory.{changed, patched, bytes_at}
 use Rattle.adapter.specs.Decoding.{DecodesTo}
-use Rattle.adapter.specs.Steps.{AreBsyDrqBits, admits, device_after, IsFinished, MayBeDone, MayFault, MayFetch, MayFetchFault, MayMove, Brings, recorded, with_clear, with_fault, with_fetch, with_move, with_done, with_flush, clear_entry, done_entry, fault_entry, move_of, noted_bytes, device_memory_after, next_place, next_sector}
+use Rattle.adapter.specs.Steps.{AreBsyDrqBits, admits, device_after, IsFinished, MayBeDone, MayFault, MayFetch, MayFetchFault, MayMove, Brings, with_port_and_entry, with_clear, with_fault, with_fetch, with_move, with_done, with_flush, clear_entry, done_entry, fault_entry, move_of, snapshot_of_bytes, device_memory_after, next_place, next_sector}
 use Rattle.adapter.specs.Steps.DeviceTransition.{Clear, FetchFault, Move, Unplug, Plug}
 use Rattle.adapter.specs.declared.access.FatalError.{FatalError}
 use Rattle.adapter.specs.declared.access.FatalError.TheVariants.{Interface, HostBus}
@@ -19,9 +19,9 @@ use Rattle.adapter.specs.declared.tape.Move as tape_move
 use Rattle.adapter.specs.Asked.{DoesFatal, DoesFault, DoesFetch, EndsAndPosts, fatal_bit}
 use Rattle.device_model.specs.Fetched.{bytes_of}
 use Rattle.device_model.specs.Sent.{SendsEnd}
-use Rattle.device_model.specs.Slots.{HasUntaken, MayTake, WorksOnIn, IsNext}
+use Rattle.device_model.specs.Slots.{HasUntaken, MayTake, WorksOnIn, IsNextMove}
 use Rattle.device_model.specs.View.{Media, cause_of, halt_of, taken_in, busy_if_left, media_after, media_cleared, media_ended, operation_of_kind, port_of, taken_of, blank_port}
-use Rattle.device_model.specs.Whole.{Outside, device_of, media_plugged, outside_after, outside_cleared, outside_ended, outside_plugged}
+use Rattle.device_model.specs.WholeAdapter.{AllMedia, device_of, media_plugged, all_media_after, all_media_cleared, all_media_ended, all_media_plugged}
 use Rattle.device_model.specs.declared.port.TakenCommand.{TakenCommand}
 use Rattle.device_model.specs.declared.port.CommandKind.{CommandKind}
 use Rattle.device_model.specs.declared.port.CommandKind.TheVariants as command_kind
@@ -40,11 +40,11 @@ moved_by port slot operation sector address direction bytes = record {
   sector = sector;
   address = address;
   direction = direction;
-  bytes = noted_bytes bytes;
+  bytes = snapshot_of_bytes bytes;
 }
 
 -- a command is taken
-pub port_takes : (h : Hardware) (o : Outside) (p port slot : ℕ) (new : PortModel) (t : TakenCommand) → p ≡ port → p < length h.ports →
+pub port_takes : (h : Hardware) (o : AllMedia) (p port slot : ℕ) (new : PortModel) (t : TakenCommand) → p ≡ port → p < length h.ports →
     MayTake (port_of (slice_index_or h.ports p blank_port) (o.media p)) slot (operation_of_kind t.command_kind) →
     DecodesTo (device_of h o).memory ((device_of h o).port p).bases.clb slot (taken_of t).meaning (taken_of t).places →
     port_of new (o.media p) ≡ with_fetch (port_of (slice_index_or h.ports p blank_port) (o.media p)) slot (taken_of t).meaning (taken_of t).places →
@@ -59,18 +59,18 @@ port_takes h o p port slot new t e small may says is =
     })
 
 -- where a command may be fetched, it may be taken
-pub fetch_takes : (h : Hardware) (o : Outside) (p port slot : ℕ) (m : Meaning) (places : List ℕ) → p ≡ port →
+pub fetch_takes : (h : Hardware) (o : AllMedia) (p port slot : ℕ) (m : Meaning) (places : List ℕ) → p ≡ port →
     MayFetch (device_of h o) port slot m places → MayTake (port_of (slice_index_or h.ports p blank_port) (o.media p)) slot m.operation
 fetch_takes h o p port slot m places e may =
     rw e (record { fetchable = may.fetchable; working = may.working; alone = may.alone })
 
 -- and its bytes say it
-pub fetch_says : (h : Hardware) (o : Outside) (p port slot : ℕ) (m : Meaning) (places : List ℕ) → p ≡ port →
+pub fetch_says : (h : Hardware) (o : AllMedia) (p port slot : ℕ) (m : Meaning) (places : List ℕ) → p ≡ port →
     MayFetch (device_of h o) port slot m places → DecodesTo (bytes_of h.memory.items) (slice_index_or h.ports p blank_port).addresses.clb slot m places
 fetch_says h o p port slot m places e may = rw e may.says
 
 -- the disk is taken out
-pub unplugged : (h : Hardware) (o : Outside) (p port : ℕ) (new : PortModel) (tape : Vec Entry) → p ≡ port → p < length h.ports →
+pub unplugged : (h : Hardware) (o : AllMedia) (p port : ℕ) (new : PortModel) (tape : Vec Entry) → p ≡ port → p < length h.ports →
     port_of new (o.media p) ≡ record (port_of (slice_index_or h.ports p blank_port) (o.media p)) { ssts_det = 0; present = false; fresh = false; serr_n = true } →
     tape.items ≡ h.tape.items ++ entry.Unplug (record { 0 = port }) ∷ [] →
     device_of (record h { ports = slice_set h.ports p new; tape = tape }) o ≡ device_after (Unplug port) (device_of h o)
@@ -85,17 +85,17 @@ lasting_put true was comes at here since e = λ i. record { sectors = was; since
 lasting_put false was comes at here since e = λ i. record { sectors = comes; since = e i }
 
 -- a disk is put in
-pub plugged_in : (h : Hardware) (o : Outside) (p port : ℕ) (new : PortModel) (tape : Vec Entry) (disk : Disk) (number since : ℕ) → disk.name ≡ number → p ≡ port → p < length h.ports →
+pub plugged_in : (h : Hardware) (o : AllMedia) (p port : ℕ) (new : PortModel) (tape : Vec Entry) (disk : Disk) (number since : ℕ) → disk.name ≡ number → p ≡ port → p < length h.ports →
     since ≡ (if nat_eq disk.name (o.media p).disk.name then (slice_index_or h.ports p blank_port).lasting_at else length h.tape.items) →
     ((m : Media) → port_of new m ≡ record (port_of (slice_index_or h.ports p blank_port) m) { ssts_det = 3; present = true; fresh = false; serr_n = true; serr_x = true; lasting = record { sectors = m.lasting; since = since } }) →
     tape.items ≡ h.tape.items ++ entry.Plug (record { 0 = port }) number ∷ [] →
-    device_of (record h { ports = slice_set h.ports p new; tape = tape }) (outside_plugged o port disk) ≡ device_after (Plug port disk) (device_of h o)
+    device_of (record h { ports = slice_set h.ports p new; tape = tape }) (all_media_plugged o port disk) ≡ device_after (Plug port disk) (device_of h o)
 plugged_in h o p port new tape disk number since name e some lasts is more =
     let media : Media = media_plugged (o.media p) disk in
     let state : DevicePort = port_of (slice_index_or h.ports p blank_port) media in
     let lasting = lasting_put (nat_eq disk.name (o.media p).disk.name) (o.media p).lasting disk.sectors (slice_index_or h.ports p blank_port).lasting_at (length h.tape.items) since lasts in
     let named : entry.Plug (record { 0 = p }) number ≡ entry.Plug (record { 0 = p }) disk.name = ap (entry.Plug (record { 0 = p })) (sym name) in
-    let P : ℕ → Type 0 = λ q. device_of (record h { ports = slice_set h.ports p new; tape = tape }) (outside_plugged o q disk) ≡ device_after (Plug q disk) (device_of h o) in
+    let P : ℕ → Type 0 = λ q. device_of (record h { ports = slice_set h.ports p new; tape = tape }) (all_media_plugged o q disk) ≡ device_after (Plug q disk) (device_of h o) in
     subst P e
     (set_port_plugged h o p new media _ tape (entry.Plug (record { 0 = p }) disk.name) some
     (is media ∙ ap (λ (l : Lasting). record state { ssts_det = 3; present = true; fresh = false; serr_n = true; serr_x = true; lasting = l }) lasting)
@@ -112,7 +112,7 @@ is_cause command_kind.ReadQueued = inr (inr refl)
 is_cause command_kind.WriteQueued = inr (inr refl)
 
 -- a command of which nothing is left may end
-pub may_end : (h : Hardware) (o : Outside) (port slot : ℕ) (t : TakenCommand) → WorksOnIn (slice_index_or h.ports port blank_port) slot t →
+pub may_end : (h : Hardware) (o : AllMedia) (port slot : ℕ) (t : TakenCommand) → WorksOnIn (slice_index_or h.ports port blank_port) slot t →
     IsFinished (taken_of t) → MayBeDone (device_of h o) port slot (cause_of t.command_kind) (taken_of t)
 may_end h o port slot t holds all = record {
   works = holds.works (o.media port);
@@ -121,16 +121,16 @@ may_end h o port slot t holds all = record {
 }
 
 -- a command is at its end, and its FIS is sent
-pub port_ends : (h : Hardware) (o : Outside) (p port slot : ℕ) (new : PortModel) (t : TakenCommand) (tape : Vec Entry) (last : Device) → p ≡ port →
+pub port_ends : (h : Hardware) (o : AllMedia) (p port slot : ℕ) (new : PortModel) (t : TakenCommand) (tape : Vec Entry) (last : Device) → p ≡ port →
     p < length h.ports → WorksOnIn (slice_index_or h.ports p blank_port) slot t → IsFinished (taken_of t) →
     port_of new (media_ended (o.media p) (operation_of_kind t.command_kind)) ≡ with_flush (with_done (port_of (slice_index_or h.ports p blank_port) (o.media p)) slot (cause_of t.command_kind) (operation_of_kind t.command_kind)) (operation_of_kind t.command_kind) (length h.tape.items) →
     tape.items ≡ h.tape.items ++ done_entry port slot (operation_of_kind t.command_kind) ∷ [] →
-    SendsEnd slot p (cause_of t.command_kind) (operation_of_kind t.command_kind) (device_of (record h { ports = slice_set h.ports p new; tape = tape }) (outside_ended o p (operation_of_kind t.command_kind))) last →
+    SendsEnd slot p (cause_of t.command_kind) (operation_of_kind t.command_kind) (device_of (record h { ports = slice_set h.ports p new; tape = tape }) (all_media_ended o p (operation_of_kind t.command_kind))) last →
     EndsAndPosts (SendsEnd slot) port slot (device_of h o) last
 port_ends h o p port slot new t tape last e small holds all is more sends =
     subst (λ q. EndsAndPosts (SendsEnd slot) q slot (device_of h o) last) e
     (record {
-      mid = device_of (record h { ports = slice_set h.ports p new; tape = tape }) (outside_ended o p (operation_of_kind t.command_kind));
+      mid = device_of (record h { ports = slice_set h.ports p new; tape = tape }) (all_media_ended o p (operation_of_kind t.command_kind));
       done = record {
         flag = cause_of t.command_kind;
         t = taken_of t;
@@ -141,7 +141,7 @@ port_ends h o p port slot new t tape last e small holds all is more sends =
     })
 
 -- what is issued and means no command may fail for that, where no fault keeps it waiting
-pub may_fail_senseless : (h : Hardware) (o : Outside) (p port slot : ℕ) → p ≡ port → HasUntaken (slice_index_or h.ports p blank_port) slot →
+pub may_fail_senseless : (h : Hardware) (o : AllMedia) (p port slot : ℕ) → p ≡ port → HasUntaken (slice_index_or h.ports p blank_port) slot →
     admits (halt_of (slice_index_or h.ports p blank_port).halting) Identify ≡ true →
     ((m : Meaning) (places : List ℕ) → DecodesTo (bytes_of h.memory.items) (slice_index_or h.ports p blank_port).addresses.clb slot m places → ⊥) →
     MayFetchFault (device_of h o) port slot 0
@@ -151,7 +151,7 @@ may_fail_senseless h o p port slot e may admitted none =
     subst P e (record { fetchable = w.0; working = w.1; says_nothing = none; kept = refl })
 
 -- and it does
-pub port_fails_senseless : (h : Hardware) (o : Outside) (p port slot : ℕ) (new : PortModel) (tape : Vec Entry) → p ≡ port → p < length h.ports →
+pub port_fails_senseless : (h : Hardware) (o : AllMedia) (p port slot : ℕ) (new : PortModel) (tape : Vec Entry) → p ≡ port → p < length h.ports →
     port_of new (o.media p) ≡ with_fault (port_of (slice_index_or h.ports p blank_port) (o.media p)) false 4 0 →
     tape.items ≡ h.tape.items ++ fault_entry port slot 4 0 ∷ [] →
     device_of (record h { ports = slice_set h.ports p new; tape = tape }) o ≡ device_after (FetchFault port slot false 0) (device_of h o)
@@ -165,7 +165,7 @@ kept_well true = refl
 kept_well false = refl
 
 -- a command that is taken may fail, while the engine runs
-pub may_fail : (h : Hardware) (o : Outside) (port slot error : ℕ) (busy : Bool) (t : TakenCommand) → error < 256 → taken_in (slice_index_or h.ports port blank_port).taken slot ≡ Some t →
+pub may_fail : (h : Hardware) (o : AllMedia) (port slot error : ℕ) (busy : Bool) (t : TakenCommand) → error < 256 → taken_in (slice_index_or h.ports port blank_port).taken slot ≡ Some t →
     (slice_index_or h.ports port blank_port).cr ≡ true → MayFault ((device_of h o).port port) slot error (busy_if_left busy) (taken_of t)
 may_fail h o port slot error busy t byte held cr = record {
   taken = slot_taken (taken_in (slice_index_or h.ports port blank_port).taken) t slot held;
@@ -175,7 +175,7 @@ may_fail h o port slot error busy t byte held cr = record {
 }
 
 -- and it does
-pub port_fails : (h : Hardware) (o : Outside) (p port slot error : ℕ) (busy : Bool) (new : PortModel) (t : TakenCommand) (queued : Bool) (tape : Vec Entry) → p ≡ port →
+pub port_fails : (h : Hardware) (o : AllMedia) (p port slot error : ℕ) (busy : Bool) (new : PortModel) (t : TakenCommand) (queued : Bool) (tape : Vec Entry) → p ≡ port →
     p < length h.ports → error < 256 → taken_in (slice_index_or h.ports port blank_port).taken slot ≡ Some t → (slice_index_or h.ports port blank_port).cr ≡ true →
     queued ≡ is_queued (operation_of_kind t.command_kind) → port_of new (o.media p) ≡ with_fault (port_of (slice_index_or h.ports p blank_port) (o.media p)) queued error (busy_if_left busy) →
     tape.items ≡ h.tape.items ++ fault_entry port slot error (busy_if_left busy) ∷ [] →
@@ -186,7 +186,7 @@ port_fails h o p port slot error busy new t queued tape e small byte held cr kin
     can = may_fail h o port slot error busy t byte held cr;
     effect =
         let P : ℕ → Type 0 = λ q. device_of (record h { ports = slice_set h.ports p new; tape = tape }) o
-        ≡ recorded (device_of h o) q (with_fault ((device_of h o).port q) (is_queued (operation_of_kind t.command_kind)) error (busy_if_left busy)) (fault_entry q slot error (busy_if_left busy)) in
+        ≡ with_port_and_entry (device_of h o) q (with_fault ((device_of h o).port q) (is_queued (operation_of_kind t.command_kind)) error (busy_if_left busy)) (fault_entry q slot error (busy_if_left busy)) in
         subst P e
         (set_port_recorded h o p new _ tape (fault_entry p slot error (busy_if_left busy)) small
         (is ∙ ap (λ (b : Bool). with_fault (port_of (slice_index_or h.ports p blank_port) (o.media p)) b error (busy_if_left busy)) kind) (rw (← e) at more));
@@ -200,7 +200,7 @@ is_fatal Interface = inl refl
 is_fatal HostBus = inr refl
 
 -- a port meets one, while its engine runs
-pub port_breaks : (h : Hardware) (o : Outside) (p port : ℕ) (error : FatalError) (new : PortModel) (tape : Vec Entry) → p ≡ port → p < length h.ports →
+pub port_breaks : (h : Hardware) (o : AllMedia) (p port : ℕ) (error : FatalError) (new : PortModel) (tape : Vec Entry) → p ≡ port → p < length h.ports →
     (slice_index_or h.ports p blank_port).cr ≡ true →
     port_of new (o.media p) ≡ (let state = port_of (slice_index_or h.ports p blank_port) (o.media p) in record state { is = changed state.is (fatal_bit error) true; broken = true }) →
     tape.items ≡ h.tape.items ++ entry.Fatal (record { 0 = port }) ∷ [] →
@@ -214,15 +214,15 @@ port_breaks h o p port error new tape e small runs is more =
     })
 
 -- the next piece of a command is moved
-pub port_moves : (h : Hardware) (o : Outside) (p port slot : ℕ) (next : NextMove) (new : PortModel) (t : TakenCommand) (tape : Vec Entry) (memory : Vec ℕ)
-    (bytes : List ℕ) (operation : Operation) (direction : Direction) → p ≡ port → p < length h.ports → IsNext h port slot next t →
+pub port_moves : (h : Hardware) (o : AllMedia) (p port slot : ℕ) (next : NextMove) (new : PortModel) (t : TakenCommand) (tape : Vec Entry) (memory : Vec ℕ)
+    (bytes : List ℕ) (operation : Operation) (direction : Direction) → p ≡ port → p < length h.ports → IsNextMove h port slot next t →
     port_of new (media_after (o.media p) (taken_of t) bytes) ≡ with_move (port_of (slice_index_or h.ports p blank_port) (o.media p)) slot (taken_of t) bytes →
     operation ≡ operation_of_kind next.command_kind → direction ≡ direction_of (operation_of_kind next.command_kind) →
     tape.items ≡ h.tape.items ++ entry.Move (moved_by port slot operation next.sector next.address direction bytes) ∷ [] →
     length memory.items ≡ length h.memory.items →
     bytes_of memory.items
     ≡ (if reads_memory (operation_of_kind next.command_kind) then bytes_of h.memory.items else patched (bytes_of h.memory.items) next.address bytes) →
-    device_of (record h { memory = memory; ports = slice_set h.ports p new; tape = tape }) (outside_after o port (taken_of t) bytes)
+    device_of (record h { memory = memory; ports = slice_set h.ports p new; tape = tape }) (all_media_after o port (taken_of t) bytes)
     ≡ device_after (Move port slot (taken_of t) bytes) (device_of h o)
 port_moves h o p port slot next new t tape memory bytes operation direction e small is moves named way more size put =
     let kind : next.command_kind ≡ t.command_kind = is.kind_is in
@@ -236,13 +236,13 @@ port_moves h o p port slot next new t tape memory bytes operation direction e sm
     let kept : bytes_of memory.items ≡ device_memory_after (bytes_of h.memory.items) (taken_of t) bytes =
     put ∙ (λ i. if reads_memory (operation_of_kind (kind i)) then bytes_of h.memory.items else patched (bytes_of h.memory.items) (place i) bytes) in
     let new_memory : Vec ℕ = memory in
-    subst (λ q. device_of (record h { memory = new_memory; ports = slice_set h.ports p new; tape = tape }) (outside_after o q (taken_of t) bytes)
+    subst (λ q. device_of (record h { memory = new_memory; ports = slice_set h.ports p new; tape = tape }) (all_media_after o q (taken_of t) bytes)
     ≡ device_after (Move q slot (taken_of t) bytes) (device_of h o)) e
     (set_port_moved h o p new (media_after (o.media p) (taken_of t) bytes) (with_move ((device_of h o).port p) slot (taken_of t) bytes) tape
     (entry.Move (move_of p slot (taken_of t) bytes)) new_memory (device_memory_after (bytes_of h.memory.items) (taken_of t) bytes) small moves entries size kept)
 
 -- what the disk gave or took may be moved
-pub may_move : (h : Hardware) (o : Outside) (port slot : ℕ) (next : NextMove) (t : TakenCommand) (bytes : List ℕ) → IsNext h port slot next t →
+pub may_move : (h : Hardware) (o : AllMedia) (port slot : ℕ) (next : NextMove) (t : TakenCommand) (bytes : List ℕ) → IsNextMove h port slot next t →
     IsSector bytes → (is_ranged (operation_of_kind next.command_kind) ≡ true → next.sector < (o.media port).disk.size) →
     (is_ranged (operation_of_kind next.command_kind) ≡ true → reads_memory (operation_of_kind next.command_kind) ≡ false → IfSome (o.media port).disk.sectors (λ f. bytes ≡ f next.sector)) →
     (reads_memory (operation_of_kind next.command_kind) ≡ true → bytes ≡ bytes_at (bytes_of h.memory.items) next.address 512) → MayMove (device_of h o) port slot (taken_of t) bytes
@@ -280,15 +280,15 @@ may_move h o port slot next t bytes is sized small gives takes =
         let place : next.address ≡ next_place (taken_of t) = is.address_is in rw place at (takes (ap (λ (k : CommandKind). reads_memory (operation_of_kind k)) e))
 
 -- sectors of a trim are cleared
-pub port_clears : (h : Hardware) (o : Outside) (p port slot first count : ℕ) (new : PortModel) (t : TakenCommand) (tape : Vec Entry) → p ≡ port →
+pub port_clears : (h : Hardware) (o : AllMedia) (p port slot first count : ℕ) (new : PortModel) (t : TakenCommand) (tape : Vec Entry) → p ≡ port →
     p < length h.ports →
     port_of new (media_cleared (o.media p) first count) ≡ with_clear (port_of (slice_index_or h.ports p blank_port) (o.media p)) slot (taken_of t) first count →
     tape.items ≡ h.tape.items ++ clear_entry port slot first count ∷ [] →
-    device_of (record h { ports = slice_set h.ports p new; tape = tape }) (outside_cleared o port first count) ≡ device_after (Clear port slot (taken_of t) first count) (device_of h o)
+    device_of (record h { ports = slice_set h.ports p new; tape = tape }) (all_media_cleared o port first count) ≡ device_after (Clear port slot (taken_of t) first count) (device_of h o)
 port_clears h o p port slot first count new t tape e small is more =
     let new_tape : Vec Entry = tape in
     let back : port ≡ p = sym e in
     let entries : tape.items ≡ h.tape.items ++ clear_entry p slot first count ∷ [] = more ∙ (λ i. h.tape.items ++ clear_entry (back i) slot first count ∷ []) in
-    subst (λ q. device_of (record h { ports = slice_set h.ports p new; tape = new_tape }) (outside_cleared o q first count)
+    subst (λ q. device_of (record h { ports = slice_set h.ports p new; tape = new_tape }) (all_media_cleared o q first count)
     ≡ device_after (Clear q slot (taken_of t) first count) (device_of h o)) e
     (set_port_plugged h o p new (media_cleared (o.media p) first count) _ tape (clear_entry p slot first count) small is entries)

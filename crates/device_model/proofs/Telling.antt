@@ -11,11 +11,11 @@ use Rattle.adapter.specs.declared.tape.Entry.TheVariants as entry
 use Rattle.adapter.specs.declared.tape.Move.{Move}
 use Rattle.hba_regs.specs.declared.reg.Reg.{Reg}
 use Rattle.hba_regs.specs.declared.reg.Reg.TheVariants.{Cap, Ghc, Is, Pi, Vs, Cap2, Bohc, Px}
-use Rattle.device_model.specs.Disks.{bay_of, identity, identity_of, says_of}
-use Rattle.device_model.specs.Paged.{BringsOf, GainsPages, IsSentLog, IsSentIdentify}
+use Rattle.device_model.specs.Disks.{bay_of, identity, identity_of, page_source_of}
+use Rattle.device_model.specs.Paged.{BringsPageOfPort, GainsOwnPages, IsSentLog, IsSentIdentify}
 use Rattle.device_model.specs.Sent.{SendsEnd}
 use Rattle.device_model.specs.View.{operation_of_kind}
-use Rattle.device_model.specs.Whole.{Outside, device_of}
+use Rattle.device_model.specs.WholeAdapter.{AllMedia, device_of}
 use Rattle.device_model.specs.declared.bay.Bay.{Bay}
 use Rattle.device_model.specs.declared.model.Model.{Model}
 use Rattle.device_model.specs.declared.port.CommandKind.{CommandKind}
@@ -41,9 +41,9 @@ all_one P x here (suc k) d small = absurd (omega (arith, small))
 module _ {S : Type 0} (size : S → ℕ) where
   -- an entry is no page, or one of the disk that was in
   abbrev pub Tells : Model S → Entry → Type 0
-  Tells old e = (m : Move) → e ≡ entry.Move m → BringsOf (identity_of size old m.port.0) (says_of old m.port.0) m
+  Tells old e = (m : Move) → e ≡ entry.Move m → BringsPageOfPort (identity_of size old m.port.0) (page_source_of old m.port.0) m
 
-  pub gains_none : (old new : Model S) → new.hardware.tape.items ≡ old.hardware.tape.items → GainsPages size old new
+  pub gains_none : (old new : Model S) → new.hardware.tape.items ≡ old.hardware.tape.items → GainsOwnPages size old new
   gains_none old new same = record {
     gained = [];
     tape = same ∙ sym (append-nil old.hardware.tape.items);
@@ -52,42 +52,42 @@ module _ {S : Type 0} (size : S → ℕ) where
 
   -- one more entry, which is no page or the disk's
   pub gains_one : (old new : Model S) (e : Entry) → new.hardware.tape.items ≡ old.hardware.tape.items ++ e ∷ [] →
-      ((m : Move) → e ≡ entry.Move m → BringsOf (identity_of size old m.port.0) (says_of old m.port.0) m) → GainsPages size old new
+      ((m : Move) → e ≡ entry.Move m → BringsPageOfPort (identity_of size old m.port.0) (page_source_of old m.port.0) m) → GainsOwnPages size old new
   gains_one old new e more here = record {
     gained = e ∷ [];
     tape = more;
     pages = all_one (Tells old) e here;
   }
 
-  pub gains_on : (a b c : Model S) → ((q : ℕ) → says_of b q ≡ says_of a q) → ((q : ℕ) → identity_of size b q ≡ identity_of size a q) → GainsPages size a b →
-      GainsPages size b c → GainsPages size a c
+  pub gains_on : (a b c : Model S) → ((q : ℕ) → page_source_of b q ≡ page_source_of a q) → ((q : ℕ) → identity_of size b q ≡ identity_of size a q) → GainsOwnPages size a b →
+      GainsOwnPages size b c → GainsOwnPages size a c
   gains_on a b c says disks first then = record {
     gained = first.gained ++ then.gained;
     tape = then.tape ∙ (ap (λ (t : List Entry). t ++ then.gained) first.tape ∙ append_assoc a.hardware.tape.items first.gained then.gained);
     pages = All-append (Tells a) first.gained then.gained first.pages
         (λ k d small m e.
-        subst (λ x. BringsOf x (says_of a m.port.0) m) (disks m.port.0)
-        (subst (λ x. BringsOf (identity_of size b m.port.0) x m) (says m.port.0) (then.pages k d small m e)));
+        subst (λ x. BringsPageOfPort x (page_source_of a m.port.0) m) (disks m.port.0)
+        (subst (λ x. BringsPageOfPort (identity_of size b m.port.0) x m) (says m.port.0) (then.pages k d small m e)));
   }
 
   -- a move was noted, of a port that has these disks
   pub gains_moved : (old new : Model S) (bay : Bay S) (k : CommandKind) (m : Move) → bay_of old m.port.0 ≡ Some bay →
       new.hardware.tape.items ≡ old.hardware.tape.items ++ entry.Move m ∷ [] → m.operation ≡ operation_of_kind k →
       (k ≡ command_kind.Identify → IsSentIdentify (identity size bay.disk) bay.says m.bytes.value) → (k ≡ command_kind.ReadLog → IsSentLog bay.says m.bytes.value) →
-      GainsPages size old new
+      GainsOwnPages size old new
   gains_moved old new bay k m was more named page log =
       gains_one old new (entry.Move m) more
       (λ x e.
       let same : m ≡ x = cc in
-      let its : BringsOf (Some (identity size bay.disk)) (Some bay.says) m =
+      let its : BringsPageOfPort (Some (identity size bay.disk)) (Some bay.says) m =
       record { identity = λ is. page (is_identify k (sym named ∙ is)); log = λ is. log (is_log k (sym named ∙ is)) } in
-      let here : BringsOf (identity_of size old m.port.0) (says_of old m.port.0) m =
-      subst (λ b. BringsOf (option_map (λ (y : Bay S). identity size y.disk) b) (option_map (λ (y : Bay S). y.says) b) m) (sym was) its in
-      subst (λ (y : Move). BringsOf (identity_of size old y.port.0) (says_of old y.port.0) y) same here)
+      let here : BringsPageOfPort (identity_of size old m.port.0) (page_source_of old m.port.0) m =
+      subst (λ b. BringsPageOfPort (option_map (λ (y : Bay S). identity size y.disk) b) (option_map (λ (y : Bay S). y.says) b) m) (sym was) its in
+      subst (λ (y : Move). BringsPageOfPort (identity_of size old y.port.0) (page_source_of old y.port.0) y) same here)
 
   -- a command ended
-  pub gains_done : (o later : Outside) (port slot : ℕ) (old new : Model S) → EndsAndPosts (SendsEnd slot) port slot (device_of old.hardware o) (device_of new.hardware later) →
-      GainsPages size old new
+  pub gains_done : (o later : AllMedia) (port slot : ℕ) (old new : Model S) → EndsAndPosts (SendsEnd slot) port slot (device_of old.hardware o) (device_of new.hardware later) →
+      GainsOwnPages size old new
   gains_done o later port slot old new e =
       let rest = end_rest port slot e.done.flag e.done.t.meaning.operation e.mid (device_of new.hardware later) e.posts in
       gains_one old new (done_entry port slot e.done.t.meaning.operation) (ap (λ (x : Device). x.tape) rest ∙ ap (λ (x : Device). x.tape) e.done.effect)

@@ -19,17 +19,17 @@ use Rattle.adapter.specs.declared.tape.Move.{Move}
 use Rattle.ata_types.specs.declared.Port.{Port}
 use Rattle.ata_types.specs.declared.Slot.{Slot}
 use Rattle.sector_store.specs.declared.store.Failures.{Failures}
-use Rattle.device_model.specs.Disks.{EndsCommandIn, EndsOnly, EndsCommand, SaysOnly, bay_of, disk_in_bay, lasting_of, says_of, which_of}
-use Rattle.device_model.specs.Does.{AnswersStep, EndsIt, IsLeftOut, is_losing, MayBeFetched, StepKeeps, LacksMemory, Possible, asked_fault, asked_port, says_after, says_failed, which_after}
+use Rattle.device_model.specs.Disks.{EndsCommandIn, OnlyEndsCommand, EndsCommand, OnlyChangesPageSource, bay_of, disk_in_bay, lasting_of, page_source_of, disk_index_of}
+use Rattle.device_model.specs.Does.{AnswersStep, DoesAllItAsks, IsLeftOut, is_losing, MayBeFetched, StepKeeps, LacksMemory, Possible, asked_fault, asked_port, page_source_after, page_source_after_failure, disk_index_after}
 use Rattle.device_model.specs.Finishing.{TapeHasRoom, IsStepSkipped}
 use Rattle.device_model.specs.Held.{held_after}
-use Rattle.device_model.specs.Modelled.{device_at, media_of, outside_at, tells}
+use Rattle.device_model.specs.Modelled.{device_at, media_of, all_media_at, tells}
 use Rattle.device_model.specs.Sent.{Sends, SendsEnd, SendsFailed, SendsFault}
 use Rattle.device_model.specs.View.{busy_if_left, media_ended}
-use Rattle.device_model.specs.Whole.{Outside, device_of, outside_ended}
+use Rattle.device_model.specs.WholeAdapter.{AllMedia, device_of, all_media_ended}
 use Rattle.device_model.specs.declared.hardware.Hardware.{Hardware}
 use Rattle.device_model.specs.Cached.{lasting_in}
-use Rattle.device_model.specs.OldSectors.{with_old}
+use Rattle.device_model.specs.OldSectors.{with_old_bytes}
 use Rattle.device_model.specs.declared.old_sectors.OldSector.{OldSector}
 use Rattle.device_model.specs.declared.bay.Bay.{Bay}
 use Rattle.device_model.specs.declared.bay.PageSource.{PageSource}
@@ -40,7 +40,7 @@ use Rattle.device_model.proofs.Doing.{left_same}
 use Rattle.device_model.proofs.Posting.{fault_rest}
 use Rattle.device_model.proofs.Telling.{gains_none, gains_one, gains_done}
 use Rattle.device_model.proofs.TwoDisks.{put_keeps, put_others, put_outside, put_same, saying_here, saying_keeps, saying_others, saying_outside, saying_same}
-use Rattle.device_model.specs.Paged.{naming}
+use Rattle.device_model.specs.Paged.{with_logged_error}
 
 -- a command failed, and then its FIS was sent
 abbrev pub fault_sent : (port at slot error kept : ℕ) (queued : Bool) (old mid new : Device) (f : DoesFault port slot error kept old mid) → queued ≡ is_queued f.t.meaning.operation →
@@ -71,10 +71,10 @@ module _ {S : Type 0} (size : S → ℕ) (told : S → Option (ℕ → List ℕ)
   ended_rest operation.Trim a b is = (is ∙ (λ i. record a { lasting = (sym is i).lasting; cache = (sym is i).cache }), ap (λ (x : Bay S). x.cache.is_on) is)
 
   -- all that a disk tells is lasting where nothing older is kept
-  none_older : (on : Bool) (items : List OldSector) (now : Option (ℕ → List ℕ)) → items ≡ [] → (if on then option_map (with_old items) now else now) ≡ now
+  none_older : (on : Bool) (items : List OldSector) (now : Option (ℕ → List ℕ)) → items ≡ [] → (if on then option_map (with_old_bytes items) now else now) ≡ now
   none_older false items now none = refl
   none_older true items None none = refl
-  none_older true items (Some f) none = ap (λ (l : List OldSector). Some (with_old l f)) none
+  none_older true items (Some f) none = ap (λ (l : List OldSector). Some (with_old_bytes l f)) none
 
   -- what is behind a port once a command has ended
   ended_some : (o : Operation) (a b : Bay S) → EndsCommand o a b → media_of size told (Some b) ≡ media_ended (media_of size told (Some a)) o
@@ -113,8 +113,8 @@ module _ {S : Type 0} (size : S → ℕ) (told : S → Option (ℕ → List ℕ)
   abbrev new : Model S
   new = record m { hardware = h }
 
-  abbrev behind : Outside
-  behind = outside_at size told m
+  abbrev behind : AllMedia
+  behind = all_media_at size told m
 
   pub on_hardware : StepKeeps size m new
   on_hardware = record { identities = λ _ _. refl; out = λ _ _ _. refl; port_has_cache = λ _. refl; queue = refl; accesses = refl }
@@ -223,8 +223,8 @@ module _ {S : Type 0} (size : S → ℕ) (told : S → Option (ℕ → List ℕ)
 
   -- a command ended
   pub done_answers : (p : Port) (s : Slot) (o : Operation) (bays : Vec (Option (Bay S))) → p.0 < 4 → s.0 < 32 →
-      EndsAndPosts (SendsEnd s.0) p.0 s.0 (device_of m.hardware behind) (device_of h (outside_ended behind p.0 o)) →
-      h.starved ≡ m.hardware.starved → EndsOnly o p.0 m.bays.items bays.items → AnswersStep size told failures (asked.Done p s) true m (record new { bays = bays })
+      EndsAndPosts (SendsEnd s.0) p.0 s.0 (device_of m.hardware behind) (device_of h (all_media_ended behind p.0 o)) →
+      h.starved ≡ m.hardware.starved → OnlyEndsCommand o p.0 m.bays.items bays.items → AnswersStep size told failures (asked.Done p s) true m (record new { bays = bays })
   done_answers p s o bays port slot d starved (bay, is, only) =
       let last : Model S = record new { bays = bays } in
       let ended = ended_put o (bay_of m p.0) bay is in
@@ -232,10 +232,10 @@ module _ {S : Type 0} (size : S → ℕ) (told : S → Option (ℕ → List ℕ)
       let items : bays.items ≡ slice_set m.bays.items p.0 (option_map put (bay_of m p.0)) = only ∙ ap (λ x. slice_set m.bays.items p.0 x) ended.1 in
       let rest : (b : Bay S) → bay_of m p.0 ≡ Some b → (put b ≡ record b { lasting = (put b).lasting; cache = (put b).cache }) × ((put b).cache.is_on ≡ b.cache.is_on) =
       λ b e. ended_rest size told o b (put b) (ended.2 b e) in
-      let behind_then : outside_at size told last ≡ outside_ended behind p.0 o =
+      let behind_then : all_media_at size told last ≡ all_media_ended behind p.0 o =
       put_outside put m last p.0 items size told (λ x. media_ended x o) (λ b e. ap (λ (x : Bay S). tells told (Some x)) (rest b e).0)
       (ap (media_of size told) (sym ended.1) ∙ ended_media size told o (bay_of m p.0) bay is) in
-      let P : Outside → Type 0 = λ x. EndsAndPosts (SendsEnd s.0) p.0 s.0 (device_of m.hardware behind) (device_of h x) in (
+      let P : AllMedia → Type 0 = λ x. EndsAndPosts (SendsEnd s.0) p.0 s.0 (device_of m.hardware behind) (device_of h x) in (
         (port, slot, d.done.flag, d.done.t, d.done.can),
         record {
           came = inl (record {
@@ -249,7 +249,7 @@ module _ {S : Type 0} (size : S → ℕ) (told : S → Option (ℕ → List ℕ)
           held = refl;
           which = put_same put m last p.0 items (option_map (λ (y : Bay S). y.which)) (λ b e. ap (λ (x : Bay S). Some x.which) (rest b e).0) p.0;
           others = put_others put m last p.0 items;
-          pages = gains_done size behind (outside_ended behind p.0 o) p.0 s.0 m last d;
+          pages = gains_done size behind (all_media_ended behind p.0 o) p.0 s.0 m last d;
           disks = λ _ w. put_same put m last p.0 items (option_map (λ (y : Bay S). disk_in_bay y w)) (λ b e. ap (λ (x : Bay S). Some (disk_in_bay x w)) (rest b e).0) p.0;
           keeps = put_keeps put m last p.0 items size (λ b e w. ap (λ (x : Bay S). disk_in_bay x w) (rest b e).0) (λ b e. (rest b e).1) refl refl;
           starved = starved;
@@ -267,24 +267,24 @@ module _ {S : Type 0} (size : S → ℕ) (told : S → Option (ℕ → List ℕ)
   module _ (step : DeviceStep) (s : Slot) (error kept : ℕ) (may : Possible step (device_at size told m))
       (f : Fails SendsFailed (asked_port step) s.0 error kept (device_of m.hardware behind) (device_of h behind)) (starved : h.starved ≡ m.hardware.starved)
       (done : (old last : Device) → Fails SendsFailed (asked_port step) s.0 error kept old last → DoesToldStep (Sends step) step old last)
-      (ends : (old last : Device) → EndsIt step old last)
+      (ends : (old last : Device) → DoesAllItAsks step old last)
       (safe : is_losing step ≡ false)
-      (tells : (said : Option PageSource) → says_after step (device_at size told m) said ≡ says_failed (((device_at size told m).port (asked_port step)).taken s.0) s.0 error said)
-      (held : m.held ≡ held_after step m.held) (which : which_of m (asked_port step) ≡ which_after step (which_of m (asked_port step))) where
+      (tells : (said : Option PageSource) → page_source_after step (device_at size told m) said ≡ page_source_after_failure (((device_at size told m).port (asked_port step)).taken s.0) s.0 error said)
+      (held : m.held ≡ held_after step m.held) (which : disk_index_of m (asked_port step) ≡ disk_index_after step (disk_index_of m (asked_port step))) where
     abbrev at : ℕ
     at = asked_port step
 
     abbrev name : PageSource → PageSource
-    name = naming (record { tag = s.0; error = error })
+    name = with_logged_error (record { tag = s.0; error = error })
 
     noted : h.tape.items ≡ m.hardware.tape.items ++ fault_entry at s.0 error kept ∷ []
     noted = ap (λ (x : Device). x.tape) (fault_rest (is_queued f.fault.t.meaning.operation) at f.mid (device_of h behind) f.posts) ∙ ap (λ (x : Device). x.tape) f.fault.effect
 
     said : (queued : Bool) → is_queued f.fault.t.meaning.operation ≡ queued →
-        (if queued then option_map name (says_of m at) else says_of m at) ≡ says_after step (device_at size told m) (says_of m at)
+        (if queued then option_map name (page_source_of m at) else page_source_of m at) ≡ page_source_after step (device_at size told m) (page_source_of m at)
     said queued e =
-        ap (λ (b : Bool). if b then option_map name (says_of m at) else says_of m at) (sym e)
-        ∙ (ap (λ (t : Option FetchedCommand). says_failed t s.0 error (says_of m at)) (sym f.fault.can.taken) ∙ sym (tells (says_of m at)))
+        ap (λ (b : Bool). if b then option_map name (page_source_of m at) else page_source_of m at) (sym e)
+        ∙ (ap (λ (t : Option FetchedCommand). page_source_after_failure t s.0 error (page_source_of m at)) (sym f.fault.can.taken) ∙ sym (tells (page_source_of m at)))
 
     plain_fails : is_queued f.fault.t.meaning.operation ≡ false → AnswersStep size told failures step true m new
     plain_fails plain = (
@@ -301,11 +301,11 @@ module _ {S : Type 0} (size : S → ℕ) (told : S → Option (ℕ → List ℕ)
       },
     )
 
-    queued_fails : (bays : Vec (Option (Bay S))) → SaysOnly name at m.bays.items bays.items → is_queued f.fault.t.meaning.operation ≡ true →
+    queued_fails : (bays : Vec (Option (Bay S))) → OnlyChangesPageSource name at m.bays.items bays.items → is_queued f.fault.t.meaning.operation ≡ true →
         AnswersStep size told failures step true m (record new { bays = bays })
     queued_fails bays only queued =
         let last : Model S = record new { bays = bays } in
-        let P : Outside → Type 0 = λ o. Fails SendsFailed at s.0 error kept (device_of m.hardware behind) (device_of h o) in (
+        let P : AllMedia → Type 0 = λ o. Fails SendsFailed at s.0 error kept (device_of m.hardware behind) (device_of h o) in (
           may,
           record {
             came = inl (record {
@@ -336,7 +336,7 @@ module _ {S : Type 0} (size : S → ℕ) (told : S → Option (ℕ → List ℕ)
 
   pub queued_answers : (busy : Bool) (p : Port) (s : Slot) (error : ℕ) → p.0 < 4 → s.0 < 32 →
       (f : Fails SendsFailed p.0 s.0 error (busy_if_left busy) (device_of m.hardware behind) (device_of h behind)) → h.starved ≡ m.hardware.starved →
-      (bays : Vec (Option (Bay S))) → SaysOnly (naming (record { tag = s.0; error = error })) p.0 m.bays.items bays.items →
+      (bays : Vec (Option (Bay S))) → OnlyChangesPageSource (with_logged_error (record { tag = s.0; error = error })) p.0 m.bays.items bays.items →
       is_queued f.fault.t.meaning.operation ≡ true → AnswersStep size told failures (asked_fault busy p s error) true m (record new { bays = bays })
   queued_answers false p s error port slot f starved bays only queued =
       queued_fails (asked.Fault p s error) s error 0 (port, slot, f.fault.t, f.fault.can) f starved (λ _ _ g. g) (λ _ _. tt) refl (λ _. refl) refl refl bays only queued
@@ -379,8 +379,8 @@ module _ {S : Type 0} (size : S → ℕ) (told : S → Option (ℕ → List ℕ)
   -- a step that notes one entry, which is no move, and changes nothing of the model but the device, was done, or wasn't
   noted_answers : (s : DeviceStep) (did : Bool) (possible : Type 0) (note : Entry) → ((x : Move) → note ≡ entry.Move x → ⊥) →
       (Possible s (device_at size told m) → possible) → (possible → Possible s (device_at size told m)) →
-      ((TapeHasRoom m.hardware 1 → ⊥) → LacksMemory s (device_at size told m) m.hardware m.bays.items) → says_of m (asked_port s) ≡ says_after s (device_at size told m) (says_of m (asked_port s)) →
-      m.held ≡ held_after s m.held → which_of m (asked_port s) ≡ which_after s (which_of m (asked_port s)) → EndsIt s (device_of m.hardware behind) (device_of h behind) →
+      ((TapeHasRoom m.hardware 1 → ⊥) → LacksMemory s (device_at size told m) m.hardware m.bays.items) → page_source_of m (asked_port s) ≡ page_source_after s (device_at size told m) (page_source_of m (asked_port s)) →
+      m.held ≡ held_after s m.held → disk_index_of m (asked_port s) ≡ disk_index_after s (disk_index_of m (asked_port s)) → DoesAllItAsks s (device_of m.hardware behind) (device_of h behind) →
       is_losing s ≡ false →
       (did ≡ true → possible × DoesToldStep (Sends s) s (device_of m.hardware behind) (device_of h behind) × (h.tape.items ≡ m.hardware.tape.items ++ note ∷ [])) →
       (did ≡ false → device_of h behind ≡ device_of m.hardware behind) → (did ≡ false → IsStepSkipped m.hardware h possible) →
@@ -423,21 +423,21 @@ module _ {S : Type 0} (size : S → ℕ) (told : S → Option (ℕ → List ℕ)
 -- ---- what the disks of a port say is another
 
 module _ {S : Type 0} (size : S → ℕ) (told : S → Option (ℕ → List ℕ)) (failures : S → Option Failures) (m : Model S) (s : DeviceStep) (name : PageSource → PageSource)
-    (bays : Vec (Option (Bay S))) (only : SaysOnly name (asked_port s) m.bays.items bays.items) where
+    (bays : Vec (Option (Bay S))) (only : OnlyChangesPageSource name (asked_port s) m.bays.items bays.items) where
   abbrev lied : Model S
   lied = record m { bays = bays }
 
   -- a step that asks for nothing else is done
-  pub lie_answers : Possible s (device_at size told m) → ((old new : Device) → new ≡ old → DoesToldStep (Sends s) s old new) → ((old new : Device) → EndsIt s old new) →
+  pub lie_answers : Possible s (device_at size told m) → ((old new : Device) → new ≡ old → DoesToldStep (Sends s) s old new) → ((old new : Device) → DoesAllItAsks s old new) →
       is_losing s ≡ false →
-      option_map name (says_of m (asked_port s)) ≡ says_after s (device_at size told m) (says_of m (asked_port s)) → m.held ≡ held_after s m.held →
-      which_of m (asked_port s) ≡ which_after s (which_of m (asked_port s)) → AnswersStep size told failures s true m lied
+      option_map name (page_source_of m (asked_port s)) ≡ page_source_after s (device_at size told m) (page_source_of m (asked_port s)) → m.held ≡ held_after s m.held →
+      disk_index_of m (asked_port s) ≡ disk_index_after s (disk_index_of m (asked_port s)) → AnswersStep size told failures s true m lied
   lie_answers may done ends safe says held which =
       let port : ℕ = asked_port s in (
         may,
         record {
           came = inl (record {
-            asked = done _ _ (ap (λ (o : Outside). device_of m.hardware o) (saying_outside name m lied port only size told));
+            asked = done _ _ (ap (λ (o : AllMedia). device_of m.hardware o) (saying_outside name m lied port only size told));
             fine = λ _ q w. saying_same name m lied port only (λ x. option_map (λ (y : ModelDisk S). failures y.store) (option_map (λ (y : Bay S). disk_in_bay y w) x)) (λ b. refl) q;
             says = saying_here name m lied port only ∙ says;
             ends = λ _. ends _ _;

@@ -11,7 +11,7 @@ use Rattle.adapter.specs.Trim.{consecutive, trim_sectors}
 use Rattle.adapter.specs.declared.command.Operation.{Operation}
 use Rattle.adapter.specs.declared.command.Operation.TheVariants.{Identify, Read, ReadQueued, Write, WriteQueued, Flush, Trim, ReadLog}
 use Rattle.device_model.specs.Finishing.{sends_page}
-use Rattle.device_model.specs.Trims.{HasRuns, WillClear, block_ahead, changes_ahead, cleared_ahead, written_ahead, next_uncleared, trim_extent, runs_of, span, uncleared}
+use Rattle.device_model.specs.Trims.{HasRunsLeft, HasClearsLeft, block_ahead, changes_ahead, cleared_ahead, written_ahead, next_uncleared, trim_extent, runs_of, next_run_length, uncleared}
 use Rattle.device_model.proofs.Runs.{drop_twice, no_runs, one_less, run_long, some_runs, take_run}
 
 -- ---- the block that a trim is going to have
@@ -42,7 +42,7 @@ moved_ahead memory t bytes left brings =
 -- ---- what a command is going to clear
 
 -- a command that sends a page clears nothing
-pub page_clears : (o : Operation) (memory : ℕ → ℕ) (t : FetchedCommand) → sends_page o ≡ true → WillClear o memory t 0
+pub page_clears : (o : Operation) (memory : ℕ → ℕ) (t : FetchedCommand) → sends_page o ≡ true → HasClearsLeft o memory t 0
 page_clears Identify memory t is = refl
 page_clears ReadLog memory t is = refl
 page_clears Read memory t is = refl
@@ -52,7 +52,7 @@ page_clears WriteQueued memory t is = refl
 page_clears Flush memory t is = refl
 page_clears Trim memory t is = absurd (cc is)
 
-pub page_cleared : (o : Operation) (memory : ℕ → ℕ) (t : FetchedCommand) (clears : ℕ) → sends_page o ≡ true → WillClear o memory t clears → clears ≡ 0
+pub page_cleared : (o : Operation) (memory : ℕ → ℕ) (t : FetchedCommand) (clears : ℕ) → sends_page o ≡ true → HasClearsLeft o memory t clears → clears ≡ 0
 page_cleared Identify memory t clears is will = will
 page_cleared ReadLog memory t clears is will = will
 page_cleared Read memory t clears is will = will
@@ -64,10 +64,10 @@ page_cleared Trim memory t clears is will = absurd (cc is)
 
 -- a move changes none of that
 pub moved_clears : (o : Operation) (disk : Disk) (memory : ℕ → ℕ) (t : FetchedCommand) (bytes : List ℕ) (clears : ℕ) → t.moved < length t.places →
-    Brings disk memory t o bytes → WillClear o memory t clears →
-    WillClear o (if reads_memory o then memory else patched memory (next_place t) bytes) (record t { moved = t.moved + 1; block = block_after o bytes t.block }) clears
+    Brings disk memory t o bytes → HasClearsLeft o memory t clears →
+    HasClearsLeft o (if reads_memory o then memory else patched memory (next_place t) bytes) (record t { moved = t.moved + 1; block = block_after o bytes t.block }) clears
 moved_clears Trim disk memory t bytes clears left brings will =
-    subst (λ (b : List ℕ). HasRuns b t.cleared clears) (sym (moved_ahead memory t bytes left brings)) will
+    subst (λ (b : List ℕ). HasRunsLeft b t.cleared clears) (sym (moved_ahead memory t bytes left brings)) will
 moved_clears Identify disk memory t bytes clears left brings will = will
 moved_clears Read disk memory t bytes clears left brings will = will
 moved_clears Write disk memory t bytes clears left brings will = will
@@ -94,10 +94,10 @@ moved_changes ReadLog disk memory t bytes left small brings = refl
 
 -- and once a run was cleared, but for that run
 pub cleared_changes : (memory : ℕ → ℕ) (t : FetchedCommand) (most : ℕ) → t.moved ≡ length t.places → t.meaning.operation ≡ Trim →
-    span most t + changes_ahead t.meaning.operation memory (record t { cleared = t.cleared + span most t }) 0 ≤ changes_ahead t.meaning.operation memory t 0
+    next_run_length most t + changes_ahead t.meaning.operation memory (record t { cleared = t.cleared + next_run_length most t }) 0 ≤ changes_ahead t.meaning.operation memory t 0
 cleared_changes memory t most all trim =
     let xs : List ℕ = trim_sectors t.block in
-    let n = span most t in
+    let n = next_run_length most t in
     let block : (k : ℕ) → block_ahead memory (record t { cleared = k }) ≡ t.block = λ k. ahead_moved memory (record t { cleared = k }) all in
     let before : cleared_ahead t.meaning.operation memory t ≡ length (drop t.cleared xs) =
     ap (λ (o : Operation). cleared_ahead o memory t) trim ∙ ap (λ (b : List ℕ). length (drop t.cleared (trim_sectors b))) (block t.cleared) in
@@ -112,7 +112,7 @@ cleared_changes memory t most all trim =
     omega (arith, before, now, none, was, is, run, few)
 
 -- what is going to be cleared is a trim's
-clears_trim : (o : Operation) (memory : ℕ → ℕ) (t : FetchedCommand) (clears : ℕ) → WillClear o memory t (suc clears) → o ≡ Trim
+clears_trim : (o : Operation) (memory : ℕ → ℕ) (t : FetchedCommand) (clears : ℕ) → HasClearsLeft o memory t (suc clears) → o ≡ Trim
 clears_trim Trim memory t clears will = refl
 clears_trim Identify memory t clears will = absurd (omega (arith, will))
 clears_trim Read memory t clears will = absurd (omega (arith, will))
@@ -123,57 +123,57 @@ clears_trim Flush memory t clears will = absurd (omega (arith, will))
 clears_trim ReadLog memory t clears will = absurd (omega (arith, will))
 
 -- where nothing is left to clear, all is cleared
-pub none_left : (o : Operation) (memory : ℕ → ℕ) (t : FetchedCommand) → t.moved ≡ length t.places → WillClear o memory t 0 → o ≡ Trim →
+pub none_left : (o : Operation) (memory : ℕ → ℕ) (t : FetchedCommand) → t.moved ≡ length t.places → HasClearsLeft o memory t 0 → o ≡ Trim →
     t.cleared ≡ length (trim_sectors t.block)
 none_left o memory t all will trim =
-    let there : WillClear Trim memory t 0 = subst (λ (x : Operation). WillClear x memory t 0) trim will in
-    let is : HasRuns t.block t.cleared 0 = subst (λ (b : List ℕ). HasRuns b t.cleared 0) (ahead_moved memory t all) there in
+    let there : HasClearsLeft Trim memory t 0 = subst (λ (x : Operation). HasClearsLeft x memory t 0) trim will in
+    let is : HasRunsLeft t.block t.cleared 0 = subst (λ (b : List ℕ). HasRunsLeft b t.cleared 0) (ahead_moved memory t all) there in
     let none = ap length (no_runs (uncleared t) (sym is.runs)) in
     let size = length-drop t.cleared (trim_sectors t.block) in
     let within = is.within in
     omega (arith, none, size, within)
 
-module _ (memory : ℕ → ℕ) (t : FetchedCommand) (clears : ℕ) (all : t.moved ≡ length t.places) (will : WillClear t.meaning.operation memory t (suc clears)) where
+module _ (memory : ℕ → ℕ) (t : FetchedCommand) (clears : ℕ) (all : t.moved ≡ length t.places) (will : HasClearsLeft t.meaning.operation memory t (suc clears)) where
   pub is_a_trim : t.meaning.operation ≡ Trim
   is_a_trim = clears_trim t.meaning.operation memory t clears will
 
-  is_cleared : HasRuns t.block t.cleared (suc clears)
+  is_cleared : HasRunsLeft t.block t.cleared (suc clears)
   is_cleared =
-      let there : WillClear Trim memory t (suc clears) = subst (λ (x : Operation). WillClear x memory t (suc clears)) is_a_trim will in
-      subst (λ (b : List ℕ). HasRuns b t.cleared (suc clears)) (ahead_moved memory t all) there
+      let there : HasClearsLeft Trim memory t (suc clears) = subst (λ (x : Operation). HasClearsLeft x memory t (suc clears)) is_a_trim will in
+      subst (λ (b : List ℕ). HasRunsLeft b t.cleared (suc clears)) (ahead_moved memory t all) there
 
   pub some_uncleared : 1 ≤ length (uncleared t)
   some_uncleared = some_runs (uncleared t) clears (sym is_cleared.runs)
 
   -- the whole run is cleared at once
-  span_whole : span (length (uncleared t)) t ≡ trim_extent (uncleared t)
+  span_whole : next_run_length (length (uncleared t)) t ≡ trim_extent (uncleared t)
   span_whole = ap trim_extent (take_all (length (uncleared t)) (uncleared t) (omega arith))
 
   -- and one run less is left
-  pub span_less : WillClear t.meaning.operation memory (record t { cleared = t.cleared + span (length (uncleared t)) t }) clears
+  pub span_less : HasClearsLeft t.meaning.operation memory (record t { cleared = t.cleared + next_run_length (length (uncleared t)) t }) clears
   span_less =
       let n : ℕ = trim_extent (uncleared t) in
-      let u : FetchedCommand = record t { cleared = t.cleared + span (length (uncleared t)) t } in
+      let u : FetchedCommand = record t { cleared = t.cleared + next_run_length (length (uncleared t)) t } in
       let xs : List ℕ = trim_sectors t.block in
-      let same : t.cleared + span (length (uncleared t)) t ≡ t.cleared + n = ap (λ (k : ℕ). t.cleared + k) span_whole in
+      let same : t.cleared + next_run_length (length (uncleared t)) t ≡ t.cleared + n = ap (λ (k : ℕ). t.cleared + k) span_whole in
       let rest : drop n (drop t.cleared xs) ≡ drop (t.cleared + n) xs = drop_twice t.cleared n xs in
       let size = length-drop t.cleared xs in
       let long = run_long (uncleared t) in
       let some = some_uncleared in
-      let done : HasRuns t.block (t.cleared + n) clears =
+      let done : HasRunsLeft t.block (t.cleared + n) clears =
       record {
         within = omega (arith, size, long, some);
         runs = sym (ap runs_of (sym rest) ∙ one_less (uncleared t) clears (sym is_cleared.runs));
       } in
-      let there : WillClear Trim memory u clears =
-      subst (λ (b : List ℕ). HasRuns b u.cleared clears) (sym (ahead_moved memory u all))
-      (subst (λ (k : ℕ). HasRuns t.block k clears) (sym same) done) in
-      subst (λ (o : Operation). WillClear o memory u clears) (sym is_a_trim) there
+      let there : HasClearsLeft Trim memory u clears =
+      subst (λ (b : List ℕ). HasRunsLeft b u.cleared clears) (sym (ahead_moved memory u all))
+      (subst (λ (k : ℕ). HasRunsLeft t.block k clears) (sym same) done) in
+      subst (λ (o : Operation). HasClearsLeft o memory u clears) (sym is_a_trim) there
 
 -- ---- clearing
 
 -- of the sectors that can be cleared at once each number follow one another
-pub span_sectors : (most count : ℕ) (t : FetchedCommand) → count ≤ span most t → most ≤ length (uncleared t) →
+pub span_sectors : (most count : ℕ) (t : FetchedCommand) → count ≤ next_run_length most t → most ≤ length (uncleared t) →
     take count (uncleared t) ≡ consecutive (next_uncleared t) count
 span_sectors most count t few enough =
     let run = run_long (take most (uncleared t)) in
@@ -214,7 +214,7 @@ run_one zero xs some small = absurd (omega (arith, some))
 run_one (suc n) [] some small = absurd (omega (arith, small))
 run_one (suc n) (x ∷ xs) some small = omega arith
 
-pub span_some : (most : ℕ) (t : FetchedCommand) → 1 ≤ most → most ≤ length (uncleared t) → 1 ≤ span most t
+pub span_some : (most : ℕ) (t : FetchedCommand) → 1 ≤ most → most ≤ length (uncleared t) → 1 ≤ next_run_length most t
 span_some most t some enough = run_one most (uncleared t) some enough
 
 -- what is left behind so many
@@ -222,7 +222,7 @@ pub uncleared_on : (t : FetchedCommand) (count : ℕ) → uncleared (record t { 
 uncleared_on t count = sym (drop_twice t.cleared count (trim_sectors t.block))
 
 -- the next one behind so many that were cleared at once, of more that could be
-pub next_on : (most count : ℕ) (t : FetchedCommand) → count < span most t → most ≤ length (uncleared t) →
+pub next_on : (most count : ℕ) (t : FetchedCommand) → count < next_run_length most t → most ≤ length (uncleared t) →
     (1 ≤ length (uncleared (record t { cleared = t.cleared + count }))) × (next_uncleared (record t { cleared = t.cleared + count }) ≡ next_uncleared t + count)
 next_on most count t more enough =
     let follow = span_sectors most (suc count) t (omega (arith, more)) enough in
@@ -241,7 +241,7 @@ next_on most count t more enough =
         (rest.0, omega (arith, at))
 
 -- so many at the most
-pub span_most : (most : ℕ) (t : FetchedCommand) → span most t ≤ most
+pub span_most : (most : ℕ) (t : FetchedCommand) → next_run_length most t ≤ most
 span_most most t =
     let long = run_long (take most (uncleared t)) in
     let taken = by most (uncleared t) in

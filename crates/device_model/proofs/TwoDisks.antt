@@ -8,11 +8,11 @@ use Rattle.adapter.specs.Memory.{changed}
 use Rattle.adapter.specs.Steps.{disk_after, disk_cleared, next_sector}
 use Rattle.device_model.proofs.Places.{fun_ext, changed_same, changed_other}
 use Rattle.sector_store.specs.declared.store.Failures.{Failures}
-use Rattle.device_model.specs.Disks.{bay_of, disk_in_bay, disk_number, numbered_disk, disk_over, failing, disk_failures, has_cache, identity, identity_of, is_same, lasting_of, says_of, which_of}
+use Rattle.device_model.specs.Disks.{bay_of, disk_in_bay, disk_number, numbered_disk, disk_over, bay_failures, disk_failures, has_cache, identity, identity_of, is_same, lasting_of, page_source_of, disk_index_of}
 use Rattle.device_model.specs.Does.{NoCallFailed, StepKeeps}
-use Rattle.device_model.specs.Modelled.{all_tell, device_at, media_of, outside_at, tells}
+use Rattle.device_model.specs.Modelled.{all_tell, device_at, media_of, all_media_at, tells}
 use Rattle.device_model.specs.View.{Media, media_after, media_cleared, operation_of_kind, taken_of}
-use Rattle.device_model.specs.Whole.{HasDisks, outside_after, outside_cleared}
+use Rattle.device_model.specs.WholeAdapter.{HasDisks, all_media_after, all_media_cleared}
 use Rattle.device_model.specs.declared.bay.Bay.{Bay}
 use Rattle.device_model.specs.declared.bay.PageSource.{PageSource}
 use Rattle.device_model.specs.declared.cache.Cache.{Cache}
@@ -167,17 +167,17 @@ module _ {S : Type 0} where
   in_both f g none (Some a) (Some b) which each F empty some =
       some b ∙ (ap g (in_kept f a b (some_one which) (λ w. some_one (each w))) ∙ sym (some a))
 
-  pub identity_kept : (size : S → ℕ) (old new : Model S) (port : ℕ) → which_of new port ≡ which_of old port →
+  pub identity_kept : (size : S → ℕ) (old new : Model S) (port : ℕ) → disk_index_of new port ≡ disk_index_of old port →
       ((w : DiskIndex) → option_map (identity size) (numbered_disk new port w) ≡ option_map (identity size) (numbered_disk old port w)) →
       identity_of size new port ≡ identity_of size old port
   identity_kept size old new port which each =
       in_both (identity size) Some None (bay_of old port) (bay_of new port) which each (option_map (λ (b : Bay S). identity size b.disk)) refl (λ b. refl)
 
-  pub failures_kept : (failures : S → Option Failures) (old new : Model S) (port : ℕ) → which_of new port ≡ which_of old port →
+  pub failures_kept : (failures : S → Option Failures) (old new : Model S) (port : ℕ) → disk_index_of new port ≡ disk_index_of old port →
       ((w : DiskIndex) → option_map (λ (x : ModelDisk S). failures x.store) (numbered_disk new port w) ≡ option_map (λ (x : ModelDisk S). failures x.store) (numbered_disk old port w)) →
       disk_failures failures new port ≡ disk_failures failures old port
   failures_kept failures old new port which each =
-      in_both (λ (x : ModelDisk S). failures x.store) (λ (f : Option Failures). f) None (bay_of old port) (bay_of new port) which each (failing failures) refl (λ b. refl)
+      in_both (λ (x : ModelDisk S). failures x.store) (λ (f : Option Failures). f) None (bay_of old port) (bay_of new port) which each (bay_failures failures) refl (λ b. refl)
 
   -- ---- another bay stands in a port
 
@@ -192,11 +192,11 @@ module _ {S : Type 0} where
     pub seated_same : {X : Type 0} (f : Option (Bay S) → X) → f (Some b) ≡ f (Some a) → (q : ℕ) → f (bay_of new q) ≡ f (bay_of m q)
     seated_same f same = each_port f m new port (ap f seated_here ∙ (same ∙ ap f (sym was))) seated_others
 
-    seated_out : (w : DiskIndex) → ((w ≢ a.which) → disk_in_bay b w ≡ disk_in_bay a w) → (q : ℕ) → which_of m q ≢ Some w → numbered_disk new q w ≡ numbered_disk m q w
+    seated_out : (w : DiskIndex) → ((w ≢ a.which) → disk_in_bay b w ≡ disk_in_bay a w) → (q : ℕ) → disk_index_of m q ≢ Some w → numbered_disk new q w ≡ numbered_disk m q w
     seated_out w out q ne =
         elim (eqb_tells q port) [
           | inl same ↦
-              let Q : ℕ → Type 0 = λ k. which_of m k ≢ Some w → numbered_disk new k w ≡ numbered_disk m k w in
+              let Q : ℕ → Type 0 = λ k. disk_index_of m k ≢ Some w → numbered_disk new k w ≡ numbered_disk m k w in
               subst Q (sym same.1)
               (λ other.
               let apart : w ≢ a.which = λ e. other (ap (option_map (λ (x : Bay S). x.which)) was ∙ ap Some (sym e)) in
@@ -216,7 +216,7 @@ module _ {S : Type 0} where
 
     -- nothing else is behind the ports, where it is the same behind this one
     pub seated_behind : (size : S → ℕ) (told : S → Option (ℕ → List ℕ)) → media_of size told (Some b) ≡ media_of size told (Some a) → tells told (Some b) ≡ tells told (Some a) →
-        outside_at size told new ≡ outside_at size told m
+        all_media_at size told new ≡ all_media_at size told m
     seated_behind size told same tells_so = λ i. record { telling = tell i; media = fun_ext behind i }
       where
         tell : all_tell told new.bays.items ≡ all_tell told m.bays.items
@@ -227,11 +227,11 @@ module _ {S : Type 0} where
 
     -- what is behind the ports then
     pub seated_outside : (size : S → ℕ) (told : S → Option (ℕ → List ℕ)) (media : Media) → tells told (Some b) ≡ tells told (Some a) → media_of size told (Some b) ≡ media →
-        outside_at size told new ≡ record (outside_at size told m) { media = changed (outside_at size told m).media port media }
+        all_media_at size told new ≡ record (all_media_at size told m) { media = changed (all_media_at size told m).media port media }
     seated_outside size told media same is = λ i. record { telling = tell i; media = fun_ext behind i }
       where
         was_media : ℕ → Media
-        was_media = (outside_at size told m).media
+        was_media = (all_media_at size told m).media
 
         tell : all_tell told new.bays.items ≡ all_tell told m.bays.items
         tell = ap (all_tell told) items ∙ all_tell_set told m.bays.items port (Some b) (same ∙ ap (tells told) (sym was))
@@ -270,10 +270,10 @@ module _ {S : Type 0} where
         (ap Some (store_kept (λ (y : ModelDisk S). failures y.store) fine w)) q
 
     -- which is in and what they say stays, of each port
-    pub store_whichs : (q : ℕ) → which_of new q ≡ which_of m q
+    pub store_whichs : (q : ℕ) → disk_index_of new q ≡ disk_index_of m q
     store_whichs = seated_same m new port a b was items (option_map (λ (x : Bay S). x.which)) (ap Some store_which)
 
-    pub store_says : (q : ℕ) → says_of new q ≡ says_of m q
+    pub store_says : (q : ℕ) → page_source_of new q ≡ page_source_of m q
     store_says = seated_same m new port a b was items (option_map (λ (x : Bay S). x.says)) (ap (λ (x : Bay S). Some x.says) rest)
 
     module _ (size : S → ℕ) (told : S → Option (ℕ → List ℕ)) where
@@ -292,7 +292,7 @@ module _ {S : Type 0} where
       -- sectors were cleared
       pub outside_zeros : (first count : ℕ) → lasting_of told b ≡ lasting_of told a →
           disk_over a.which (size b.disk.store) (told b.disk.store) ≡ disk_cleared (disk_over a.which (size a.disk.store) (told a.disk.store)) first count →
-          outside_at size told new ≡ outside_cleared (outside_at size told m) port first count
+          all_media_at size told new ≡ all_media_cleared (all_media_at size told m) port first count
       outside_zeros first count lasts is =
           seated_outside m new port a b was items size told _
           (store_tells (ap (λ (d : Disk). is_some d.sectors) is ∙ cleared_tells (disk_over a.which (size a.disk.store) (told a.disk.store)) first count))
@@ -303,7 +303,7 @@ module _ {S : Type 0} where
       pub outside_moved : (next : NextMove) (r : TakenCommand) (bytes : List ℕ) → lasting_of told b ≡ lasting_of told a → next.command_kind ≡ r.command_kind → next.sector ≡ next_sector (taken_of r) →
           disk_over a.which (size b.disk.store) (told b.disk.store)
           ≡ disk_after (operation_of_kind next.command_kind) (disk_over a.which (size a.disk.store) (told a.disk.store)) next.sector bytes →
-          outside_at size told new ≡ outside_after (outside_at size told m) port (taken_of r) bytes
+          all_media_at size told new ≡ all_media_after (all_media_at size told m) port (taken_of r) bytes
       outside_moved next r bytes lasts kind sector is =
           seated_outside m new port a b was items size told _ (store_tells (ap (λ (d : Disk). is_some d.sectors) is_after ∙ still_tells r.command_kind old (next_sector (taken_of r)) bytes))
           (store_media lasts ∙ (ap (λ (d : Disk). record { disk = d; plugged = was_put; lasting = lasting_of told a }) is_after ∙ ap (λ x. media_after (media_of size told x) (taken_of r) bytes) (sym was)))
@@ -316,7 +316,7 @@ module _ {S : Type 0} where
 
       -- the store tells what it told
       pub outside_kept : size b.disk.store ≡ size a.disk.store → told b.disk.store ≡ told a.disk.store → lasting_of told b ≡ lasting_of told a →
-          outside_at size told new ≡ outside_at size told m
+          all_media_at size told new ≡ all_media_at size told m
       outside_kept sizes tells_so lasts =
           seated_behind m new port a b was items size told
           (store_media lasts ∙ (λ i. record { disk = disk_over a.which (sizes i) (tells_so i); plugged = was_put; lasting = lasting_of told a })) (store_tells (ap is_some tells_so))
@@ -352,11 +352,11 @@ module _ {S : Type 0} where
     -- what is behind the ports then
     pub put_outside : (size : S → ℕ) (told : S → Option (ℕ → List ℕ)) (media : Media → Media) → ((b : Bay S) → bay_of m port ≡ Some b → tells told (Some (put b)) ≡ tells told (Some b)) →
         media_of size told (option_map put (bay_of m port)) ≡ media (media_of size told (bay_of m port)) →
-        outside_at size told new ≡ record (outside_at size told m) { media = changed (outside_at size told m).media port (media ((outside_at size told m).media port)) }
+        all_media_at size told new ≡ record (all_media_at size told m) { media = changed (all_media_at size told m).media port (media ((all_media_at size told m).media port)) }
     put_outside size told media same is = λ i. record { telling = tell i; media = fun_ext behind i }
       where
         was_media : ℕ → Media
-        was_media = (outside_at size told m).media
+        was_media = (all_media_at size told m).media
 
         by : (x : Option (Bay S)) → bay_of m port ≡ x → tells told (option_map put (bay_of m port)) ≡ tells told (bay_of m port)
         by None is = ap (λ x. tells told (option_map put x)) is ∙ sym (ap (tells told) is)
@@ -397,14 +397,14 @@ module _ {S : Type 0} where
     pub saying_others : (q : ℕ) → q ≢ port → bay_of new q ≡ bay_of m q
     saying_others q ne = put_others saying m new port items q ne
 
-    pub saying_here : says_of new port ≡ option_map says (says_of m port)
+    pub saying_here : page_source_of new port ≡ option_map says (page_source_of m port)
     saying_here = ap (option_map (λ (b : Bay S). b.says)) (put_here saying m new port items) ∙ by (bay_of m port)
       where
         by : (x : Option (Bay S)) → option_map (λ (b : Bay S). b.says) (option_map saying x) ≡ option_map says (option_map (λ (b : Bay S). b.says) x)
         by None = refl
         by (Some b) = refl
 
-    pub saying_outside : (size : S → ℕ) (told : S → Option (ℕ → List ℕ)) → outside_at size told new ≡ outside_at size told m
+    pub saying_outside : (size : S → ℕ) (told : S → Option (ℕ → List ℕ)) → all_media_at size told new ≡ all_media_at size told m
     saying_outside size told =
         λ i. record { telling = tell i; media = fun_ext (saying_same (media_of size told) (λ b. refl)) i }
       where
@@ -434,15 +434,15 @@ module _ {S : Type 0} where
     pub no_disks : (m : Model S) (port : ℕ) → bay_of m port ≡ None → HasDisks (device_at size told m) port → ⊥
     no_disks m port none has = has (ap (λ x. (media_of size told x).plugged) none)
 
-    pub disks_kept : (old new : Model S) (port : ℕ) → which_of new port ≡ which_of old port → HasDisks (device_at size told old) port → HasDisks (device_at size told new) port
+    pub disks_kept : (old new : Model S) (port : ℕ) → disk_index_of new port ≡ disk_index_of old port → HasDisks (device_at size told old) port → HasDisks (device_at size told new) port
     disks_kept old new port which has = by (bay_of new port) (bay_of old port) refl refl
       where
         by : (x y : Option (Bay S)) → bay_of new port ≡ x → bay_of old port ≡ y → HasDisks (device_at size told new) port
         by (Some b) y is was = has_disks new port b is
         by None None is was = absurd (no_disks old port was has)
         by None (Some a) is was =
-            let none : which_of new port ≡ None = ap (option_map (λ (b : Bay S). b.which)) is in
-            let some : which_of old port ≡ Some a.which = ap (option_map (λ (b : Bay S). b.which)) was in
+            let none : disk_index_of new port ≡ None = ap (option_map (λ (b : Bay S). b.which)) is in
+            let some : disk_index_of old port ≡ Some a.which = ap (option_map (λ (b : Bay S). b.which)) was in
             some-none some (sym which ∙ none)
 
     -- a port whose disk has sectors has disks

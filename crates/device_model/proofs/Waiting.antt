@@ -10,8 +10,8 @@ use Rattle.adapter.specs.Steps.DeviceTransition.{Fetch}
 use Rattle.adapter.specs.declared.access.DeviceStep.{DeviceStep}
 use Rattle.adapter.specs.declared.access.DeviceStep.TheVariants as asked
 use Rattle.sector_store.specs.declared.store.Failures.{Failures}
-use Rattle.device_model.specs.Disks.{disk_in_bay, disk_number, numbered_disk, which_of}
-use Rattle.device_model.specs.Does.{AnswersStep, AsksStore, ClearsFewer, StepFails, FailsToClear, FailsToMove, Possible, PutsIn, asked_port, which_after}
+use Rattle.device_model.specs.Disks.{disk_in_bay, disk_number, numbered_disk, disk_index_of}
+use Rattle.device_model.specs.Does.{AnswersStep, AsksStore, ClearsFewer, StepFails, FailsToClear, FailsToMove, Possible, PutsIn, asked_port, disk_index_after}
 use Rattle.device_model.specs.Modelled.{device_at}
 use Rattle.device_model.specs.Queue.{DoesEach}
 use Rattle.device_model.specs.Sent.{Sends, SendsEnd}
@@ -48,7 +48,7 @@ plug_elsewhere q port number old new did empty apart =
     ap (λ (d : Device). (d.port q).present) did.effect ∙ (ap (λ (p : DevicePort). p.present) (changed_other old.port port _ q apart) ∙ empty)
 
 -- a step of this port that doesn't put the disk in leaves it out
-still_out : (l : Option DiskIndex) (s : DeviceStep) (d : Device) (q : ℕ) (w : DiskIndex) (v : Option DiskIndex) → q ≡ asked_port s → v ≢ Some w → (PutsIn l q w s → ⊥) → Possible s d → which_after s v ≢ Some w
+still_out : (l : Option DiskIndex) (s : DeviceStep) (d : Device) (q : ℕ) (w : DiskIndex) (v : Option DiskIndex) → q ≡ asked_port s → v ≢ Some w → (PutsIn l q w s → ⊥) → Possible s d → disk_index_after s v ≢ Some w
 still_out l (asked.Plug p number) d q w None at out never may = λ e. some-none e refl
 still_out l (asked.Plug p number) d q w (Some v) at out never may = λ e. never (sym at, named_by w number.0 may.2 (sym (some_one e)))
 still_out l (asked.Fetch p s) d q w v at out never may = out
@@ -69,7 +69,7 @@ still_out l (asked.LosePlug p) d q w v at out never may = out
 
 -- where a port has no disk in it, nothing that is asked puts one in, but a Plug
 still_empty : (s : DeviceStep) (old new : Device) (q : ℕ) (w : DiskIndex) (v : Option DiskIndex) → (old.port q).present ≡ false → (PutsIn (Some w) q w s → ⊥) → Possible s old →
-    DoesToldStep (Sends s) s old new → (q ≡ asked_port s → which_after s v ≡ Some w) → (new.port q).present ≡ false
+    DoesToldStep (Sends s) s old new → (q ≡ asked_port s → disk_index_after s v ≡ Some w) → (new.port q).present ≡ false
 still_empty (asked.Fetch p s) old new q w v empty never may did same = one_keeps_present q p.0 s.0 old new (inl did) ∙ empty
 still_empty (asked.Move p s) old new q w v empty never may did same = one_keeps_present q p.0 s.0 old new (inr (inl did)) ∙ empty
 still_empty (asked.Clear p s n) old new q w v empty never may did same = one_keeps_present q p.0 s.0 old new (inr (inr (inr (n, did)))) ∙ empty
@@ -143,7 +143,7 @@ is_it (Some Disk1) Disk1 = inl refl
 module _ {S : Type 0} (size : S → ℕ) (told : S → Option (ℕ → List ℕ)) (failures : S → Option Failures) (q : ℕ) where
   -- where it is the disk that is in or was last, the port has none in it
   abbrev pub IsOut : DiskIndex → Model S → Type 0
-  IsOut w m = which_of m q ≡ Some w → ((device_at size told m).port q).present ≡ false
+  IsOut w m = disk_index_of m q ≡ Some w → ((device_at size told m).port q).present ≡ false
 
   -- where the port has no disk in it, its store isn't asked
   none_moves : (s : DeviceStep) (w : DiskIndex) (m : Model S) → (PutsIn (Some w) q w s → ⊥) → q ≡ asked_port s → ((device_at size told m).port q).present ≡ false →
@@ -175,14 +175,14 @@ module _ {S : Type 0} (size : S → ℕ) (told : S → Option (ℕ → List ℕ)
   none_moves (asked.Plug p number) w m never at empty moves = moves
   none_moves (asked.LosePlug p) w m never at empty moves = never (sym at, refl)
 
-  one_stays : (l : Option DiskIndex) (s : DeviceStep) (answer : Bool) (old new : Model S) (w : DiskIndex) → which_of old q ≢ Some w → (PutsIn l q w s → ⊥) →
-      AnswersStep size told failures s answer old new → (which_of new q ≢ Some w) × (numbered_disk new q w ≡ numbered_disk old q w)
+  one_stays : (l : Option DiskIndex) (s : DeviceStep) (answer : Bool) (old new : Model S) (w : DiskIndex) → disk_index_of old q ≢ Some w → (PutsIn l q w s → ⊥) →
+      AnswersStep size told failures s answer old new → (disk_index_of new q ≢ Some w) × (numbered_disk new q w ≡ numbered_disk old q w)
   one_stays l s true old new w out never a = (
     elim (eqb_tells q (asked_port s)) [
       | inl here ↦
           λ e.
-          let P : ℕ → Type 0 = λ k. which_of new k ≡ which_after s (which_of old k) in
-          still_out l s _ q w (which_of old q) here.1 out never a.0 (sym (subst P (sym here.1) a.1.which) ∙ e)
+          let P : ℕ → Type 0 = λ k. disk_index_of new k ≡ disk_index_after s (disk_index_of old k) in
+          still_out l s _ q w (disk_index_of old q) here.1 out never a.0 (sym (subst P (sym here.1) a.1.which) ∙ e)
       | inr there ↦ λ e. out (sym (ap (option_map (λ (b : Bay S). b.which)) (a.1.others q there.1)) ∙ e)
     ],
     a.1.keeps.out q w out,
@@ -192,9 +192,9 @@ module _ {S : Type 0} (size : S → ℕ) (told : S → Option (ℕ → List ℕ)
     a.keeps.out q w out,
   )
 
-  pub out_stays : (l : Option DiskIndex) (steps : List DeviceStep) (old new : Model S) (w : DiskIndex) → which_of old q ≢ Some w → All (λ s. PutsIn l q w s → ⊥) steps →
-      DoesEach size told failures steps old new → (which_of new q ≢ Some w) × (numbered_disk new q w ≡ numbered_disk old q w)
-  out_stays l [] old new w out none same = (λ e. out (sym (ap (λ (m : Model S). which_of m q) same) ∙ e), ap (λ (m : Model S). numbered_disk m q w) same)
+  pub out_stays : (l : Option DiskIndex) (steps : List DeviceStep) (old new : Model S) (w : DiskIndex) → disk_index_of old q ≢ Some w → All (λ s. PutsIn l q w s → ⊥) steps →
+      DoesEach size told failures steps old new → (disk_index_of new q ≢ Some w) × (numbered_disk new q w ≡ numbered_disk old q w)
+  out_stays l [] old new w out none same = (λ e. out (sym (ap (λ (m : Model S). disk_index_of m q) same) ∙ e), ap (λ (m : Model S). numbered_disk m q w) same)
   out_stays l (s ∷ steps) old new w out none does =
       let P : DeviceStep → Type 0 = λ x. PutsIn l q w x → ⊥ in
       let first = one_stays l s does.0 old does.1 w out (All-head P s steps none) does.2 in
@@ -206,7 +206,7 @@ module _ {S : Type 0} (size : S → ℕ) (told : S → Option (ℕ → List ℕ)
   last_stays s true old new w empty never a = (
     λ same.
         elim a.1.came [
-          | inl whole ↦ still_empty s _ _ q w (which_of old q) empty never a.0 whole.asked (after same)
+          | inl whole ↦ still_empty s _ _ q w (disk_index_of old q) empty never a.0 whole.asked (after same)
           | inr failed ↦ still_failed q s _ _ _ _ _ _ _ empty failed
         ],
     elim (eqb_tells q (asked_port s)) [
@@ -217,8 +217,8 @@ module _ {S : Type 0} (size : S → ℕ) (told : S → Option (ℕ → List ℕ)
     ],
   )
     where
-      after : which_of new q ≡ Some w → q ≡ asked_port s → which_after s (which_of old q) ≡ Some w
-      after same here = let P : ℕ → Type 0 = λ k. which_of new k ≡ which_after s (which_of old k) in sym (subst P (sym here) a.1.which) ∙ same
+      after : disk_index_of new q ≡ Some w → q ≡ asked_port s → disk_index_after s (disk_index_of old q) ≡ Some w
+      after same here = let P : ℕ → Type 0 = λ k. disk_index_of new k ≡ disk_index_after s (disk_index_of old k) in sym (subst P (sym here) a.1.which) ∙ same
   last_stays s false old new w empty never a = (
     λ _. ap (λ (d : Device). (d.port q).present) a.device ∙ empty,
     each_port (option_map (λ (b : Bay S). disk_in_bay b w)) old new (asked_port s) (a.disks w) a.others q,
@@ -227,7 +227,7 @@ module _ {S : Type 0} (size : S → ℕ) (told : S → Option (ℕ → List ℕ)
   one_waits : (s : DeviceStep) (answer : Bool) (old new : Model S) (w : DiskIndex) → IsOut w old → (PutsIn (Some w) q w s → ⊥) → AnswersStep size told failures s answer old new →
       IsOut w new × (numbered_disk new q w ≡ numbered_disk old q w)
   one_waits s answer old new w out never a =
-      elim (is_it (which_of old q) w) [
+      elim (is_it (disk_index_of old q) w) [
         | inl is ↦ last_stays s answer old new w (out is) never a
         | inr ne ↦ let other = one_stays (Some w) s answer old new w ne never a in ((λ e. absurd (other.0 e)), other.1)
       ]

@@ -13,13 +13,13 @@ brought None = []
 brought (Some block) = block.value
 
 -- what is taken in each slot: the command in its room, where its bit is a one
-abbrev pub taken_by : (filled : ℕ) → List TakenCommand → ℕ → Option TakenCommand
-taken_by filled rooms = λ slot. if bit filled slot then slice_get rooms slot else None
+abbrev pub taken_in_slot : (filled : ℕ) → List TakenCommand → ℕ → Option TakenCommand
+taken_in_slot filled rooms = λ slot. if bit filled slot then slice_get rooms slot else None
 
 -- the same as a list, from a slot on
-abbrev pub taken_from : (slot filled : ℕ) → List TakenCommand → List (Option TakenCommand)
-taken_from slot filled [] = []
-taken_from slot filled (room ∷ rooms) = (if bit filled slot then Some room else None) ∷ taken_from
+abbrev pub taken_list_from : (slot filled : ℕ) → List TakenCommand → List (Option TakenCommand)
+taken_list_from slot filled [] = []
+taken_list_from slot filled (room ∷ rooms) = (if bit filled slot then Some room else None) ∷ taken_list_from
     (slot + 1) filled rooms
 
 -- Where a trim is taken, no other command is; and where it has brought its block, this is it. The first sector of each

@@ -3,27 +3,27 @@ use Rattle.std.specs.Prelude.{ℕ, Bool, true, false, ◌≡◌, ◌+◌, ◌<�
 use Rattle.std.specs.Vec.{vec_len, vec_capacity}
 use Rattle.sector_store.specs.Stores.{FailsOn}
 use Rattle.sector_store.specs.declared.store.Failures.{Failures}
-use Rattle.device_model.specs.OldSectors.{with_old}
+use Rattle.device_model.specs.OldSectors.{with_old_bytes}
 use Rattle.device_model.specs.declared.cache.Cache.{Cache}
 
 -- Without growing, it has room for the old bytes of so many sectors more, if it keeps any.
-abbrev pub HasOldRoom : Cache → ℕ → Type 0
-HasOldRoom c more = c.is_on ≡ true → 1 ≤ more → vec_len c.kept.sectors + more ≤ vec_capacity c.kept.sectors
+abbrev pub HasRoomForOld : Cache → ℕ → Type 0
+HasRoomForOld c more = c.is_on ≡ true → 1 ≤ more → vec_len c.kept.sectors + more ≤ vec_capacity c.kept.sectors
 
 -- the same old sectors are kept, or none still are
-pub record KeepsTheSame (was now : Cache) : Type 0 where
+pub record KeepsSameOldSectors (was now : Cache) : Type 0 where
   pub is_on : now.is_on ≡ was.is_on
   pub items : now.kept.sectors.items ≡ was.kept.sectors.items
 
 -- none are kept any more
-pub record KeepsNone (was now : Cache) : Type 0 where
+pub record KeepsNoOldSectors (was now : Cache) : Type 0 where
   pub is_on : now.is_on ≡ was.is_on
   pub items : now.kept.sectors.items ≡ []
 
 -- What is lasting of a disk that tells these sectors: with a cache each is as it was before it was changed; without one
 -- it is what was noted.
 abbrev pub lasting_in : Cache → (told noted : Option (ℕ → List ℕ)) → Option (ℕ → List ℕ)
-lasting_in c told noted = if c.is_on then option_map (with_old c.kept.sectors.items) told else noted
+lasting_in c told noted = if c.is_on then option_map (with_old_bytes c.kept.sectors.items) told else noted
 
 -- One more call for this sector has failed: the one that was asked; or, where a sector is changed in a cache, the read
 -- of what it held before.
@@ -44,7 +44,7 @@ WritesFail (sector ∷ rest) was now = (mid : Option Failures) × FailsOn true s
 
 -- The sectors of a store were to become these again. They did, but for some of which a write has failed: these, no more
 -- than there are, are as they were, and so is what is told past the last sector.
-pub record TurnsBack {S : Type 0} (size : S → ℕ) (told : S → Option (ℕ → List ℕ)) (failures : S → Option Failures)
+pub record RollsBack {S : Type 0} (size : S → ℕ) (told : S → Option (ℕ → List ℕ)) (failures : S → Option Failures)
     (into : Option (ℕ → List ℕ)) (was now : S) : Type 0 where
   pub failed : List ℕ
   pub few : length failed ≤ size was

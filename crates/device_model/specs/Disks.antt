@@ -5,12 +5,12 @@ use Rattle.adapter.specs.Device.{Disk}
 use Rattle.adapter.specs.declared.command.Operation.{Operation}
 use Rattle.adapter.specs.declared.command.Operation.TheVariants.{Flush}
 use Rattle.sector_store.specs.declared.store.Failures.{Failures}
-use Rattle.device_model.specs.Cached.{HasOldRoom, KeepsNone, TurnsBack, lasting_in}
+use Rattle.device_model.specs.Cached.{HasRoomForOld, KeepsNoOldSectors, RollsBack, lasting_in}
 use Rattle.device_model.specs.declared.bay.Bay.{Bay}
 use Rattle.device_model.specs.declared.bay.PageSource.{PageSource}
 use Rattle.device_model.specs.declared.disks.Disks.{Disks}
 use Rattle.device_model.specs.declared.disks.ModelDisk.{ModelDisk}
-use Rattle.device_model.specs.declared.disks.Plugged.{Plugged, Nothing, After'}
+use Rattle.device_model.specs.declared.disks.PluggedDisks.{PluggedDisks, Nothing, After'}
 use Rattle.device_model.specs.declared.disks.PortDisks.{PortDisks}
 use Rattle.device_model.specs.declared.disks.DiskIndex.{DiskIndex}
 use Rattle.device_model.specs.declared.disks.DiskIndex.TheVariants.{Disk0, Disk1}
@@ -32,8 +32,8 @@ disk_over which size told = record { name = disk_number which; size = size; sect
 -- ---- those that are given
 
 -- the disks that are given for a port
-abbrev pub given_for : {S : Type 0} → Disks S → ℕ → Option (PortDisks S)
-given_for d port = slice_index_or (d.port0 ∷ d.port1 ∷ d.port2 ∷ d.port3 ∷ []) port None
+abbrev pub disks_given_for : {S : Type 0} → Disks S → ℕ → Option (PortDisks S)
+disks_given_for d port = slice_index_or (d.port0 ∷ d.port1 ∷ d.port2 ∷ d.port3 ∷ []) port None
 
 -- port 0 alone has disks: this one is in at first, and this one can be put in for it
 abbrev pub port_0_alone : {S : Type 0} → (image blank : S) → Disks S
@@ -55,7 +55,7 @@ abbrev pub disk_in_bay : {S : Type 0} → Bay S → DiskIndex → ModelDisk S
 disk_in_bay b which = if is_same which b.which then b.disk else b.other
 
 -- the disks that were put in one after another, each as it is made of which one it was and of its store then
-abbrev pub plugged_as : {S : Type 0} → (DiskIndex → S → Disk) → Plugged S → List Disk
+abbrev pub plugged_as : {S : Type 0} → (DiskIndex → S → Disk) → PluggedDisks S → List Disk
 plugged_as disk Nothing = []
 plugged_as disk (After' shape before which store) = plugged_as disk before ++ disk which store.value ∷ []
 
@@ -73,12 +73,12 @@ abbrev pub bay_of : {S : Type 0} → Model S → ℕ → Option (Bay S)
 bay_of m port = slice_index_or m.bays.items port None
 
 -- which of its disks is in, or was last
-abbrev pub which_of : {S : Type 0} → Model S → ℕ → Option DiskIndex
-which_of {S} m port = option_map (λ (b : Bay S). b.which) (bay_of m port)
+abbrev pub disk_index_of : {S : Type 0} → Model S → ℕ → Option DiskIndex
+disk_index_of {S} m port = option_map (λ (b : Bay S). b.which) (bay_of m port)
 
 -- what both say of themselves
-abbrev pub says_of : {S : Type 0} → Model S → ℕ → Option PageSource
-says_of {S} m port = option_map (λ (b : Bay S). b.says) (bay_of m port)
+abbrev pub page_source_of : {S : Type 0} → Model S → ℕ → Option PageSource
+page_source_of {S} m port = option_map (λ (b : Bay S). b.says) (bay_of m port)
 
 -- the one or the other of them
 abbrev pub numbered_disk : {S : Type 0} → Model S → ℕ → DiskIndex → Option (ModelDisk S)
@@ -89,12 +89,12 @@ abbrev pub identity_of : {S : Type 0} → (S → ℕ) → Model S → ℕ → Op
 identity_of {S} size m port = option_map (λ (b : Bay S). identity size b.disk) (bay_of m port)
 
 -- what the store of that disk tells of calls that failed
-abbrev pub failing : {S : Type 0} → (S → Option Failures) → Option (Bay S) → Option Failures
-failing failures None = None
-failing failures (Some b) = failures b.disk.store
+abbrev pub bay_failures : {S : Type 0} → (S → Option Failures) → Option (Bay S) → Option Failures
+bay_failures failures None = None
+bay_failures failures (Some b) = failures b.disk.store
 
 abbrev pub disk_failures : {S : Type 0} → (S → Option Failures) → Model S → ℕ → Option Failures
-disk_failures failures m port = failing failures (bay_of m port)
+disk_failures failures m port = bay_failures failures (bay_of m port)
 
 -- ---- what is lasting of the one that is in, or was last
 
@@ -111,20 +111,20 @@ abbrev pub port_has_cache : {S : Type 0} → Model S → ℕ → Bool
 port_has_cache m port = has_cache (bay_of m port)
 
 -- without growing, that of a port has room for the old bytes of so many sectors more
-abbrev pub HasOldRoomIn : {S : Type 0} → Option (Bay S) → ℕ → Type 0
-HasOldRoomIn None more = Unit {0}
-HasOldRoomIn (Some b) more = HasOldRoom b.cache more
+abbrev pub HasRoomForOldIn : {S : Type 0} → Option (Bay S) → ℕ → Type 0
+HasRoomForOldIn None more = Unit {0}
+HasRoomForOldIn (Some b) more = HasRoomForOld b.cache more
 
-abbrev pub HasOldRoomOf : {S : Type 0} → List (Option (Bay S)) → ℕ → ℕ → Type 0
-HasOldRoomOf bays port more = HasOldRoomIn (slice_index_or bays port None) more
+abbrev pub HasRoomForOldOf : {S : Type 0} → List (Option (Bay S)) → ℕ → ℕ → Type 0
+HasRoomForOldOf bays port more = HasRoomForOldIn (slice_index_or bays port None) more
 
-abbrev pub HasOldRoomAt : {S : Type 0} → Model S → ℕ → ℕ → Type 0
-HasOldRoomAt m port more = HasOldRoomOf m.bays.items port more
+abbrev pub HasRoomForOldAt : {S : Type 0} → Model S → ℕ → ℕ → Type 0
+HasRoomForOldAt m port more = HasRoomForOldOf m.bays.items port more
 
 -- The disks of a port after such a command has ended: a flush makes lasting what the disk that is in holds, and nothing
 -- older is kept any more.
 abbrev pub EndsCommand : {S : Type 0} → Operation → (old new : Bay S) → Type 0
-EndsCommand Flush old new = KeepsNone old.cache new.cache
+EndsCommand Flush old new = KeepsNoOldSectors old.cache new.cache
     × (new ≡ record old { lasting = record { marker = record {}; value = old.disk.store }; cache = new.cache })
 EndsCommand _ old new = new ≡ old
 
@@ -135,19 +135,20 @@ EndsCommandIn operation (Some old) None = ⊥
 EndsCommandIn operation (Some old) (Some new) = EndsCommand operation old new
 
 -- a command of this port has ended, and nothing else is another
-abbrev pub EndsOnly : {S : Type 0} → Operation → ℕ → (old new : List (Option (Bay S))) → Type 0
-EndsOnly {S} operation port old new =
+abbrev pub OnlyEndsCommand : {S : Type 0} → Operation → ℕ → (old new : List (Option (Bay S))) → Type 0
+OnlyEndsCommand {S} operation port old new =
     (bay : Option (Bay S)) × EndsCommandIn operation (slice_index_or old port None) bay × (new ≡ slice_set old port bay)
 
 -- What was in a cache is lost: its disk is turned back into what is lasting of it. Without one the disk is as it was.
 pub record LosesCache {S : Type 0} (size : S → ℕ) (told : S → Option (ℕ → List ℕ)) (failures : S → Option Failures)
     (old new : Bay S) : Type 0 where
   pub back : old.cache.is_on ≡ true
-      → TurnsBack size told failures (lasting_of told old) old.disk.store new.disk.store
+      → RollsBack size told failures (lasting_of told old) old.disk.store new.disk.store
   pub as_it_was : old.cache.is_on ≡ false → new.disk.store ≡ old.disk.store
 
 -- what the disks of this port say is another, if it has some, and nothing else
-abbrev pub SaysOnly : {S : Type 0} → (PageSource → PageSource) → ℕ → (old new : List (Option (Bay S))) → Type 0
-SaysOnly {S} says port old new =
+abbrev pub OnlyChangesPageSource : {S : Type 0} → (PageSource → PageSource) → ℕ → (old new : List (Option (Bay S)))
+    → Type 0
+OnlyChangesPageSource {S} says port old new =
     new ≡ slice_set old port (option_map (λ (b : Bay S). record b { says = says b.says })
     (slice_index_or old port None))

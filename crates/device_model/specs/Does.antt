@@ -14,18 +14,18 @@ use Rattle.ata_types.specs.declared.Port.{Port}
 use Rattle.ata_types.specs.declared.Slot.{Slot}
 use Rattle.sector_store.specs.declared.store.Failures.{Failures}
 use Rattle.device_model.specs.Cached.{CallFails}
-use Rattle.device_model.specs.Disks.{HasOldRoomAt, HasOldRoomOf, LosesCache, bay_of, port_has_cache, disk_number, numbered_disk, disk_failures, identity, says_of, which_of}
+use Rattle.device_model.specs.Disks.{HasRoomForOldAt, HasRoomForOldOf, LosesCache, bay_of, port_has_cache, disk_number, numbered_disk, disk_failures, identity, page_source_of, disk_index_of}
 use Rattle.device_model.specs.Finishing.{HasMove, TapeHasRoom, MayFinish}
 use Rattle.device_model.specs.Held.{held_after}
 use Rattle.device_model.specs.Modelled.{device_at}
-use Rattle.device_model.specs.Paged.{GainsPages, lying, naming, truthful}
+use Rattle.device_model.specs.Paged.{GainsOwnPages, lying, with_logged_error, truthful}
 use Rattle.device_model.specs.Sent.{Sends, SendsEnd, SendsFault}
-use Rattle.device_model.specs.Slots.{IsNext}
-use Rattle.device_model.specs.Trims.{HasClear, changes_ahead, next_uncleared, span, written_ahead}
+use Rattle.device_model.specs.Slots.{IsNextMove}
+use Rattle.device_model.specs.Trims.{HasClear, changes_ahead, next_uncleared, next_run_length, written_ahead}
 use Rattle.device_model.specs.declared.disks.DiskIndex.{DiskIndex}
 use Rattle.device_model.specs.declared.disks.DiskIndex.TheVariants.{Disk0, Disk1}
 use Rattle.device_model.specs.declared.hardware.Hardware.{Hardware}
-use Rattle.device_model.specs.Whole.{HasDisks}
+use Rattle.device_model.specs.WholeAdapter.{HasDisks}
 use Rattle.device_model.specs.declared.bay.Bay.{Bay}
 use Rattle.device_model.specs.declared.bay.PageSource.{PageSource}
 use Rattle.device_model.specs.declared.model.Model.{Model}
@@ -67,7 +67,7 @@ Possible (asked.LosePlug p) d = (p.0 < 4) × HasDisks d p.0 × ((d.port p.0).pre
 
 -- Of the sectors that a Clear clears at once, so many are on the disk.
 abbrev pub cleared_on_disk : (size most : ℕ) → FetchedCommand → ℕ
-cleared_on_disk size most t = min (span most t) (size - next_uncleared t)
+cleared_on_disk size most t = min (next_run_length most t) (size - next_uncleared t)
 
 -- Without growing, the tape has no room for what the step notes there, or the port's cache none for the old bytes of
 -- the sectors that it changes. A Finish notes each of its moves and clears, and the end; a Fetch a fault alone. A Clear
@@ -78,13 +78,13 @@ cleared_on_disk size most t = min (span most t) (size - next_uncleared t)
 abbrev pub LacksMemory : {S : Type 0} → DeviceStep → Device → Hardware → List (Option (Bay S)) → Type 0
 LacksMemory (asked.Fetch p s) d h bays = Can (FetchFault p.0 s.0 false 0) d × (TapeHasRoom h 1 → ⊥)
 LacksMemory (asked.Move p s) d h bays = (t : FetchedCommand) × HasMove d p.0 s.0 t
-    × (TapeHasRoom h 1 → HasOldRoomOf bays p.0 (written_ahead t.meaning.operation 1) → ⊥)
+    × (TapeHasRoom h 1 → HasRoomForOldOf bays p.0 (written_ahead t.meaning.operation 1) → ⊥)
 LacksMemory (asked.Clear p s most) d h bays = (t : FetchedCommand) × HasClear d p.0 s.0 most t
-    × (TapeHasRoom h 2 → HasOldRoomOf bays p.0 (cleared_on_disk (d.port p.0).disk.size most t) → ⊥)
+    × (TapeHasRoom h 2 → HasRoomForOldOf bays p.0 (cleared_on_disk (d.port p.0).disk.size most t) → ⊥)
 LacksMemory (asked.Done p s) d h bays = TapeHasRoom h 1 → ⊥
 LacksMemory (asked.Finish p s) d h bays =
     (left clears : ℕ) × (may : MayFinish d p.0 s.0 left clears) × (TapeHasRoom h (left + clears + 1)
-    → HasOldRoomOf bays p.0 (changes_ahead may.t.meaning.operation d.memory may.t left) → ⊥)
+    → HasRoomForOldOf bays p.0 (changes_ahead may.t.meaning.operation d.memory may.t left) → ⊥)
 LacksMemory (asked.Fault p s error) d h bays = TapeHasRoom h 1 → ⊥
 LacksMemory (asked.FaultBusy p s error) d h bays = TapeHasRoom h 1 → ⊥
 LacksMemory (asked.Fatal p error) d h bays = TapeHasRoom h 1 → ⊥
@@ -145,24 +145,25 @@ asked_port (asked.LosePlug p) = p.0
 
 -- what the disks of a port say of themselves once a command that is taken in a slot has failed with an error: the log
 -- names it, if it is queued
-abbrev pub says_failed : Option FetchedCommand → (slot error : ℕ) → Option PageSource → Option PageSource
-says_failed None slot error says = says
-says_failed (Some t) slot error says =
-    if is_queued t.meaning.operation then option_map (naming (record { tag = slot; error = error })) says else says
+abbrev pub page_source_after_failure : Option FetchedCommand → (slot error : ℕ) → Option PageSource → Option PageSource
+page_source_after_failure None slot error says = says
+page_source_after_failure (Some t) slot error says =
+    if is_queued t.meaning.operation then option_map (with_logged_error (record { tag = slot; error = error })) says
+    else says
 
 -- and those of a step's port after the step, on this device: they lie once more, or not any more, or a command failed
-abbrev pub says_after : DeviceStep → Device → Option PageSource → Option PageSource
-says_after (asked.Lie p page offset bits) d says = option_map (lying page offset bits) says
-says_after (asked.Truth p) d says = option_map truthful says
-says_after (asked.Fault p s error) d says = says_failed ((d.port p.0).taken s.0) s.0 error says
-says_after (asked.FaultBusy p s error) d says = says_failed ((d.port p.0).taken s.0) s.0 error says
-says_after step d says = says
+abbrev pub page_source_after : DeviceStep → Device → Option PageSource → Option PageSource
+page_source_after (asked.Lie p page offset bits) d says = option_map (lying page offset bits) says
+page_source_after (asked.Truth p) d says = option_map truthful says
+page_source_after (asked.Fault p s error) d says = page_source_after_failure ((d.port p.0).taken s.0) s.0 error says
+page_source_after (asked.FaultBusy p s error) d says = page_source_after_failure ((d.port p.0).taken s.0) s.0 error says
+page_source_after step d says = says
 
 -- the disk that is in the step's port after it, or was last: a disk that is put in
-abbrev pub which_after : DeviceStep → Option DiskIndex → Option DiskIndex
-which_after (asked.Plug p number) which =
+abbrev pub disk_index_after : DeviceStep → Option DiskIndex → Option DiskIndex
+disk_index_after (asked.Plug p number) which =
     option_map (λ (_ : DiskIndex). if nat_eq number.0 0 then Disk0 else Disk1) which
-which_after step which = which
+disk_index_after step which = which
 
 -- the step puts this disk into this port: by its number, or as the one that was last in
 abbrev pub PutsIn : (last : Option DiskIndex) → (port : ℕ) → DiskIndex → DeviceStep → Type 0
@@ -173,7 +174,7 @@ PutsIn last port which step = ⊥
 -- What no step changes: the disk of a port that isn't in, or wasn't last; of each disk its serial number and how many
 -- sectors it has; whether the disks of a port have a cache; the queue; and the count of the accesses.
 pub record StepKeeps {S : Type 0} (size : S → ℕ) (old new : Model S) : Type 0 where
-  pub out : (port : ℕ) (which : DiskIndex) → which_of old port ≢ Some which
+  pub out : (port : ℕ) (which : DiskIndex) → disk_index_of old port ≢ Some which
       → numbered_disk new port which ≡ numbered_disk old port which
   pub identities : (port : ℕ) (which : DiskIndex) → option_map (identity size) (numbered_disk new port which)
       ≡ option_map (identity size) (numbered_disk old port which)
@@ -211,7 +212,7 @@ pub record FailsToMove (cached : Bool) (port slot : ℕ) (was now : Option Failu
       (old.port port).disk.size error was now
   pub can : Can (Fault port slot error 0 t) old
   pub sends : SendsFault (is_queued t.meaning.operation) port (device_after (Fault port slot error 0 t) old) new
-  pub log : after_it ≡ says_failed (Some t) slot error says
+  pub log : after_it ≡ page_source_after_failure (Some t) slot error says
 
 -- or on the one that it clears next
 pub record FailsToClear (cached : Bool) (port slot : ℕ) (was now : Option Failures)
@@ -226,8 +227,8 @@ pub record FailsToClear (cached : Bool) (port slot : ℕ) (was now : Option Fail
   pub log : after_it ≡ says
 
 -- after some of what a step asks, or nothing of it
-abbrev pub After : (Part Fails : Device → Device → Type 0) → Device → Device → Type 0
-After Part Fails old new = (mid : Device) × ((mid ≡ old) ⊎ Part old mid) × Fails mid new
+abbrev pub FailsAfterPart : (Part Fails : Device → Device → Type 0) → Device → Device → Type 0
+FailsAfterPart Part Fails old new = (mid : Device) × ((mid ≡ old) ⊎ Part old mid) × Fails mid new
 
 -- fewer sectors of the slot's trim were cleared than so many
 abbrev pub ClearsFewer : (port slot most : ℕ) → Device → Device → Type 0
@@ -242,9 +243,10 @@ StepFails (asked.Fetch p s) cached was now says after_it old new = FailsToFetch 
 StepFails (asked.Move p s) cached was now says after_it old new = FailsToMove cached p.0 s.0 was now says after_it old
     new
 StepFails (asked.Clear p s most) cached was now says after_it old new =
-    After (ClearsFewer p.0 s.0 most) (FailsToClear cached p.0 s.0 was now says after_it) old new
+    FailsAfterPart (ClearsFewer p.0 s.0 most) (FailsToClear cached p.0 s.0 was now says after_it) old new
 StepFails (asked.Finish p s) cached was now says after_it old new =
-    After (SlotGoesOn (SendsEnd s.0) p.0 s.0) (λ mid last. FailsToMove cached p.0 s.0 was now says after_it mid last
+    FailsAfterPart (SlotGoesOn (SendsEnd s.0) p.0 s.0) (λ mid last. FailsToMove cached p.0 s.0 was now says after_it mid
+    last
     ⊎ FailsToClear cached p.0 s.0 was now says after_it mid last) old new
 StepFails step cached was now says after_it old new = ⊥
 
@@ -281,18 +283,18 @@ pub record HasEndedSlot (since d : Device) (port slot : ℕ) : Type 0 where
 pub record HasCleared (old new : Device) (port slot most : ℕ) : Type 0 where
   pub t : FetchedCommand
   pub was : (old.port port).taken slot ≡ Some t
-  pub is : (new.port port).taken slot ≡ Some (record t { cleared = t.cleared + span most t })
+  pub is : (new.port port).taken slot ≡ Some (record t { cleared = t.cleared + next_run_length most t })
 
 -- what a model answers, by what came of a move or a clear
-abbrev pub answer_of : StepOutcome → Bool
-answer_of Left = false
-answer_of _ = true
+abbrev pub was_step_done : StepOutcome → Bool
+was_step_done Left = false
+was_step_done _ = true
 
 -- a Finish ends its command, and a Clear clears all that can be cleared at once
-abbrev pub EndsIt : DeviceStep → Device → Device → Type 0
-EndsIt (asked.Clear p s most) old new = HasCleared old new p.0 s.0 most
-EndsIt (asked.Finish p s) old new = HasEndedSlot old new p.0 s.0
-EndsIt step old new = Unit {0}
+abbrev pub DoesAllItAsks : DeviceStep → Device → Device → Type 0
+DoesAllItAsks (asked.Clear p s most) old new = HasCleared old new p.0 s.0 most
+DoesAllItAsks (asked.Finish p s) old new = HasEndedSlot old new p.0 s.0
+DoesAllItAsks step old new = Unit {0}
 
 -- A step is done whole: the device did what it was asked, and sent the FIS of a command that ended or failed. No call
 -- on a store has failed, but where sectors are written back; a Clear did all that it could at once, and a Finish ended
@@ -302,8 +304,10 @@ pub record Completes {S : Type 0} (size : S → ℕ) (told : S → Option (ℕ �
     (s : DeviceStep) (old new : Model S) : Type 0 where
   pub asked : DoesToldStep (Sends s) s (device_at size told old) (device_at size told new)
   pub fine : is_losing s ≡ false → NoCallFailed failures old new
-  pub says : says_of new (asked_port s) ≡ says_after s (device_at size told old) (says_of old (asked_port s))
-  pub ends : (device_at size told old).size ≤ 2 ^ 32 → EndsIt s (device_at size told old) (device_at size told new)
+  pub says : page_source_of new (asked_port s) ≡ page_source_after s (device_at size told old) (page_source_of old
+      (asked_port s))
+  pub ends : (device_at size told old).size ≤ 2 ^ 32 → DoesAllItAsks s (device_at size told old) (device_at size told
+      new)
   pub loses : is_losing s ≡ true
       → LosesCacheIn size told failures (bay_of old (asked_port s)) (bay_of new (asked_port s))
 
@@ -314,7 +318,7 @@ abbrev pub CommandFails : {S : Type 0} → (S → ℕ) → (S → Option (ℕ �
 CommandFails size told failures s old new =
     StepFails s (port_has_cache old (asked_port s)) (disk_failures failures old (asked_port s))
     (disk_failures failures new (asked_port s))
-    (says_of old (asked_port s)) (says_of new (asked_port s))
+    (page_source_of old (asked_port s)) (page_source_of new (asked_port s))
     (device_at size told old) (device_at size told new)
 
 -- A step that is done: whole, or as far as its command has come that fails. The ports are held that are held after it;
@@ -326,9 +330,9 @@ pub record DidStep {S : Type 0} (size : S → ℕ) (told : S → Option (ℕ →
     (s : DeviceStep) (old new : Model S) : Type 0 where
   pub came : Completes size told failures s old new ⊎ CommandFails size told failures s old new
   pub held : new.held ≡ held_after s old.held
-  pub which : which_of new (asked_port s) ≡ which_after s (which_of old (asked_port s))
+  pub which : disk_index_of new (asked_port s) ≡ disk_index_after s (disk_index_of old (asked_port s))
   pub others : (port : ℕ) → port ≢ asked_port s → bay_of new port ≡ bay_of old port
-  pub pages : GainsPages size old new
+  pub pages : GainsOwnPages size old new
   pub disks : (AsksStore s (device_at size told old) → ⊥) → (which : DiskIndex) → numbered_disk new (asked_port s) which
       ≡ numbered_disk old (asked_port s) which
   pub keeps : StepKeeps size old new
@@ -342,8 +346,8 @@ pub record IsLeftOut {S : Type 0} (size : S → ℕ) (told : S → Option (ℕ �
     (s : DeviceStep) (old new : Model S) : Type 0 where
   pub device : device_at size told new ≡ device_at size told old
   pub held : new.held ≡ old.held
-  pub says : says_of new (asked_port s) ≡ says_of old (asked_port s)
-  pub which : which_of new (asked_port s) ≡ which_of old (asked_port s)
+  pub says : page_source_of new (asked_port s) ≡ page_source_of old (asked_port s)
+  pub which : disk_index_of new (asked_port s) ≡ disk_index_of old (asked_port s)
   pub others : (port : ℕ) → port ≢ asked_port s → bay_of new port ≡ bay_of old port
   pub disks : (which : DiskIndex) → numbered_disk new (asked_port s) which ≡ numbered_disk old (asked_port s) which
   pub why : IsAddressable s (device_at size told old) → Possible s (device_at size told old) →
@@ -366,9 +370,9 @@ AnswersStep size told failures s false old new = IsLeftOut size told failures s 
 -- stays told.
 pub record OwnStepsKeep {S : Type 0} (size : S → ℕ) (old new : Model S) : Type 0 where
   pub held : new.held ≡ old.held
-  pub says : (port : ℕ) → says_of new port ≡ says_of old port
-  pub which : (port : ℕ) → which_of new port ≡ which_of old port
-  pub pages : GainsPages size old new
+  pub says : (port : ℕ) → page_source_of new port ≡ page_source_of old port
+  pub which : (port : ℕ) → disk_index_of new port ≡ disk_index_of old port
+  pub pages : GainsOwnPages size old new
   pub keeps : StepKeeps size old new
   pub starved_on : old.hardware.starved ≡ true → new.hardware.starved ≡ true
 
@@ -378,5 +382,5 @@ pub record ReadiesNext {S : Type 0} (size : S → ℕ) (told : S → Option (ℕ
     (known : Option NextMove) (old new : Model S) : Type 0 where
   pub tape : (n : ℕ) → TapeHasRoom old.hardware (n + 1) → TapeHasRoom new.hardware n
   pub old_room : (t : FetchedCommand) → ((device_at size told old).port port).taken slot ≡ Some t → (n : ℕ)
-      → HasOldRoomAt old port (written_ahead t.meaning.operation 1 + n) → HasOldRoomAt new port n
-  pub next : IfSome known (λ n. (t : TakenCommand) × IsNext new.hardware port slot n t)
+      → HasRoomForOldAt old port (written_ahead t.meaning.operation 1 + n) → HasRoomForOldAt new port n
+  pub next : IfSome known (λ n. (t : TakenCommand) × IsNextMove new.hardware port slot n t)

@@ -5,7 +5,7 @@ use Rattle.adapter.specs.Device.{IsSector}
 use Rattle.adapter.specs.Memory.{bytes_at, patched}
 use Rattle.adapter.specs.Steps.{disk_after}
 use Rattle.sector_store.specs.declared.store.Failures.{Failures}
-use Rattle.device_model.specs.Cached.{CallFails, HasOldRoom}
+use Rattle.device_model.specs.Cached.{CallFails, HasRoomForOld}
 use Rattle.device_model.specs.Disks.{disk_over, identity, lasting_of}
 use Rattle.device_model.specs.Fetched.{bytes_of}
 use Rattle.device_model.specs.Paged.{IsSentLog, IsSentIdentify}
@@ -57,6 +57,6 @@ pub record TransfersPiece {S : Type 0} (size : S → ℕ) (told : S → Option (
       (failures new.disk.store)
   pub lasting : lasting_of told new ≡ lasting_of told old
   pub cached : new.cache.is_on ≡ old.cache.is_on
-  pub old_room : (n : ℕ) → HasOldRoom old.cache (written_ahead (operation_of_kind next.command_kind) 1 + n)
-      → HasOldRoom new.cache n
+  pub old_room : (n : ℕ) → HasRoomForOld old.cache (written_ahead (operation_of_kind next.command_kind) 1 + n)
+      → HasRoomForOld new.cache n
   pub rest : new ≡ record old { disk = record old.disk { store = new.disk.store }; cache = new.cache }

@@ -9,11 +9,11 @@ use Rattle.adapter.specs.Steps.DeviceTransition.{Fetch}
 use Rattle.adapter.specs.declared.command.Operation.{Operation}
 use Rattle.adapter.specs.declared.command.Operation.TheVariants.{Identify, ReadLog}
 use Rattle.adapter.specs.declared.command.Prd.{Prd}
-use Rattle.device_model.specs.Cached.{HasOldRoom}
-use Rattle.device_model.specs.Trims.{WillClear, changes_ahead}
+use Rattle.device_model.specs.Cached.{HasRoomForOld}
+use Rattle.device_model.specs.Trims.{HasClearsLeft, changes_ahead}
 use Rattle.device_model.specs.Fetched.{bytes_of}
 use Rattle.device_model.specs.View.{operation_of_kind, taken_of}
-use Rattle.device_model.specs.Whole.{HasDisks, Outside, device_of}
+use Rattle.device_model.specs.WholeAdapter.{HasDisks, AllMedia, device_of}
 use Rattle.device_model.specs.declared.cache.Cache.{Cache}
 use Rattle.device_model.specs.declared.hardware.Hardware.{Hardware}
 use Rattle.device_model.specs.declared.port.TakenCommand.{TakenCommand}
@@ -53,17 +53,17 @@ pub record HasMove (d : Device) (port slot : ℕ) (t : FetchedCommand) : Type 0 
   pub has_disks : HasDisks d port
 
 -- the port works on a command of which so many moves, and then so many clears, are left, all of them possible
-pub record IsGoing (d : Device) (port slot left clears : ℕ) : Type 0 where
+pub record IsInProgress (d : Device) (port slot left clears : ℕ) : Type 0 where
   pub t : FetchedCommand
   pub covered : IsCovered t d.size left
-  pub clearing : WillClear t.meaning.operation d.memory t clears
+  pub clearing : HasClearsLeft t.meaning.operation d.memory t clears
   pub works : WorksOn (d.port port) slot t t.meaning.operation
 
 -- the same, or the command isn't taken yet, and may be
 pub record MayFinish (d : Device) (port slot left clears : ℕ) : Type 0 where
   pub t : FetchedCommand
   pub covered : IsCovered t d.size left
-  pub clearing : WillClear t.meaning.operation d.memory t clears
+  pub clearing : HasClearsLeft t.meaning.operation d.memory t clears
   pub begins : WorksOn (d.port port) slot t t.meaning.operation
       ⊎ (Can (Fetch port slot t.meaning t.places) d × (t ≡ begun t.meaning t.places))
 
@@ -102,7 +102,7 @@ HasTakenCommand d port = (slot : ℕ) × (t : FetchedCommand) × ((d.port port).
 -- there is room for the old bytes of each sector that the slot's command is going to change, of so many moves
 abbrev pub HasRoomAhead : Cache → (port slot left : ℕ) → Device → Type 0
 HasRoomAhead cache port slot left d = (t : FetchedCommand) → (d.port port).taken slot ≡ Some t
-    → HasOldRoom cache (changes_ahead t.meaning.operation d.memory t left)
+    → HasRoomForOld cache (changes_ahead t.meaning.operation d.memory t left)
 
 -- ---- a command that is to be done to its end
 
@@ -110,17 +110,17 @@ HasRoomAhead cache port slot left d = (t : FetchedCommand) → (d.port port).tak
 abbrev pub IsRemaining : TakenCommand → List ℕ → (left clears : ℕ) → Type 0
 IsRemaining t memory left clears =
     IsCovered (taken_of t) (length memory) left
-    × WillClear (operation_of_kind t.command_kind) (bytes_of memory) (taken_of t)
+    × HasClearsLeft (operation_of_kind t.command_kind) (bytes_of memory) (taken_of t)
     clears
 
 -- It is begun: so many moves and clears are left of it, each possible, and there is room for them and the end; it is
 -- taken now, or was.
 pub record IsBegun (port slot left clears : ℕ) (was_taken : Bool) (old new : Hardware) : Type 0 where
-  pub ready : (o : Outside) → MayFinish (device_of old o) port slot left clears
-  pub going : (o : Outside) → IsGoing (device_of new o) port slot left clears
+  pub ready : (o : AllMedia) → MayFinish (device_of old o) port slot left clears
+  pub going : (o : AllMedia) → IsInProgress (device_of new o) port slot left clears
   pub room : TapeHasRoom new (left + clears + 1)
-  pub did : was_taken ≡ true → (o : Outside) → DoesFetch port slot (device_of old o) (device_of new o)
-  pub same : was_taken ≡ false → (o : Outside) → device_of new o ≡ device_of old o
+  pub did : was_taken ≡ true → (o : AllMedia) → DoesFetch port slot (device_of old o) (device_of new o)
+  pub same : was_taken ≡ false → (o : AllMedia) → device_of new o ≡ device_of old o
   pub tape : new.tape.items ≡ old.tape.items
   pub starved : new.starved ≡ old.starved
 
@@ -129,16 +129,17 @@ pub record IsBegun (port slot left clears : ℕ) (was_taken : Bool) (old new : H
 pub record LacksRoom (port slot : ℕ) (old new : Hardware) (was now : Cache) : Type 0 where
   pub left : ℕ
   pub clears : ℕ
-  pub ready : (o : Outside) → MayFinish (device_of old o) port slot left clears
-  pub lacked : (o : Outside) (n m : ℕ) (may : MayFinish (device_of old o) port slot n m) → TapeHasRoom old (n + m + 1) →
-      HasOldRoom was (changes_ahead may.t.meaning.operation (device_of old o).memory may.t n) → ⊥
-  pub lacks : (o : Outside) (n m : ℕ) (may : MayFinish (device_of old o) port slot n m) → TapeHasRoom new (n + m + 1) →
-      HasOldRoom now (changes_ahead may.t.meaning.operation (device_of old o).memory may.t n) → ⊥
-  pub same : (o : Outside) → device_of new o ≡ device_of old o
+  pub ready : (o : AllMedia) → MayFinish (device_of old o) port slot left clears
+  pub lacked : (o : AllMedia) (n m : ℕ) (may : MayFinish (device_of old o) port slot n m)
+      → TapeHasRoom old (n + m + 1) →
+      HasRoomForOld was (changes_ahead may.t.meaning.operation (device_of old o).memory may.t n) → ⊥
+  pub lacks : (o : AllMedia) (n m : ℕ) (may : MayFinish (device_of old o) port slot n m) → TapeHasRoom new (n + m + 1) →
+      HasRoomForOld now (changes_ahead may.t.meaning.operation (device_of old o).memory may.t n) → ⊥
+  pub same : (o : AllMedia) → device_of new o ≡ device_of old o
   pub told : new.starved ≡ true
 
 -- It isn't begun: there is none that can be done to its end, and nothing is another, or there is no room.
 abbrev pub IsUnbegun : (port slot : ℕ) → (old new : Hardware) → (was now : Cache) → Type 0
 IsUnbegun port slot old new was now =
-    (((o : Outside) (left clears : ℕ) → MayFinish (device_of old o) port slot left clears → ⊥) × (new ≡ old))
+    (((o : AllMedia) (left clears : ℕ) → MayFinish (device_of old o) port slot left clears → ⊥) × (new ≡ old))
     ⊎ LacksRoom port slot old new was now

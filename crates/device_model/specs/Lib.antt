@@ -4,7 +4,7 @@ pub mod OldSectors
 pub mod Cached
 pub mod Disks
 pub mod View
-pub mod Whole
+pub mod WholeAdapter
 pub mod Exchanged
 pub mod Fetched
 pub mod Slots

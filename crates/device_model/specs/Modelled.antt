@@ -4,13 +4,13 @@ use Rattle.ata_types.specs.declared.memory.TheConstants.{FRAME_BYTES}
 use Rattle.adapter.specs.Device.{Device, DevicePort, Disk}
 use Rattle.adapter.specs.Device.Halt.{NotHalted}
 use Rattle.adapter.specs.FirstRead.{no_notes}
-use Rattle.adapter.specs.Idle.{IsIdle, IsSane}
+use Rattle.adapter.specs.Idle.{IsIdle, HoldsBytesAndTellsDisks}
 use Rattle.sector_store.specs.declared.pages.Abilities.{Abilities}
-use Rattle.device_model.specs.Disks.{bay_of, disk_over, given_for, lasting_of, plugged_as}
+use Rattle.device_model.specs.Disks.{bay_of, disk_over, disks_given_for, lasting_of, plugged_as}
 use Rattle.device_model.specs.Held.{none_held}
 use Rattle.device_model.specs.Paged.{no_lies}
 use Rattle.device_model.specs.View.{Media}
-use Rattle.device_model.specs.Whole.{Outside, device_of, no_media}
+use Rattle.device_model.specs.WholeAdapter.{AllMedia, device_of, no_media}
 use Rattle.device_model.specs.declared.bay.Bay.{Bay}
 use Rattle.device_model.specs.declared.bay.PageSource.{PageSource}
 use Rattle.device_model.specs.declared.config.ModelConfig.{ModelConfig}
@@ -42,15 +42,15 @@ all_tell told [] = true
 all_tell {S} told (bay ∷ bays) = tells told bay && all_tell told bays
 
 -- what is behind the ports, which have these disks
-abbrev pub outside_of : {S : Type 0} → (S → ℕ) → (S → Option (ℕ → List ℕ)) → List (Option (Bay S)) → Outside
-outside_of size told bays =
+abbrev pub all_media_of : {S : Type 0} → (S → ℕ) → (S → Option (ℕ → List ℕ)) → List (Option (Bay S)) → AllMedia
+all_media_of size told bays =
     record { telling = all_tell told bays; media = λ port. media_of size told (slice_index_or bays port None) }
 
-abbrev pub outside_at : {S : Type 0} → (S → ℕ) → (S → Option (ℕ → List ℕ)) → Model S → Outside
-outside_at size told m = outside_of size told m.bays.items
+abbrev pub all_media_at : {S : Type 0} → (S → ℕ) → (S → Option (ℕ → List ℕ)) → Model S → AllMedia
+all_media_at size told m = all_media_of size told m.bays.items
 
 abbrev pub device_at : {S : Type 0} → (S → ℕ) → (S → Option (ℕ → List ℕ)) → Model S → Device
-device_at size told m = device_of m.hardware (outside_at size told m)
+device_at size told m = device_of m.hardware (all_media_at size told m)
 
 -- NP, by the ports that there are, NCS and SNCQ (AHCI 1.3.1, 3.1.1)
 abbrev pub cap_of : ℕ → ℕ → Bool → ℕ
@@ -109,7 +109,7 @@ pub record IsNewAdapter {S : Type 0} (config : ModelConfig) (size : S → ℕ) (
   pub memory : d.size ≡ FRAME_BYTES * config.frames
   pub cap : d.cap ≡ cap_of config.pi config.slots config.ncq
   pub pi : d.pi ≡ config.pi
-  pub given : (port : ℕ) → IsNewPort size told (given_for disks port) (d.port port)
+  pub given : (port : ℕ) → IsNewPort size told (disks_given_for disks port) (d.port port)
   pub unused : d.tape ≡ []
   pub off : d.ae ≡ false
   pub silent : d.ie ≡ false
@@ -151,22 +151,22 @@ IsNewBay config (Some disks) (Some b) = (b.which ≡ Disk0) × (b.disk ≡ disks
     × (b.says ≡ new_says config) × (b.cache.is_on ≡ config.cache) × (b.cache.kept.sectors.items ≡ [])
 
 -- whether the stores of the disks that are given for a port tell their sectors
-abbrev pub given_tell : {S : Type 0} → (S → Option (ℕ → List ℕ)) → Option (PortDisks S) → Bool
-given_tell told None = true
-given_tell told (Some disks) = is_some (told disks.first.store) && is_some (told disks.spare.store)
+abbrev pub given_disks_tell : {S : Type 0} → (S → Option (ℕ → List ℕ)) → Option (PortDisks S) → Bool
+given_disks_tell told None = true
+given_disks_tell told (Some disks) = is_some (told disks.first.store) && is_some (told disks.spare.store)
 
-abbrev pub all_given_tell : {S : Type 0} → (S → Option (ℕ → List ℕ)) → Disks S → Bool
-all_given_tell told d = given_tell told d.port0 &&
-    (given_tell told d.port1 && (given_tell told d.port2 && given_tell told d.port3))
+abbrev pub all_given_disks_tell : {S : Type 0} → (S → Option (ℕ → List ℕ)) → Disks S → Bool
+all_given_disks_tell told d = given_disks_tell told d.port0 &&
+    (given_disks_tell told d.port1 && (given_disks_tell told d.port2 && given_disks_tell told d.port3))
 
 -- A new model. Its adapter is new, with these disks. It tells its disks' sectors where all of their stores do. No port
 -- is held, no step queued, no access made, and nothing left out for want of memory.
 pub record IsNewModel {S : Type 0} (size : S → ℕ) (told : S → Option (ℕ → List ℕ)) (config : ModelConfig)
     (disks : Disks S) (m : Model S) : Type 0 where
   pub adapter : IsNewAdapter config size told disks (device_at size told m)
-  pub sane : IsSane (device_at size told m)
-  pub telling : (device_at size told m).telling ≡ all_given_tell told disks
-  pub bays : (port : ℕ) → IsNewBay config (given_for disks port) (bay_of m port)
+  pub sane : HoldsBytesAndTellsDisks (device_at size told m)
+  pub telling : (device_at size told m).telling ≡ all_given_disks_tell told disks
+  pub bays : (port : ℕ) → IsNewBay config (disks_given_for disks port) (bay_of m port)
   pub held : m.held ≡ none_held
   pub queue : m.queue.items ≡ []
   pub accesses : m.accesses.shown ≡ 0

@@ -4,12 +4,12 @@ use Rattle.std.specs.Prelude.{ℕ, ◌≡◌, ◌<◌, ◌≤◌, List, [], ◌�
 use Rattle.device_model.specs.declared.old_sectors.OldSector.{OldSector}
 
 -- what an old sector is where there is none
-abbrev pub no_old : OldSector
-no_old = record { sector = 0; bytes = [] }
+abbrev pub no_old_sector : OldSector
+no_old_sector = record { sector = 0; bytes = [] }
 
 -- the number of the old sector in this place
 abbrev pub old_number_at : List OldSector → ℕ → ℕ
-old_number_at olds place = let old = slice_index_or olds place no_old in old.sector
+old_number_at olds place = let old = slice_index_or olds place no_old_sector in old.sector
 
 -- their numbers rise, so that none stands there twice
 abbrev pub AreRising : List OldSector → Type 0
@@ -27,14 +27,15 @@ pub record IsGapFor (olds : List OldSector) (sector place : ℕ) : Type 0 where
   pub higher : (k : ℕ) → place ≤ k → k < length olds → sector < old_number_at olds k
 
 -- what a sector held before it was changed, if it was
-abbrev pub old_of : List OldSector → ℕ → Option (List ℕ)
-old_of [] sector = None
-old_of (old ∷ rest) sector = if nat_eq old.sector sector then Some old.bytes else old_of rest sector
+abbrev pub old_bytes_of : List OldSector → ℕ → Option (List ℕ)
+old_bytes_of [] sector = None
+old_bytes_of (old ∷ rest) sector = if nat_eq old.sector sector then Some old.bytes else old_bytes_of rest sector
 
 -- one more sector has these old bytes, and the others have what they had
-abbrev pub KeepsOnly : (was now : List OldSector) → (sector : ℕ) → List ℕ → Type 0
-KeepsOnly was now sector bytes = (k : ℕ) → old_of now k ≡ (if nat_eq sector k then Some bytes else old_of was k)
+abbrev pub AddsOldSector : (was now : List OldSector) → (sector : ℕ) → List ℕ → Type 0
+AddsOldSector was now sector bytes = (k : ℕ) → old_bytes_of now k ≡ (if nat_eq sector k then Some bytes else
+    old_bytes_of was k)
 
 -- the sectors of a disk, each as it was before it was changed
-abbrev pub with_old : List OldSector → (ℕ → List ℕ) → ℕ → List ℕ
-with_old olds told = λ k. unwrap_or (old_of olds k) (told k)
+abbrev pub with_old_bytes : List OldSector → (ℕ → List ℕ) → ℕ → List ℕ
+with_old_bytes olds told = λ k. unwrap_or (old_bytes_of olds k) (told k)

@@ -8,7 +8,7 @@ use Rattle.adapter.specs.declared.tape.Entry.TheVariants as entry
 use Rattle.adapter.specs.declared.tape.Move.{Move}
 use Rattle.sector_store.specs.Pages.{IsLogPage, IsIdentifyPage}
 use Rattle.sector_store.specs.declared.pages.LoggedError.{LoggedError}
-use Rattle.device_model.specs.Disks.{Identity, identity_of, says_of}
+use Rattle.device_model.specs.Disks.{Identity, identity_of, page_source_of}
 use Rattle.device_model.specs.declared.bay.PageSource.{PageSource}
 use Rattle.device_model.specs.declared.model.Model.{Model}
 
@@ -37,21 +37,22 @@ pub record IsSentLog (says : PageSource) (bytes : List ℕ) : Type 0 where
   pub turned : IsTurned page says.log_lies bytes
 
 -- the move is of no page, or brings the page of the disk, or of the log
-pub record BringsIts (disk : Identity) (says : PageSource) (m : Move) : Type 0 where
+pub record BringsOwnPage (disk : Identity) (says : PageSource) (m : Move) : Type 0 where
   pub identity : m.operation ≡ Identify → IsSentIdentify disk says m.bytes.value
   pub log : m.operation ≡ ReadLog → IsSentLog says m.bytes.value
 
 -- the same of what is in a port; where there are no disks, nothing is moved
-abbrev pub BringsOf : Option Identity → Option PageSource → Move → Type 0
-BringsOf (Some disk) (Some says) m = BringsIts disk says m
-BringsOf _ _ m = ⊥
+abbrev pub BringsPageOfPort : Option Identity → Option PageSource → Move → Type 0
+BringsPageOfPort (Some disk) (Some says) m = BringsOwnPage disk says m
+BringsPageOfPort _ _ m = ⊥
 
 -- The tape has gained entries, of which each page is that of the disk that was in its port, as it says of itself, or of
 -- its log.
-pub record GainsPages {S : Type 0} (size : S → ℕ) (old new : Model S) : Type 0 where
+pub record GainsOwnPages {S : Type 0} (size : S → ℕ) (old new : Model S) : Type 0 where
   pub gained : List Entry
   pub tape : new.hardware.tape.items ≡ old.hardware.tape.items ++ gained
-  pub pages : All (λ e. (m : Move) → e ≡ entry.Move m → BringsOf (identity_of size old m.port.0) (says_of old m.port.0)
+  pub pages : All (λ e. (m : Move) → e ≡ entry.Move m → BringsPageOfPort (identity_of size old m.port.0) (page_source_of
+      old m.port.0)
       m) gained
 
 -- one more bit of a byte is turned, or one fewer
@@ -68,5 +69,5 @@ abbrev pub truthful : PageSource → PageSource
 truthful says = record says { lies = no_lies; log_lies = no_lies }
 
 -- the log names this command
-abbrev pub naming : LoggedError → PageSource → PageSource
-naming failed says = record says { log = Some failed }
+abbrev pub with_logged_error : LoggedError → PageSource → PageSource
+with_logged_error failed says = record says { log = Some failed }

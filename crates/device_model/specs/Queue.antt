@@ -6,22 +6,22 @@ use Rattle.adapter.specs.declared.access.DeviceStep.{DeviceStep}
 use Rattle.adapter.specs.Access.{Shows, noted}
 use Rattle.hba_regs.specs.declared.reg.Reg.{Reg}
 use Rattle.sector_store.specs.declared.store.Failures.{Failures}
-use Rattle.device_model.specs.Disks.{numbered_disk, says_of, which_of}
+use Rattle.device_model.specs.Disks.{numbered_disk, page_source_of, disk_index_of}
 use Rattle.device_model.specs.Does.{AnswersStep, StepKeeps}
-use Rattle.device_model.specs.Paged.{GainsPages}
-use Rattle.device_model.specs.Settled.{DoesOwn, EndsReset, LeavesOne}
+use Rattle.device_model.specs.Paged.{GainsOwnPages}
+use Rattle.device_model.specs.Settled.{DoesOwn, EndsReset, LeavesPageWithoutMemory}
 use Rattle.device_model.specs.Modelled.{device_at}
 use Rattle.device_model.specs.declared.disks.DiskIndex.{DiskIndex}
 use Rattle.device_model.specs.declared.model.Model.{Model}
 use Rattle.device_model.specs.declared.model.QueuedStep.{QueuedStep}
 
 -- the steps that are due by this access, in their order
-abbrev pub due : ℕ → List QueuedStep → List DeviceStep
-due access queue = map (λ q. q.step) (filter (λ q. nat_le q.access access) queue)
+abbrev pub due_steps : ℕ → List QueuedStep → List DeviceStep
+due_steps access queue = map (λ q. q.step) (filter (λ q. nat_le q.access access) queue)
 
 -- those that are not due yet, in their order
-abbrev pub not_due : ℕ → List QueuedStep → List QueuedStep
-not_due access queue = filter (λ q. nat_lt access q.access) queue
+abbrev pub later_steps : ℕ → List QueuedStep → List QueuedStep
+later_steps access queue = filter (λ q. nat_lt access q.access) queue
 
 -- these steps one after another, each done where it is possible then, or left
 abbrev pub DoesEach : {S : Type 0} → (S → ℕ) → (S → Option (ℕ → List ℕ)) → (S → Option Failures) → List DeviceStep
@@ -37,8 +37,8 @@ pub record BeginsAccess {S : Type 0} (size : S → ℕ) (told : S → Option (�
     (old new : Model S) : Type 0 where
   pub counted : new.accesses.shown ≡ min (old.accesses.shown + 1) (2 ^ 64 - 1)
   pub made : new.accesses.count.made ≡ old.accesses.count.made + 1
-  pub waiting : new.queue.items ≡ not_due new.accesses.shown old.queue.items
-  pub does : DoesEach size told failures (due new.accesses.shown old.queue.items)
+  pub waiting : new.queue.items ≡ later_steps new.accesses.shown old.queue.items
+  pub does : DoesEach size told failures (due_steps new.accesses.shown old.queue.items)
       (record old { accesses = new.accesses; queue = new.queue }) new
 
 -- An access that changes the hardware alone: it begins so, and then changes the device so. The rest of the model stays,
@@ -65,10 +65,11 @@ pub record DoesRead {S : Type 0} (size : S → ℕ) (told : S → Option (ℕ �
   pub own : DoesOwn new.held reset last
   pub shows : Shows r value last
   pub effect : device_at size told new ≡ noted r value last
-  pub says : (port : ℕ) → says_of new port ≡ says_of mid port
-  pub pages : GainsPages size mid new
-  pub which : (port : ℕ) → which_of new port ≡ which_of mid port
+  pub says : (port : ℕ) → page_source_of new port ≡ page_source_of mid port
+  pub pages : GainsOwnPages size mid new
+  pub which : (port : ℕ) → disk_index_of new port ≡ disk_index_of mid port
   pub disks : (port : ℕ) (which : DiskIndex) → numbered_disk new port which ≡ numbered_disk mid port which
   pub keeps : StepKeeps size mid new
   pub starved_on : mid.hardware.starved ≡ true → new.hardware.starved ≡ true
-  pub starved_since : new.hardware.starved ≡ true → (mid.hardware.starved ≡ true) ⊎ LeavesOne new.hardware last
+  pub starved_since : new.hardware.starved ≡ true → (mid.hardware.starved ≡ true) ⊎ LeavesPageWithoutMemory new.hardware
+      last

@@ -6,19 +6,19 @@ use Rattle.adapter.specs.Steps.DeviceTransition.{Fetch, Move, Done, Fall, FrFall
 use Rattle.device_model.specs.Finishing.{HasPageCommand, TapeHasRoom, MayTakePage, sends_page}
 use Rattle.device_model.specs.Held.{IsPortHeld, IsPortLoose, all_held, none_held}
 use Rattle.device_model.specs.Sent.{SendsAfter}
-use Rattle.device_model.specs.Whole.{HasDisks}
+use Rattle.device_model.specs.WholeAdapter.{HasDisks}
 use Rattle.device_model.specs.declared.hardware.Hardware.{Hardware}
 
 -- A step that the model does by itself, while these ports are held. On the others CR and FR fall, the link comes up
 -- with the signature of an ATA disk, N and X, and IDENTIFY DEVICE and READ LOG EXT are taken, moved and ended.
-abbrev pub IsOwn : List Bool → DeviceTransition → Type 0
-IsOwn held (Fall port) = IsPortLoose held port
-IsOwn held (FrFall port) = IsPortLoose held port
-IsOwn held (LinkUp port sig n) = IsPortLoose held port × (sig ≡ 0x101) × (n ≡ true)
-IsOwn held (Fetch port slot meaning places) = IsPortLoose held port × (sends_page meaning.operation ≡ true)
-IsOwn held (Move port slot t bytes) = IsPortLoose held port × (sends_page t.meaning.operation ≡ true)
-IsOwn held (Done port slot flag t) = IsPortLoose held port × (sends_page t.meaning.operation ≡ true)
-IsOwn held step = ⊥
+abbrev pub IsOwnStep : List Bool → DeviceTransition → Type 0
+IsOwnStep held (Fall port) = IsPortLoose held port
+IsOwnStep held (FrFall port) = IsPortLoose held port
+IsOwnStep held (LinkUp port sig n) = IsPortLoose held port × (sig ≡ 0x101) × (n ≡ true)
+IsOwnStep held (Fetch port slot meaning places) = IsPortLoose held port × (sends_page meaning.operation ≡ true)
+IsOwnStep held (Move port slot t bytes) = IsPortLoose held port × (sends_page t.meaning.operation ≡ true)
+IsOwnStep held (Done port slot flag t) = IsPortLoose held port × (sends_page t.meaning.operation ≡ true)
+IsOwnStep held step = ⊥
 
 -- CR or FR falls, or the link comes up
 abbrev pub IsSettling : DeviceTransition → Type 0
@@ -36,11 +36,11 @@ IsPageStep step = ⊥
 
 -- such a step of the model's own
 abbrev pub Settles : List Bool → DeviceTransition → Type 0
-Settles held step = IsOwn held step × IsSettling step
+Settles held step = IsOwnStep held step × IsSettling step
 
 -- or such a one
 abbrev pub SendsPages : List Bool → DeviceTransition → Type 0
-SendsPages held step = IsOwn held step × IsPageStep step
+SendsPages held step = IsOwnStep held step × IsPageStep step
 
 -- steps one after another, each with the FIS that is sent after it
 abbrev pub LeadsSending : List DeviceTransition → Device → Device → Type 0
@@ -69,8 +69,8 @@ EndsReset was held old new =
 
 -- in each device, and on each port that isn't held, such steps lead from the one state of the port to the other, and
 -- change nothing else
-abbrev pub GoesTo : DevicePort → DevicePort → Type 0
-GoesTo old new = (held : List Bool) (d : Device) (port : ℕ) → IsPortLoose held port → d.port port ≡ old
+abbrev pub SettlesPort : DevicePort → DevicePort → Type 0
+SettlesPort old new = (held : List Bool) (d : Device) (port : ℕ) → IsPortLoose held port → d.port port ≡ old
     → LeadsOwn (Settles held) d (with_port d port new)
 
 -- CR and FR have fallen where ST and FRE are zero, and no link is left that may come up
@@ -90,15 +90,16 @@ pub record IsSettled (held : List Bool) (d : Device) : Type 0 where
 -- In none of the slots 0 to 31 of a port with disks an IDENTIFY DEVICE or a READ LOG EXT is left that may be taken,
 -- unless the port is held; nor one that can be done to its end, unless the port is held, or it is told that something
 -- was left out for want of memory. To take one needs no memory.
-pub record NoneIsLeft (held : List Bool) (starved : Bool) (d : Device) : Type 0 where
+pub record NoPageIsLeft (held : List Bool) (starved : Bool) (d : Device) : Type 0 where
   pub taken : (port slot : ℕ) → port < 4 → slot < 32 → HasDisks d port → MayTakePage d port slot → IsPortHeld held port
   pub done : (port slot : ℕ) → port < 4 → slot < 32 → HasDisks d port → HasPageCommand d port slot
       → IsPortHeld held port
       ⊎ (starved ≡ true)
 
 -- one is left, for which the tape has no memory: each of its moves, and its end, would be noted there
-abbrev pub LeavesOne : Hardware → Device → Type 0
-LeavesOne h d = (port slot : ℕ) × (port < 4) × (slot < 32) × HasDisks d port × (has : HasPageCommand d port slot)
+abbrev pub LeavesPageWithoutMemory : Hardware → Device → Type 0
+LeavesPageWithoutMemory h d = (port slot : ℕ) × (port < 4) × (slot < 32) × HasDisks d port
+    × (has : HasPageCommand d port slot)
     × (TapeHasRoom h (has.left + 1) → ⊥)
 
 -- What a port does by itself leaves the number of ports, a pending reset, the tape, and whether memory for it lacked.

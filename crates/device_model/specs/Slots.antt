@@ -12,7 +12,7 @@ use Rattle.device_model.specs.declared.hardware.Hardware.{Hardware}
 use Rattle.device_model.specs.declared.steps.NextMove.{NextMove}
 use Rattle.device_model.specs.declared.clearing.SectorExtent.{SectorExtent}
 use Rattle.device_model.specs.declared.port.CommandKind.TheVariants.{Trim}
-use Rattle.device_model.specs.Trims.{next_uncleared, span, uncleared}
+use Rattle.device_model.specs.Trims.{next_uncleared, next_run_length, uncleared}
 
 -- a command of this operation in this slot may be taken, if its bytes say one
 pub record MayTake (p : DevicePort) (slot : ℕ) (operation : Operation) : Type 0 where
@@ -49,12 +49,12 @@ pub record IsNextRun (h : Hardware) (port slot most : ℕ) (run : SectorExtent) 
   pub holds : WorksOnIn (slice_index_or h.ports port blank_port) slot t
   pub can : CanClear t most
   pub first_is : run.first ≡ next_uncleared (taken_of t)
-  pub count_is : run.count ≡ span most (taken_of t)
+  pub count_is : run.count ≡ next_run_length most (taken_of t)
   pub fits : t.cleared + run.count < 2 ^ 32
 
 -- So many pieces of this command follow its next one in their region, each with a place in a memory of this size, an
 -- address of 32 bits and a sector of 64: none, unless it names sectors.
-pub record AreBehind (size : ℕ) (next : NextMove) (t : TakenCommand) : Type 0 where
+pub record PiecesFollow (size : ℕ) (next : NextMove) (t : TakenCommand) : Type 0 where
   pub places : (k : ℕ) → k ≤ next.behind → (t.moved + k < length (pieces t.prds))
       × (slice_index (pieces t.prds) (t.moved + k) ≡ next.address + 512 * k)
   pub room : t.moved + next.behind + 1 < 2 ^ 32
@@ -64,7 +64,7 @@ pub record AreBehind (size : ℕ) (next : NextMove) (t : TakenCommand) : Type 0 
   pub ranged : 1 ≤ next.behind → is_ranged (operation_of_kind t.command_kind) ≡ true
 
 -- the next piece of this command goes to or from this address, and is this sector, if it is one
-pub record IsNext (h : Hardware) (port slot : ℕ) (next : NextMove) (t : TakenCommand) : Type 0 where
+pub record IsNextMove (h : Hardware) (port slot : ℕ) (next : NextMove) (t : TakenCommand) : Type 0 where
   pub holds : WorksOnIn (slice_index_or h.ports port blank_port) slot t
   pub left : t.moved < length (pieces t.prds)
   pub room : t.moved + 1 < 2 ^ 32
@@ -72,4 +72,4 @@ pub record IsNext (h : Hardware) (port slot : ℕ) (next : NextMove) (t : TakenC
   pub sector_is : next.sector ≡ next_sector (taken_of t)
   pub address_is : next.address ≡ slice_index (pieces t.prds) t.moved
   pub inside : next.address + 512 ≤ length h.memory.items
-  pub behind : AreBehind (length h.memory.items) next t
+  pub behind : PiecesFollow (length h.memory.items) next t

@@ -2,7 +2,7 @@
 use Rattle.std.proofs.Common.{ℕ, Bool, zero, suc, true, false, ◌≡◌, ◌&&◌, List, [], ◌∷◌, Option, None, Some, refl, subst, slice_index_or}
 use Rattle.std.specs.Prelude.{is_some}
 use Rattle.adapter.specs.Device.{HasKnownSectors}
-use Rattle.device_model.specs.Modelled.{all_tell, media_of, outside_of, tells}
+use Rattle.device_model.specs.Modelled.{all_tell, media_of, all_media_of, tells}
 use Rattle.device_model.specs.declared.bay.Bay.{Bay}
 
 is_told : (told other : Option (ℕ → List ℕ)) → is_some told && is_some other ≡ true → (f : ℕ → List ℕ) × (told ≡ Some f)
@@ -29,5 +29,5 @@ module _ {S : Type 0} (size : S → ℕ) (told : S → Option (ℕ → List ℕ)
       by false e = absurd (let no : false ≡ true = e in cc)
 
   pub disks_told : (bays : List (Option (Bay S))) → all_tell told bays ≡ true → (port : ℕ)
-      → HasKnownSectors ((outside_of size told bays).media port).disk
+      → HasKnownSectors ((all_media_of size told bays).media port).disk
   disks_told bays telling port = bay_told (slice_index_or bays port None) (each_tells bays telling port)

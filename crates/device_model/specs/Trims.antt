@@ -7,7 +7,7 @@ use Rattle.adapter.specs.Steps.{WorksOn}
 use Rattle.adapter.specs.Trim.{trim_sectors}
 use Rattle.adapter.specs.declared.command.Operation.{Operation}
 use Rattle.adapter.specs.declared.command.Operation.TheVariants.{Trim, Write, WriteQueued}
-use Rattle.device_model.specs.Whole.{HasDisks}
+use Rattle.device_model.specs.WholeAdapter.{HasDisks}
 
 -- ---- runs of sectors that follow one another
 
@@ -43,8 +43,8 @@ next_uncleared t = slice_index (uncleared t) 0
 
 -- How many of the next so many sectors are cleared at once, where all are on the disk: those that follow one another,
 -- from the next one on.
-abbrev pub span : ℕ → FetchedCommand → ℕ
-span most t = trim_extent (take most (uncleared t))
+abbrev pub next_run_length : ℕ → FetchedCommand → ℕ
+next_run_length most t = trim_extent (take most (uncleared t))
 
 -- The port, which has disks, works on this trim, whose block was moved, and so many sectors are left to clear, one at
 -- least.
@@ -64,7 +64,7 @@ block_ahead memory t = if nat_lt t.moved (length t.places) then bytes_at memory
     (slice_index t.places (length t.places - 1)) 512 else t.block
 
 -- so many runs are left to clear of this block
-pub record HasRuns (block : List ℕ) (cleared clears : ℕ) : Type 0 where
+pub record HasRunsLeft (block : List ℕ) (cleared clears : ℕ) : Type 0 where
   pub within : cleared ≤ length (trim_sectors block)
   pub runs : clears ≡ runs_of (drop cleared (trim_sectors block))
 
@@ -84,6 +84,6 @@ abbrev pub changes_ahead : Operation → (ℕ → ℕ) → FetchedCommand → �
 changes_ahead operation memory t left = written_ahead operation left + cleared_ahead operation memory t
 
 -- so many clears are left of a command: one of each run of a trim, and of another command none
-abbrev pub WillClear : Operation → (ℕ → ℕ) → FetchedCommand → (clears : ℕ) → Type 0
-WillClear Trim memory t clears = HasRuns (block_ahead memory t) t.cleared clears
-WillClear _ memory t clears = clears ≡ 0
+abbrev pub HasClearsLeft : Operation → (ℕ → ℕ) → FetchedCommand → (clears : ℕ) → Type 0
+HasClearsLeft Trim memory t clears = HasRunsLeft (block_ahead memory t) t.cleared clears
+HasClearsLeft _ memory t clears = clears ≡ 0

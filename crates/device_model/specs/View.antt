@@ -4,7 +4,7 @@ use Rattle.adapter.specs.Asked.{busy}
 use Rattle.adapter.specs.Device.{Disk, FetchedCommand, Bases, Halt, Notes, DevicePort}
 use Rattle.adapter.specs.Device.Halt.{NotHalted, HaltedPlain, HaltedQueued, LogOnly}
 use Rattle.adapter.specs.Decoding.{pieces}
-use Rattle.adapter.specs.Access.{with_is_cleared}
+use Rattle.adapter.specs.Access.{with_is_bit_cleared}
 use Rattle.adapter.specs.Steps.{next_sector, disk_after, disk_cleared}
 use Rattle.hba_regs.specs.Bits.{bit}
 use Rattle.adapter.specs.declared.command.Operation.{Operation}
@@ -154,7 +154,7 @@ port_of p m =
 
 -- what becomes of each port where these bits of IS are written
 abbrev pub acknowledging : ℕ → ℕ → DevicePort → DevicePort
-acknowledging value port p = if bit value port then with_is_cleared p else p
+acknowledging value port p = if bit value port then with_is_bit_cleared p else p
 
 -- a port that isn't there, as after a reset
 abbrev pub blank_port : PortModel

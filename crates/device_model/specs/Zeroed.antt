@@ -2,7 +2,7 @@
 use Rattle.std.specs.Prelude.{ℕ, true, ◌≡◌, ◌+◌, ◌<◌, ◌≤◌, List, Option}
 use Rattle.adapter.specs.Steps.{disk_cleared}
 use Rattle.sector_store.specs.declared.store.Failures.{Failures}
-use Rattle.device_model.specs.Cached.{CallFails, HasOldRoom, lasting_in}
+use Rattle.device_model.specs.Cached.{CallFails, HasRoomForOld, lasting_in}
 use Rattle.device_model.specs.Disks.{disk_over}
 use Rattle.device_model.specs.declared.cache.Cache.{Cache}
 use Rattle.device_model.specs.declared.clearing.SectorExtent.{SectorExtent}
@@ -21,4 +21,4 @@ pub record MakesZero {S : Type 0} (size : S → ℕ) (told : S → Option (ℕ �
   pub fails : count < run.count → CallFails was.is_on true (run.first + count) (failures old) (failures new)
   pub lasting : (noted : Option (ℕ → List ℕ)) → lasting_in now (told new) noted ≡ lasting_in was (told old) noted
   pub cached : now.is_on ≡ was.is_on
-  pub old_room : (n : ℕ) → HasOldRoom was (run.count + n) → HasOldRoom now n
+  pub old_room : (n : ℕ) → HasRoomForOld was (run.count + n) → HasRoomForOld now n

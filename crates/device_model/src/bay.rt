@@ -3,20 +3,20 @@ ghost use Rattle.std.specs.Prelude.{◌≡◌, ◌<◌, ◌≤◌, ◌+◌, ◌+
 ghost use Rattle.adapter.specs.Commands.{is_ranged, reads_memory};
 ghost use Rattle.adapter.specs.Device.{Disk, IsSector};
 ghost use Rattle.adapter.specs.Steps.{disk_after, disk_cleared};
-ghost use Rattle.device_model.specs.Cached.{CallFails, HasOldRoom, KeepsTheSame, lasting_in};
-ghost use Rattle.device_model.specs.Disks.{EndsOnly, EndsCommand, LosesCache, SaysOnly, disk_in_bay, disk_over, identity, is_same, lasting_of, plugged_as};
+ghost use Rattle.device_model.specs.Cached.{CallFails, HasRoomForOld, KeepsSameOldSectors, lasting_in};
+ghost use Rattle.device_model.specs.Disks.{OnlyEndsCommand, EndsCommand, LosesCache, OnlyChangesPageSource, disk_in_bay, disk_over, identity, is_same, lasting_of, plugged_as};
 ghost use Rattle.device_model.specs.Exchanged.{TransfersPiece, IsTransferred, piece_of};
 ghost use Rattle.device_model.specs.Finishing.{HasRoomAhead, IsBegun, IsUnbegun};
 ghost use Rattle.device_model.specs.Modelled.{AreNewDisks};
-ghost use Rattle.device_model.specs.Paged.{IsSentLog, IsSentIdentify, IsTurned, lying, naming, truthful};
+ghost use Rattle.device_model.specs.Paged.{IsSentLog, IsSentIdentify, IsTurned, lying, with_logged_error, truthful};
 ghost use Rattle.device_model.specs.Trims.{written_ahead};
 ghost use Rattle.device_model.specs.View.{operation_of_kind};
-ghost use Rattle.device_model.specs.Whole.{Outside, device_of};
+ghost use Rattle.device_model.specs.WholeAdapter.{AllMedia, device_of};
 ghost use Rattle.device_model.specs.Zeroed.{MakesZero};
 
 use crate::cache::{Cache, put_sector, roll_back};
 use crate::clearing::SectorExtent;
-use crate::disks::{DiskIndex, ModelDisk, Plugged, PortDisks};
+use crate::disks::{DiskIndex, ModelDisk, PluggedDisks, PortDisks};
 use crate::hardware::Hardware;
 use crate::port::CommandKind;
 use crate::steps::{CommandToFinish, NextMove};
@@ -59,7 +59,7 @@ pub struct Bay<S> {
     /// The disk that was in at first, as it was then, for proofs alone.
     pub first: Snapshot<S>,
     /// Those that were put in after it, for proofs alone.
-    pub later: Plugged<S>,
+    pub later: PluggedDisks<S>,
     /// The disk that is in, or was last, as it was when it last ended a flush, or else when it was first in; for proofs
     /// alone.
     pub lasting: Snapshot<S>,
@@ -88,7 +88,7 @@ fn clear_sectors<S: SectorStore>(
     run: SectorExtent,
 ) -> u32
     requires inside { run.first + run.count ≤ S.size disk.old }
-    requires room { HasOldRoom cache.old run.count }
+    requires room { HasRoomForOld cache.old run.count }
     ensures { MakesZero S.size S.told S.failures which run result disk.old disk.new cache.old cache.new }
 {
     for place in 0..run.count {
@@ -118,7 +118,7 @@ impl<S: SectorStore> Bay<S> {
                 log_lies: [0; PAGE_BYTES],
             },
             first,
-            later: Plugged::Nothing,
+            later: PluggedDisks::Nothing,
             lasting,
             cache: Cache::new(alloc, cached),
         }
@@ -151,7 +151,7 @@ impl<S: SectorStore> Bay<S> {
     /// bytes are as they were. A read is told how many pieces of its command come right behind this one.
     #[inline(always)]
     fn transfer_bytes(&mut self, next: NextMove, ahead: u32, bytes: &mut [u8; 512]) -> bool
-        requires { HasOldRoom self.old.cache (written_ahead (operation_of_kind next.command_kind) 1) }
+        requires { HasRoomForOld self.old.cache (written_ahead (operation_of_kind next.command_kind) 1) }
         ensures { TransfersPiece S.size S.told S.failures self.old self.new next bytes.old bytes.new result }
     {
         match next.command_kind {
@@ -178,7 +178,7 @@ impl<S: SectorStore> Bay<S> {
     #[inline(always)]
     fn transfer_within(&mut self, next: NextMove, ahead: u32, piece: &mut [u8]) -> bool
         requires long { length piece.old ≡ 512 }
-        requires room { HasOldRoom self.old.cache (written_ahead (operation_of_kind next.command_kind) 1) }
+        requires room { HasRoomForOld self.old.cache (written_ahead (operation_of_kind next.command_kind) 1) }
         ensures { TransfersPiece S.size S.told S.failures self.old self.new next piece.old piece.new result }
     {
         let Some(bytes) = piece.as_mut_array() else {
@@ -192,11 +192,11 @@ impl<S: SectorStore> Bay<S> {
     #[inline(always)]
     pub fn transfer_piece(&mut self, hardware: &mut Hardware, next: NextMove, ahead: u32) -> bool
         requires inside { next.address + 512 ≤ length hardware.old.memory.items }
-        requires room { HasOldRoom self.old.cache (written_ahead (operation_of_kind next.command_kind) 1) }
+        requires room { HasRoomForOld self.old.cache (written_ahead (operation_of_kind next.command_kind) 1) }
         ensures exchanges { TransfersPiece S.size S.told S.failures self.old self.new next
             (piece_of hardware.old next) (piece_of hardware.new next) result }
         ensures memory { IsTransferred hardware.old hardware.new next }
-        ensures stays { result ≡ false → (o : Outside) → device_of hardware.new o ≡ device_of hardware.old o }
+        ensures stays { result ≡ false → (o : AllMedia) → device_of hardware.new o ≡ device_of hardware.old o }
     {
         let at = next.address as usize;
         self.transfer_within(next, ahead, &mut hardware.memory[at..at + PAGE_BYTES])
@@ -205,7 +205,7 @@ impl<S: SectorStore> Bay<S> {
     /// Makes these sectors of the disk that is in zero, as `clear_sectors` does.
     pub fn clear(&mut self, run: SectorExtent) -> u32
         requires inside { run.first + run.count ≤ S.size self.old.disk.store }
-        requires room { HasOldRoom self.old.cache run.count }
+        requires room { HasRoomForOld self.old.cache run.count }
         ensures zero { MakesZero S.size S.told S.failures self.old.which run result self.old.disk.store
             self.new.disk.store self.old.cache self.new.cache }
         ensures lasting { lasting_of S.told self.new ≡ lasting_of S.told self.old }
@@ -221,9 +221,9 @@ impl<S: SectorStore> Bay<S> {
         requires slot { slot < 32 }
         ensures begun { IfSome result (λ b. IsBegun port slot b.rest.left b.rest.clears b.was_taken hardware.old
             hardware.new) }
-        ensures ahead { IfSome result (λ b. (o : Outside)
+        ensures ahead { IfSome result (λ b. (o : AllMedia)
             → HasRoomAhead self.new.cache port slot b.rest.left (device_of hardware.new o)) }
-        ensures same { KeepsTheSame self.old.cache self.new.cache }
+        ensures same { KeepsSameOldSectors self.old.cache self.new.cache }
         ensures left { result ≡ None
             → IsUnbegun port slot hardware.old hardware.new self.old.cache self.new.cache }
         ensures rest { self.new ≡ record self.old { cache = self.new.cache } }
@@ -235,10 +235,10 @@ impl<S: SectorStore> Bay<S> {
     /// none. It is asked for each sector that is moved, so it stands in its callers' code.
     #[inline(always)]
     pub fn reserve(&mut self, changes: u32) -> bool
-        ensures same { KeepsTheSame self.old.cache self.new.cache }
-        ensures kept { (n : ℕ) → HasOldRoom self.old.cache n → HasOldRoom self.new.cache n }
-        ensures room { result ≡ true → HasOldRoom self.new.cache changes }
-        ensures lacked { result ≡ false → HasOldRoom self.old.cache changes → ⊥ }
+        ensures same { KeepsSameOldSectors self.old.cache self.new.cache }
+        ensures kept { (n : ℕ) → HasRoomForOld self.old.cache n → HasRoomForOld self.new.cache n }
+        ensures room { result ≡ true → HasRoomForOld self.new.cache changes }
+        ensures lacked { result ≡ false → HasRoomForOld self.old.cache changes → ⊥ }
         ensures rest { self.new ≡ record self.old { cache = self.new.cache } }
     {
         self.cache.reserve(changes as usize)
@@ -253,7 +253,7 @@ impl<S: SectorStore> Bay<S> {
 
     /// Has the log name this command.
     pub fn log_failed(&mut self, failed: LoggedError)
-        ensures { self.new ≡ record self.old { says = naming failed self.old.says } }
+        ensures { self.new ≡ record self.old { says = with_logged_error failed self.old.says } }
     {
         self.says.log = Some(failed);
     }
@@ -357,7 +357,7 @@ pub fn note_end_of<S: SectorStore>(
     port: usize,
     command_kind: CommandKind,
 )
-    ensures { EndsOnly (operation_of_kind command_kind) port bays.old.items bays.new.items }
+    ensures { OnlyEndsCommand (operation_of_kind command_kind) port bays.old.items bays.new.items }
 {
     if port < bays.len() {
         if let Some(bay) = &mut bays[port] {
@@ -368,7 +368,7 @@ pub fn note_end_of<S: SectorStore>(
 
 /// Has the log of a port's disks name this command, if it has disks.
 pub fn log_failed<S: SectorStore>(bays: &mut Vec<Option<Bay<S>>>, port: usize, failed: LoggedError)
-    ensures { SaysOnly (naming failed) port bays.old.items bays.new.items }
+    ensures { OnlyChangesPageSource (with_logged_error failed) port bays.old.items bays.new.items }
 {
     if port < bays.len() {
         if let Some(bay) = &mut bays[port] {
@@ -386,7 +386,7 @@ pub fn lie_of<S: SectorStore>(
     bits: u8,
 )
     requires { offset < 512 }
-    ensures { SaysOnly (lying page offset bits) port bays.old.items bays.new.items }
+    ensures { OnlyChangesPageSource (lying page offset bits) port bays.old.items bays.new.items }
 {
     if port < bays.len() {
         if let Some(bay) = &mut bays[port] {
@@ -397,7 +397,7 @@ pub fn lie_of<S: SectorStore>(
 
 /// Has them tell no lies any more.
 pub fn end_lies<S: SectorStore>(bays: &mut Vec<Option<Bay<S>>>, port: usize)
-    ensures { SaysOnly truthful port bays.old.items bays.new.items }
+    ensures { OnlyChangesPageSource truthful port bays.old.items bays.new.items }
 {
     if port < bays.len() {
         if let Some(bay) = &mut bays[port] {

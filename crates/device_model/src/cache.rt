@@ -3,8 +3,8 @@
 ghost use Rattle.std.specs.Prelude.{◌≡◌, ◌<◌, ◌≤◌, ◌+◌, ◌⊎◌, ℕ, List, Option, true, false, option_map, length, is_some, []};
 ghost use Rattle.std.specs.Vec.{vec_len, vec_capacity};
 ghost use Rattle.sector_store.specs.Stores.{FailsOn, WritesSector};
-ghost use Rattle.device_model.specs.Cached.{CallFails, HasOldRoom, KeepsNone, KeepsTheSame, TurnsBack, lasting_in};
-ghost use Rattle.device_model.specs.OldSectors.{with_old};
+ghost use Rattle.device_model.specs.Cached.{CallFails, HasRoomForOld, KeepsNoOldSectors, KeepsSameOldSectors, RollsBack, lasting_in};
+ghost use Rattle.device_model.specs.OldSectors.{with_old_bytes};
 
 use crate::old_sectors::OldSectors;
 use sector_store::SectorStore;
@@ -36,18 +36,18 @@ impl Cache {
     /// It stands in its callers' code, as `Bay::reserve`.
     #[inline(always)]
     pub fn reserve(&mut self, more: usize) -> bool
-        ensures same { KeepsTheSame self.old self.new }
-        ensures kept { (n : ℕ) → HasOldRoom self.old n → HasOldRoom self.new n }
-        ensures room { result ≡ true → HasOldRoom self.new more }
-        ensures lacked { result ≡ false → HasOldRoom self.old more → ⊥ }
-        ensures lacks { result ≡ false → HasOldRoom self.new more → ⊥ }
+        ensures same { KeepsSameOldSectors self.old self.new }
+        ensures kept { (n : ℕ) → HasRoomForOld self.old n → HasRoomForOld self.new n }
+        ensures room { result ≡ true → HasRoomForOld self.new more }
+        ensures lacked { result ≡ false → HasRoomForOld self.old more → ⊥ }
+        ensures lacks { result ≡ false → HasRoomForOld self.new more → ⊥ }
     {
         !self.is_on || more == 0 || self.kept.reserve(more)
     }
 
     /// All that the disk holds is lasting.
     pub fn forget(&mut self)
-        ensures { KeepsNone self.old self.new }
+        ensures { KeepsNoOldSectors self.old self.new }
     {
         self.kept.forget();
     }
@@ -65,8 +65,8 @@ fn put_over_old<S: SectorStore>(
     requires { vec_len kept.old.sectors < vec_capacity kept.old.sectors }
     ensures writes { WritesSector S.size S.told S.failures (CallFails true true sector) sector bytes.now store.old
         store.new result }
-    ensures lasting { option_map (with_old kept.new.sectors.items) (S.told store.new)
-        ≡ option_map (with_old kept.old.sectors.items) (S.told store.old) }
+    ensures lasting { option_map (with_old_bytes kept.new.sectors.items) (S.told store.new)
+        ≡ option_map (with_old_bytes kept.old.sectors.items) (S.told store.old) }
     ensures left { (n : ℕ) → vec_len kept.old.sectors + (n + 1) ≤ vec_capacity kept.old.sectors
         → vec_len kept.new.sectors + n ≤ vec_capacity kept.new.sectors }
 {
@@ -88,13 +88,13 @@ pub fn put_sector<S: SectorStore>(
     sector: u64,
     bytes: &[u8; 512],
 ) -> bool
-    requires { HasOldRoom cache.old 1 }
+    requires { HasRoomForOld cache.old 1 }
     ensures writes { WritesSector S.size S.told S.failures (CallFails cache.old.is_on true sector) sector bytes.now
         store.old store.new result }
     ensures lasting { (noted : Option (ℕ → List ℕ)) → lasting_in cache.new (S.told store.new) noted
         ≡ lasting_in cache.old (S.told store.old) noted }
     ensures is_on { cache.new.is_on ≡ cache.old.is_on }
-    ensures left { (n : ℕ) → HasOldRoom cache.old (n + 1) → HasOldRoom cache.new n }
+    ensures left { (n : ℕ) → HasRoomForOld cache.old (n + 1) → HasRoomForOld cache.new n }
 {
     if cache.is_on {
         put_over_old(store, &mut cache.kept, sector, bytes)
@@ -105,7 +105,7 @@ pub fn put_sector<S: SectorStore>(
 
 /// Writes back what is kept, the lowest sector first. A sector on which the store fails keeps what it holds.
 pub fn roll_back<S: SectorStore>(store: &mut S, kept: &OldSectors)
-    ensures { TurnsBack S.size S.told S.failures (option_map (with_old kept.now.sectors.items) (S.told store.old))
+    ensures { RollsBack S.size S.told S.failures (option_map (with_old_bytes kept.now.sectors.items) (S.told store.old))
         store.old store.new }
 {
     for old in kept.as_slice() {

@@ -116,23 +116,23 @@ impl<S> Disks<S> {
 
 /// The disks that were put into a port one after another, each as it was then, for proofs alone: it takes no memory.
 #[derive(Drop)]
-pub enum Plugged<S> {
+pub enum PluggedDisks<S> {
     Nothing,
     After {
-        before: Snapshot<Plugged<S>>,
+        before: Snapshot<PluggedDisks<S>>,
         which: DiskIndex,
         store: Snapshot<S>,
     },
 }
 
-impl<S> Plugged<S> {
+impl<S> PluggedDisks<S> {
     /// Notes one more.
     pub fn note(&mut self, which: DiskIndex, store: &S)
         ensures { (disk : DiskIndex → S → Disk) → plugged_as disk self.new
             ≡ plugged_as disk self.old ++ disk which store.now ∷ [] }
     {
         let before = Snapshot::of(self);
-        *self = Plugged::After {
+        *self = PluggedDisks::After {
             before,
             which,
             store: Snapshot::of(store),

@@ -1,6 +1,6 @@
 // The model without its disks.
 ghost use Rattle.std.specs.Prelude.{Bool, List, ◌≡◌, ◌≢◌, ◌+◌, ◌<◌, ◌≤◌, ◌++◌, ℕ, true, false, if◌then◌else◌, All, length, take, drop, slice_index_or};
-ghost use Rattle.adapter.specs.Access.{Shows, is_pending, noted, written, with_is_cleared};
+ghost use Rattle.adapter.specs.Access.{Shows, is_pending, noted, written, with_is_bit_cleared};
 ghost use Rattle.adapter.specs.Memory.{patched, bytes_at};
 ghost use Rattle.adapter.specs.Device.{Device};
 ghost use Rattle.adapter.specs.Steps.{device_after, with_reset};
@@ -9,7 +9,7 @@ ghost use Rattle.hba_regs.specs.Bits.{bit};
 ghost use Rattle.device_model.specs.Held.{IsPortLoose, all_held};
 ghost use Rattle.device_model.specs.Settled.{EndsReset, IsSettled, IsSettledPort, LeadsOwn, Settles, SparesAdapter};
 ghost use Rattle.device_model.specs.View.{Media, port_of, blank_port};
-ghost use Rattle.device_model.specs.Whole.{Outside, device_of, HasRegister};
+ghost use Rattle.device_model.specs.WholeAdapter.{AllMedia, device_of, HasRegister};
 
 use crate::bits::bit_if;
 use crate::command_room::CommandRoom;
@@ -67,7 +67,7 @@ fn get(memory: &[u8], at: usize, out: &mut [u8])
 /// Bits of IS were written.
 fn clear_is_bit(ports: &mut [PortModel; 4], value: u32)
     ensures { (m : Media) (port : ℕ) → port_of (slice_index_or ports.new port blank_port) m ≡
-        (if bit value port then with_is_cleared (port_of (slice_index_or ports.old port blank_port) m) else port_of
+        (if bit value port then with_is_bit_cleared (port_of (slice_index_or ports.old port blank_port) m) else port_of
         (slice_index_or ports.old port blank_port) m) }
 {
     for port in 0..4u32 {
@@ -103,7 +103,7 @@ impl Hardware {
     /// What a register shows.
     pub fn shown(&self, r: Reg) -> u32
         requires { HasRegister r }
-        ensures { (o : Outside) → Shows r result (device_of self.now o) }
+        ensures { (o : AllMedia) → Shows r result (device_of self.now o) }
     {
         match r {
             Reg::Cap => self.cap,
@@ -119,7 +119,7 @@ impl Hardware {
     /// Notes what a register showed.
     pub fn note(&mut self, r: Reg, value: u32)
         requires { HasRegister r }
-        ensures notes { (o : Outside) → device_of self.new o ≡ noted r value (device_of self.old o) }
+        ensures notes { (o : AllMedia) → device_of self.new o ≡ noted r value (device_of self.old o) }
         ensures tape { self.new.tape ≡ self.old.tape }
         ensures starved { self.new.starved ≡ self.old.starved }
     {
@@ -130,7 +130,7 @@ impl Hardware {
 
     /// GHC is written.
     fn set_global(&mut self, value: u32)
-        ensures written { (o : Outside) → device_of self.new o ≡ written Reg.Ghc value (device_of self.old o) }
+        ensures written { (o : AllMedia) → device_of self.new o ≡ written Reg.Ghc value (device_of self.old o) }
         ensures starved { self.new.starved ≡ self.old.starved }
     {
         self.hr = self.hr || is_set(value, 0);
@@ -141,7 +141,7 @@ impl Hardware {
     /// Writes a register.
     pub fn write(&mut self, r: Reg, value: u32)
         requires { HasRegister r }
-        ensures written { (o : Outside) → device_of self.new o ≡ written r value (device_of self.old o) }
+        ensures written { (o : AllMedia) → device_of self.new o ≡ written r value (device_of self.old o) }
         ensures starved { self.new.starved ≡ self.old.starved }
     {
         match r {
@@ -158,7 +158,7 @@ impl Hardware {
     /// Copies bytes of memory.
     pub fn load(&self, at: usize, out: &mut [u8])
         requires { at + length out.old ≤ length self.now.memory.items }
-        ensures shows { (o : Outside) → out.new ≡ bytes_at (device_of self.now o).memory at (length out.new) }
+        ensures shows { (o : AllMedia) → out.new ≡ bytes_at (device_of self.now o).memory at (length out.new) }
         ensures bytes { All (λ byte. byte < 256) out.new }
     {
         get(&self.memory, at, out);
@@ -167,7 +167,7 @@ impl Hardware {
     /// Puts bytes into memory.
     pub fn store(&mut self, at: usize, bytes: &[u8])
         requires { at + length bytes.now ≤ length self.old.memory.items }
-        ensures stored { (o : Outside) → device_of self.new o ≡ record (device_of self.old o)
+        ensures stored { (o : AllMedia) → device_of self.new o ≡ record (device_of self.old o)
             { memory = patched (device_of self.old o).memory at bytes.now } }
         ensures starved { self.new.starved ≡ self.old.starved }
     {
@@ -177,7 +177,7 @@ impl Hardware {
     /// A reset that is pending ends (AHCI 1.3.1, 10.4.3).
     fn end_reset(&mut self)
         requires { self.old.hr ≡ true }
-        ensures resets { (o : Outside) → device_of self.new o ≡ device_after ResetEnds (device_of self.old o) }
+        ensures resets { (o : AllMedia) → device_of self.new o ≡ device_after ResetEnds (device_of self.old o) }
         ensures ended { self.new.hr ≡ false }
         ensures number { length self.new.ports ≡ length self.old.ports }
         ensures tape { self.new.tape ≡ self.old.tape }
@@ -191,7 +191,7 @@ impl Hardware {
 
     /// A reset that is pending ends unless all ports are held, and ends all holds.
     fn end_reset_unless_all_held(&mut self, held: &mut [bool; PORTS])
-        ensures resets { (o : Outside) → EndsReset held.old held.new (device_of self.old o) (device_of self.new o) }
+        ensures resets { (o : AllMedia) → EndsReset held.old held.new (device_of self.old o) (device_of self.new o) }
         ensures left { self.new.hr ≡ true → held.new ≡ all_held }
         ensures number { length self.new.ports ≡ length self.old.ports }
         ensures tape { self.new.tape ≡ self.old.tape }
@@ -206,10 +206,10 @@ impl Hardware {
     /// What one port does by itself: CR and FR fall where they may, and the link comes up, with the disk's first FIS.
     fn settle_port(&mut self, port: usize)
         requires { port < 4 }
-        ensures own { (o : Outside) (held : List Bool) → IsPortLoose held port
+        ensures own { (o : AllMedia) (held : List Bool) → IsPortLoose held port
             → LeadsOwn (Settles held) (device_of self.old o) (device_of self.new o) }
-        ensures settled { (o : Outside) → IsSettledPort ((device_of self.new o).port port) }
-        ensures others { (o : Outside) (q : ℕ) → q ≢ port → (device_of self.new o).port q ≡ (device_of self.old o).port
+        ensures settled { (o : AllMedia) → IsSettledPort ((device_of self.new o).port port) }
+        ensures others { (o : AllMedia) (q : ℕ) → q ≢ port → (device_of self.new o).port q ≡ (device_of self.old o).port
             q }
         ensures spares { SparesAdapter self.old self.new }
     {
@@ -223,9 +223,9 @@ impl Hardware {
     /// ends all holds; then each port that isn't held does what it does by itself. Afterwards none of this is possible
     /// any more.
     pub fn settle_state(&mut self, held: &mut [bool; PORTS])
-        ensures own { (o : Outside) → (reset : Device) × EndsReset held.old held.new (device_of self.old o) reset
+        ensures own { (o : AllMedia) → (reset : Device) × EndsReset held.old held.new (device_of self.old o) reset
             × LeadsOwn (Settles held.new) reset (device_of self.new o) }
-        ensures settled { (o : Outside) → IsSettled held.new (device_of self.new o) }
+        ensures settled { (o : AllMedia) → IsSettled held.new (device_of self.new o) }
         ensures tape { self.new.tape ≡ self.old.tape }
         ensures starved { self.new.starved ≡ self.old.starved }
     {

@@ -10,7 +10,7 @@ ghost use Rattle.adapter.specs.Steps.DeviceTransition.{Clear, Fetch, Move};
 ghost use Rattle.adapter.specs.declared.access.DeviceStep.{DeviceStep};
 ghost use Rattle.adapter.specs.declared.access.DeviceStep.TheVariants as asked;
 ghost use Rattle.device_model.specs.Cached.{sector_told};
-ghost use Rattle.device_model.specs.Disks.{bay_of, numbered_disk, lasting_of, which_of};
+ghost use Rattle.device_model.specs.Disks.{bay_of, numbered_disk, lasting_of, disk_index_of};
 ghost use Rattle.device_model.specs.Does.{DidStep, Possible, PutsIn};
 ghost use Rattle.device_model.specs.Finishing.{HasDisk};
 ghost use Rattle.device_model.specs.Held.{IsPortHeld};
@@ -53,15 +53,15 @@ pub fn law_clears_are_possible<S: SectorStore>()
 /// LosePlug doesn't put in, and of the one that was, where none is in.
 pub fn law_disks_that_are_out_stay<S: SectorStore>()
     ensures other { (steps : List DeviceStep) (old new : Model S) (port : ℕ) (which : DiskIndex)
-        → which_of old port ≢ Some which → All (λ s. PutsIn (which_of old port) port which s → ⊥) steps →
-        DoesEach S.size S.told S.failures steps old new → (which_of new port ≢ Some which)
+        → disk_index_of old port ≢ Some which → All (λ s. PutsIn (disk_index_of old port) port which s → ⊥) steps →
+        DoesEach S.size S.told S.failures steps old new → (disk_index_of new port ≢ Some which)
         × (numbered_disk new port which ≡ numbered_disk old port which) }
     ensures last_in { (steps : List DeviceStep) (old new : Model S) (port : ℕ) (which : DiskIndex)
-        → which_of old port ≡ Some which →
+        → disk_index_of old port ≡ Some which →
         ((device_at S.size S.told old).port port).present ≡ false
-        → All (λ s. PutsIn (which_of old port) port which s → ⊥) steps
+        → All (λ s. PutsIn (disk_index_of old port) port which s → ⊥) steps
         → DoesEach S.size S.told S.failures steps old new →
-        (which_of new port ≡ Some which → ((device_at S.size S.told new).port port).present ≡ false)
+        (disk_index_of new port ≡ Some which → ((device_at S.size S.told new).port port).present ≡ false)
         × (numbered_disk new port which ≡ numbered_disk old port which) }
 {}
 
@@ -98,7 +98,7 @@ pub fn law_queued_commands_go_on_side_by_side<S: SectorStore>()
 
 /// What a LosePlug leaves on a disk with a cache, of a store that tells its sectors: in each sector what is lasting of
 /// it, or what it held, and then some call on the store has failed. So all is lasting where none has. (Which sectors'
-/// writes have failed says `TurnsBack`.)
+/// writes have failed says `RollsBack`.)
 pub fn law_lost_caches_leave_what_is_lasting<S: SectorStore>()
     ensures each { (old new : Model S) (p : Port) (a b : Bay S) → bay_of old p.0 ≡ Some a → bay_of new p.0 ≡ Some b
         → a.cache.is_on ≡ true → DidStep S.size S.told S.failures (asked.LosePlug p) old new → (sector : ℕ)

@@ -33,11 +33,11 @@ mod settling;
 mod slots;
 mod steps;
 mod taken;
+mod taped_adapter;
 mod trims;
-mod watched;
 
 pub use config::{ModelConfig, NoMemory};
 pub use disks::{Disks, ModelDisk, PortDisks, Serial};
 pub use model::Model;
 pub use sector_store::pages::Trim;
-pub use watched::{Inspectable, TapedAdapter};
+pub use taped_adapter::{Inspectable, TapedAdapter};

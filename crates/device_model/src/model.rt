@@ -11,21 +11,21 @@ ghost use Rattle.adapter.specs.Asked.{Asked};
 ghost use Rattle.sector_store.specs.Stores.{FailsOn};
 ghost use Rattle.device_model.specs.Fetched.{bytes_of};
 ghost use Rattle.adapter.specs.OneCommand.{IsFreeSlot};
-ghost use Rattle.device_model.specs.Disks.{EndsOnly, HasOldRoomAt, SaysOnly, numbered_disk, given_for, port_0_alone};
+ghost use Rattle.device_model.specs.Disks.{OnlyEndsCommand, HasRoomForOldAt, OnlyChangesPageSource, numbered_disk, disks_given_for, port_0_alone};
 ghost use Rattle.device_model.specs.View.{operation_of_kind};
 ghost use Rattle.device_model.specs.Finishing.{LooksForPage, HasPageCommand, HasMove, TapeHasRoom, HasTakenCommand, MayTakePage, sends_page};
 ghost use Rattle.device_model.specs.Held.{IsPortLoose};
-ghost use Rattle.device_model.specs.Paged.{lying, naming, truthful};
+ghost use Rattle.device_model.specs.Paged.{lying, with_logged_error, truthful};
 ghost use Rattle.device_model.specs.Pending.{TakesPage};
-ghost use Rattle.device_model.specs.Does.{AnswersStep, Completes, OwnStepsKeep, HasCleared, CommandFails, ReadiesNext, answer_of, asked_fault};
+ghost use Rattle.device_model.specs.Does.{AnswersStep, Completes, OwnStepsKeep, HasCleared, CommandFails, ReadiesNext, was_step_done, asked_fault};
 ghost use Rattle.device_model.specs.Tells.{disks_told};
 ghost use Rattle.device_model.specs.Queue.{BeginsAccess, DoesRead, DoesThen};
-ghost use Rattle.device_model.specs.Modelled.{IsNewBay, IsNewMedia, IsNewModel, all_given_tell, all_tell, cap_of, device_at, given_tell, media_of, tells};
-ghost use Rattle.device_model.specs.Slots.{IsNext};
+ghost use Rattle.device_model.specs.Modelled.{IsNewBay, IsNewMedia, IsNewModel, all_given_disks_tell, all_tell, cap_of, device_at, given_disks_tell, media_of, tells};
+ghost use Rattle.device_model.specs.Slots.{IsNextMove};
 ghost use Rattle.device_model.specs.declared.port.TakenCommand.{TakenCommand};
-ghost use Rattle.device_model.specs.Settled.{SendsPages, IsSettled, LeadsOwn, LeavesOne, NoneIsLeft};
-ghost use Rattle.device_model.specs.Trims.{span, written_ahead};
-ghost use Rattle.device_model.specs.Whole.{HasDisks, HasRegister};
+ghost use Rattle.device_model.specs.Settled.{SendsPages, IsSettled, LeadsOwn, LeavesPageWithoutMemory, NoPageIsLeft};
+ghost use Rattle.device_model.specs.Trims.{next_run_length, written_ahead};
+ghost use Rattle.device_model.specs.WholeAdapter.{HasDisks, HasRegister};
 
 use crate::bay::{Bay, PAGE_BYTES, end_lies, lie_of, log_failed, note_end_of};
 use crate::clearing::SectorExtent;
@@ -58,7 +58,7 @@ enum StepOutcome {
 impl StepOutcome {
     /// Whether something came of it.
     fn is_told(self) -> bool
-        ensures { result ≡ answer_of self }
+        ensures { result ≡ was_step_done self }
     {
         match self {
             StepOutcome::Left => false,
@@ -116,7 +116,7 @@ fn bay_for<S: SectorStore>(
 ) -> Option<Bay<S>>
     ensures bay { IsNewBay config disks result }
     ensures media { IsNewMedia S.size S.told disks (media_of S.size S.told result) }
-    ensures tells { tells S.told result ≡ given_tell S.told disks }
+    ensures tells { tells S.told result ≡ given_disks_tell S.told disks }
 {
     let abilities = Abilities {
         ncq: config.ncq,
@@ -146,10 +146,10 @@ fn bays_for<S: SectorStore>(
     config: ModelConfig,
 ) -> Result<Vec<Option<Bay<S>>>, NoMemory>
     ensures bays { IfOk result (λ bays. (port : ℕ)
-        → IsNewBay config (given_for disks port) (slice_index_or bays.items port None)) }
-    ensures media { IfOk result (λ bays. (port : ℕ) → IsNewMedia S.size S.told (given_for disks port)
+        → IsNewBay config (disks_given_for disks port) (slice_index_or bays.items port None)) }
+    ensures media { IfOk result (λ bays. (port : ℕ) → IsNewMedia S.size S.told (disks_given_for disks port)
         (media_of S.size S.told (slice_index_or bays.items port None))) }
-    ensures tells { IfOk result (λ bays. all_tell S.told bays.items ≡ all_given_tell S.told disks) }
+    ensures tells { IfOk result (λ bays. all_tell S.told bays.items ≡ all_given_disks_tell S.told disks) }
 {
     let mut bays = Vec::with_capacity(alloc, PORTS)?;
     push_bay(&mut bays, bay_for(alloc, disks.port0, config));
@@ -374,8 +374,9 @@ impl<S: SectorStore> Model<S> {
         ahead: u32,
     ) -> StepOutcome
         requires small { slot.0 < 32 }
-        requires known { IfSome known.old (λ n. (t : TakenCommand) × IsNext self.old.hardware port.0 slot.0 n t) }
-        ensures answers { AnswersStep S.size S.told S.failures (DeviceStep.Move port slot) (answer_of result) self.old
+        requires known { IfSome known.old (λ n. (t : TakenCommand) × IsNextMove self.old.hardware port.0 slot.0 n t) }
+        ensures answers { AnswersStep S.size S.told S.failures (DeviceStep.Move port slot) (was_step_done result)
+            self.old
             self.new }
         ensures whole { result ≡ StepOutcome.Done
             → Completes S.size S.told S.failures (DeviceStep.Move port slot) self.old
@@ -436,7 +437,7 @@ impl<S: SectorStore> Model<S> {
     /// before, if the disks have a cache.
     fn clear_run(&mut self, port: Port, slot: Slot, most: u32) -> StepOutcome
         requires { slot.0 < 32 }
-        ensures answers { AnswersStep S.size S.told S.failures (DeviceStep.Clear port slot most) (answer_of result)
+        ensures answers { AnswersStep S.size S.told S.failures (DeviceStep.Clear port slot most) (was_step_done result)
             self.old self.new }
         ensures whole { result ≡ StepOutcome.Done
             → HasCleared (device_at S.size S.told self.old) (device_at S.size S.told self.new) port.0 slot.0 most
@@ -448,7 +449,7 @@ impl<S: SectorStore> Model<S> {
             → TapeHasRoom self.new.hardware n }
         ensures old_room { result ≡ StepOutcome.Done → (t : FetchedCommand)
             → ((device_at S.size S.told self.old).port port.0).taken slot.0 ≡ Some t → (n : ℕ)
-            → HasOldRoomAt self.old port.0 (span most t + n) → HasOldRoomAt self.new port.0 n }
+            → HasRoomForOldAt self.old port.0 (next_run_length most t + n) → HasRoomForOldAt self.new port.0 n }
     {
         let place = usize::from(port.0);
         if place >= PORTS || !has_disks(self.bays.as_slice(), place) {
@@ -578,10 +579,10 @@ impl<S: SectorStore> Model<S> {
             (device_at S.size S.told self.new) }
         ensures settled { (held : List Bool) → IsSettled held (device_at S.size S.told self.old)
             → IsSettled held (device_at S.size S.told self.new) }
-        ensures left { NoneIsLeft self.new.held self.new.hardware.starved (device_at S.size S.told self.new) }
+        ensures left { NoPageIsLeft self.new.held self.new.hardware.starved (device_at S.size S.told self.new) }
         ensures rest { OwnStepsKeep S.size self.old self.new }
         ensures told { self.new.hardware.starved ≡ true → (self.old.hardware.starved ≡ true)
-            ⊎ LeavesOne self.new.hardware (device_at S.size S.told self.new) }
+            ⊎ LeavesPageWithoutMemory self.new.hardware (device_at S.size S.told self.new) }
         ensures disks { (port : ℕ) (which : DiskIndex)
             → numbered_disk self.new port which ≡ numbered_disk self.old port which }
     {
@@ -727,7 +728,7 @@ impl<S: SectorStore> Adapter for Model<S> {
         ensures reads { Reads r result (device_at S.size S.told self.old) (device_at S.size S.told self.new) }
         ensures counted { self.new.accesses.count.made ≡ self.old.accesses.count.made + 1 }
         ensures settled { IsSettled self.new.held (device_at S.size S.told self.new) }
-        ensures left { NoneIsLeft self.new.held self.new.hardware.starved (device_at S.size S.told self.new) }
+        ensures left { NoPageIsLeft self.new.held self.new.hardware.starved (device_at S.size S.told self.new) }
         ensures alone { DoesRead S.size S.told S.failures r result self.old self.new }
     {
         self.do_queued_steps();

@@ -1,7 +1,7 @@
 // What the sectors of a disk with a volatile write cache held before they were changed.
 ghost use Rattle.std.specs.Prelude.{◌≡◌, ◌≤◌, ◌<◌, ◌+◌, ℕ, None, IfSome, IfOk, IfErr, [], true, false, is_some};
 ghost use Rattle.std.specs.Vec.{vec_len, vec_capacity};
-ghost use Rattle.device_model.specs.OldSectors.{AreRising, IsGapFor, IsOldAt, KeepsOnly, old_of};
+ghost use Rattle.device_model.specs.OldSectors.{AreRising, IsGapFor, IsOldAt, AddsOldSector, old_bytes_of};
 
 use std::alloc::Global;
 
@@ -53,7 +53,7 @@ impl OldSectors {
     /// Where a sector would be put; `None` says that it has old bytes already.
     pub fn gap_for(&self, sector: u64) -> Option<usize>
         ensures gap { IfSome result (IsGapFor self.now.sectors.items sector) }
-        ensures has { result ≡ None → is_some (old_of self.now.sectors.items sector) ≡ true }
+        ensures has { result ≡ None → is_some (old_bytes_of self.now.sectors.items sector) ≡ true }
     {
         match self.place_of(sector) {
             Ok(_) => None,
@@ -67,7 +67,7 @@ impl OldSectors {
     pub fn keep(&mut self, place: usize, sector: u64, bytes: &[u8; 512])
         requires gap { IsGapFor self.old.sectors.items sector place }
         requires room { vec_len self.old.sectors < vec_capacity self.old.sectors }
-        ensures keeps { KeepsOnly self.old.sectors.items self.new.sectors.items sector bytes.now }
+        ensures keeps { AddsOldSector self.old.sectors.items self.new.sectors.items sector bytes.now }
         ensures left { (n : ℕ) → vec_len self.old.sectors + (n + 1) ≤ vec_capacity self.old.sectors
             → vec_len self.new.sectors + n ≤ vec_capacity self.new.sectors }
     {

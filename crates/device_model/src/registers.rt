@@ -2,7 +2,7 @@
 ghost use Rattle.std.specs.Prelude.{◌≡◌, ℕ, true, false};
 ghost use Rattle.adapter.specs.Asked.{fatal_bit};
 ghost use Rattle.adapter.specs.Memory.{changed};
-ghost use Rattle.adapter.specs.Access.{PortShows, note, port_written, with_is_cleared, counted as count_after, link_counted as link_count_after};
+ghost use Rattle.adapter.specs.Access.{PortShows, note, port_written, with_is_bit_cleared, readings_counted as count_after, link_readings_counted as link_count_after};
 ghost use Rattle.device_model.specs.View.{Media, port_of};
 
 use crate::bits::{bit_if, with_bit_as, without_ones};
@@ -13,7 +13,7 @@ use ata_types::MOST_READINGS;
 use hba_regs::{PortReg, is_set};
 
 /// One more reading in a row.
-fn counted(again: bool, count: u32) -> u32
+fn readings_counted(again: bool, count: u32) -> u32
     ensures { result ≡ count_after again count }
 {
     if again {
@@ -24,7 +24,7 @@ fn counted(again: bool, count: u32) -> u32
 }
 
 /// The count of SSTS after one more reading.
-fn link_counted(det: u32, count: u32) -> u32
+fn link_readings_counted(det: u32, count: u32) -> u32
     ensures { result ≡ link_count_after det count }
 {
     if det == 3 {
@@ -83,25 +83,28 @@ impl PortModel {
             PortReg::Cmd => {
                 let awaited = !self.st && is_set(value, 15) || !self.fre && is_set(value, 14);
                 self.readings.last_cmd = value;
-                self.readings.engine_count = counted(awaited, self.readings.engine_count);
+                self.readings.engine_count = readings_counted(awaited, self.readings.engine_count);
             }
             PortReg::Ssts => {
                 self.readings.last_ssts = value;
                 if no_comreset {
-                    self.readings.link_count = link_counted(value % 16, self.readings.link_count);
+                    self.readings.link_count = link_readings_counted(
+                        value % 16,
+                        self.readings.link_count,
+                    );
                 }
             }
             PortReg::Tfd => {
                 self.readings.last_tfd = value;
                 if no_comreset {
                     let busy = is_set(value, 7) || is_set(value, 3);
-                    self.readings.busy_count = counted(busy, self.readings.busy_count);
+                    self.readings.busy_count = readings_counted(busy, self.readings.busy_count);
                 }
             }
             PortReg::Ci => {
                 self.readings.last_ci = value;
                 if no_comreset {
-                    self.readings.command_count = counted(
+                    self.readings.command_count = readings_counted(
                         is_set(value, 0),
                         self.readings.command_count,
                     );
@@ -211,7 +214,7 @@ impl PortModel {
 
     /// The port's bit of IS was written.
     pub fn clear_is_bit(&mut self)
-        ensures { (m : Media) → port_of self.new m ≡ with_is_cleared (port_of self.old m) }
+        ensures { (m : Media) → port_of self.new m ≡ with_is_bit_cleared (port_of self.old m) }
     {
         self.ips = false;
         self.other_causes = enables_others(self.enabled);

@@ -6,7 +6,7 @@ ghost use Rattle.adapter.specs.Asked.{DoesScribble, memory_filled};
 ghost use Rattle.adapter.specs.Memory.{patched};
 ghost use Rattle.device_model.specs.Fetched.{bytes_of};
 ghost use Rattle.device_model.specs.View.{blank_port, taken_in};
-ghost use Rattle.device_model.specs.Whole.{Outside, device_of};
+ghost use Rattle.device_model.specs.WholeAdapter.{AllMedia, device_of};
 
 use crate::hardware::{Hardware, put};
 use adapter::laws::law_scribble_slot_by_slot;
@@ -53,9 +53,9 @@ impl Hardware {
     /// says that the port receives no FISes.
     pub fn scribble(&mut self, port: u8, byte: u8) -> bool
         requires { port < 4 }
-        ensures did { result ≡ true → (o : Outside)
+        ensures did { result ≡ true → (o : AllMedia)
             → DoesScribble port byte (device_of self.old o) (device_of self.new o) }
-        ensures left { result ≡ false → (o : Outside) → ((device_of self.old o).port port).fre ≡ true → ⊥ }
+        ensures left { result ≡ false → (o : AllMedia) → ((device_of self.old o).port port).fre ≡ true → ⊥ }
         ensures refused { result ≡ false → self.new ≡ self.old }
         ensures rest { self.new ≡ record self.old { memory = self.new.memory } }
     {

@@ -3,7 +3,7 @@ ghost use Rattle.std.specs.Prelude.{◌≡◌, ◌+◌, ◌<◌, ◌≤◌, ◌/
 ghost use Rattle.ata_types.specs.declared.memory.TheConstants.{RECEIVED_FIS_BYTES};
 ghost use Rattle.device_model.specs.Sent.{IsSent, SendsEnd, SendsFault, SendsRegisters, end_fis, no_tag_fis, page_setup, signature_fis, tag_fis};
 ghost use Rattle.device_model.specs.View.{Media, cause_of, operation_of_kind, port_of};
-ghost use Rattle.device_model.specs.Whole.{Outside, device_of};
+ghost use Rattle.device_model.specs.WholeAdapter.{AllMedia, device_of};
 
 use crate::hardware::{Hardware, put};
 use crate::port::{CommandKind, PortModel};
@@ -119,7 +119,7 @@ impl Hardware {
     fn send(&mut self, port: usize, place: usize, fis: &[u8])
         requires port { port < 4 }
         requires place { place + length fis.now ≤ RECEIVED_FIS_BYTES }
-        ensures sent { (o : Outside) → IsSent port place fis.now (device_of self.old o) (device_of self.new o) }
+        ensures sent { (o : AllMedia) → IsSent port place fis.now (device_of self.old o) (device_of self.new o) }
         ensures rest { self.new ≡ record self.old { memory = self.new.memory } }
     {
         let area = self.ports[port].addresses.fb as usize;
@@ -133,7 +133,7 @@ impl Hardware {
     pub fn send_end(&mut self, port: usize, slot: u8, command_kind: CommandKind)
         requires port { port < 4 }
         requires slot { slot < 32 }
-        ensures sent { (o : Outside) → SendsEnd slot port (cause_of command_kind) (operation_of_kind command_kind)
+        ensures sent { (o : AllMedia) → SendsEnd slot port (cause_of command_kind) (operation_of_kind command_kind)
             (device_of self.old o) (device_of self.new o) }
         ensures rest { self.new ≡ record self.old { memory = self.new.memory } }
     {
@@ -156,7 +156,7 @@ impl Hardware {
     /// Sends the FIS of a command that has failed: of a queued one a Set Device Bits FIS, and else a Register FIS.
     pub fn send_fault(&mut self, port: usize, queued: bool)
         requires { port < 4 }
-        ensures sent { (o : Outside) → SendsFault queued port (device_of self.old o) (device_of self.new o) }
+        ensures sent { (o : AllMedia) → SendsFault queued port (device_of self.old o) (device_of self.new o) }
         ensures rest { self.new ≡ record self.old { memory = self.new.memory } }
     {
         if queued {
@@ -171,7 +171,7 @@ impl Hardware {
     /// Sends the first FIS of a disk, whose link has come up.
     pub fn send_signature(&mut self, port: usize)
         requires { port < 4 }
-        ensures sent { (o : Outside) → SendsRegisters port (signature_fis ((device_of self.old o).port port))
+        ensures sent { (o : AllMedia) → SendsRegisters port (signature_fis ((device_of self.old o).port port))
             (device_of self.old o) (device_of self.new o) }
         ensures rest { self.new ≡ record self.old { memory = self.new.memory } }
     {

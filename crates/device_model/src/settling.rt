@@ -1,7 +1,7 @@
 // What a port does by itself before a register is read, and what the end of a reset makes of it.
 ghost use Rattle.std.specs.Prelude.{◌≡◌, ◌%◌, ◌↔◌, IsTrue, true, false};
 ghost use Rattle.adapter.specs.Steps.{MayLinkUp, with_link, with_reset};
-ghost use Rattle.device_model.specs.Settled.{GoesTo};
+ghost use Rattle.device_model.specs.Settled.{SettlesPort};
 ghost use Rattle.device_model.specs.View.{Media, port_of};
 
 use crate::halt::Halting;
@@ -10,7 +10,7 @@ use crate::port::PortModel;
 impl PortModel {
     /// PxCMD.CR falls where ST is zero (AHCI 1.3.1, 3.3.7): no command is taken any more.
     fn fall(&mut self)
-        ensures does { (m : Media) → GoesTo (port_of self.old m) (port_of self.new m) }
+        ensures does { (m : Media) → SettlesPort (port_of self.old m) (port_of self.new m) }
         ensures fallen { self.new.st ≡ false → self.new.cr ≡ true → false ≡ true }
     {
         if !self.st && self.cr {
@@ -21,7 +21,7 @@ impl PortModel {
 
     /// PxCMD.FR falls where FRE and CR are zero (AHCI 1.3.1, 3.3.7).
     fn fr_fall(&mut self)
-        ensures does { (m : Media) → GoesTo (port_of self.old m) (port_of self.new m) }
+        ensures does { (m : Media) → SettlesPort (port_of self.old m) (port_of self.new m) }
         ensures fallen { self.new.fre ≡ false → self.new.cr ≡ false → self.new.fr ≡ true → false ≡ true }
         ensures engine { (self.new.st ≡ self.old.st) × (self.new.cr ≡ self.old.cr) }
     {
@@ -74,7 +74,7 @@ impl PortModel {
 
     /// CR and FR fall where they may.
     pub fn settle_state(&mut self)
-        ensures does { (m : Media) → GoesTo (port_of self.old m) (port_of self.new m) }
+        ensures does { (m : Media) → SettlesPort (port_of self.old m) (port_of self.new m) }
         ensures fallen { self.new.st ≡ false → self.new.cr ≡ true → false ≡ true }
         ensures area { self.new.fre ≡ false → self.new.cr ≡ false → self.new.fr ≡ true → false ≡ true }
     {

@@ -9,15 +9,15 @@ ghost use Rattle.adapter.specs.Steps.{Can, IsFinished, device_after, next_sector
 ghost use Rattle.adapter.specs.Steps.DeviceTransition.{Fetch as FetchStep, FetchFault as FetchFaultStep, Move as MoveStep, Done as DoneStep, Fault as FaultStep, Fatal as FatalStep, Unplug as UnplugStep, Plug as PlugStep};
 ghost use Rattle.adapter.specs.Asked.{DoesFatal, DoesFault, DoesFetch, EndsAndPosts, fatal_bit};
 ghost use Rattle.device_model.specs.Block.{brought};
-ghost use Rattle.device_model.specs.Cached.{HasOldRoom, KeepsTheSame};
+ghost use Rattle.device_model.specs.Cached.{HasRoomForOld, KeepsSameOldSectors};
 ghost use Rattle.device_model.specs.Exchanged.{IsTransferred, piece_of};
 ghost use Rattle.device_model.specs.Fetched.{bytes_of};
 ghost use Rattle.device_model.specs.Finishing.{TapeHasRoom, HasRoomAhead, LooksForPage, IsInside, AreInside, IsBegun, IsCovered, IsStepSkipped, IsRemaining, IsUnbegun};
 ghost use Rattle.device_model.specs.Sent.{SendsEnd};
-ghost use Rattle.device_model.specs.Slots.{WorksOnIn, IsNext, HasUntaken};
+ghost use Rattle.device_model.specs.Slots.{WorksOnIn, IsNextMove, HasUntaken};
 ghost use Rattle.device_model.specs.Trims.{changes_ahead};
 ghost use Rattle.device_model.specs.View.{taken_in, busy_if_left, operation_of_kind, taken_of, blank_port};
-ghost use Rattle.device_model.specs.Whole.{Outside, device_of, outside_after, outside_ended, outside_plugged};
+ghost use Rattle.device_model.specs.WholeAdapter.{AllMedia, device_of, all_media_after, all_media_ended, all_media_plugged};
 ghost use Rattle.device_model.specs.declared.port.TakenCommand.{TakenCommand};
 
 use crate::cache::Cache;
@@ -219,13 +219,13 @@ fn reservations_of(rest: Remaining) -> Reservations
 fn reserve_all(tape: &mut Vec<Entry>, cache: &mut Cache, growths: Reservations) -> bool
     ensures items { tape.new.items ≡ tape.old.items }
     ensures kept { vec_capacity tape.old ≤ vec_capacity tape.new }
-    ensures same { KeepsTheSame cache.old cache.new }
+    ensures same { KeepsSameOldSectors cache.old cache.new }
     ensures room { result ≡ true → vec_len tape.new + growths.entries ≤ vec_capacity tape.new }
-    ensures old_room { result ≡ true → HasOldRoom cache.new growths.old_sectors }
+    ensures old_room { result ≡ true → HasRoomForOld cache.new growths.old_sectors }
     ensures lacked { result ≡ false → vec_len tape.old + growths.entries ≤ vec_capacity tape.old
-        → HasOldRoom cache.old growths.old_sectors → ⊥ }
+        → HasRoomForOld cache.old growths.old_sectors → ⊥ }
     ensures lacks { result ≡ false → vec_len tape.new + growths.entries ≤ vec_capacity tape.new
-        → HasOldRoom cache.new growths.old_sectors → ⊥ }
+        → HasRoomForOld cache.new growths.old_sectors → ⊥ }
 {
     tape.reserve(growths.entries).is_ok() && cache.reserve(growths.old_sectors)
 }
@@ -289,10 +289,10 @@ impl Hardware {
     pub fn fetch(&mut self, port: u8, slot: u8) -> bool
         requires port { port < 4 }
         requires slot { slot < 32 }
-        ensures did { result ≡ true → (o : Outside)
+        ensures did { result ≡ true → (o : AllMedia)
             → DoesFetch port slot (device_of self.old o) (device_of self.new o) }
         ensures refused { result ≡ false → self.new ≡ self.old }
-        ensures only { result ≡ false → (o : Outside) (m : Meaning) (places : List ℕ)
+        ensures only { result ≡ false → (o : AllMedia) (m : Meaning) (places : List ℕ)
             → Can (FetchStep port slot m places) (device_of self.old o) → ⊥ }
         ensures tape { self.new.tape ≡ self.old.tape }
         ensures starved { self.new.starved ≡ self.old.starved }
@@ -306,10 +306,10 @@ impl Hardware {
     fn fetch_decoded(&mut self, port: u8, slot: u8) -> bool
         requires there { (port < 4) × (slot < 32) }
         requires may { HasUntaken (slice_index_or self.old.ports port blank_port) slot }
-        ensures did { result ≡ true → (o : Outside)
+        ensures did { result ≡ true → (o : AllMedia)
             → DoesFetch port slot (device_of self.old o) (device_of self.new o) }
         ensures refused { result ≡ false → self.new ≡ self.old }
-        ensures only { result ≡ false → (o : Outside) (m : Meaning) (places : List ℕ)
+        ensures only { result ≡ false → (o : AllMedia) (m : Meaning) (places : List ℕ)
             → Can (FetchStep port slot m places) (device_of self.old o) → ⊥ }
         ensures tape { self.new.tape ≡ self.old.tape }
         ensures starved { self.new.starved ≡ self.old.starved }
@@ -333,7 +333,7 @@ impl Hardware {
         requires port { port < 4 }
         requires slot { slot < 32 }
         requires may { HasUntaken (slice_index_or self.now.ports port blank_port) slot }
-        ensures { (o : Outside) → LooksForPage (device_of self.now o) port slot result }
+        ensures { (o : AllMedia) → LooksForPage (device_of self.now o) port slot result }
     {
         let list = self.ports[port].addresses.clb;
         let command = decode_page_cmd(&self.memory, list, slot)?;
@@ -349,7 +349,7 @@ impl Hardware {
     fn has_page(&self, port: usize, slot: u8) -> Option<bool>
         requires port { port < 4 }
         requires slot { slot < 32 }
-        ensures { (o : Outside) → LooksForPage (device_of self.now o) port slot result }
+        ensures { (o : AllMedia) → LooksForPage (device_of self.now o) port slot result }
     {
         if !self.ports[port].is_used(slot) {
             return None;
@@ -377,11 +377,11 @@ impl Hardware {
         requires { port < 4 }
         ensures port { IfSome result (λ found. found.port ≡ port) }
         ensures small { IfSome result (λ found. found.slot < 32) }
-        ensures found { IfSome result (λ found. (o : Outside) → LooksForPage (device_of self.now o) port found.slot
+        ensures found { IfSome result (λ found. (o : AllMedia) → LooksForPage (device_of self.now o) port found.slot
             (Some found.ends)) }
-        ensures first { IfSome result (λ found. (o : Outside) (slot : ℕ) → slot < found.slot
+        ensures first { IfSome result (λ found. (o : AllMedia) (slot : ℕ) → slot < found.slot
             → LooksForPage (device_of self.now o) port slot None) }
-        ensures none { result ≡ None → (o : Outside) (slot : ℕ) → slot < 32
+        ensures none { result ≡ None → (o : AllMedia) (slot : ℕ) → slot < 32
             → LooksForPage (device_of self.now o) port slot None }
     {
         let place = usize::from(port);
@@ -402,8 +402,8 @@ impl Hardware {
     pub fn next_move(&self, port: u8, slot: u8, known: Option<NextMove>) -> Option<NextMove>
         requires port { port < 4 }
         requires slot { slot < 32 }
-        requires known { IfSome known (λ n. (t : TakenCommand) × IsNext self.now port slot n t) }
-        ensures found { IfSome result (λ n. (t : TakenCommand) × IsNext self.now port slot n t) }
+        requires known { IfSome known (λ n. (t : TakenCommand) × IsNextMove self.now port slot n t) }
+        ensures found { IfSome result (λ n. (t : TakenCommand) × IsNextMove self.now port slot n t) }
         ensures none { result ≡ None → (t : TakenCommand)
             → WorksOnIn (slice_index_or self.now.ports port blank_port) slot t
             → t.moved < length (pieces t.prds) →
@@ -422,7 +422,7 @@ impl Hardware {
     fn find_move(&self, port: u8, slot: u8) -> Option<NextMove>
         requires port { port < 4 }
         requires slot { slot < 32 }
-        ensures found { IfSome result (λ n. (t : TakenCommand) × IsNext self.now port slot n t) }
+        ensures found { IfSome result (λ n. (t : TakenCommand) × IsNextMove self.now port slot n t) }
         ensures none { result ≡ None → (t : TakenCommand)
             → WorksOnIn (slice_index_or self.now.ports port blank_port) slot t
             → t.moved < length (pieces t.prds) →
@@ -447,15 +447,15 @@ impl Hardware {
     #[inline(always)]
     pub fn note_move(&mut self, port: u8, slot: u8, next: NextMove) -> Option<NextMove>
         requires there { (port < 4) × (slot < 32) }
-        requires next { (t : TakenCommand) × IsNext self.old port slot next t }
+        requires next { (t : TakenCommand) × IsNextMove self.old port slot next t }
         requires room { TapeHasRoom self.old 1 }
-        ensures moved { (old : Hardware) (o : Outside) (t : TakenCommand) → IsTransferred old self.old next →
-            IsNext old port slot next t →
-            device_of self.new (outside_after o port (taken_of t) (piece_of self.old next))
+        ensures moved { (old : Hardware) (o : AllMedia) (t : TakenCommand) → IsTransferred old self.old next →
+            IsNextMove old port slot next t →
+            device_of self.new (all_media_after o port (taken_of t) (piece_of self.old next))
             ≡ device_after (MoveStep port slot (taken_of t) (piece_of self.old next)) (device_of old o) }
         ensures left { (n : ℕ) → TapeHasRoom self.old (n + 1) → TapeHasRoom self.new n }
         ensures starved { self.new.starved ≡ self.old.starved }
-        ensures after { IfSome result (λ n. (t : TakenCommand) × IsNext self.new port slot n t) }
+        ensures after { IfSome result (λ n. (t : TakenCommand) × IsNextMove self.new port slot n t) }
     {
         let entry = Entry::Move(Move {
             port: Port(port),
@@ -518,10 +518,10 @@ impl Hardware {
         requires port { port < 4 }
         requires slot { slot < 32 }
         ensures did { IfSome result
-            (λ command_kind. (o : Outside) → EndsAndPosts (SendsEnd slot) port slot (device_of self.old o)
-            (device_of self.new (outside_ended o port (operation_of_kind command_kind)))) }
-        ensures refused { result ≡ None → (o : Outside) → device_of self.new o ≡ device_of self.old o }
-        ensures left { result ≡ None → (o : Outside)
+            (λ command_kind. (o : AllMedia) → EndsAndPosts (SendsEnd slot) port slot (device_of self.old o)
+            (device_of self.new (all_media_ended o port (operation_of_kind command_kind)))) }
+        ensures refused { result ≡ None → (o : AllMedia) → device_of self.new o ≡ device_of self.old o }
+        ensures left { result ≡ None → (o : AllMedia)
             → IsStepSkipped self.old self.new ((flag : ℕ) × (t : FetchedCommand)
             × Can (DoneStep port slot flag t) (device_of self.old o)) }
         ensures fed { IfSome result (λ command_kind. self.new.starved ≡ self.old.starved) }
@@ -570,11 +570,11 @@ impl Hardware {
     pub fn fail(&mut self, port: u8, slot: u8, error: u8, busy: bool) -> Option<bool>
         requires port { port < 4 }
         requires slot { slot < 32 }
-        ensures did { IfSome result (λ queued. (o : Outside)
+        ensures did { IfSome result (λ queued. (o : AllMedia)
             → (f : DoesFault port slot error (busy_if_left busy) (device_of self.old o) (device_of self.new o))
             × (queued ≡ is_queued f.t.meaning.operation)) }
-        ensures refused { result ≡ None → (o : Outside) → device_of self.new o ≡ device_of self.old o }
-        ensures left { result ≡ None → (o : Outside)
+        ensures refused { result ≡ None → (o : AllMedia) → device_of self.new o ≡ device_of self.old o }
+        ensures left { result ≡ None → (o : AllMedia)
             → IsStepSkipped self.old self.new ((t : FetchedCommand)
             × Can (FaultStep port slot error (busy_if_left busy) t)
             (device_of self.old o)) }
@@ -600,10 +600,10 @@ impl Hardware {
     pub fn abort_invalid(&mut self, port: u8, slot: u8) -> bool
         requires port { port < 4 }
         requires slot { slot < 32 }
-        ensures did { result ≡ true → (o : Outside) → Can (FetchFaultStep port slot false 0) (device_of self.old o)
+        ensures did { result ≡ true → (o : AllMedia) → Can (FetchFaultStep port slot false 0) (device_of self.old o)
             × (device_of self.new o ≡ device_after (FetchFaultStep port slot false 0) (device_of self.old o)) }
-        ensures refused { result ≡ false → (o : Outside) → device_of self.new o ≡ device_of self.old o }
-        ensures left { result ≡ false → (o : Outside)
+        ensures refused { result ≡ false → (o : AllMedia) → device_of self.new o ≡ device_of self.old o }
+        ensures left { result ≡ false → (o : AllMedia)
             → IsStepSkipped self.old self.new (Can (FetchFaultStep port slot false 0) (device_of self.old o)) }
         ensures fed { result ≡ true → self.new.starved ≡ self.old.starved }
     {
@@ -640,9 +640,9 @@ impl Hardware {
         requires slot { slot < 32 }
         requires may { HasUntaken (slice_index_or self.old.ports port blank_port) slot }
         ensures begun { IfSome result (λ b. IsBegun port slot b.rest.left b.rest.clears b.was_taken self.old self.new) }
-        ensures ahead { IfSome result (λ b. (o : Outside)
+        ensures ahead { IfSome result (λ b. (o : AllMedia)
             → HasRoomAhead cache.new port slot b.rest.left (device_of self.new o)) }
-        ensures same { KeepsTheSame cache.old cache.new }
+        ensures same { KeepsSameOldSectors cache.old cache.new }
         ensures left { result ≡ None → IsUnbegun port slot self.old self.new cache.old cache.new }
     {
         let model = &mut self.ports[usize::from(port)];
@@ -672,9 +672,9 @@ impl Hardware {
         requires port { port < 4 }
         requires slot { slot < 32 }
         ensures begun { IfSome result (λ b. IsBegun port slot b.rest.left b.rest.clears b.was_taken self.old self.new) }
-        ensures ahead { IfSome result (λ b. (o : Outside)
+        ensures ahead { IfSome result (λ b. (o : AllMedia)
             → HasRoomAhead cache.new port slot b.rest.left (device_of self.new o)) }
-        ensures same { KeepsTheSame cache.old cache.new }
+        ensures same { KeepsSameOldSectors cache.old cache.new }
         ensures left { result ≡ None → IsUnbegun port slot self.old self.new cache.old cache.new }
     {
         let place = usize::from(port);
@@ -695,10 +695,10 @@ impl Hardware {
     /// A port meets a fatal error; `false` says that its engine has fallen, or that the tape found no memory.
     pub fn raise_fatal(&mut self, port: u8, error: FatalError) -> bool
         requires { port < 4 }
-        ensures did { result ≡ true → (o : Outside)
+        ensures did { result ≡ true → (o : AllMedia)
             → DoesFatal port error (device_of self.old o) (device_of self.new o) }
-        ensures refused { result ≡ false → (o : Outside) → device_of self.new o ≡ device_of self.old o }
-        ensures left { result ≡ false → (o : Outside)
+        ensures refused { result ≡ false → (o : AllMedia) → device_of self.new o ≡ device_of self.old o }
+        ensures left { result ≡ false → (o : AllMedia)
             → IsStepSkipped self.old self.new (Can (FatalStep port (fatal_bit error)) (device_of self.old o)) }
         ensures fed { result ≡ true → self.new.starved ≡ self.old.starved }
     {
@@ -716,10 +716,10 @@ impl Hardware {
     /// The disk is taken out of a port; `false` says that there was none, or that the tape found no memory.
     pub fn unplug(&mut self, port: u8) -> bool
         requires { port < 4 }
-        ensures did { result ≡ true → (o : Outside) → Can (UnplugStep port) (device_of self.old o)
+        ensures did { result ≡ true → (o : AllMedia) → Can (UnplugStep port) (device_of self.old o)
             × (device_of self.new o ≡ device_after (UnplugStep port) (device_of self.old o)) }
-        ensures refused { result ≡ false → (o : Outside) → device_of self.new o ≡ device_of self.old o }
-        ensures left { result ≡ false → (o : Outside)
+        ensures refused { result ≡ false → (o : AllMedia) → device_of self.new o ≡ device_of self.old o }
+        ensures left { result ≡ false → (o : AllMedia)
             → IsStepSkipped self.old self.new (Can (UnplugStep port) (device_of self.old o)) }
         ensures fed { result ≡ true → self.new.starved ≡ self.old.starved }
     {
@@ -738,13 +738,13 @@ impl Hardware {
     /// tape found no memory.
     pub fn plug(&mut self, port: u8, number: u32, same: bool) -> bool
         requires { port < 4 }
-        ensures free { result ≡ true → (o : Outside) → ((device_of self.old o).port port).present ≡ false }
-        ensures did { result ≡ true → (o : Outside) (disk : Disk) → disk.name ≡ number →
+        ensures free { result ≡ true → (o : AllMedia) → ((device_of self.old o).port port).present ≡ false }
+        ensures did { result ≡ true → (o : AllMedia) (disk : Disk) → disk.name ≡ number →
             same ≡ nat_eq disk.name (o.media port).disk.name →
-            device_of self.new (outside_plugged o port disk) ≡ device_after (PlugStep port disk)
+            device_of self.new (all_media_plugged o port disk) ≡ device_after (PlugStep port disk)
             (device_of self.old o) }
-        ensures refused { result ≡ false → (o : Outside) → device_of self.new o ≡ device_of self.old o }
-        ensures left { result ≡ false → (o : Outside)
+        ensures refused { result ≡ false → (o : AllMedia) → device_of self.new o ≡ device_of self.old o }
+        ensures left { result ≡ false → (o : AllMedia)
             → IsStepSkipped self.old self.new (((device_of self.old o).port port).present ≡ false) }
         ensures fed { result ≡ true → self.new.starved ≡ self.old.starved }
     {
@@ -765,7 +765,7 @@ impl Hardware {
     /// Finds memory for so many entries of the tape; `false` says that there was none. That something was left out for
     /// that is not told yet.
     pub fn reserve(&mut self, entries: usize) -> bool
-        ensures same { (o : Outside) → device_of self.new o ≡ device_of self.old o }
+        ensures same { (o : AllMedia) → device_of self.new o ≡ device_of self.old o }
         ensures room { result ≡ true → TapeHasRoom self.new entries }
         ensures kept { (n : ℕ) → TapeHasRoom self.old n → TapeHasRoom self.new n }
         ensures enough { TapeHasRoom self.old entries → result ≡ true }

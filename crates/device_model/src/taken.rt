@@ -2,8 +2,8 @@
 ghost use Rattle.std.specs.Prelude.{◌≡◌, ◌≢◌, ◌<◌, ◌≤◌, ◌+◌, ◌^◌, ◌↔◌, ℕ, IsTrue, IfOk, IfSome, None, Some, is_some, true, length};
 ghost use Rattle.adapter.specs.Commands.{is_queued};
 ghost use Rattle.adapter.specs.Memory.{changed};
-ghost use Rattle.adapter.specs.Steps.{noted_bytes};
-ghost use Rattle.device_model.specs.Block.{brought, taken_by};
+ghost use Rattle.adapter.specs.Steps.{snapshot_of_bytes};
+ghost use Rattle.device_model.specs.Block.{brought, taken_in_slot};
 ghost use Rattle.device_model.specs.View.{taken_in, operation_of_kind};
 ghost use Rattle.device_model.specs.declared.port.TakenCommand.{TakenCommand};
 
@@ -29,14 +29,14 @@ pub struct TakenCommands {
 
 impl Model for TakenCommands {
     ghost use Rattle.std.specs.Prelude.{◌≡◌, List, Option, length};
-    ghost use Rattle.device_model.specs.Block.{HasBlock, taken_by, taken_from};
+    ghost use Rattle.device_model.specs.Block.{HasBlock, taken_in_slot, taken_list_from};
     ghost use Rattle.device_model.specs.declared.port.TakenCommand.{TakenCommand};
 
     ghost Value = { List (Option TakenCommand) };
 
-    ghost view = { λ s. taken_from 0 s.filled s.slots.items };
+    ghost view = { λ s. taken_list_from 0 s.filled s.slots.items };
 
-    ghost invariant = { λ s. (length s.slots.items ≡ 32) × HasBlock (taken_by s.filled s.slots.items) s.block };
+    ghost invariant = { λ s. (length s.slots.items ≡ 32) × HasBlock (taken_in_slot s.filled s.slots.items) s.block };
 }
 
 impl TakenCommands {
@@ -125,7 +125,7 @@ impl TakenCommands {
             × (t.moved + 1 < 2 ^ 32) }
         ensures { (t : TakenCommand) → taken_in self.old slot ≡ Some t →
             taken_in self.new ≡ changed (taken_in self.old) slot
-            (Some (record t { moved = t.moved + 1; block = Some (noted_bytes bytes.now) })) }
+            (Some (record t { moved = t.moved + 1; block = Some (snapshot_of_bytes bytes.now) })) }
     {
         self.block = *bytes;
         let command = &mut self.slots[usize::from(slot)];
@@ -191,7 +191,7 @@ impl TakenCommands {
 /// Whether each command that is taken, of these rooms, is queued.
 fn hold_queued(rooms: &[TakenCommand], filled: u32) -> bool
     requires { length rooms.now ≡ 32 }
-    ensures { IsTrue result ↔ ((slot : ℕ) (t : TakenCommand) → taken_by filled rooms.now slot ≡ Some t
+    ensures { IsTrue result ↔ ((slot : ℕ) (t : TakenCommand) → taken_in_slot filled rooms.now slot ≡ Some t
         → is_queued (operation_of_kind t.command_kind) ≡ true) }
 {
     for slot in 0..SLOTS {

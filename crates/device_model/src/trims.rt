@@ -8,9 +8,9 @@ ghost use Rattle.device_model.specs.Block.{brought};
 ghost use Rattle.device_model.specs.Fetched.{bytes_of};
 ghost use Rattle.device_model.specs.Finishing.{TapeHasRoom};
 ghost use Rattle.device_model.specs.Slots.{CanClear, WorksOnIn, IsNextRun};
-ghost use Rattle.device_model.specs.Trims.{HasRuns, WillClear, block_ahead, cleared_ahead, next_uncleared, span, uncleared};
+ghost use Rattle.device_model.specs.Trims.{HasRunsLeft, HasClearsLeft, block_ahead, cleared_ahead, next_uncleared, next_run_length, uncleared};
 ghost use Rattle.device_model.specs.View.{blank_port, operation_of_kind, taken_of};
-ghost use Rattle.device_model.specs.Whole.{Outside, device_of, outside_cleared};
+ghost use Rattle.device_model.specs.WholeAdapter.{AllMedia, device_of, all_media_cleared};
 ghost use Rattle.device_model.specs.declared.port.TakenCommand.{TakenCommand};
 
 use crate::clearing::{SectorExtent, count_runs, count_sectors, next_run};
@@ -51,9 +51,9 @@ pub struct Clears {
 /// What a block brings to clear, of which so many sectors were cleared.
 fn clears_of_block(block: &[u8], cleared: u32) -> Option<Clears>
     requires { length block.now ≤ 512 }
-    ensures found { IfSome result (λ clears. HasRuns block.now cleared clears.runs) }
+    ensures found { IfSome result (λ clears. HasRunsLeft block.now cleared clears.runs) }
     ensures sectors { IfSome result (λ clears. clears.sectors ≡ length (drop cleared (trim_sectors block.now))) }
-    ensures only { (runs : ℕ) → HasRuns block.now cleared runs → IsSomeAnd result (λ clears. clears.runs ≡ runs) }
+    ensures only { (runs : ℕ) → HasRunsLeft block.now cleared runs → IsSomeAnd result (λ clears. clears.runs ≡ runs) }
 {
     let sectors = count_sectors(block).checked_sub(cleared)?;
     Some(Clears {
@@ -68,11 +68,12 @@ fn clears_of_block(block: &[u8], cleared: u32) -> Option<Clears>
 fn clears_of_trim(command: &TakenCommand, block: &[u8], memory: &[u8]) -> Option<Clears>
     requires block { block.now ≡ brought command.now.block }
     requires few { length block.now ≤ 512 }
-    ensures found { IfSome result (λ clears. HasRuns (block_ahead (bytes_of memory.now) (taken_of command.now))
+    ensures found { IfSome result (λ clears. HasRunsLeft (block_ahead (bytes_of memory.now) (taken_of command.now))
         command.now.cleared clears.runs) }
     ensures sectors { IfSome result (λ clears. clears.sectors ≡ length (drop command.now.cleared
         (trim_sectors (block_ahead (bytes_of memory.now) (taken_of command.now))))) }
-    ensures only { (runs : ℕ) → HasRuns (block_ahead (bytes_of memory.now) (taken_of command.now)) command.now.cleared
+    ensures only { (runs : ℕ) → HasRunsLeft (block_ahead (bytes_of memory.now) (taken_of command.now))
+        command.now.cleared
         runs → IsSomeAnd result (λ clears. clears.runs ≡ runs) }
 {
     let prds = command.prds.as_slice();
@@ -90,13 +91,13 @@ fn clears_of_trim(command: &TakenCommand, block: &[u8], memory: &[u8]) -> Option
 pub fn clears_of(command: &TakenCommand, block: &[u8], memory: &[u8]) -> Option<Clears>
     requires block { block.now ≡ brought command.now.block }
     requires few { length block.now ≤ 512 }
-    ensures found { IfSome result (λ clears. WillClear (operation_of_kind command.now.command_kind) (bytes_of
+    ensures found { IfSome result (λ clears. HasClearsLeft (operation_of_kind command.now.command_kind) (bytes_of
         memory.now)
         (taken_of command.now) clears.runs) }
     ensures sectors { IfSome result (λ clears. clears.sectors ≡ cleared_ahead (operation_of_kind
         command.now.command_kind)
         (bytes_of memory.now) (taken_of command.now)) }
-    ensures only { (runs : ℕ) → WillClear (operation_of_kind command.now.command_kind) (bytes_of memory.now)
+    ensures only { (runs : ℕ) → HasClearsLeft (operation_of_kind command.now.command_kind) (bytes_of memory.now)
         (taken_of command.now) runs → IsSomeAnd result (λ clears. clears.runs ≡ runs) }
 {
     if command.command_kind.is_trim() {
@@ -116,7 +117,7 @@ fn run_of_trim(command: &TakenCommand, block: &[u8], most: u32) -> Option<Sector
     requires few { length block.now ≤ 512 }
     ensures can { IfSome result (λ run. CanClear command.now most) }
     ensures first { IfSome result (λ run. run.first ≡ next_uncleared (taken_of command.now)) }
-    ensures count { IfSome result (λ run. run.count ≡ span most (taken_of command.now)) }
+    ensures count { IfSome result (λ run. run.count ≡ next_run_length most (taken_of command.now)) }
     ensures fits { IfSome result (λ run. command.now.cleared + run.count < 2 ^ 32) }
     ensures none { result ≡ None → CanClear command.now most → ⊥ }
 {
@@ -171,9 +172,9 @@ impl Hardware {
             × (t.cleared + run.count < 2 ^ 32) }
         requires room { TapeHasRoom self.old 1 }
         ensures none { run.count ≡ 0 → self.new ≡ self.old }
-        ensures cleared { 1 ≤ run.count → (o : Outside) (t : TakenCommand)
+        ensures cleared { 1 ≤ run.count → (o : AllMedia) (t : TakenCommand)
             → WorksOnIn (slice_index_or self.old.ports port blank_port) slot t →
-            device_of self.new (outside_cleared o port run.first run.count)
+            device_of self.new (all_media_cleared o port run.first run.count)
             ≡ device_after (ClearStep port slot (taken_of t) run.first run.count) (device_of self.old o) }
         ensures left { (n : ℕ) → TapeHasRoom self.old (n + 1) → TapeHasRoom self.new n }
         ensures starved { self.new.starved ≡ self.old.starved }

@@ -10,7 +10,7 @@ use Rattle.hba_regs.specs.Bits.{bit}
 use Rattle.hba_regs.specs.declared.reg.Reg.{Reg}
 use Rattle.hba_regs.specs.declared.reg.Reg.TheVariants.{Ghc, Px}
 use Rattle.hba_regs.specs.declared.reg.PortReg.TheVariants.{Ci, Sact}
-use Rattle.adapter.specs.Access.{Access, Does, Reads, Writes, Loads, counted}
+use Rattle.adapter.specs.Access.{Access, Does, Reads, Writes, Loads, readings_counted}
 use Rattle.adapter.specs.Access.Access.{Reading, Writing, Loading, Storing}
 use Rattle.adapter.specs.Commands.{Meaning, command_of, is_ranged, piece_count}
 use Rattle.adapter.specs.Device.{Bases, Notes, DevicePort, Device}
@@ -21,16 +21,16 @@ use Rattle.adapter.specs.Decoding.{pieces, IsWholePieces}
 use Rattle.adapter.specs.declared.command.Command.{Command}
 use Rattle.adapter.specs.declared.command.Operation.{Operation}
 use Rattle.adapter.specs.declared.command.Prd.{Prd}
-use Rattle.adapter.specs.Seen.{PortRegisterRead, PortRegisterWritten}
+use Rattle.adapter.specs.RegisterEffects.{PortRegisterRead, PortRegisterWritten}
 use Rattle.adapter.specs.declared.tape.Entry.{Entry}
 use Rattle.refinement.specs.Driven.{IsRelated, IsDrivenBy, IsSimulated, IsSimulatedTo, SparesOtherPorts, IsSimulatedAlong, IsSimulatedAlongTo, AnyUse, NoneWrites, AnyAccess, GainsNoMove}
 use Rattle.refinement.specs.Driver.{IsOwnPrepared}
-use Rattle.refinement.specs.Facts.{IsSlotClear}
+use Rattle.refinement.specs.PortFacts.{IsSlotClear}
 use Rattle.refinement.specs.Places.{list_of, scratch_of}
-use Rattle.refinement.specs.Slots.{Free, Own, SlotStates, put as used, SlotDecodesTo, IsOver, op_of, Brought}
+use Rattle.refinement.specs.Slots.{Free, Own, SlotStates, put as used, SlotDecodesTo, IsOver, op_of, PageStandsInScratch}
 use Rattle.command_table.specs.Places.{places_of}
 use Rattle.command_table.specs.Written.{IsTableFor, IsTableStore, IsUnused}
-use Rattle.disk_page.specs.Asking.{page_operation, AreInVain, MayAsk, IsPageAccess, BringsLastPage, ShowsIssued, WaitsInVain}
+use Rattle.disk_page.specs.Asking.{page_operation, AreVainReadings, MayAsk, IsPageAccess, BringsLastPage, ShowsIssued, WaitsInVain}
 use Rattle.disk_page.specs.Waiting.{IsPageAwaited}
 use Rattle.disk_page.specs.declared.Page.{Page}
 use Rattle.disk_page.specs.declared.Page.TheVariants.{Identity, Errors}
@@ -56,7 +56,7 @@ pub record IsPending (port : Port) (start : Device) (n : ℕ) (d : Device) : Typ
   pub on : IsOn d
   pub there : HasPort d port.0
   pub det : (d.port port.0).sctl_det ≡ 0
-  pub told : IsSimulatedAlong (AreInVain port n) (IsPageAccess port) AnyUse start d
+  pub told : IsSimulatedAlong (AreVainReadings port n) (IsPageAccess port) AnyUse start d
   pub waiting : (o : Operation) (since : ℕ) (uses : SlotStates) (begun : Device) → IsPageAwaited port o since uses begun start → IsPageAwaited port o since uses begun d
   pub low : n ≤ (d.port port.0).notes.command_count
   pub high : 0 < n → (d.port port.0).notes.command_count ≤ MOST_READINGS
@@ -129,9 +129,9 @@ page_is_told page command prds written port n memory same is whole places value 
     says (meaning_of page) (scratch_of port ∷ []) (subst P (sym value) (table_for page command prds port n same is whole places))
 
 -- one more reading that shows the command
-vain_more : (port : Port) (n v : ℕ) (early late : List Access) → AreInVain port n early → late ≡ Reading (Px port Ci) v ∷ [] → bit v 0 ≡ true → AreInVain port (n + 1) (early ++ late)
+vain_more : (port : Port) (n v : ℕ) (early late : List Access) → AreVainReadings port n early → late ≡ Reading (Px port Ci) v ∷ [] → bit v 0 ≡ true → AreVainReadings port (n + 1) (early ++ late)
 vain_more port n v early late (number, all) is set =
-    let P : List Access → Type 0 = λ last. AreInVain port (n + 1) (early ++ last) in
+    let P : List Access → Type 0 = λ last. AreVainReadings port (n + 1) (early ++ last) in
     let both = length-append early (Reading (Px port Ci) v ∷ []) in
     subst P (sym is) (
       omega (arith, both, number),
@@ -186,7 +186,7 @@ module _ (laws : Laws) where
   pub reading_leaves : (port : Port) (v : ℕ) (old new : Device) → IsOn old → Reads (Px port Ci) v old new → Leaves port.0 old new
   reading_leaves port v old new on x =
       let s : PortRegisterRead port.0 Ci v old new = laws.seen_at port Ci v old new x on.no_reset in
-      let k : Keeps old x.mid = laws.law_steps_guarantee _ _ x.steps in
+      let k : Keeps old x.mid = laws.law_step_lists_keep_what_steps_keep _ _ x.steps in
       record {
         same = laws.access_same (Reading (Px port Ci) v) old new x;
         keeps = s.keeps.port port.0;
@@ -251,7 +251,7 @@ module _ (laws : Laws) where
 
       pub asked_later : length mid.tape ≤ length new.tape
       asked_later =
-          let k : Keeps mid put_ci.mid = laws.law_steps_guarantee _ _ put_ci.steps in
+          let k : Keeps mid put_ci.mid = laws.law_step_lists_keep_what_steps_keep _ _ put_ci.steps in
           let l = grown mid.tape put_ci.mid.tape k.gained k.tape in
           let same = ap (λ (es : List Entry). length es) put_ci.tape in omega (arith, l, same)
 
@@ -281,7 +281,7 @@ module _ (laws : Laws) where
   asked_then port next old mid new a b = (laws.fragments.both (Asking port) (Awaiting port) next (λ uses. uses) (λ access may. may) (λ uses free. tt) old mid new a b).followed
 
   -- in vain, as is told of the accesses
-  pub asked_in_vain : (port : Port) (next : SlotStates → SlotStates) (old mid new : Device) → IsSimulatedTo (IsPageAccess port) (IsUnused port.0 0) next old mid → IsSimulatedAlong (AreInVain port MOST_READINGS) (IsPageAccess port) AnyUse mid new →
+  pub asked_in_vain : (port : Port) (next : SlotStates → SlotStates) (old mid new : Device) → IsSimulatedTo (IsPageAccess port) (IsUnused port.0 0) next old mid → IsSimulatedAlong (AreVainReadings port MOST_READINGS) (IsPageAccess port) AnyUse mid new →
       IsSimulatedAlongTo (WaitsInVain port) (IsPageAccess port) (IsUnused port.0 0) next old new
   asked_in_vain port next old mid new a b =
       let both = laws.fragments.both (Asking port) (Awaiting port) next (λ uses. uses) (λ access may. may) (λ uses free. tt) old mid new a b.followed in
@@ -362,10 +362,10 @@ module _ (laws : Laws) where
     reads_det : (d.port port.0).sctl_det ≡ 0 → (e.port port.0).sctl_det ≡ 0
     reads_det det = (reading_leaves port v d e on call).controls.sctl_det ∙ det
 
-    count_read : (d.port port.0).sctl_det ≡ 0 → (e.port port.0).notes.command_count ≡ counted (bit v 0) (d.port port.0).notes.command_count
+    count_read : (d.port port.0).sctl_det ≡ 0 → (e.port port.0).notes.command_count ≡ readings_counted (bit v 0) (d.port port.0).notes.command_count
     count_read det =
         let s : PortRegisterRead port.0 Ci v d e = laws.seen_at port Ci v d e call on.no_reset in
-        let P : ℕ → Type 0 = λ x. (e.port port.0).notes.command_count ≡ (if nat_eq x 0 then counted (bit v 0) (d.port port.0).notes.command_count else (d.port port.0).notes.command_count) in
+        let P : ℕ → Type 0 = λ x. (e.port port.0).notes.command_count ≡ (if nat_eq x 0 then readings_counted (bit v 0) (d.port port.0).notes.command_count else (d.port port.0).notes.command_count) in
         subst P (reads_det det) (ap (λ (n : Notes). n.command_count) s.notes)
 
   pub pending_first : (port : Port) (d : Device) → IsOn d → HasPort d port.0 → (d.port port.0).sctl_det ≡ 0 → IsPending port d 0 d
@@ -374,7 +374,7 @@ module _ (laws : Laws) where
     there = there;
     det = det;
     told = let none = laws.fragments.none (Awaiting port) d in
-        record { followed = none.followed; tells = subst (AreInVain port 0) (sym none.tells) (refl, All-nil (ShowsIssued port)) };
+        record { followed = none.followed; tells = subst (AreVainReadings port 0) (sym none.tells) (refl, All-nil (ShowsIssued port)) };
     waiting = λ o since uses begun w. w;
     low = omega arith;
     high = λ some. absurd (omega (arith, some));
@@ -383,8 +383,8 @@ module _ (laws : Laws) where
   -- one more reading with the bit
   pub pending_again : (port : Port) (start : Device) (n : ℕ) (v : ℕ) (d e : Device) → n < MOST_READINGS → IsPending port start n d → Reads (Px port Ci) v d e → bit v 0 ≡ true → IsPending port start (n + 1) e
   pending_again port start n v d e small p call set =
-      let count : (e.port port.0).notes.command_count ≡ counted true (d.port port.0).notes.command_count =
-      count_read port v d e p.on call p.det ∙ ap (λ (b : Bool). counted b (d.port port.0).notes.command_count) set in
+      let count : (e.port port.0).notes.command_count ≡ readings_counted true (d.port port.0).notes.command_count =
+      count_read port v d e p.on call p.det ∙ ap (λ (b : Bool). readings_counted b (d.port port.0).notes.command_count) set in
       let low = p.low in
       record {
         on = reads_on port v d e p.on call;
@@ -395,7 +395,7 @@ module _ (laws : Laws) where
             let both = laws.fragments.both (Awaiting port) (Awaiting port) (λ uses. uses) (λ uses. uses) (λ access may. may) (λ uses any. tt) start d e p.told.followed more.followed in
             record {
               followed = both.followed;
-              tells = subst (AreInVain port (n + 1)) (sym both.tells) (vain_more port n v p.told.followed.driven.accesses more.followed.driven.accesses p.told.tells more.tells set);
+              tells = subst (AreVainReadings port (n + 1)) (sym both.tells) (vain_more port n v p.told.followed.driven.accesses more.followed.driven.accesses p.told.tells more.tells set);
             };
         waiting = λ o since uses begun w. reads_wait port v d e p.on call o since uses begun (p.waiting o since uses begun w);
         low = rw count (omega (arith, low, small));
@@ -413,8 +413,8 @@ module _ (laws : Laws) where
   -- ---- the page
 
   -- a page that came since a time came since an earlier one
-  sooner : (memory : ℕ → ℕ) (tape : List Entry) (port : ℕ) (o : Operation) (since early : ℕ) → early ≤ since → (b : Brought memory tape port o since) → (bytes : List ℕ) → bytes ≡ b.move.bytes.value →
-      (c : Brought memory tape port o early) × (bytes ≡ c.move.bytes.value)
+  sooner : (memory : ℕ → ℕ) (tape : List Entry) (port : ℕ) (o : Operation) (since early : ℕ) → early ≤ since → (b : PageStandsInScratch memory tape port o since) → (bytes : List ℕ) → bytes ≡ b.move.bytes.value →
+      (c : PageStandsInScratch memory tape port o early) × (bytes ≡ c.move.bytes.value)
   sooner memory tape port o since early le b bytes same = (
     record { before = b.before; after = le_trans le b.after; move = b.move; later = b.later; here = b.here; is_move = b.is_move; last = b.last; bytes = b.bytes },
     same,

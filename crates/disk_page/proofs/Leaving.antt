@@ -12,8 +12,8 @@ use Rattle.adapter.specs.Memory.{patched}
 use Rattle.adapter.specs.Rules.{IsOn}
 use Rattle.adapter.specs.Steps.{Steps}
 use Rattle.adapter.specs.declared.tape.Entry.{Entry}
-use Rattle.adapter.specs.Seen.{PortRegisterRead}
-use Rattle.adapter.specs.Seen.{PortRegisterWritten}
+use Rattle.adapter.specs.RegisterEffects.{PortRegisterRead}
+use Rattle.adapter.specs.RegisterEffects.{PortRegisterWritten}
 use Rattle.refinement.specs.Driven.{HasNoCommand, IsDrivenBy}
 use Rattle.refinement.specs.Slots.{IsOver}
 use Rattle.disk_page.specs.Asking.{IsPageAccess, LeavesRunning, SameButCiNotes}
@@ -88,7 +88,7 @@ module _ (laws : Laws) where
   -- what the device alone leaves
   by_device : (port : ℕ) (old new : Device) → old.hr ≡ false → Steps old new → LeavesRunning port old new
   by_device port old new off steps =
-      let k : Keeps old new = laws.law_steps_guarantee _ _ steps in
+      let k : Keeps old new = laws.law_step_lists_keep_what_steps_keep _ _ steps in
       let p : KeepsPort (old.port port) (new.port port) = k.port port in
       record {
         controls = (k.on off).controls port;

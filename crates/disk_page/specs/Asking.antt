@@ -16,9 +16,9 @@ use Rattle.adapter.specs.declared.command.Operation.{Operation}
 use Rattle.adapter.specs.declared.command.Operation.TheVariants.{Identify, ReadLog}
 use Rattle.refinement.specs.Driven.{RelatesWith, IsRelated, IsSimulated, IsSimulatedAlongTo, GainsNoMove}
 use Rattle.refinement.specs.Driver.{AllFree}
-use Rattle.refinement.specs.Facts.{IsSlotClear, FaultsOnRecord}
+use Rattle.refinement.specs.PortFacts.{IsSlotClear, FaultsOnRecord}
 use Rattle.refinement.specs.Places.{list_of, scratch_of}
-use Rattle.refinement.specs.Slots.{Own, SlotStates, op_of, put, Brought}
+use Rattle.refinement.specs.Slots.{Own, SlotStates, op_of, put, PageStandsInScratch}
 use Rattle.command_table.specs.Written.{IsTableStore, IsUnused}
 use Rattle.disk_page.specs.declared.Page.{Page}
 use Rattle.disk_page.specs.declared.Page.TheVariants.{Identity, Errors}
@@ -81,8 +81,8 @@ ShowsIssued port (Reading r v) = (r ≡ Px port Ci) × (bit v 0 ≡ true)
 ShowsIssued port access = ⊥
 
 -- so many such readings, and nothing else
-abbrev pub AreInVain : Port → ℕ → List Access → Type 0
-AreInVain port count accesses = (length accesses ≡ count) × All (ShowsIssued port) accesses
+abbrev pub AreVainReadings : Port → ℕ → List Access → Type 0
+AreVainReadings port count accesses = (length accesses ≡ count) × All (ShowsIssued port) accesses
 
 -- 64 of them were made in a row. (The count that stands beside the device's state goes on from earlier calls: it goes
 -- back at a write of PxSCTL alone.)
@@ -91,12 +91,12 @@ pub record WaitsInVain (port : Port) (accesses : List Access) : Type 0 where
   pub waits : List Access
   pub later : List Access
   pub here : accesses ≡ before ++ (waits ++ later)
-  pub vain : AreInVain port MOST_READINGS waits
+  pub vain : AreVainReadings port MOST_READINGS waits
 
 -- What is said of the page: it is the last that the port's command of this operation has moved, the command came after
 -- the tape was so long, and it is over.
 pub record BringsLastPage (port : ℕ) (o : Operation) (since : ℕ) (bytes : List ℕ) (d : Device) : Type 0 where
-  pub brought : Brought d.memory d.tape port o since
+  pub brought : PageStandsInScratch d.memory d.tape port o since
   pub same : bytes ≡ brought.move.bytes.value
   pub clear : IsSlotClear (d.port port) 0
 

@@ -7,12 +7,12 @@ use Rattle.refinement.specs.Relation.{StateRelation}
 use Rattle.refinement.specs.Driven.{AnyAccess, AnyUse, IsRelated, IsDrivenBy, SparesOtherPorts, LeavesPort, NoneWrites, GainsNoMove}
 use Rattle.refinement.specs.Awaits.{AwaitsPage}
 use Rattle.refinement.specs.Recovering.{EndsHalt}
-use Rattle.refinement.specs.Slots.{Brought, Free, IsMove, IsOver, Own, SlotState, SlotStates, op_of, put}
+use Rattle.refinement.specs.Slots.{PageStandsInScratch, Free, IsMove, IsOver, Own, SlotState, SlotStates, op_of, put}
 use Rattle.hba_regs.specs.declared.reg.PortReg.TheVariants.{Ci, Sact}
 use Rattle.refinement.specs.Started.{ClearsNoStart}
 use Rattle.adapter.specs.Device.{Device, DevicePort}
 use Rattle.adapter.specs.declared.tape.Entry.{Entry}
-use Rattle.refinement.specs.Facts.{FindsOwnPage, IsSlotClear, FaultsOnRecord}
+use Rattle.refinement.specs.PortFacts.{FindsOwnPage, IsSlotClear, FaultsOnRecord}
 use Rattle.hba_regs.specs.declared.reg.Reg.TheVariants.{Ghc, Px}
 use Rattle.adapter.specs.Rules.{HasPort, IsUnowned, IsOn, MayWrite, IsStable}
 use Rattle.disk_page.specs.Asking.{IsPageAccess}
@@ -24,7 +24,7 @@ use Rattle.adapter.specs.Access.Access.{Writing}
 use Rattle.block_machine.specs.State.{Machine}
 use Rattle.adapter.specs.declared.command.Operation.{Operation}
 use Rattle.hba_regs.specs.declared.reg.PortReg.{PortReg}
-use Rattle.adapter.specs.Seen.{PortRegisterWritten, PortRegisterRead}
+use Rattle.adapter.specs.RegisterEffects.{PortRegisterWritten, PortRegisterRead}
 use Rattle.hba_regs.specs.declared.reg.Reg.{Reg}
 use Rattle.refinement.specs.Links.{SameAdapter, DoesNotWrite}
 use Rattle.adapter.specs.Steps.{Steps}
@@ -40,15 +40,15 @@ pub data AccessPurpose : Type 0 where
   Awaiting : Port → AccessPurpose
   Storing : Port → AccessPurpose
 
-abbrev pub may_of : AccessPurpose → Access → Type 0
-may_of (Asking port) = IsPageAccess port
-may_of (Awaiting port) = IsPageAccess port
-may_of (Storing port) = IsTableStore port.0 0
+abbrev pub accesses_for : AccessPurpose → Access → Type 0
+accesses_for (Asking port) = IsPageAccess port
+accesses_for (Awaiting port) = IsPageAccess port
+accesses_for (Storing port) = IsTableStore port.0 0
 
-abbrev pub fits_of : AccessPurpose → SlotStates → Type 0
-fits_of (Asking port) = IsUnused port.0 0
-fits_of (Awaiting port) = AnyUse
-fits_of (Storing port) = IsUnused port.0 0
+abbrev pub slot_uses_for : AccessPurpose → SlotStates → Type 0
+slot_uses_for (Asking port) = IsUnused port.0 0
+slot_uses_for (Awaiting port) = AnyUse
+slot_uses_for (Storing port) = IsUnused port.0 0
 
 -- ---- laws
 
@@ -58,7 +58,7 @@ pub record Laws : Type 0 where
       → PortRegisterRead port.0 r v old new
   pub put_at : (port : Port) (r : PortReg) (v : ℕ) (old new : Device) → Writes (Px port r) v old new → old.hr ≡ false
       → PortRegisterWritten port.0 r v old new
-  pub law_steps_guarantee : (old new : Device) → Steps old new → Keeps old new
+  pub law_step_lists_keep_what_steps_keep : (old new : Device) → Steps old new → Keeps old new
   pub controls_none : (p : DevicePort) → KeepsControls p p
   pub controls_more : (old mid new : DevicePort) → KeepsControls old mid → KeepsControls mid new → KeepsControls old new
   pub access_on : (access : Access) (old new : Device) → IsOn old
@@ -97,11 +97,12 @@ pub record Laws : Type 0 where
       → Does access old new → AwaitsPage uses port.0 o since old → AwaitsPage uses port.0 o since new
   pub page_is_found : (uses : SlotStates) (m : Machine) (port : Port) (o : Operation) (since v : ℕ) (old new : Device)
       → IsReachable m → StateRelation uses m old → AwaitsPage uses port.0 o since old → Reads (Px port Ci) v old new
-      → bit v 0 ≡ false → FindsOwnPage uses m port.0 o old new × Brought new.memory new.tape port.0 o since
+      → bit v 0 ≡ false → FindsOwnPage uses m port.0 o old new × PageStandsInScratch new.memory new.tape port.0 o since
   pub awaited_is_loaded : (uses : SlotStates) (m : Machine) (port : ℕ) (o : Operation) (since : ℕ) (bytes : List ℕ)
       (old new : Device) → IsReachable m → StateRelation uses m old → AwaitsPage uses port o since old
       → IsOver (old.port port) 0
-      → Loads (scratch_of port) bytes old new → length bytes ≡ 512 → (b : Brought new.memory new.tape port o since)
+      → Loads (scratch_of port) bytes old new → length bytes ≡ 512
+      → (b : PageStandsInScratch new.memory new.tape port o since)
       × (bytes ≡ b.move.bytes.value)
   pub page_is_free : (uses : SlotStates) (m : Machine) (d : Device) → IsReachable m → StateRelation uses m d
       → (port : ℕ) → port < 4
@@ -127,4 +128,4 @@ pub record Laws : Type 0 where
       → (other_port ≡ port → other_slot ≡ slot → ⊥) → put uses port slot u other_port other_slot ≡ uses other_port
       other_slot
   -- this crate's kinds of accesses
-  pub fragments : FragmentLaws AccessPurpose may_of fits_of
+  pub fragments : FragmentLaws AccessPurpose accesses_for slot_uses_for

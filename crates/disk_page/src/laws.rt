@@ -8,7 +8,7 @@ ghost use Rattle.refinement.specs.Driven.{HasNoCommand, IsDrivenBy, SparesOtherP
 ghost use Rattle.refinement.specs.Slots.{IsOver};
 ghost use Rattle.disk_page.specs.Asking.{IsPageAccess, LeavesRunning, WaitsInVain};
 
-use super::lawful::law_base;
+use super::prerequisites::law_prerequisites;
 
 /// Asking touches no register of another port; so what is said of such accesses (`SparesOtherPorts`) is so of it. And
 /// accesses of its kinds, in any order, leave the port running; one without a command has none once slot 0's is over.
@@ -19,7 +19,7 @@ pub fn law_asking_is_of_one_port()
     ensures none { (port : ℕ) (old new : Device) → LeavesRunning port old new → HasNoCommand (old.port port)
         → IsOver (new.port port) 0 → HasNoCommand (new.port port) }
 {
-    law_base();
+    law_prerequisites();
 }
 
 /// What accesses tell of a wait in vain, they tell with others after them, and with others before them.

@@ -11,15 +11,15 @@ ghost use Rattle.adapter.specs.Device.{Device};
 ghost use Rattle.adapter.specs.Rules.{IsOn, HasPort};
 ghost use Rattle.adapter.specs.declared.command.Operation.{Operation};
 ghost use Rattle.refinement.specs.Driven.{AnyUse, IsSimulated, IsSimulatedAlong};
-ghost use Rattle.refinement.specs.Facts.{IsSlotClear};
+ghost use Rattle.refinement.specs.PortFacts.{IsSlotClear};
 ghost use Rattle.refinement.specs.Slots.{SlotStates};
-ghost use Rattle.disk_page.specs.Asking.{AreInVain, GetsPage, IsPageAccess, MayAwaitPage, MayGetPage, page_operation};
+ghost use Rattle.disk_page.specs.Asking.{AreVainReadings, GetsPage, IsPageAccess, MayAwaitPage, MayGetPage, page_operation};
 ghost use Rattle.disk_page.specs.Waiting.{AsksForPage, IsPageAwaited};
 ghost use Rattle.adapter.specs.Counted.{MakesAtMost};
 ghost use Rattle.disk_page.specs.Costs.{ASK_ACCESSES, PAGE_ACCESSES};
 
-mod lawful;
 pub mod laws;
+mod prerequisites;
 
 use adapter::{Adapter, Command};
 use ata_types::{
@@ -28,7 +28,7 @@ use ata_types::{
 };
 use command_table::{prds, write_table};
 use hba_regs::{PortReg, Reg, is_set};
-use lawful::law_base;
+use prerequisites::law_prerequisites;
 
 /// The log of errors of queued commands (ACS-3, 9.14; Serial ATA).
 const QUEUED_ERROR_LOG: u64 = 0x10;
@@ -68,7 +68,7 @@ fn ask<A: Adapter>(adapter: &mut A, port: Port, page: Page)
     ensures asks { AsksForPage port page (A.device adapter.old) (A.device adapter.new) }
     ensures cost { MakesAtMost ASK_ACCESSES (A.access_count adapter.old) (A.access_count adapter.new) }
 {
-    law_base();
+    law_prerequisites();
     let scratch = Frame(PORT_FRAMES * u16::from(port.0) + SCRATCH_FRAME);
     let prds = prds(&[scratch], PAGE_BYTES);
     write_table(adapter, port, Slot(0), &command(page), prds.as_slice());
@@ -88,11 +88,11 @@ fn wait<A: Adapter>(adapter: &mut A, port: Port) -> bool
         → IsSlotClear ((A.device adapter.new).port port.0) 0 }
     ensures vain { result ≡ false
         → (((A.device adapter.new).port port.0).notes.command_count ≡ MOST_READINGS)
-        × IsSimulatedAlong (AreInVain port MOST_READINGS) (IsPageAccess port) AnyUse (A.device adapter.old)
+        × IsSimulatedAlong (AreVainReadings port MOST_READINGS) (IsPageAccess port) AnyUse (A.device adapter.old)
         (A.device adapter.new) }
     ensures cost { MakesAtMost MOST_READINGS (A.access_count adapter.old) (A.access_count adapter.new) }
 {
-    law_base();
+    law_prerequisites();
     for _reading in 0..MOST_READINGS {
         let issued = adapter.read(Reg::Px(port, PortReg::Ci));
         if !is_set(issued, 0) {
@@ -112,7 +112,7 @@ pub fn read_page<A: Adapter>(adapter: &mut A, port: Port, page: Page) -> Option<
     ensures gets { GetsPage port page result (A.device adapter.old) (A.device adapter.new) }
     ensures cost { MakesAtMost PAGE_ACCESSES (A.access_count adapter.old) (A.access_count adapter.new) }
 {
-    law_base();
+    law_prerequisites();
     ask(adapter, port, page);
     if !wait(adapter, port) {
         return None;

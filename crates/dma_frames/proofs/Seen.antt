@@ -6,7 +6,7 @@ use Rattle.std.proofs.lemmas.Option.{same_Some}
 use Rattle.ata_types.specs.declared.request.Frame.{Frame}
 use Rattle.ata_types.specs.declared.memory.TheConstants.{MOST_FRAMES}
 use Rattle.block_machine.specs.Rules.{IsTwiceAt}
-use Rattle.dma_frames.specs.Words.{bit_of}
+use Rattle.dma_frames.specs.Words.{frame_bit}
 use Rattle.dma_frames.proofs.FrameBits.{no_bit}
 
 -- one of the first n frames is the one of this number
@@ -15,7 +15,7 @@ StandsBefore frames n f = (j : ℕ) × (j < n) × (slice_get frames j ≡ Some (
 
 -- the bits that are set are those of the first n frames
 abbrev pub AreSeen : List ℕ → List Frame → ℕ → Type 0
-AreSeen words frames n = (f : ℕ) → f < MOST_FRAMES → (bit_of words f ≡ 1) ↔ StandsBefore frames n f
+AreSeen words frames n = (f : ℕ) → f < MOST_FRAMES → (frame_bit words f ≡ 1) ↔ StandsBefore frames n f
 
 pub none_seen : (words : List ℕ) (frames : List Frame) → ((i : ℕ) → get_or words i 0 ≡ 0) → AreSeen words frames 0
 none_seen words frames zero f lt = (
@@ -32,19 +32,19 @@ earlier frames n frame here f w not = elim (cases_eq w.0 n) [
 
 -- a frame whose bit isn't set doesn't stand twice, where the bits of those before it are set
 pub once_by : (words : List ℕ) (frames : List Frame) (n : ℕ) (frame : Frame) → slice_get frames n ≡ Some frame → frame.0 < MOST_FRAMES
-    → ((f : ℕ) → f < MOST_FRAMES → StandsBefore frames n f → bit_of words f ≡ 1) → (bit_of words frame.0 ≡ 1 → ⊥) → IsTwiceAt frames n → ⊥
+    → ((f : ℕ) → f < MOST_FRAMES → StandsBefore frames n f → frame_bit words f ≡ 1) → (frame_bit words frame.0 ≡ 1 → ⊥) → IsTwiceAt frames n → ⊥
 once_by words frames n frame here within seen not twice =
     let same : twice.0 ≡ frame = same_Some _ _ (sym twice.4 ∙ here) in
     not (seen frame.0 within (twice.1, twice.2, twice.3 ∙ ap Some same))
 
 module _ (words : List ℕ) (frames : List Frame) (n : ℕ) (frame : Frame) (here : slice_get frames n ≡ Some frame) (within : frame.0 < MOST_FRAMES)
     (seen : AreSeen words frames n) where
-  pub seen_more : (new : List ℕ) → bit_of new frame.0 ≡ 1 → ((k : ℕ) → k ≢ frame.0 → bit_of new k ≡ bit_of words k)
+  pub seen_more : (new : List ℕ) → frame_bit new frame.0 ≡ 1 → ((k : ℕ) → k ≢ frame.0 → frame_bit new k ≡ frame_bit words k)
       → AreSeen new frames (n + 1)
   seen_more new this others f lt = elim (cases_eq f frame.0) [
     | inl e ↦ (
       λ _. (n, omega arith, here ∙ ap (λ (k : ℕ). Some (record { 0 = k })) (sym e)),
-      λ _. ap (bit_of new) e ∙ this,
+      λ _. ap (frame_bit new) e ∙ this,
     )
     | inr not ↦ (
       λ one. let w = (seen f lt).0 (sym (others f not) ∙ one) in (w.0, (let h = w.1 in omega (arith, h)), w.2),
@@ -52,5 +52,5 @@ module _ (words : List ℕ) (frames : List Frame) (n : ℕ) (frame : Frame) (her
     )
   ]
 
-  pub once_here : (bit_of words frame.0 ≡ 1 → ⊥) → IsTwiceAt frames n → ⊥
+  pub once_here : (frame_bit words frame.0 ≡ 1 → ⊥) → IsTwiceAt frames n → ⊥
   once_here = once_by words frames n frame here within (λ f lt. (seen f lt).1)

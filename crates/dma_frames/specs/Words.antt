@@ -3,5 +3,5 @@ use Rattle.std.specs.Prelude.{ℕ, ◌/◌, ◌%◌, List, slice_index}
 use Rattle.std.specs.Int.{bit_at}
 
 -- the bit of a frame
-abbrev pub bit_of : List ℕ → ℕ → ℕ
-bit_of words frame = bit_at (slice_index words (frame / 64)) (frame % 64)
+abbrev pub frame_bit : List ℕ → ℕ → ℕ
+frame_bit words frame = bit_at (slice_index words (frame / 64)) (frame % 64)

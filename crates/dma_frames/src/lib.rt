@@ -193,7 +193,7 @@ impl FrameTable {
         ensures { IsTableOf runs.now self.new }
     {
         for run in runs {
-            mark(&mut self.owners, run);
+            set_owner_of_run(&mut self.owners, run);
         }
     }
 
@@ -221,16 +221,16 @@ impl FrameTable {
         }
         let mut before = [0; BIT_WORDS];
         for frame in frames {
-            if !self.is_free(client, *frame) || words::is_set(&before, *frame) {
+            if !self.is_lendable(client, *frame) || words::is_frame_bit_set(&before, *frame) {
                 return false;
             }
-            words::set_bit(&mut before, *frame);
+            words::set_frame_bit(&mut before, *frame);
         }
         true
     }
 
     /// Whether a frame is the client's, and isn't lent.
-    fn is_free(&self, client: ClientId, frame: Frame) -> bool
+    fn is_lendable(&self, client: ClientId, frame: Frame) -> bool
         requires { client.0 ≢ 0 }
         ensures free { IsTrue result → (owner_of self.now frame ≡ Some client) × (lent_to self.now frame ≡ None) }
         ensures within { IsTrue result → frame.0 < FRAMES }
@@ -394,10 +394,10 @@ fn first_twice(frames: &[Frame]) -> Option<usize>
 {
     let mut seen = [0; BIT_WORDS];
     for (place, frame) in frames.iter().enumerate() {
-        if words::is_set(&seen, *frame) {
+        if words::is_frame_bit_set(&seen, *frame) {
             return Some(place);
         }
-        words::set_bit(&mut seen, *frame);
+        words::set_frame_bit(&mut seen, *frame);
     }
     None
 }
@@ -455,7 +455,7 @@ fn client_of(number: u8) -> Option<ClientId>
 }
 
 /// Notes the owner of the run's frames.
-fn mark(owners: &mut [u8], run: &(ClientId, Frame, u16))
+fn set_owner_of_run(owners: &mut [u8], run: &(ClientId, Frame, u16))
     requires run { IsOwnerExtent run.now }
     requires memory { length owners.old ≡ FRAMES }
     ensures these { (f : Frame) → ExtentHasFrame run.now f

@@ -11,18 +11,18 @@ use Rattle.adapter.specs.declared.access.DeviceStep.{DeviceStep}
 use Rattle.adapter.specs.declared.tape.Entry.{Entry}
 use Rattle.adapter.specs.declared.tape.Entry.TheVariants as entry
 use Rattle.refinement.specs.Errors.{IsFatalOf}
-use Rattle.refinement.specs.Facts.{Undisturbed, IsDisturbance, IsFaultOf, ShowsNoTrouble}
+use Rattle.refinement.specs.PortFacts.{Undisturbed, IsDisturbance, IsFaultOf, ShowsNoTrouble}
 use Rattle.refinement.specs.Links.{IsPlugEvent}
 use Rattle.refinement.specs.Tape.{TellsDeviceSteps}
 use Rattle.block_machine.specs.Events.{AbstractCall, AbstractState, Submit, StoreAt, LoadAt, Service, Tick, Reset, RevokeOf, State, Device as Told, CallResult, Submitted, Stored, Loaded, Served, WasReset, WasRevoked, Shown, Stepped, IsAnswered, HasTimedOut, RestartsTimedOut, changes_disk, abstract_after}
-use Rattle.block_machine.specs.Histories.{JointState, Happening}
+use Rattle.block_machine.specs.Histories.{JointState, JointEvent}
 use Rattle.block_machine.specs.Ports.{Ports, Evidence, IsStoppedOrStuck}
 use Rattle.block_machine.specs.State.{Machine}
 use Rattle.block_machine.specs.Steps.{Step}
 use Rattle.identify.specs.declared.wanted.Wanted.{Wanted}
 use Rattle.driver_history.specs.Heeding.{IsDisturbed, IsLeftAlone, ServesReady, HeedsAt}
 use Rattle.driver_history.specs.Claims.{IsFaultFreeOutcome, IsSpared}
-use Rattle.driver_history.specs.Evidence.{Gains, HasErrors, HasFatalErrors, IsEvidencedOf, IsGone, ShowsFailure, StaysHealthy}
+use Rattle.driver_history.specs.Evidence.{TapeGainsEntry, HasErrors, HasFatalErrors, IsEvidencedOf, IsGone, ShowsFailure, StaysHealthy}
 use Rattle.error_recovery.specs.Evidence.{GainsSinceStart, ShowsFatal}
 use Rattle.driver_history.specs.Histories.{LosesNoPortError, CallCorresponds}
 use Rattle.driver_history.specs.Trace.{LeavesEngine}
@@ -62,7 +62,7 @@ fatal_disturbs port (entry.Clear x) is = absurd is
 fatal_disturbs port (entry.Done x) is = absurd is
 
 -- a calm tape gained no disturbance
-none_gained : (port : ℕ) (Is : Entry → Type 0) (old new : Device) → ((e : Entry) → Is e → IsDisturbance port e) → Undisturbed port old new → Gains Is old new → ⊥
+none_gained : (port : ℕ) (Is : Entry → Type 0) (old new : Device) → ((e : Entry) → Is e → IsDisturbance port e) → Undisturbed port old new → TapeGainsEntry Is old new → ⊥
 none_gained port Is old new disturbs u g =
     let same : g.gained ≡ u.gained = append_cancel_left old.tape g.gained u.gained (sym g.tape ∙ u.tape) in
     All-contains (λ e. IsDisturbance port e → ⊥) u.gained g.entry u.calm (subst (λ (xs : List Entry). Contains xs g.entry) same g.here) (disturbs g.entry g.is)
@@ -74,7 +74,7 @@ no_failure : (p : DevicePort) → ShowsNoTrouble p → ShowsFailure p → ⊥
 no_failure p quiet f = ⊎_elim (no_fatal p quiet) (λ fault. false≢true (sym (quiet.quiet 30 (omega arith) (omega arith)) ∙ fault)) f
 
 -- what was gained while ST was one was gained
-pub gains_of : (port : ℕ) (Is : Entry → Type 0) (old new : Device) → GainsSinceStart Is port old new → Gains Is old new
+pub gains_of : (port : ℕ) (Is : Entry → Type 0) (old new : Device) → GainsSinceStart Is port old new → TapeGainsEntry Is old new
 gains_of port Is old new g = record {
   gained = g.before ++ (g.entry ∷ g.later);
   tape = g.tape;
@@ -119,7 +119,7 @@ module _ (port : Port) (old : JointState Device) (new : Device) (healthy : Stays
       (none_gained port.0 (IsFatalOf port.0) old.device new (fatal_disturbs port.0) healthy.undisturbed)
       e.1
 
-  pub no_plugging : Gains (IsPlugEvent port.0) old.device new → ⊥
+  pub no_plugging : TapeGainsEntry (IsPlugEvent port.0) old.device new → ⊥
   no_plugging = none_gained port.0 (IsPlugEvent port.0) old.device new (plugging_disturbs port.0) healthy.undisturbed
 
   pub not_gone : IsGone port old new → ⊥
@@ -130,7 +130,7 @@ module _ (port : Port) (old : JointState Device) (new : Device) (healthy : Stays
 
 -- ---- a call in which a port stays healthy
 
-module _ (told : EntryIsTold) (wanted : List Wanted) (old : JointState Device) (h : Happening Device DeviceStep) (t : CallCorresponds wanted old h) (port : Port)
+module _ (told : EntryIsTold) (wanted : List Wanted) (old : JointState Device) (h : JointEvent Device DeviceStep) (t : CallCorresponds wanted old h) (port : Port)
     (healthy : StaysHealthy port.0 old.device h.device) where
   p : DevicePort
   p = old.device.port port.0

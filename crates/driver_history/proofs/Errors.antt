@@ -13,24 +13,24 @@ use Rattle.adapter.specs.Access.{Access, Does}
 use Rattle.adapter.specs.Device.{Device, DevicePort}
 use Rattle.adapter.specs.Steps.{Steps}
 use Rattle.adapter.specs.declared.tape.Entry.{Entry}
-use Rattle.refinement.specs.Driven.{Grows}
+use Rattle.refinement.specs.Driven.{TapeGrows}
 use Rattle.refinement.specs.Errors.{IsFatalOf, NoneFails, NoneFatal}
-use Rattle.refinement.specs.Facts.{IsFaultOf}
+use Rattle.refinement.specs.PortFacts.{IsFaultOf}
 use Rattle.refinement.specs.Links.{IsPlugEvent, NoPlugEvents, DoesNotWrite}
 use Rattle.error_recovery.specs.Evidence.{ShowsFatal}
-use Rattle.driver_history.specs.Evidence.{Gains, ShowsChange, ShowsFailure}
+use Rattle.driver_history.specs.Evidence.{TapeGainsEntry, ShowsChange, ShowsFailure}
 use Rattle.driver_history.specs.Laws.{Laws}
 
 -- ---- what the tape gained
 
 -- what the tape gained none of, it gained none of
-pub denies : (Such : Entry → Type 0) (old new : Device) (gained : List Entry) → new.tape ≡ old.tape ++ gained → All (λ e. Such e → ⊥) gained → Gains Such old new → ⊥
+pub denies : (Such : Entry → Type 0) (old new : Device) (gained : List Entry) → new.tape ≡ old.tape ++ gained → All (λ e. Such e → ⊥) gained → TapeGainsEntry Such old new → ⊥
 denies Such old new gained tape none g =
     let same : g.gained ≡ gained = append_cancel_left old.tape g.gained gained (sym g.tape ∙ tape) in
     All-contains (λ e. Such e → ⊥) gained g.entry none (subst (λ (xs : List Entry). Contains xs g.entry) same g.here) g.is
 
 -- what it gained, it gained in the one part or in the other
-pub in_parts : (Such : Entry → Type 0) (old mid new : Device) → Grows old mid → Grows mid new → Gains Such old new → Gains Such old mid ⊎ Gains Such mid new
+pub in_parts : (Such : Entry → Type 0) (old mid new : Device) → TapeGrows old mid → TapeGrows mid new → TapeGainsEntry Such old new → TapeGainsEntry Such old mid ⊎ TapeGainsEntry Such mid new
 in_parts Such old mid new early late g =
     let tape : new.tape ≡ old.tape ++ (early.0 ++ late.0) = late.1 ∙ ap (λ (tape : List Entry). tape ++ late.0) early.1 ∙ append_assoc old.tape early.0 late.0 in
     let same : g.gained ≡ early.0 ++ late.0 = append_cancel_left old.tape g.gained (early.0 ++ late.0) (sym g.tape ∙ tape) in
@@ -92,12 +92,12 @@ is_trouble links p tells = inr tells
 -- What was shown is shown still, and what came is shown.
 pub record AreShown (kind : TroubleKind) (port : ℕ) (old new : Device) : Type 0 where
   pub still : Shows kind (old.port port) → Shows kind (new.port port)
-  pub came : Gains (IsOne kind port) old new → Shows kind (new.port port)
+  pub came : TapeGainsEntry (IsOne kind port) old new → Shows kind (new.port port)
 
 pub shown_none : (kind : TroubleKind) (port : ℕ) (d : Device) → AreShown kind port d d
 shown_none kind port d = record { still = λ shown. shown; came = λ g. absurd (denies (IsOne kind port) d d _ (sym (append-nil d.tape)) (All-nil (λ e. IsOne kind port e → ⊥)) g) }
 
-pub shown_more : (kind : TroubleKind) (port : ℕ) (old mid new : Device) → Grows old mid → Grows mid new → AreShown kind port old mid → AreShown kind port mid new → AreShown kind port old new
+pub shown_more : (kind : TroubleKind) (port : ℕ) (old mid new : Device) → TapeGrows old mid → TapeGrows mid new → AreShown kind port old mid → AreShown kind port mid new → AreShown kind port old new
 shown_more kind port old mid new first last early late = record {
   still = λ shown. late.still (early.still shown);
   came = λ g. ⊎_elim (λ before. late.still (early.came before)) late.came (in_parts (IsOne kind port) old mid new first last g);
@@ -119,7 +119,7 @@ tells_still links port old new shown c = change_still port old new shown c
 
 -- where a bit that is clear was, and tells that none came, those that came are shown
 pub by_bit : (Such : Entry → Type 0) (old new : Device) (was is : Bool) → (is ≡ false → (was ≡ false) × ((gained : List Entry) × (new.tape ≡ old.tape ++ gained) × All (λ e. Such e → ⊥) gained))
-    → (was ≡ true → is ≡ true) × (Gains Such old new → is ≡ true)
+    → (was ≡ true → is ≡ true) × (TapeGainsEntry Such old new → is ≡ true)
 by_bit Such old new was is tells = (
   (λ set. unless (λ clear. false≢true (sym (tells clear).0 ∙ set))),
   (λ g. unless (λ clear. let none = (tells clear).1 in denies Such old new none.0 none.1 none.2 g)),

@@ -6,7 +6,7 @@ use Rattle.ata_types.specs.declared.request.Outcome.{Outcome}
 use Rattle.adapter.specs.Device.{Device}
 use Rattle.adapter.specs.declared.access.DeviceStep.{DeviceStep}
 use Rattle.block_machine.specs.Events.{AbstractCall, Submit, StoreAt, LoadAt, Service, Tick, Reset, RevokeOf, State, Device as Told, CallResult, Submitted, Stored, Loaded, WasRevoked, Shown, Stepped, AbstractState, IsAnswered, HasTimedOut, IsByServer, abstract_after}
-use Rattle.block_machine.specs.Histories.{JointState, Happening, now}
+use Rattle.block_machine.specs.Histories.{JointState, JointEvent, now}
 use Rattle.block_machine.specs.Ports.{Ports, Evidence, SamePort}
 use Rattle.block_machine.specs.State.{Pending}
 use Rattle.block_machine.specs.Steps.{Step, Answer}
@@ -71,7 +71,7 @@ kind_of (State at) = other (λ e. let z : State at ≡ Service = e in absurd cc)
 kind_of (Told step) = other (λ e. let z : Told step ≡ Service = e in absurd cc) (λ e. let z : Told step ≡ Tick = e in absurd cc) (λ e. let z : Told step ≡ Reset = e in absurd cc)
 
 module _ (told : EntryIsTold) (steps : KeepsWell) (wanted : List Wanted) (first : JointState Device) (port : Port) where
-  module _ (past : List (Happening Device DeviceStep)) (h : Happening Device DeviceStep) (history : IsDriverHistory wanted first (h ∷ past)) (healthy : IsHealthyFor (now first past) h port) where
+  module _ (past : List (JointEvent Device DeviceStep)) (h : JointEvent Device DeviceStep) (history : IsDriverHistory wanted first (h ∷ past)) (healthy : IsHealthyFor (now first past) h port) where
     abbrev old : JointState Device
     old = now first past
 

@@ -11,17 +11,17 @@ use Rattle.adapter.specs.Device.{Device}
 use Rattle.adapter.specs.declared.access.DeviceStep.{DeviceStep}
 use Rattle.refinement.specs.Acts.{DriverSlots}
 use Rattle.refinement.specs.Slots.{Free, Serves, ServesRequest, RelatesSlot, SlotState}
-use Rattle.block_machine.specs.Histories.{JointState, Happening, now}
+use Rattle.block_machine.specs.Histories.{JointState, JointEvent, now}
 use Rattle.block_machine.specs.Histories as histories
 use Rattle.block_machine.specs.Ports.{PortsWellFormed}
 use Rattle.block_machine.specs.State.{Pending}
-use Rattle.host_boot.specs.Taken.{wanted_of}
+use Rattle.host_boot.specs.TakeOver.{wanted_of}
 use Rattle.identify.specs.declared.wanted.Wanted.{Wanted}
 use Rattle.driver_history.specs.Histories.{IsDriverHistory}
-use Rattle.driver_history.specs.Holds.{DriverInvariant, PortStateInvariant, DriverInvariantWith, IsReadyAt}
+use Rattle.driver_history.specs.PortInvariants.{DriverInvariant, PortStateInvariant, DriverInvariantWith, IsReadyAt}
 
 -- the ports of a history are fit
-pub history_fit : {D E : Type 0} (Begins : JointState D → Type 0) (Relation : JointState D → Happening D E → Type 0) (first : JointState D) (past : List (Happening D E))
+pub history_fit : {D E : Type 0} (Begins : JointState D → Type 0) (Relation : JointState D → JointEvent D E → Type 0) (first : JointState D) (past : List (JointEvent D E))
     → histories.IsHistory Begins Relation first past → PortsWellFormed (now first past).abstract.ports
 history_fit Begins Relation first [] h = h.0.1
 history_fit Begins Relation first (x ∷ past) h = h.1.fit
@@ -41,15 +41,15 @@ ready_at wanted i port fit s holds ready =
     (subst (λ (b : Bool). PortStateInvariant (wanted_of wanted port.0) s i port b (i.abstract.ports.state port)) low.0 (holds.port port low.1))
 
 module _ (wanted : List Wanted) where
-  pub holds_at : (first : JointState Device) (past : List (Happening Device DeviceStep)) → IsDriverHistory wanted first past → DriverInvariant wanted (now first past)
+  pub holds_at : (first : JointState Device) (past : List (JointEvent Device DeviceStep)) → IsDriverHistory wanted first past → DriverInvariant wanted (now first past)
   holds_at first [] h = h.1.0
   holds_at first (x ∷ past) h = h.2.holds
 
-  pub fit_at : (first : JointState Device) (past : List (Happening Device DeviceStep)) → IsDriverHistory wanted first past → PortsWellFormed (now first past).abstract.ports
+  pub fit_at : (first : JointState Device) (past : List (JointEvent Device DeviceStep)) → IsDriverHistory wanted first past → PortsWellFormed (now first past).abstract.ports
   fit_at first [] h = h.0.1
   fit_at first (x ∷ past) h = h.1.fit
 
-  module _ (first : JointState Device) (past : List (Happening Device DeviceStep)) (e : Pending) (h : IsDriverHistory wanted first past) (is_ready : (now first past).abstract.ports.state e.request.port ≡ Ready)
+  module _ (first : JointState Device) (past : List (JointEvent Device DeviceStep)) (e : Pending) (h : IsDriverHistory wanted first past) (is_ready : (now first past).abstract.ports.state e.request.port ≡ Ready)
       (here : Contains (now first past).abstract.machine.book e) (issued : e.issued ≡ true) where
     abbrev i : JointState Device
     i = now first past

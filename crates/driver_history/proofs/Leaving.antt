@@ -4,9 +4,9 @@ use Rattle.ata_types.specs.declared.Port.{Port}
 use Rattle.ata_types.specs.declared.PortState.TheVariants.{Ready}
 use Rattle.adapter.specs.Device.{Device}
 use Rattle.adapter.specs.declared.access.DeviceStep.{DeviceStep}
-use Rattle.refinement.specs.Facts.{RunsWell}
+use Rattle.refinement.specs.PortFacts.{RunsWell}
 use Rattle.block_machine.specs.Events.{Tick, Reset, HasTimedOut, abstract_after}
-use Rattle.block_machine.specs.Histories.{JointState, Happening, now}
+use Rattle.block_machine.specs.Histories.{JointState, JointEvent, now}
 use Rattle.identify.specs.declared.wanted.Wanted.{Wanted}
 use Rattle.driver_history.specs.Evidence.{StaysHealthy}
 use Rattle.driver_history.specs.Histories.{IsDriverHistory, CallCorresponds}
@@ -14,7 +14,7 @@ use Rattle.driver_history.proofs.Calm.{EntryIsTold, engine_left, tick_spares}
 use Rattle.driver_history.proofs.Instants.{fit_at, holds_at, ready_at}
 use Rattle.driver_history.proofs.Lasting.{KeepsWell, came_calmly, runs_well}
 
-pub left_well : EntryIsTold → KeepsWell → (wanted : List Wanted) (first : JointState Device) (past : List (Happening Device DeviceStep)) (h : Happening Device DeviceStep)
+pub left_well : EntryIsTold → KeepsWell → (wanted : List Wanted) (first : JointState Device) (past : List (JointEvent Device DeviceStep)) (h : JointEvent Device DeviceStep)
     (port : Port) → IsDriverHistory wanted first (h ∷ past) → (now first past).abstract.ports.state port ≡ Ready → h.event.ask ≢ Reset
     → (h.event.ask ≡ Tick → HasTimedOut (now first past).abstract port → ⊥) → StaysHealthy port.0 (now first past).device h.device → RunsWell (h.device.port port.0)
 left_well told steps wanted first past h port history ready other young healthy =

@@ -14,18 +14,18 @@ use Rattle.adapter.specs.declared.tape.Entry.{Entry}
 use Rattle.adapter.specs.declared.tape.Entry.TheVariants as entry
 use Rattle.adapter.specs.declared.tape.Fault as tape_fault
 use Rattle.adapter.specs.declared.command.Operation.TheVariants.{ReadLog}
-use Rattle.refinement.specs.Driven.{IsDrivenBy, SparesOtherPorts, Grows, LeavesPort, GainsNoMove}
+use Rattle.refinement.specs.Driven.{IsDrivenBy, SparesOtherPorts, TapeGrows, LeavesPort, GainsNoMove}
 use Rattle.refinement.specs.Slots.{IsMove}
 use Rattle.refinement.specs.Errors.{ChangesByDisks, ChangesByErrors, IsFatalOf}
-use Rattle.refinement.specs.Facts.{IsFaultOf}
+use Rattle.refinement.specs.PortFacts.{IsFaultOf}
 use Rattle.refinement.specs.Links.{ComesUp, IsPlugEvent, NoPlugEvents, SameLink}
 use Rattle.block_machine.specs.Events.{AbstractCall, AbstractState, CallResult}
 use Rattle.block_machine.specs.Histories.{JointState}
 use Rattle.block_machine.specs.Ports.{Ports, SamePort, Evidence, IsStoppedOrStuck}
-use Rattle.driver_history.specs.Evidence.{Gains, HasErrors, HasFatalErrors, IsEvidencedOf, IsGone, IsLost, ShowsChange, ShowsLoss}
+use Rattle.driver_history.specs.Evidence.{TapeGainsEntry, HasErrors, HasFatalErrors, IsEvidencedOf, IsGone, IsLost, ShowsChange, ShowsLoss}
 use Rattle.error_recovery.specs.Evidence.{BringsLog, HasFailed, ShowsFatal}
 use Rattle.driver_history.specs.Laws.{Laws}
-use Rattle.driver_history.specs.Parts.{HasTurnIn, IsOfOther, EvidenceAgreesOn, call_accesses}
+use Rattle.driver_history.specs.Parts.{HasTurnIn, IsOfOtherPort, EvidenceAgreesOn, call_accesses}
 use Rattle.driver_history.specs.Trace.{DoesNotWriteCmd, LeavesEngine}
 use Rattle.driver_history.proofs.Errors.{AreShown, TroubleKind, access_shows, change_still, failure_still, fatals, register_of, shown_more, shown_none}
 
@@ -33,7 +33,7 @@ use Rattle.driver_history.proofs.Errors.{AreShown, TroubleKind, access_shows, ch
 
 -- the tape gained one of these, or none
 unfoldable pub GainsOrNone : (Is : Entry → Type 0) (old new : Device) → Type 0
-GainsOrNone Is old new = Gains Is old new ⊎ ((gained : List Entry) × (new.tape ≡ old.tape ++ gained) × All (λ e. Is e → ⊥) gained)
+GainsOrNone Is old new = TapeGainsEntry Is old new ⊎ ((gained : List Entry) × (new.tape ≡ old.tape ++ gained) × All (λ e. Is e → ⊥) gained)
 
 one_or_none : (Is : Entry → Type 0) → ((e : Entry) → Is e ⊎ (Is e → ⊥)) → (gained : List Entry) → ((e : Entry) × Contains gained e × Is e) ⊎ All (λ e. Is e → ⊥) gained
 one_or_none Is decides [] = inr (All-nil (λ e. Is e → ⊥))
@@ -45,7 +45,7 @@ one_or_none Is decides (e ∷ gained) = ⊎_elim
     (one_or_none Is decides gained))
     (decides e)
 
-pub gains_or_none : (Is : Entry → Type 0) → ((e : Entry) → Is e ⊎ (Is e → ⊥)) → (old new : Device) → Grows old new → GainsOrNone Is old new
+pub gains_or_none : (Is : Entry → Type 0) → ((e : Entry) → Is e ⊎ (Is e → ⊥)) → (old new : Device) → TapeGrows old new → GainsOrNone Is old new
 unfolding GainsOrNone
 gains_or_none Is decides old new grows = ⊎_elim
     (λ found. inl (record { gained = grows.0; tape = grows.1; entry = found.0; here = found.1; is = found.2 }))
@@ -80,12 +80,12 @@ is_fatal port (entry.Done x) = inr (λ is. is)
 is_fatal port (entry.Fault x) = inr (λ is. is)
 
 -- a disk of the port went or came, or none did
-pub plugged_or_not : (port : ℕ) (old new : Device) → Grows old new → Gains (IsPlugEvent port) old new ⊎ NoPlugEvents port old new
+pub plugged_or_not : (port : ℕ) (old new : Device) → TapeGrows old new → TapeGainsEntry (IsPlugEvent port) old new ⊎ NoPlugEvents port old new
 unfolding GainsOrNone
 plugged_or_not port old new grows = ⊎_elim (λ g. inl g) (λ none. inr (record { gained = none.0; tape = none.1; none = none.2 })) (gains_or_none (IsPlugEvent port) (is_plugging port) old new grows)
 
 -- what a part of a call gained, the call did
-pub gains_within : (Is : Entry → Type 0) (old start end new : Device) → Grows old start → Grows end new → Gains Is start end → Gains Is old new
+pub gains_within : (Is : Entry → Type 0) (old start end new : Device) → TapeGrows old start → TapeGrows end new → TapeGainsEntry Is start end → TapeGainsEntry Is old new
 gains_within Is old start end new first last g = record {
   gained = first.0 ++ (g.gained ++ last.0);
   tape = last.1 ∙ ap (λ (tape : List Entry). tape ++ last.0) (g.tape ∙ ap (λ (tape : List Entry). tape ++ g.gained) first.1)
@@ -102,7 +102,7 @@ module _ (laws : Laws) (port : Port) where
   pub record IsLeft (old new : Device) : Type 0 where
     pub on : IsOn new
     pub leaves : LeavesPort (old.port port.0) (new.port port.0)
-    pub grows : Grows old new
+    pub grows : TapeGrows old new
     pub errors : ChangesByErrors port.0 old new
     pub undue : (old.port port.0).link_due ≡ false → (new.port port.0).link_due ≡ false
     pub disks : (old.port port.0).link_due ≡ false → ChangesByDisks port.0 old new
@@ -114,7 +114,7 @@ module _ (laws : Laws) (port : Port) where
   pub errors_none : (d : Device) → ChangesByErrors port.0 d d
   errors_none d = record { fatal = λ none place low high is. is; fault = λ none is. is }
 
-  pub errors_more : (old mid new : Device) → Grows old mid → Grows mid new → ChangesByErrors port.0 old mid → ChangesByErrors port.0 mid new → ChangesByErrors port.0 old new
+  pub errors_more : (old mid new : Device) → TapeGrows old mid → TapeGrows mid new → ChangesByErrors port.0 old mid → ChangesByErrors port.0 mid new → ChangesByErrors port.0 old new
   errors_more old mid new first last a b = record {
     fatal = λ none place low high is.
         let parts = laws.tape.fatal_parts port.0 old mid new first.0 last.0 first.1 last.1 none in
@@ -124,7 +124,7 @@ module _ (laws : Laws) (port : Port) where
         b.fault parts.1 (a.fault parts.0 is);
   }
 
-  one_left : (access : Access) (old new : Device) → IsOn old → IsOfOther port access → Does access old new → IsLeft old new
+  one_left : (access : Access) (old new : Device) → IsOn old → IsOfOtherPort port access → Does access old new → IsLeft old new
   one_left access old new on (other, apart, of) does =
       let driven : IsDrivenBy (SparesOtherPorts other) old new = record { accesses = access ∷ []; all = (new, does, refl); only = All-cons (SparesOtherPorts other) access [] of (All-nil (SparesOtherPorts other)) } in
       record {
@@ -149,7 +149,7 @@ module _ (laws : Laws) (port : Port) where
         trouble_shown = λ kind. access_shows laws kind port access old new on.no_reset (laws.spares other port (register_of kind) apart access of) does;
       }
 
-  pub others_leave : (accesses : List Access) (old new : Device) → IsOn old → DoesAll accesses old new → All (IsOfOther port) accesses → IsLeft old new
+  pub others_leave : (accesses : List Access) (old new : Device) → IsOn old → DoesAll accesses old new → All (IsOfOtherPort port) accesses → IsLeft old new
   others_leave [] old new on same of = subst (IsLeft old) (sym same) (record {
     on = on;
     leaves = laws.left_none (old.port port.0);
@@ -163,8 +163,8 @@ module _ (laws : Laws) (port : Port) where
     trouble_shown = λ kind. shown_none kind port.0 old;
   })
   others_leave (access ∷ accesses) old new on (mid, does, rest) of =
-      let a = one_left access old mid on (All-head (IsOfOther port) access accesses of) does in
-      let b = others_leave accesses mid new a.on rest (All-tail (IsOfOther port) access accesses of) in
+      let a = one_left access old mid on (All-head (IsOfOtherPort port) access accesses of) does in
+      let b = others_leave accesses mid new a.on rest (All-tail (IsOfOtherPort port) access accesses of) in
       record {
         on = b.on;
         leaves = laws.left_more (old.port port.0) (mid.port port.0) (new.port port.0) a.leaves b.leaves;
@@ -185,13 +185,13 @@ module _ (laws : Laws) (port : Port) where
       }
 
   -- they write neither PxCMD nor PxSCTL of it
-  pub others_leave_engine : (accesses : List Access) → All (IsOfOther port) accesses → All (LeavesEngine port) accesses
+  pub others_leave_engine : (accesses : List Access) → All (IsOfOtherPort port) accesses → All (LeavesEngine port) accesses
   others_leave_engine accesses of =
-      All-weaker (IsOfOther port) (LeavesEngine port) (λ access x. (laws.spares x.0 port Cmd x.1 access x.2, laws.spares x.0 port Sctl x.1 access x.2)) accesses of
+      All-weaker (IsOfOtherPort port) (LeavesEngine port) (λ access x. (laws.spares x.0 port Cmd x.1 access x.2, laws.spares x.0 port Sctl x.1 access x.2)) accesses of
 
   -- the tape gains over accesses
-  pub grows_over : (accesses : List Access) (old new : Device) → DoesAll accesses old new → Grows old new
-  grows_over [] old new same = subst (Grows old) (sym same) (laws.tape.grows_none old)
+  pub grows_over : (accesses : List Access) (old new : Device) → DoesAll accesses old new → TapeGrows old new
+  grows_over [] old new same = subst (TapeGrows old) (sym same) (laws.tape.grows_none old)
   grows_over (access ∷ accesses) old new (mid, does, rest) = laws.tape.grows_more old mid new (laws.tape.access_grows access old mid does) (grows_over accesses mid new rest)
 
   -- ---- a turn in a call
@@ -209,13 +209,13 @@ module _ (laws : Laws) (port : Port) where
       first : IsLeft old t.start
       first = others_leave t.before old t.start on t.first t.others
 
-      middle : Grows t.start t.end
+      middle : TapeGrows t.start t.end
       middle = grows_over t.turn t.start t.end t.then
 
-      last : Grows t.end new
+      last : TapeGrows t.end new
       last = grows_over t.later t.end new t.last
 
-      since : Grows t.start new
+      since : TapeGrows t.start new
       since = laws.tape.grows_more t.start t.end new middle last
 
   module _ (old : JointState Device) (begun : AbstractState) (ended ports : Ports) (new : Device) (turn call : Evidence) (ask : AbstractCall DeviceStep) (said : CallResult)
@@ -228,22 +228,22 @@ module _ (laws : Laws) (port : Port) where
     last : IsLeft t.end new
     last = others_leave t.later t.end new on_then t.last t.others_later
 
-    since : Grows t.start new
+    since : TapeGrows t.start new
     since = laws.tape.grows_more t.start t.end new (grows_over t.turn t.start t.end t.then) last.grows
 
     -- what the turn gained, and what was gained before it, the call gained
-    within : (Is : Entry → Type 0) → Gains Is t.start t.end → Gains Is old.device new
+    within : (Is : Entry → Type 0) → TapeGainsEntry Is t.start t.end → TapeGainsEntry Is old.device new
     within Is = gains_within Is old.device t.start t.end new first.grows last.grows
 
-    before : (Is : Entry → Type 0) → Gains Is old.device t.start → Gains Is old.device new
+    before : (Is : Entry → Type 0) → TapeGainsEntry Is old.device t.start → TapeGainsEntry Is old.device new
     before Is = gains_within Is old.device old.device t.start new (laws.tape.grows_none old.device) since
 
     -- a disk went or came before the turn, or none did
-    plugged : Gains (IsPlugEvent port.0) old.device t.start ⊎ NoPlugEvents port.0 old.device t.start
+    plugged : TapeGainsEntry (IsPlugEvent port.0) old.device t.start ⊎ NoPlugEvents port.0 old.device t.start
     plugged = plugged_or_not port.0 old.device t.start first.grows
 
     -- what the port shows when its turn begins, it showed when the call began, or the call gained what it tells of
-    changes : (old.device.port port.0).link_due ≡ false → ShowsChange (t.start.port port.0) → ShowsChange (old.device.port port.0) ⊎ Gains (IsPlugEvent port.0) old.device new
+    changes : (old.device.port port.0).link_due ≡ false → ShowsChange (t.start.port port.0) → ShowsChange (old.device.port port.0) ⊎ TapeGainsEntry (IsPlugEvent port.0) old.device new
     changes undue shown = ⊎_elim (λ g. inr (before (IsPlugEvent port.0) g)) (λ none. inl (⊎_elim (n none) (x none) shown)) plugged
       where
         n : NoPlugEvents port.0 old.device t.start → (t.start.port port.0).serr_n ≡ true → ShowsChange (old.device.port port.0)
@@ -253,10 +253,10 @@ module _ (laws : Laws) (port : Port) where
         x none is = ⊎_elim (λ set. inr set) (λ clear. absurd (false≢true (sym ((first.disks undue).serr_x (laws.tape.plugs_come port.0 old.device t.start none) clear) ∙ is)))
             (cases_Bool (old.device.port port.0).serr_x)
 
-    missing : (old.device.port port.0).link_due ≡ false → (t.start.port port.0).ssts_det ≢ 3 → ((old.device.port port.0).ssts_det ≢ 3) ⊎ Gains (IsPlugEvent port.0) old.device new
+    missing : (old.device.port port.0).link_due ≡ false → (t.start.port port.0).ssts_det ≢ 3 → ((old.device.port port.0).ssts_det ≢ 3) ⊎ TapeGainsEntry (IsPlugEvent port.0) old.device new
     missing undue gone = ⊎_elim (λ g. inr (before (IsPlugEvent port.0) g)) (λ none. inl (λ there. gone (first.shows undue none ∙ there))) plugged
 
-    fatal : ShowsFatal (t.start.port port.0) → ShowsFatal (old.device.port port.0) ⊎ Gains (IsFatalOf port.0) old.device new
+    fatal : ShowsFatal (t.start.port port.0) → ShowsFatal (old.device.port port.0) ⊎ TapeGainsEntry (IsFatalOf port.0) old.device new
     unfolding GainsOrNone
     fatal shown = ⊎_elim
         (λ g. inr (before (IsFatalOf port.0) g))
@@ -270,7 +270,7 @@ module _ (laws : Laws) (port : Port) where
         }))
         (gains_or_none (IsFatalOf port.0) (is_fatal port.0) old.device t.start first.grows)
 
-    failed : (t.start.port port.0).is 30 ≡ true → ((old.device.port port.0).is 30 ≡ true) ⊎ Gains (IsFaultOf port.0) old.device new
+    failed : (t.start.port port.0).is 30 ≡ true → ((old.device.port port.0).is 30 ≡ true) ⊎ TapeGainsEntry (IsFaultOf port.0) old.device new
     unfolding GainsOrNone
     failed shown = ⊎_elim
         (λ g. inr (before (IsFaultOf port.0) g))

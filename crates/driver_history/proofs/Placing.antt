@@ -14,8 +14,8 @@ use Rattle.refinement.specs.Slots.{op_of}
 use Rattle.refinement.specs.Places.{scratch_of}
 use Rattle.refinement.specs.Tape.{MovesSector, ClearsSectors, TellsDeviceSteps, TellsEntry, TellsMove}
 use Rattle.block_machine.specs.Events.{IsRun, steps_of}
-use Rattle.block_machine.specs.Histories.{JointState, Happening, events_of, now}
-use Rattle.block_machine.specs.Left.{after, IsLegal}
+use Rattle.block_machine.specs.Histories.{JointState, JointEvent, events_of, now}
+use Rattle.block_machine.specs.Expected.{after, IsLegal}
 use Rattle.block_machine.specs.State.{Machine}
 use Rattle.block_machine.specs.Steps.{Step, Touch}
 use Rattle.identify.specs.declared.wanted.Wanted.{Wanted}
@@ -129,7 +129,7 @@ legal_before start (step ∷ late) early legal = legal_before start late early l
 
 -- ---- in a history
 
-module _ (laws : RunLaws) (wanted : List Wanted) (first : JointState Device) (past : List (Happening Device DeviceStep)) (h : Happening Device DeviceStep) (history : IsDriverHistory wanted first (h ∷ past)) where
+module _ (laws : RunLaws) (wanted : List Wanted) (first : JointState Device) (past : List (JointEvent Device DeviceStep)) (h : JointEvent Device DeviceStep) (history : IsDriverHistory wanted first (h ∷ past)) where
   abbrev start : Machine
   start = first.abstract.machine
 

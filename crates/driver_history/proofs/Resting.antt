@@ -12,18 +12,18 @@ use Rattle.ata_types.specs.declared.request.Outcome.{Outcome}
 use Rattle.ata_types.specs.declared.request.Outcome.TheVariants as outcome
 use Rattle.adapter.specs.Device.{Device}
 use Rattle.adapter.specs.declared.access.DeviceStep.{DeviceStep}
-use Rattle.block_machine.specs.Events.{AbstractCall, Submit, StoreAt, LoadAt, Service, Tick, Reset, RevokeOf, State, Device as Told, CallResult, AbstractState, AllLawful, AllMay, AreStepsOfCall, Happens, IsByDevice, IsLawful, IsByServer, abstract_after}
-use Rattle.block_machine.specs.Histories.{JointState, Happening}
+use Rattle.block_machine.specs.Events.{AbstractCall, Submit, StoreAt, LoadAt, Service, Tick, Reset, RevokeOf, State, Device as Told, CallResult, AbstractState, AllAnswersLawful, AllMay, AreStepsOfCall, Happens, IsByDevice, IsLawfulAnswer, IsByServer, abstract_after}
+use Rattle.block_machine.specs.Histories.{JointState, JointEvent}
 use Rattle.block_machine.specs.Ports.{Ports, Evidence, PortsWellFormed}
 use Rattle.block_machine.specs.State.{Pending, Machine}
 use Rattle.block_machine.specs.Steps.{Step, Again, Answer, HasGrant, May}
-use Rattle.block_machine.specs.Left.{after}
-use Rattle.host_boot.specs.Taken.{wanted_of}
+use Rattle.block_machine.specs.Expected.{after}
+use Rattle.host_boot.specs.TakeOver.{wanted_of}
 use Rattle.identify.specs.declared.wanted.Wanted.{Wanted}
 use Rattle.driver_history.specs.Claims.{AnswerJustified}
 use Rattle.driver_history.specs.Evidence.{IsEndedReset, IsLost}
 use Rattle.driver_history.specs.Histories.{CallCorresponds}
-use Rattle.driver_history.specs.Holds.{DriverInvariant, PortStateInvariant, IsDeadAt}
+use Rattle.driver_history.specs.PortInvariants.{DriverInvariant, PortStateInvariant, IsDeadAt}
 
 -- a dead port is one of the four, and dead
 dead_at : (wanted : List Wanted) (i : JointState Device) (port : Port) → PortsWellFormed i.abstract.ports → DriverInvariant wanted i → i.abstract.ports.state port ≡ Dead → IsDeadAt (wanted_of wanted port.0) i port
@@ -36,24 +36,24 @@ dead_at wanted i port fit (s, holds) dead = ⊎_elim
 
 -- ---- a step of a call
 
-lawful_rest : (old : AbstractState) (evidence : Evidence) (ports : Ports) (step : Step) (before : List Step) → AllLawful old evidence ports (step ∷ before) → AllLawful old evidence ports before
+lawful_rest : (old : AbstractState) (evidence : Evidence) (ports : Ports) (step : Step) (before : List Step) → AllAnswersLawful old evidence ports (step ∷ before) → AllAnswersLawful old evidence ports before
 lawful_rest old evidence ports (Answer e o) before l = l.0
 lawful_rest old evidence ports (Again e) before l = l.0
 lawful_rest old evidence ports _ before l = l
 
 -- each answer among lawful steps is lawful
-all_lawful : (old : AbstractState) (evidence : Evidence) (ports : Ports) (steps : List Step) → AllLawful old evidence ports steps
-    → All (λ step. (e : Pending) (o : Outcome) → step ≡ Answer e o → IsLawful old evidence ports e o) steps
-all_lawful old evidence ports [] l = All-nil (λ step. (e : Pending) (o : Outcome) → step ≡ Answer e o → IsLawful old evidence ports e o)
+all_lawful : (old : AbstractState) (evidence : Evidence) (ports : Ports) (steps : List Step) → AllAnswersLawful old evidence ports steps
+    → All (λ step. (e : Pending) (o : Outcome) → step ≡ Answer e o → IsLawfulAnswer old evidence ports e o) steps
+all_lawful old evidence ports [] l = All-nil (λ step. (e : Pending) (o : Outcome) → step ≡ Answer e o → IsLawfulAnswer old evidence ports e o)
 all_lawful old evidence ports (step ∷ before) l =
-    All-cons (λ step. (e : Pending) (o : Outcome) → step ≡ Answer e o → IsLawful old evidence ports e o) step before
-    (λ e o same. let whole : AllLawful old evidence ports (Answer e o ∷ before) = subst (λ (x : Step). AllLawful old evidence ports (x ∷ before)) same l in whole.1)
+    All-cons (λ step. (e : Pending) (o : Outcome) → step ≡ Answer e o → IsLawfulAnswer old evidence ports e o) step before
+    (λ e o same. let whole : AllAnswersLawful old evidence ports (Answer e o ∷ before) = subst (λ (x : Step). AllAnswersLawful old evidence ports (x ∷ before)) same l in whole.1)
     (all_lawful old evidence ports before (lawful_rest old evidence ports step before l))
 
-lawful_of : (old : AbstractState) (evidence : Evidence) (ports : Ports) (steps : List Step) → AllLawful old evidence ports steps → (e : Pending) (o : Outcome)
-    → Contains steps (Answer e o) → IsLawful old evidence ports e o
+lawful_of : (old : AbstractState) (evidence : Evidence) (ports : Ports) (steps : List Step) → AllAnswersLawful old evidence ports steps → (e : Pending) (o : Outcome)
+    → Contains steps (Answer e o) → IsLawfulAnswer old evidence ports e o
 lawful_of old evidence ports steps l e o h =
-    All-contains (λ step. (e : Pending) (o : Outcome) → step ≡ Answer e o → IsLawful old evidence ports e o) steps (Answer e o) (all_lawful old evidence ports steps l) h e o refl
+    All-contains (λ step. (e : Pending) (o : Outcome) → step ≡ Answer e o → IsLawfulAnswer old evidence ports e o) steps (Answer e o) (all_lawful old evidence ports steps l) h e o refl
 
 all_belong : (ask : AbstractCall DeviceStep) (ports : Ports) (steps : List Step) → AreStepsOfCall ask ports steps → All (λ step. IsByDevice step ⊎ IsByServer ask ports step) steps
 all_belong ask ports [] l = All-nil (λ step. IsByDevice step ⊎ IsByServer ask ports step)
@@ -94,8 +94,8 @@ all_gone shrink m (step ∷ before) may =
 grant_gone : RowsShrink → (m : Machine) (steps : List Step) (e : Pending) → AllMay m steps → Contains steps (Answer e outcome.Revoked) → HasGrant (after m steps) e → ⊥
 grant_gone shrink m steps e may h = All-contains (λ step. (e : Pending) → step ≡ Answer e outcome.Revoked → HasGrant (after m steps) e → ⊥) steps (Answer e outcome.Revoked) (all_gone shrink m steps may) h e refl
 
-module _ (wanted : List Wanted) (old : JointState Device) (h : Happening Device DeviceStep) (x : Happens old.abstract h.event) (t : CallCorresponds wanted old h) where
-  lawful : (e : Pending) (o : Outcome) → Contains h.event.steps (Answer e o) → IsLawful old.abstract h.event.evidence h.event.ports e o
+module _ (wanted : List Wanted) (old : JointState Device) (h : JointEvent Device DeviceStep) (x : Happens old.abstract h.event) (t : CallCorresponds wanted old h) where
+  lawful : (e : Pending) (o : Outcome) → Contains h.event.steps (Answer e o) → IsLawfulAnswer old.abstract h.event.evidence h.event.ports e o
   lawful e o here = lawful_of old.abstract h.event.evidence h.event.ports h.event.steps x.lawful e o here
 
   -- a port of which Unplugged is told was lost
@@ -103,7 +103,7 @@ module _ (wanted : List Wanted) (old : JointState Device) (h : Happening Device 
   lost_then e here = (t.evidenced.port e.request.port).lost (lawful e outcome.Unplugged here).0
 
   module _ (shrink : RowsShrink) where
-    rests : (e : Pending) (o : Outcome) → Contains h.event.steps (Answer e o) → IsLawful old.abstract h.event.evidence h.event.ports e o → AnswerJustified old h t.accesses e o
+    rests : (e : Pending) (o : Outcome) → Contains h.event.steps (Answer e o) → IsLawfulAnswer old.abstract h.event.evidence h.event.ports e o → AnswerJustified old h t.accesses e o
     rests e outcome.Ok here l = l
     rests e (outcome.DeviceError status error) here l = (
       t.evidenced.faults _ l.2,

@@ -5,9 +5,9 @@ use Rattle.std.proofs.lemmas.List.Elements.{All-cons, All-head, All-nil, All-tai
 use Rattle.adapter.specs.Device.{Device}
 use Rattle.adapter.specs.declared.tape.Entry.{Entry}
 use Rattle.adapter.specs.declared.tape.Entry.TheVariants as entry
-use Rattle.refinement.specs.Driven.{Grows}
+use Rattle.refinement.specs.Driven.{TapeGrows}
 use Rattle.refinement.specs.Errors.{IsFatalOf}
-use Rattle.refinement.specs.Facts.{IsDisturbance, IsFaultOf, Undisturbed}
+use Rattle.refinement.specs.PortFacts.{IsDisturbance, IsFaultOf, Undisturbed}
 use Rattle.refinement.specs.Links.{IsPlugEvent, NoPlugEvents}
 use Rattle.error_recovery.specs.Evidence.{GainsSinceStart}
 use Rattle.driver_history.specs.Laws.{Laws}
@@ -22,7 +22,7 @@ gained_later {X} old early before e later last p q r =
     ∙ ap (λ (xs : List X). old ++ xs) (sym (append_assoc early before (e ∷ (later ++ last))))
 
 -- what a part of a stretch gained since ST was set, the stretch did, where ST was not set again after the part
-pub running_in_part : (Such : Entry → Type 0) (port : ℕ) (old start end new : Device) → Grows old start → Grows end new → (new.port port).notes.st_set_at ≡ (end.port port).notes.st_set_at → GainsSinceStart Such port start end
+pub running_in_part : (Such : Entry → Type 0) (port : ℕ) (old start end new : Device) → TapeGrows old start → TapeGrows end new → (new.port port).notes.st_set_at ≡ (end.port port).notes.st_set_at → GainsSinceStart Such port start end
     → GainsSinceStart Such port old new
 running_in_part Such port old start end new first last same g =
     let since = g.since in
@@ -37,7 +37,7 @@ running_in_part Such port old start end new first last same g =
       since = omega (arith, same, since, long, more);
     }
 
-module _ (laws : Laws) (port : ℕ) (old mid new : Device) (early : Grows old mid) (late : Grows mid new) (set : (new.port port).notes.st_set_at ≤ length mid.tape) where
+module _ (laws : Laws) (port : ℕ) (old mid new : Device) (early : TapeGrows old mid) (late : TapeGrows mid new) (set : (new.port port).notes.st_set_at ≤ length mid.tape) where
   running : (Such : Entry → Type 0) (before : List Entry) (e : Entry) (later : List Entry) → new.tape ≡ mid.tape ++ (before ++ e ∷ later) → Such e → GainsSinceStart Such port old new
   running Such before e later tape is =
       let long = ap (λ (xs : List Entry). length xs) early.1 ∙ length-append old.tape early.0 in

@@ -16,17 +16,17 @@ use Rattle.adapter.specs.Rules.{IsStable}
 use Rattle.adapter.specs.declared.access.DeviceStep.{DeviceStep}
 use Rattle.adapter.specs.declared.tape.Entry.{Entry}
 use Rattle.refinement.specs.Relation.{StateRelation, port_at}
-use Rattle.refinement.specs.Facts.{DeviceSparesFrame}
+use Rattle.refinement.specs.PortFacts.{DeviceSparesFrame}
 use Rattle.refinement.specs.Links.{IsPlugEvent, NoPlugEvents}
 use Rattle.refinement.specs.Slots.{ServesRequest, Stage, SlotStates}
 use Rattle.block_machine.specs.Events.{AbstractCall, Service, abstract_after}
-use Rattle.block_machine.specs.Histories.{JointState, Happening, IsReachable, now}
+use Rattle.block_machine.specs.Histories.{JointState, JointEvent, IsReachable, now}
 use Rattle.block_machine.specs.Ports.{SameDisk}
 use Rattle.block_machine.specs.State.{Accepted, Machine, Pending}
 use Rattle.block_machine.specs.Steps.{Answer}
 use Rattle.identify.specs.declared.wanted.Wanted.{Wanted}
 use Rattle.driver_history.specs.Heeding.{HeedsAt}
-use Rattle.driver_history.specs.Evidence.{Gains, ShowsChange}
+use Rattle.driver_history.specs.Evidence.{TapeGainsEntry, ShowsChange}
 use Rattle.driver_history.specs.Histories.{IsDriverHistory, CallCorresponds}
 use Rattle.driver_history.specs.Laws.{RunLaws}
 use Rattle.driver_history.proofs.Telling.{history_reached}
@@ -37,7 +37,7 @@ use Rattle.driver_history.proofs.Resting.{lost_then}
 abbrev pub UnlentIsStill : Type 0
 UnlentIsStill = (uses : SlotStates) (m : Machine) (d : Device) (frame : Frame) → IsReachable m → StateRelation uses m d → m.lent frame ≡ None → DRIVER_FRAMES ≤ frame.0 → IsStable (DeviceSparesFrame frame) d
 
-pub unlent_still : UnlentIsStill → RunLaws → (wanted : List Wanted) (first : JointState Device) (past : List (Happening Device DeviceStep)) (frame : Frame) → IsDriverHistory wanted first past
+pub unlent_still : UnlentIsStill → RunLaws → (wanted : List Wanted) (first : JointState Device) (past : List (JointEvent Device DeviceStep)) (frame : Frame) → IsDriverHistory wanted first past
     → DRIVER_FRAMES ≤ frame.0 → (now first past).abstract.machine.lent frame ≡ None → IsStable (DeviceSparesFrame frame) (now first past).device
 unlent_still law runs wanted first past frame history low free =
     let h = holds_at wanted first past history in
@@ -58,7 +58,7 @@ ended_of memory p port slot e c places (inr (inl taken)) st ci sact = absurd (ta
 ended_of memory p port slot e c places (inr (inr (inl ended))) st ci sact = ended.ended
 ended_of memory p port slot e c places (inr (inr (inr dropped))) st ci sact = absurd (false≢true (sym dropped.stopped ∙ st))
 
-pub seen_answered : (wanted : List Wanted) (first : JointState Device) (past : List (Happening Device DeviceStep)) (h : Happening Device DeviceStep) (port : Port) (slot : ℕ) (id : RequestId)
+pub seen_answered : (wanted : List Wanted) (first : JointState Device) (past : List (JointEvent Device DeviceStep)) (h : JointEvent Device DeviceStep) (port : Port) (slot : ℕ) (id : RequestId)
     → IsDriverHistory wanted first (h ∷ past) → h.event.ask ≡ Service → (now first past).abstract.ports.state port ≡ Ready
     → ServesRequest (now first past).abstract.machine (now first past).device.memory ((now first past).device.port port.0) port.0 slot id
     → ((now first past).device.port port.0).ci slot ≡ false → ((now first past).device.port port.0).sact slot ≡ false
@@ -79,12 +79,12 @@ seen_answered wanted first past h port slot id history asks asked serves ci sact
 -- ---- Unplugged
 
 -- none of a kind was gained
-none_of : (port : ℕ) (old new : Device) → NoPlugEvents port old new → Gains (IsPlugEvent port) old new → ⊥
+none_of : (port : ℕ) (old new : Device) → NoPlugEvents port old new → TapeGainsEntry (IsPlugEvent port) old new → ⊥
 none_of port old new u g =
     let same : g.gained ≡ u.gained = append_cancel_left old.tape g.gained u.gained (sym g.tape ∙ u.tape) in
     All-contains (λ e. IsPlugEvent port e → ⊥) u.gained g.entry u.none (subst (λ (xs : List Entry). Contains xs g.entry) same g.here) g.is
 
-pub unplugged_refused : (wanted : List Wanted) (first : JointState Device) (past : List (Happening Device DeviceStep)) (h : Happening Device DeviceStep) (e : Pending)
+pub unplugged_refused : (wanted : List Wanted) (first : JointState Device) (past : List (JointEvent Device DeviceStep)) (h : JointEvent Device DeviceStep) (e : Pending)
     → IsDriverHistory wanted first (h ∷ past) → (ShowsChange ((now first past).device.port e.request.port.0) → ⊥) → ((now first past).device.port e.request.port.0).ssts_det ≡ 3
     → NoPlugEvents e.request.port.0 (now first past).device h.device
     → (h.event.ports.state e.request.port ≡ Dead) ⊎ ((h.event.ports.state e.request.port ≡ Ready) × SameDisk (now first past).abstract.ports h.event.ports e.request.port)

@@ -12,19 +12,19 @@ use Rattle.adapter.specs.Access.{Access, Does, DoesAll}
 use Rattle.adapter.specs.Device.{Device, DevicePort}
 use Rattle.adapter.specs.Rules.{IsOn}
 use Rattle.adapter.specs.declared.tape.Entry.{Entry}
-use Rattle.refinement.specs.Driven.{Grows}
+use Rattle.refinement.specs.Driven.{TapeGrows}
 use Rattle.refinement.specs.Errors.{ChangesByErrors, IsFatalOf, NoDiskComes, NoneFatal}
-use Rattle.refinement.specs.Facts.{IsFaultOf}
+use Rattle.refinement.specs.PortFacts.{IsFaultOf}
 use Rattle.refinement.specs.Links.{ShowsDiskIfIn, IsPlugEvent, NoPlugEvents, DoesNotWrite}
-use Rattle.refinement.specs.Vacant.{IsFreshIfShown, IsVacant}
+use Rattle.refinement.specs.Vacant.{HasFirstFisIfShown, IsVacant}
 use Rattle.block_machine.specs.Events.{AbstractState, CallResult, Service}
 use Rattle.block_machine.specs.Histories.{JointState}
 use Rattle.block_machine.specs.Ports.{Evidence, IsStoppedOrStuck, Ports, SamePort}
 use Rattle.error_recovery.specs.Evidence.{GainsSinceStart, ShowsFatal}
-use Rattle.driver_history.specs.Evidence.{Gains, ShowsChange, ShowsFailure}
+use Rattle.driver_history.specs.Evidence.{TapeGainsEntry, ShowsChange, ShowsFailure}
 use Rattle.driver_history.specs.Histories.{BootsAnew, HasUnservedDisk, HasOnlyTaskFileError, HasSignatureOrNoDevice, LosesNoPortError, RunsWellAnew, IsPortAlive, ProbesDisk}
 use Rattle.driver_history.specs.Laws.{Laws}
-use Rattle.driver_history.specs.Parts.{EndsNoLinkDue, HasTurnIn, IsOfOther, EvidenceAgreesOn, call_accesses}
+use Rattle.driver_history.specs.Parts.{EndsNoLinkDue, HasTurnIn, IsOfOtherPort, EvidenceAgreesOn, call_accesses}
 use Rattle.driver_history.specs.Trace.{ResetsLink}
 use Rattle.driver_history.proofs.Parting.{IsLeft, gains_within, grows_over, loss_then, others_leave, plugged_or_not}
 use Rattle.driver_history.proofs.Since.{calm_since, running_in_part}
@@ -32,7 +32,7 @@ use Rattle.driver_history.proofs.Errors.{IsOne, Shows, Tells, TroubleKind, chang
 use Rattle.driver_history.proofs.Within.{parts_at, reset_after, reset_before, reset_within}
 
 -- what the tape gained, as a list in two parts or three
-gained_at : (Such : Entry → Type 0) (old new : Device) (before : List Entry) (e : Entry) (later : List Entry) → new.tape ≡ old.tape ++ (before ++ e ∷ later) → Such e → Gains Such old new
+gained_at : (Such : Entry → Type 0) (old new : Device) (before : List Entry) (e : Entry) (later : List Entry) → new.tape ≡ old.tape ++ (before ++ e ∷ later) → Such e → TapeGainsEntry Such old new
 gained_at Such old new before e later tape is = record {
   gained = before ++ e ∷ later;
   tape = tape;
@@ -41,10 +41,10 @@ gained_at Such old new before e later tape is = record {
   is = is;
 }
 
-fresh_or_gone : (p : DevicePort) → IsFreshIfShown p → HasSignatureOrNoDevice p
+fresh_or_gone : (p : DevicePort) → HasFirstFisIfShown p → HasSignatureOrNoDevice p
 fresh_or_gone p fresh = ⊎_elim (λ (shows : p.ssts_det ≡ 3). inl (fresh shows)) (λ gone. inr gone) (cases_eq p.ssts_det 3)
 
-fresh_if_shown : (p : DevicePort) → HasSignatureOrNoDevice p → IsFreshIfShown p
+fresh_if_shown : (p : DevicePort) → HasSignatureOrNoDevice p → HasFirstFisIfShown p
 fresh_if_shown p fresh shows = ⊎_elim (λ came. came) (λ gone. absurd (gone shows)) fresh
 
 module _ (laws : Laws) (port : Port) where
@@ -75,10 +75,10 @@ module _ (laws : Laws) (port : Port) where
     last : IsLeft laws port t.end new
     last = others_leave laws port t.later t.end new on_then t.last t.others_later
 
-    middle : Grows t.start t.end
+    middle : TapeGrows t.start t.end
     middle = grows_over laws port t.turn t.start t.end t.then
 
-    since : Grows t.start new
+    since : TapeGrows t.start new
     since = laws.tape.grows_more t.start t.end new middle last.grows
 
     abbrev began : JointState Device
@@ -96,8 +96,8 @@ module _ (laws : Laws) (port : Port) where
     module _ (ended ports : Ports) (stays : SamePort ended ports port) where
       -- boots
 
-      spares_other : (accesses : List Access) → All (IsOfOther port) accesses → All (DoesNotWrite (Px port Sctl)) accesses
-      spares_other accesses of = All-weaker (IsOfOther port) (DoesNotWrite (Px port Sctl)) (λ access x. laws.spares x.0 port Sctl x.1 access x.2) accesses of
+      spares_other : (accesses : List Access) → All (IsOfOtherPort port) accesses → All (DoesNotWrite (Px port Sctl)) accesses
+      spares_other accesses of = All-weaker (IsOfOtherPort port) (DoesNotWrite (Px port Sctl)) (λ access x. laws.spares x.0 port Sctl x.1 access x.2) accesses of
 
       reset_in_call : ResetsLink port t.turn → ResetsLink port (call_accesses t)
       reset_in_call r = reset_within port t.before t.turn t.later (spares_other t.later t.others_later) r
@@ -154,7 +154,7 @@ module _ (laws : Laws) (port : Port) where
 
       -- the disk's first FIS has come, or no device shows, at the call's end, where it has at the turn's
       fresh_still : NoDiskComes port.0 t.end new → HasSignatureOrNoDevice (t.end.port port.0) → HasSignatureOrNoDevice (new.port port.0)
-      fresh_still none fresh = fresh_or_gone (new.port port.0) (stays_over IsFreshIfShown (laws.fresh port) t.later t.end new t.last none (fresh_if_shown (t.end.port port.0) fresh))
+      fresh_still none fresh = fresh_or_gone (new.port port.0) (stays_over HasFirstFisIfShown (laws.fresh port) t.later t.end new t.last none (fresh_if_shown (t.end.port port.0) fresh))
 
       pub tries_are_the_calls : SamePort old.abstract.ports begun.ports port → (HasUnservedDisk old.abstract.ports port → ShowsDiskIfIn (old.device.port port.0)) → EndsNoLinkDue port began ended t.end
           → (NoDiskComes port.0 t.start t.end → ProbesDisk t.turn began ended t.end port) → NoDiskComes port.0 old.device new → ProbesDisk (call_accesses t) old ports new port
@@ -196,9 +196,9 @@ module _ (laws : Laws) (port : Port) where
           its = tried parts.1
 
           -- what is so of the disk's first FIS when the turn begins is so at the call's end
-          from_start : IsFreshIfShown (t.start.port port.0) → HasSignatureOrNoDevice (new.port port.0)
+          from_start : HasFirstFisIfShown (t.start.port port.0) → HasSignatureOrNoDevice (new.port port.0)
           from_start fresh = fresh_or_gone (new.port port.0)
-              (stays_over IsFreshIfShown (laws.fresh port) t.later t.end new t.last parts.2 (stays_over IsFreshIfShown (laws.fresh port) t.turn t.start t.end t.then parts.1 fresh))
+              (stays_over HasFirstFisIfShown (laws.fresh port) t.later t.end new t.last parts.2 (stays_over HasFirstFisIfShown (laws.fresh port) t.turn t.start t.end t.then parts.1 fresh))
 
           -- where no disk was in, none is when the turn begins
           vacant_then : HasUnservedDisk old.abstract.ports port → (old.device.port port.0).ssts_det ≢ 3 → IsVacant (t.start.port port.0)
@@ -219,9 +219,9 @@ module _ (laws : Laws) (port : Port) where
 
         -- an entry that the call gained came before the turn, in it, or after it
         module _ (Such : Entry → Type 0) (Result : Type 0) (before : List Entry) (e : Entry) (later : List Entry) (tape : new.tape ≡ old.device.tape ++ (before ++ e ∷ later)) (is : Such e)
-            (early : Gains Such old.device t.start → length old.device.tape + length before < length t.start.tape → Result)
+            (early : TapeGainsEntry Such old.device t.start → length old.device.tape + length before < length t.start.tape → Result)
             (within : (ahead rest : List Entry) → t.end.tape ≡ t.start.tape ++ (ahead ++ e ∷ rest) → length old.device.tape + length before ≡ length t.start.tape + length ahead → Result)
-            (late : Gains Such t.end new → Result) where
+            (late : TapeGainsEntry Such t.end new → Result) where
           by_parts : Result
           by_parts = ⊎_elim
               (λ (i : (rest : List Entry) × (first.grows.0 ≡ before ++ e ∷ rest) × (later ≡ rest ++ (middle.0 ++ last.grows.0))).
@@ -243,7 +243,7 @@ module _ (laws : Laws) (port : Port) where
         module _ (was : SamePort old.abstract.ports begun.ports port) (set_since : ended.state port ≡ Ready → IsStoppedOrStuck turn port → length t.start.tape ≤ (t.end.port port.0).notes.st_set_at)
             (stops : (begun.ports.state port ≡ Ready) ⊎ (ended.state port ≡ Ready) → ShowsFailure (t.start.port port.0) ⊎ ShowsChange (t.start.port port.0) → IsStoppedOrStuck turn port) (its : LosesNoPortError turn began ended t.end port) where
           -- trouble that came before the turn stopped a ready port in it
-          stopped : (begun.ports.state port ≡ Ready) ⊎ (ended.state port ≡ Ready) → (kind : TroubleKind) → Gains (IsOne kind port.0) old.device t.start → IsStoppedOrStuck turn port
+          stopped : (begun.ports.state port ≡ Ready) ⊎ (ended.state port ≡ Ready) → (kind : TroubleKind) → TapeGainsEntry (IsOne kind port.0) old.device t.start → IsStoppedOrStuck turn port
           stopped ready kind early = stops ready (is_trouble kind (t.start.port port.0) (told kind (t.start.port port.0) ((first.trouble_shown kind).came early)))
 
           -- what is told at the turn's end is so at the call's, unless the port was stopped
@@ -251,7 +251,7 @@ module _ (laws : Laws) (port : Port) where
           still kind it = ⊎_elim (λ i. inl (named i)) (λ tells. inr (tells_still kind port.0 t.end new last.trouble_shown tells)) it
 
           -- what came in the call is shown at its end, where what was told, or came, in the turn is told at the end of that, unless the port was stopped
-          came : (kind : TroubleKind) → (Tells kind (t.start.port port.0) ⊎ Gains (IsOne kind port.0) t.start t.end → IsStoppedOrStuck turn port ⊎ Tells kind (t.end.port port.0)) → Gains (IsOne kind port.0) old.device new
+          came : (kind : TroubleKind) → (Tells kind (t.start.port port.0) ⊎ TapeGainsEntry (IsOne kind port.0) t.start t.end → IsStoppedOrStuck turn port ⊎ Tells kind (t.end.port port.0)) → TapeGainsEntry (IsOne kind port.0) old.device new
               → IsStoppedOrStuck call port ⊎ Tells kind (new.port port.0)
           came kind then g = ⊎_elim
               (λ early. still kind (then (inl (told kind (t.start.port port.0) ((first.trouble_shown kind).came early)))))
@@ -304,9 +304,9 @@ module _ (laws : Laws) (port : Port) where
             let up : ResetsLink port t.turn ⊎ ((t.start.port port.0).fresh ≡ true) = ⊎_elim (λ r. inl (reset_in_turn r)) (λ fresh. ⊎_elim (λ undue. inr (first.fresh undue parts.0 ∙ fresh)) (λ r. inl r) (linked is_ready)) how in
             laws.well port.0 t.end new
             (laws.runs port t.later t.end new on_then t.last
-            (All-weaker (IsOfOther port) (DoesNotWrite Ghc) (λ access x. laws.spares_host x.0 access x.2) t.later t.others_later)
+            (All-weaker (IsOfOtherPort port) (DoesNotWrite Ghc) (λ access x. laws.spares_host x.0 access x.2) t.later t.others_later)
             (spares_other t.later t.others_later)
-            (All-weaker (IsOfOther port) (DoesNotWrite (Px port Cmd)) (λ access x. laws.spares x.0 port Cmd x.1 access x.2) t.later t.others_later))
+            (All-weaker (IsOfOtherPort port) (DoesNotWrite (Px port Cmd)) (λ access x. laws.spares x.0 port Cmd x.1 access x.2) t.later t.others_later))
             (calm_since laws port.0 old.device t.end new (laws.tape.grows_more old.device t.start t.end first.grows middle) last.grows (omega (arith, same, small)) plugs unfailed unbroken)
             (its (unnamed i) is_ready parts.1
             (λ g. unfailed (running_in_part (IsFaultOf port.0) port.0 old.device t.start t.end new first.grows last.grows same g))

@@ -9,9 +9,9 @@ use Rattle.adapter.specs.Access.{Access}
 use Rattle.adapter.specs.Device.{Device}
 use Rattle.adapter.specs.Rules.{IsOn}
 use Rattle.adapter.specs.declared.access.DeviceStep.{DeviceStep}
-use Rattle.refinement.specs.Facts.{RunsWell}
-use Rattle.block_machine.specs.Events.{AbstractCall, Reset, RevokeOf, Service, Tick, AnswersEnded, HasTimedOut, NoneKeepsIssue, WasIssued, abstract_after}
-use Rattle.block_machine.specs.Histories.{JointState, Happening}
+use Rattle.refinement.specs.PortFacts.{RunsWell}
+use Rattle.block_machine.specs.Events.{AbstractCall, Reset, RevokeOf, Service, Tick, AnswersEnded, HasTimedOut, NoneStaysIssued, WasIssued, abstract_after}
+use Rattle.block_machine.specs.Histories.{JointState, JointEvent}
 use Rattle.block_machine.specs.Ports.{IsStoppedOrStuck, SamePort}
 use Rattle.block_machine.specs.State.{Pending}
 use Rattle.block_machine.specs.Steps.{Answer, AllTouched, HasGrant}
@@ -29,7 +29,7 @@ IsFaultFreeOutcome ask o = o ≡ outcome.Ok
 
 -- A call that made these accesses leaves a port alone: it is what it was, what it tells there is told calmly, and
 -- neither PxCMD nor PxSCTL of it is written.
-pub record IsSpared (old : JointState Device) (h : Happening Device DeviceStep) (accesses : List Access)
+pub record IsSpared (old : JointState Device) (h : JointEvent Device DeviceStep) (accesses : List Access)
     (port : Port) : Type 0 where
   pub same : SamePort old.abstract.ports h.event.ports port
   pub told : (e : Pending) (o : Outcome) → Contains h.event.steps (Answer e o) → e.request.port ≡ port
@@ -41,7 +41,7 @@ pub record IsSpared (old : JointState Device) (h : Happening Device DeviceStep) 
 -- that fault, and the port was stopped. Aborted: four issues, on a port that is ready. Unplugged: the port was lost.
 -- PortDead: its engine was awaited in vain, or the adapter isn't on. Revoked: the grant isn't there any more, and the
 -- request wasn't issued, or the port was stopped.
-abbrev pub AnswerJustified : JointState Device → Happening Device DeviceStep → List Access → Pending → Outcome → Type 0
+abbrev pub AnswerJustified : JointState Device → JointEvent Device DeviceStep → List Access → Pending → Outcome → Type 0
 AnswerJustified old h accesses e outcome.Ok =
     WasIssued old.abstract.machine e.request.id × (e.issued ≡ true) × AllTouched e × (e.ended ≡ true)
 AnswerJustified old h accesses e (outcome.DeviceError status error) =
@@ -58,7 +58,7 @@ AnswerJustified old h accesses e outcome.Revoked = (HasGrant (abstract_after old
 
 -- A call is healthy for a port that is ready, runs well when it begins, and on which nothing goes wrong meanwhile; it
 -- isn't a reset, nor a tick that brings a request of the port to its age of three.
-pub record IsHealthyFor (old : JointState Device) (h : Happening Device DeviceStep) (port : Port) : Type 0 where
+pub record IsHealthyFor (old : JointState Device) (h : JointEvent Device DeviceStep) (port : Port) : Type 0 where
   pub ready : old.abstract.ports.state port ≡ Ready
   pub healthy : StaysHealthy port.0 old.device h.device
   pub no_reset : h.event.ask ≢ Reset
@@ -66,7 +66,7 @@ pub record IsHealthyFor (old : JointState Device) (h : Happening Device DeviceSt
 
 -- Such a call goes well for it: the port is left alone, and runs well after it; a service has read the masks, and
 -- answered exactly what they show done; and what is due is issued.
-pub record GoesWellFor (old : JointState Device) (h : Happening Device DeviceStep) (port : Port) : Type 0 where
+pub record GoesWellFor (old : JointState Device) (h : JointEvent Device DeviceStep) (port : Port) : Type 0 where
   pub accesses : List Access
   pub came : ExplainsAccesses old.abstract h.event.ask h.event.said accesses old.device h.device
   pub spared : IsSpared old h accesses port
@@ -81,10 +81,10 @@ pub record GoesWellFor (old : JointState Device) (h : Happening Device DeviceSte
 -- told a fault at most, and none where a fatal error was shown. And where TFES alone was, with no fatal error in the
 -- call, and no disk that goes or comes, a plain one that was outstanding, and hadn't ended, is told its fault, unless
 -- the port ends dead. So it isn't tried again.
-pub record HandlesShownFailure (port : Port) (old : JointState Device) (h : Happening Device DeviceStep) : Type 0 where
+pub record HandlesShownFailure (port : Port) (old : JointState Device) (h : JointEvent Device DeviceStep) : Type 0 where
   pub ended : AnswersEnded old.abstract.machine h.event.steps port
   pub stopped : IsStoppedOrStuck h.event.evidence port
-  pub anew : NoneKeepsIssue h.event.steps (abstract_after old.abstract h.event).machine port
+  pub anew : NoneStaysIssued h.event.steps (abstract_after old.abstract h.event).machine port
   pub single : count_by (tells_fault port) h.event.steps ≤ 1
   pub fatal : ShowsFatal (old.device.port port.0) → count_by (tells_fault port) h.event.steps ≡ 0
   pub told : TellsPlainFaults Service old h.event.ports h.device h.event.steps port
@@ -94,7 +94,7 @@ pub record HandlesShownFailure (port : Port) (old : JointState Device) (h : Happ
 -- A service heeds that a port showed when it began that its disk was lost: what had ended on the port is answered Ok,
 -- and each of its other requests is answered, too, all with Unplugged, or all with PortDead. The port was stopped, or
 -- got stuck.
-pub record HandlesShownLoss (port : Port) (old : JointState Device) (h : Happening Device DeviceStep) : Type 0 where
+pub record HandlesShownLoss (port : Port) (old : JointState Device) (h : JointEvent Device DeviceStep) : Type 0 where
   pub ended : AnswersEnded old.abstract.machine h.event.steps port
   pub emptied : (e : Pending) → Contains (abstract_after old.abstract h.event).machine.book e → e.request.port ≢ port
   pub told : ToldOkOr outcome.Unplugged h.event.steps port ⊎ ToldOkOr outcome.PortDead h.event.steps port

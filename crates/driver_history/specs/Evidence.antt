@@ -11,20 +11,20 @@ use Rattle.adapter.specs.declared.access.DeviceStep.{DeviceStep}
 use Rattle.adapter.specs.declared.tape.Entry.{Entry}
 use Rattle.adapter.specs.declared.tape.Fault as tape_fault
 use Rattle.refinement.specs.Errors.{IsFatalOf, NoDiskComes}
-use Rattle.refinement.specs.Facts.{IsFaultOf, RunsWell, Undisturbed}
+use Rattle.refinement.specs.PortFacts.{IsFaultOf, RunsWell, Undisturbed}
 use Rattle.refinement.specs.Links.{IsPlugEvent}
 use Rattle.refinement.specs.Slots.{ServesRequest}
 use Rattle.block_machine.specs.Events.{AbstractCall, Reset, CallResult, WasReset}
 use Rattle.block_machine.specs.Histories.{JointState}
 use Rattle.block_machine.specs.Ports.{Ports, SameDisk, RequestFault, Evidence, IsStoppedOrStuck}
 use Rattle.block_machine.specs.State.{Pending}
-use Rattle.port_control.specs.Engines.{Stops, Sticks}
+use Rattle.port_control.specs.Engines.{Stops, EngineSticks}
 use Rattle.identify.specs.Log.{TellsError}
 use Rattle.error_recovery.specs.Evidence.{BringsLog, HasFailed, ShowsFatal}
 use Rattle.driver_history.specs.Trace.{LeavesEngine}
 
 -- the tape gained an entry of this kind
-pub record Gains (Is : Entry → Type 0) (old new : Device) : Type 0 where
+pub record TapeGainsEntry (Is : Entry → Type 0) (old new : Device) : Type 0 where
   pub gained : List Entry
   pub tape : new.tape ≡ old.tape ++ gained
   pub entry : Entry
@@ -89,7 +89,7 @@ abbrev pub IsLost : Port → JointState Device → Ports → Device → Type 0
 IsLost port old ports new =
     ShowsChange (old.device.port port.0)
     ⊎ (((old.device.port port.0).ssts_det ≢ 3)
-    ⊎ (Gains (IsPlugEvent port.0) old.device new
+    ⊎ (TapeGainsEntry (IsPlugEvent port.0) old.device new
     ⊎ ((ports.state port ≢ Dead) × (ports.state port ≡ Ready → SameDisk old.abstract.ports ports port → ⊥))))
 
 -- It showed a change when the call began; or no device, and no disk came in the call.
@@ -101,18 +101,18 @@ abbrev pub IsGone : Port → JointState Device → Device → Type 0
 IsGone port old new = (old.abstract.ports.state port ≡ Ready)
     × (ShowsChange (old.device.port port.0)
     ⊎ (((old.device.port port.0).ssts_det ≢ 3)
-    ⊎ Gains (IsPlugEvent port.0) old.device new))
+    ⊎ TapeGainsEntry (IsPlugEvent port.0) old.device new))
 
 -- It was ready, and showed an error when the call began, or had one in it.
 abbrev pub HasErrors : Port → JointState Device → Device → Type 0
 HasErrors port old new = (old.abstract.ports.state port ≡ Ready)
     × (ShowsFailure (old.device.port port.0)
-    ⊎ (Gains (IsFaultOf port.0) old.device new ⊎ Gains (IsFatalOf port.0) old.device new))
+    ⊎ (TapeGainsEntry (IsFaultOf port.0) old.device new ⊎ TapeGainsEntry (IsFatalOf port.0) old.device new))
 
 -- It was ready, and showed a fatal error then, or had one in the call.
 abbrev pub HasFatalErrors : Port → JointState Device → Device → Type 0
 HasFatalErrors port old new = (old.abstract.ports.state port ≡ Ready)
-    × (ShowsFatal (old.device.port port.0) ⊎ Gains (IsFatalOf port.0) old.device new)
+    × (ShowsFatal (old.device.port port.0) ⊎ TapeGainsEntry (IsFatalOf port.0) old.device new)
 
 -- ---- resets
 
@@ -149,7 +149,7 @@ pub record IsEvidencedOf (ask : AbstractCall DeviceStep) (said : CallResult) (ac
   pub stopped_only : Contains evidence.stopped port → Stops port accesses
       ⊎ (IsEndedReset ask said × (old.abstract.ports.served port ≡ true))
   pub stuck_only : Contains evidence.stuck port
-      → (Sticks port accesses × ((new.port port.0).notes.engine_count ≡ MOST_READINGS))
+      → (EngineSticks port accesses × ((new.port port.0).notes.engine_count ≡ MOST_READINGS))
       ⊎ (IsStuckReset ask said × (old.abstract.ports.served port ≡ true))
 
 -- Each fault that is named was told by the device, and so it is with each port.

@@ -5,7 +5,7 @@ use Rattle.ata_types.specs.declared.Port.{Port}
 use Rattle.ata_types.specs.declared.PortState.TheVariants.{Ready}
 use Rattle.ata_types.specs.declared.request.Outcome.{Outcome}
 use Rattle.ata_types.specs.declared.request.Outcome.TheVariants as outcome
-use Rattle.block_machine.specs.Events.{AbstractCall, Service, Tick, Reset, AbstractState, AnswersEnded, ShowsRealDisk, NoneKeepsIssue, changes_disk}
+use Rattle.block_machine.specs.Events.{AbstractCall, Service, Tick, Reset, AbstractState, AnswersEnded, ShownDiskWasInOrCame, NoneStaysIssued, changes_disk}
 use Rattle.block_machine.specs.Ports.{Ports, SamePort, Evidence, IsStoppedOrStuck}
 use Rattle.block_machine.specs.State.{Pending}
 use Rattle.block_machine.specs.Steps.{Step, Again, Answer}
@@ -62,10 +62,10 @@ pub record ServesReady (old : AbstractState) (evidence : Evidence) (steps : List
   pub emptied : Contains evidence.gone port → (e : Pending) → Contains new.machine.book e → e.request.port ≢ port
   pub told : Contains evidence.gone port → ToldOkOr outcome.Unplugged steps port ⊎ ToldOkOr outcome.PortDead steps port
   pub interrupts : Contains evidence.failed port ⊎ Contains evidence.gone port → IsStoppedOrStuck evidence port
-  pub anew : Contains evidence.failed port ⊎ Contains evidence.stopped port → NoneKeepsIssue steps new.machine port
+  pub anew : Contains evidence.failed port ⊎ Contains evidence.stopped port → NoneStaysIssued steps new.machine port
   pub single : count_by (tells_fault port) steps ≤ 1
   pub fatal : Contains evidence.fatal port → Contains evidence.failed port × (count_by (tells_fault port) steps ≡ 0)
-  pub disk : ShowsRealDisk old steps new port
+  pub disk : ShownDiskWasInOrCame old steps new port
   pub calm : IsDisturbed evidence steps port ⊎ IsLeftAlone old.ports evidence steps new.ports port
 
 -- A call heeds what it finds of a port: a service serves one that was ready when it began. A tick and a reset are bound

@@ -18,12 +18,12 @@ use Rattle.adapter.specs.Rules.{IsOn}
 use Rattle.adapter.specs.declared.access.DeviceStep.{DeviceStep}
 use Rattle.refinement.specs.Driver.{IsBacked}
 use Rattle.refinement.specs.Errors.{IsFatalOf, NoDiskComes, NoneFatal}
-use Rattle.refinement.specs.Facts.{RunsWell, IsFaultOf}
+use Rattle.refinement.specs.PortFacts.{RunsWell, IsFaultOf}
 use Rattle.refinement.specs.Links.{IsPlugEvent, NoPlugEvents}
 use Rattle.refinement.specs.Slots.{ServesRequest}
 use Rattle.block_machine.specs.Events.{AbstractCall, Submit, StoreAt, LoadAt, Service, Tick, Reset, RevokeOf, Device as Told, CallResult, Submitted, Stored, Loaded, Served, WasReset, WasRevoked, Stepped, AbstractState, HasTimedOut, IsIssuedIn, issues_it, abstract_after}
 use Rattle.block_machine.specs.Due.{IsDue}
-use Rattle.block_machine.specs.Histories.{JointState, Happening}
+use Rattle.block_machine.specs.Histories.{JointState, JointEvent}
 use Rattle.block_machine.specs.Histories as histories
 use Rattle.block_machine.specs.Ports.{Ports, SamePort, Evidence, IsStoppedOrStuck}
 use Rattle.block_machine.specs.Rules.{HasRow, IsNamed}
@@ -34,9 +34,9 @@ use Rattle.block_machine.specs.declared.due.Unanswered.{Unanswered}
 use Rattle.identify.specs.declared.wanted.Wanted.{Wanted}
 use Rattle.host_boot.specs.Resets.{AwaitsReset, BeginsReset}
 use Rattle.error_recovery.specs.Evidence.{GainsSinceStart, ShowsFatal}
-use Rattle.driver_history.specs.Evidence.{Gains, ShowsChange, ShowsFailure, ShowsLoss, IsEvidenced}
+use Rattle.driver_history.specs.Evidence.{TapeGainsEntry, ShowsChange, ShowsFailure, ShowsLoss, IsEvidenced}
 use Rattle.driver_history.specs.Heeding.{HeedsAt, OnlyFailedPortsRequeueIn}
-use Rattle.driver_history.specs.Holds.{DriverInvariant}
+use Rattle.driver_history.specs.PortInvariants.{DriverInvariant}
 use Rattle.driver_history.specs.Trace.{ReadsCiAndSact, ResetsLink, IsAccessForPorts, IsDriversOwn, IsOfPorts}
 
 -- ---- how a call came from the one device to the other
@@ -192,7 +192,7 @@ HasUnservedDisk ports port = (ports.state port ≡ Foreign) ⊎ ((cause : ℕ) �
 pub record ProbesDisk (accesses : List Access) (old : JointState Device) (ports : Ports) (new : Device)
     (port : Port) : Type 0 where
   pub shown : old.abstract.ports.state port ≡ Absent → (old.device.port port.0).ssts_det ≡ 3
-      → (ports.state port ≡ Dead) ⊎ (ResetsLink port accesses ⊎ Gains (IsPlugEvent port.0) old.device new)
+      → (ports.state port ≡ Dead) ⊎ (ResetsLink port accesses ⊎ TapeGainsEntry (IsPlugEvent port.0) old.device new)
   pub absent : old.abstract.ports.state port ≡ Absent → (old.device.port port.0).ssts_det ≡ 3
       → (old.device.port port.0).fresh ≡ false → (ports.state port ≡ Dead) ⊎ HasSignatureOrNoDevice (new.port port.0)
   pub missing : HasUnservedDisk old.abstract.ports port → (old.device.port port.0).ssts_det ≢ 3
@@ -234,10 +234,10 @@ pub record LosesNoPortError (evidence : Evidence) (old : JointState Device) (por
     (port : Port) : Type 0 where
   pub errors : old.abstract.ports.state port ≡ Ready
       → ShowsFailure (old.device.port port.0)
-      ⊎ (Gains (IsFaultOf port.0) old.device new ⊎ Gains (IsFatalOf port.0) old.device new)
+      ⊎ (TapeGainsEntry (IsFaultOf port.0) old.device new ⊎ TapeGainsEntry (IsFatalOf port.0) old.device new)
       → IsStoppedOrStuck evidence port ⊎ ShowsFailure (new.port port.0)
   pub changes : IsPortAlive old.abstract.ports port → ShowsChange (old.device.port port.0)
-      ⊎ Gains (IsPlugEvent port.0) old.device new
+      ⊎ TapeGainsEntry (IsPlugEvent port.0) old.device new
       → IsStoppedOrStuck evidence port ⊎ ShowsChange (new.port port.0)
   pub fault : ports.state port ≡ Ready → GainsSinceStart (IsFaultOf port.0) port.0 old.device new
       → (new.port port.0).is 30 ≡ true
@@ -260,7 +260,7 @@ RunsWellAnew evidence accesses old ports new port =
 
 -- What a call has done of a port: what was found done, a plain request's fault, a disk that is there, boots, and
 -- trouble; and it heeds what the evidence names of the port.
-pub record PortCorresponds (old : JointState Device) (h : Happening Device DeviceStep) (accesses : List Access)
+pub record PortCorresponds (old : JointState Device) (h : JointEvent Device DeviceStep) (accesses : List Access)
     (port : Port) : Type 0 where
   pub finds : FindsDoneInCall h.event.ask accesses old h.event.steps port
   pub faults : TellsPlainFaults h.event.ask old h.event.ports h.device h.event.steps port
@@ -274,7 +274,7 @@ pub record PortCorresponds (old : JointState Device) (h : Happening Device Devic
 -- evidence is so, and what rests on it is grounded. It has issued what is due. Of each port it has done its part. And
 -- after it there holds what holds at each instant.
 pub record CallCorresponds (wanted : List Wanted) (old : JointState Device)
-    (h : Happening Device DeviceStep) : Type 0 where
+    (h : JointEvent Device DeviceStep) : Type 0 where
   pub accesses : List Access
   pub came : ExplainsAccesses old.abstract h.event.ask h.event.said accesses old.device h.device
   pub backed : IsBacked old.device h.device old.abstract.machine h.event.steps
@@ -292,5 +292,5 @@ abbrev pub IsFirstInstant : List Wanted → JointState Device → Type 0
 IsFirstInstant wanted first = DriverInvariant wanted first × HasAeAndIe first.device
 
 -- calls one after another, from what a new server left
-abbrev pub IsDriverHistory : List Wanted → JointState Device → List (Happening Device DeviceStep) → Type 0
+abbrev pub IsDriverHistory : List Wanted → JointState Device → List (JointEvent Device DeviceStep) → Type 0
 IsDriverHistory wanted first past = histories.IsHistory (IsFirstInstant wanted) (CallCorresponds wanted) first past

@@ -13,17 +13,17 @@ use Rattle.adapter.specs.Steps.{Steps}
 use Rattle.refinement.specs.Laws.{TapeLaws}
 use Rattle.refinement.specs.Driven.{IsDrivenBy, SparesOtherPorts, LeavesPort}
 use Rattle.refinement.specs.Errors.{ChangesByErrors, KeepsErrors, NoDiskComes, NoneFails, NoneFatal}
-use Rattle.refinement.specs.Facts.{RunsWell, Undisturbed}
+use Rattle.refinement.specs.PortFacts.{RunsWell, Undisturbed}
 use Rattle.refinement.specs.Links.{LeavesControls, LeavesLink, NoPlugEvents, DoesNotWrite}
-use Rattle.refinement.specs.Vacant.{IsFreshIfShown, IsVacant}
+use Rattle.refinement.specs.Vacant.{HasFirstFisIfShown, IsVacant}
 use Rattle.error_recovery.specs.Evidence.{ShowsFatal}
 use Rattle.port_boot.specs.States.{RunsOn}
-use Rattle.port_control.specs.Engines.{Falls, Sticks}
-use Rattle.adapter.specs.Seen.{PortRegisterWritten}
+use Rattle.port_control.specs.Engines.{EngineFalls, EngineSticks}
+use Rattle.adapter.specs.RegisterEffects.{PortRegisterWritten}
 use Rattle.adapter.specs.declared.access.DeviceStep.{DeviceStep}
 use Rattle.block_machine.specs.Confined.{IsConfined, WasAccepted}
 use Rattle.block_machine.specs.Events.{AbstractState, CallRecord, EveryReadHolds, IsRun, abstract_after_all, steps_of}
-use Rattle.block_machine.specs.Left.{AllStepsFaithful, IsInitial, IsLegal, after}
+use Rattle.block_machine.specs.Expected.{AllStepsFaithful, IsInitial, IsLegal, after}
 use Rattle.block_machine.specs.State.{Block, Machine, Pending}
 use Rattle.block_machine.specs.Steps.{HoldsFrames, Step, Touch}
 
@@ -40,12 +40,14 @@ pub record Laws : Type 0 where
   pub errors : (port : Port) (access : Access) (old new : Device) → Does access old new → ChangesByErrors port.0 old new
   pub link : (port : Port) (access : Access) (old new : Device) → old.hr ≡ false → DoesNotWrite (Px port Sctl) access
       → Does access old new → NoPlugEvents port.0 old new → LeavesLink (old.port port.0) (new.port port.0)
-  pub falls_then : (early late : List Access) (start running : ℕ) (port : Port) → Falls start running port early
-      → Falls start running port (early ++ late)
-  pub falls_since : (early late : List Access) (start running : ℕ) (port : Port) → Falls start running port late
-      → Falls start running port (early ++ late)
-  pub sticks_then : (early late : List Access) (port : Port) → Sticks port early → Sticks port (early ++ late)
-  pub sticks_since : (early late : List Access) (port : Port) → Sticks port late → Sticks port (early ++ late)
+  pub falls_then : (early late : List Access) (start running : ℕ) (port : Port) → EngineFalls start running port early
+      → EngineFalls start running port (early ++ late)
+  pub falls_since : (early late : List Access) (start running : ℕ) (port : Port) → EngineFalls start running port late
+      → EngineFalls start running port (early ++ late)
+  pub sticks_then : (early late : List Access) (port : Port) → EngineSticks port early
+      → EngineSticks port (early ++ late)
+  pub sticks_since : (early late : List Access) (port : Port) → EngineSticks port late
+      → EngineSticks port (early ++ late)
   pub does_append : (early late : List Access) (old mid new : Device) → DoesAll early old mid → DoesAll late mid new
       → DoesAll (early ++ late) old new
   pub steps : (old new : Device) → Steps old new → Keeps old new
@@ -91,7 +93,7 @@ pub record Laws : Type 0 where
   pub vacant : (port : Port) (access : Access) (old new : Device) → NoDiskComes port.0 old new → Does access old new
       → IsVacant (old.port port.0) → IsVacant (new.port port.0)
   pub fresh : (port : Port) (access : Access) (old new : Device) → NoDiskComes port.0 old new → Does access old new
-      → IsFreshIfShown (old.port port.0) → IsFreshIfShown (new.port port.0)
+      → HasFirstFisIfShown (old.port port.0) → HasFirstFisIfShown (new.port port.0)
   pub runs : (port : Port) (accesses : List Access) (old new : Device) → IsOn old → DoesAll accesses old new
       → All (DoesNotWrite Ghc) accesses → All (DoesNotWrite (Px port Sctl)) accesses
       → All (DoesNotWrite (Px port Cmd)) accesses → RunsOn port.0 old new

@@ -2,7 +2,7 @@ pub mod Trace
 pub mod Evidence
 pub mod Parts
 pub mod Laws
-pub mod Holds
+pub mod PortInvariants
 pub mod Heeding
 pub mod Histories
 pub mod Moves

@@ -11,7 +11,7 @@ use Rattle.refinement.specs.Places.{scratch_of}
 use Rattle.refinement.specs.Slots.{op_of}
 use Rattle.refinement.specs.Tape.{MovesSector, ClearsSectors}
 use Rattle.block_machine.specs.Confined.{IsConfined, WasAccepted}
-use Rattle.block_machine.specs.Left.{after}
+use Rattle.block_machine.specs.Expected.{after}
 use Rattle.block_machine.specs.State.{Machine}
 use Rattle.block_machine.specs.Steps.{Step}
 

@@ -11,8 +11,8 @@ use Rattle.block_machine.specs.Ports.{Evidence, Ports}
 use Rattle.driver_history.specs.Histories.{HasUnservedDisk}
 
 -- the access is of another port: of ports' registers it touches that one's alone, and of IS that one's bit
-abbrev pub IsOfOther : Port → Access → Type 0
-IsOfOther port access = (other : Port) × (port.0 ≢ other.0) × SparesOtherPorts other access
+abbrev pub IsOfOtherPort : Port → Access → Type 0
+IsOfOtherPort port access = (other : Port) × (port.0 ≢ other.0) × SparesOtherPorts other access
 
 -- A call's accesses are those before the port's turn, those of the turn, and those after it. But for the turn's, they
 -- are of other ports.
@@ -25,8 +25,8 @@ pub record HasTurnIn (port : Port) (old new : Device) : Type 0 where
   pub first : DoesAll before old start
   pub then : DoesAll turn start end
   pub last : DoesAll later end new
-  pub others : All (IsOfOther port) before
-  pub others_later : All (IsOfOther port) later
+  pub others : All (IsOfOtherPort port) before
+  pub others_later : All (IsOfOtherPort port) later
 
 -- all its accesses
 abbrev pub call_accesses : {port : Port} {old new : Device} → HasTurnIn port old new → List Access

@@ -6,7 +6,7 @@ use Rattle.hba_regs.specs.declared.reg.Reg.TheVariants.{Ghc, Px}
 use Rattle.hba_regs.specs.declared.reg.PortReg.TheVariants.{Cmd, Sctl, Sact, Ci}
 use Rattle.adapter.specs.Access.{Access}
 use Rattle.adapter.specs.Access.Access.{Reading, Writing, Loading, Storing}
-use Rattle.refinement.specs.Facts.{ClearsNoTrouble}
+use Rattle.refinement.specs.PortFacts.{ClearsNoTrouble}
 use Rattle.refinement.specs.Links.{DoesNotWrite}
 
 -- ---- what one access is

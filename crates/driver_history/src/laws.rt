@@ -13,67 +13,67 @@ ghost use Rattle.adapter.specs.declared.access.DeviceStep.{DeviceStep};
 ghost use Rattle.adapter.specs.declared.command.Operation.TheVariants.{ReadLog};
 ghost use Rattle.adapter.specs.declared.tape.Fault.{Fault};
 ghost use Rattle.refinement.specs.Driven.{GainsNoMove};
-ghost use Rattle.refinement.specs.Facts.{DeviceSparesFrame, RunsWell};
+ghost use Rattle.refinement.specs.PortFacts.{DeviceSparesFrame, RunsWell};
 ghost use Rattle.refinement.specs.Links.{NoPlugEvents};
 ghost use Rattle.refinement.specs.Slots.{ServesRequest};
-ghost use Rattle.block_machine.specs.Events.{AbstractCall, AbstractState, CallResult, steps_of, Service, Tick, Reset, HasTimedOut, IsRun, EveryReadHolds, NoneKeepsIssue};
-ghost use Rattle.block_machine.specs.Histories.{JointState, Happening, IsReachable, events_of, now};
+ghost use Rattle.block_machine.specs.Events.{AbstractCall, AbstractState, CallResult, steps_of, Service, Tick, Reset, HasTimedOut, IsRun, EveryReadHolds, NoneStaysIssued};
+ghost use Rattle.block_machine.specs.Histories.{JointState, JointEvent, IsReachable, events_of, now};
 ghost use Rattle.block_machine.specs.Ports.{PortsWellFormed, Evidence, Ports, SameDisk, SamePort};
 ghost use Rattle.block_machine.specs.State.{Pending};
 ghost use Rattle.block_machine.specs.Steps.{Answer};
 ghost use Rattle.identify.specs.declared.wanted.Wanted.{Wanted};
-ghost use Rattle.durability.specs.Durable.{EveryPlugFinds};
+ghost use Rattle.durability.specs.Durable.{EveryPlugFindsFlushed};
 ghost use Rattle.driver_history.specs.Claims.{AnswerJustified, GoesWellFor, IsHealthyFor, IsSpared};
 ghost use Rattle.driver_history.specs.Evidence.{HasErrors, HasFatalErrors, IsEvidencedOf, IsGone, ShowsChange, StaysHealthy};
 ghost use Rattle.error_recovery.specs.Evidence.{BringsLog, HasFailed};
 ghost use Rattle.driver_history.specs.Histories.{IsDriverHistory, IssuesAllDue, LosesNoPortError};
-ghost use Rattle.driver_history.specs.Holds.{DriverInvariant};
+ghost use Rattle.driver_history.specs.PortInvariants.{DriverInvariant};
 ghost use Rattle.driver_history.specs.Moves.{MovesConfined};
 ghost use Rattle.driver_history.specs.Parts.{HasTurnIn, EvidenceAgreesOn, call_accesses};
 
-use super::lawful::{law_base, law_runs};
+use super::prerequisites::{law_prerequisites, law_run_prerequisites};
 use adapter::DeviceStep;
 use adapter::laws::law_told_steps_are_transitions;
 use block_machine::laws::law_rows_shrink_and_owners_stay;
 use durability::laws::law_flushed_writes_survive_replug;
 use port_boot::laws::law_a_port_runs_on;
-use refinement::facts::{law_device_spares_frames, law_healthy_stays};
 use refinement::laws::law_disks_are_told;
+use refinement::port_facts::{law_device_spares_frames, law_healthy_stays};
 
 /// The calls of a history are a run of the block machine. So its laws on runs hold of them: each request that is issued
 /// was accepted and broke no rule, each touch is of an accepted request's own sector at a frame that is lent to it, and
 /// others.
 pub fn law_histories_are_runs()
-    ensures { (wanted : List Wanted) (first : JointState Device) (past : List (Happening Device DeviceStep))
+    ensures { (wanted : List Wanted) (first : JointState Device) (past : List (JointEvent Device DeviceStep))
         → IsDriverHistory wanted first past → IsRun first.abstract (events_of past) }
 {}
 
 /// The machine of a history is reached.
 pub fn law_histories_reach_their_machines()
-    ensures { (wanted : List Wanted) (first : JointState Device) (past : List (Happening Device DeviceStep))
+    ensures { (wanted : List Wanted) (first : JointState Device) (past : List (JointEvent Device DeviceStep))
         → IsDriverHistory wanted first past → IsReachable (now first past).abstract.machine }
 {
-    law_runs();
+    law_run_prerequisites();
 }
 
 /// Where the adapter's disks tell their sectors, each read of a history that was answered Ok has, at the end of the
 /// call that answered it, what was left.
 pub fn law_reads_hold()
-    ensures { (wanted : List Wanted) (first : JointState Device) (past : List (Happening Device DeviceStep))
+    ensures { (wanted : List Wanted) (first : JointState Device) (past : List (JointEvent Device DeviceStep))
         → IsDriverHistory wanted first past → first.device.telling ≡ true
         → EveryReadHolds first.abstract (events_of past) }
 {
-    law_runs();
+    law_run_prerequisites();
 }
 
 /// Where the adapter's disks tell their sectors, each disk that comes back in a history has the writes that were
 /// flushed, or later ones.
 pub fn law_replugs_keep_flushed_writes()
-    ensures { (wanted : List Wanted) (first : JointState Device) (past : List (Happening Device DeviceStep))
+    ensures { (wanted : List Wanted) (first : JointState Device) (past : List (JointEvent Device DeviceStep))
         → IsDriverHistory wanted first past → first.device.telling ≡ true
-        → EveryPlugFinds first.abstract.machine (steps_of (events_of past)) }
+        → EveryPlugFindsFlushed first.abstract.machine (steps_of (events_of past)) }
 {
-    law_runs();
+    law_run_prerequisites();
     law_flushed_writes_survive_replug::<DeviceStep>();
 }
 
@@ -82,21 +82,21 @@ pub fn law_replugs_keep_flushed_writes()
 /// rule, and is issued or kept. Each other move stays in its port's scratch frame. And sectors are cleared by a trim
 /// alone that was accepted so, and is issued or kept: its own.
 pub fn law_moves_keep_to_their_places()
-    ensures { (wanted : List Wanted) (first : JointState Device) (past : List (Happening Device DeviceStep))
-        (h : Happening Device DeviceStep)
+    ensures { (wanted : List Wanted) (first : JointState Device) (past : List (JointEvent Device DeviceStep))
+        (h : JointEvent Device DeviceStep)
         → IsDriverHistory wanted first (h ∷ past)
         → MovesConfined first.abstract.machine (steps_of (events_of past)) h.event.steps
         (now first past).device h.device }
 {
-    law_runs();
+    law_run_prerequisites();
 }
 
 /// At each instant of a history there holds what holds between two calls; and the ports are fit: at most four are
 /// served.
 pub fn law_driver_invariant_holds()
-    ensures holds { (wanted : List Wanted) (first : JointState Device) (past : List (Happening Device DeviceStep))
+    ensures holds { (wanted : List Wanted) (first : JointState Device) (past : List (JointEvent Device DeviceStep))
         → IsDriverHistory wanted first past → DriverInvariant wanted (now first past) }
-    ensures fit { (wanted : List Wanted) (first : JointState Device) (past : List (Happening Device DeviceStep))
+    ensures fit { (wanted : List Wanted) (first : JointState Device) (past : List (JointEvent Device DeviceStep))
         → IsDriverHistory wanted first past → PortsWellFormed (now first past).abstract.ports }
 {}
 
@@ -104,7 +104,7 @@ pub fn law_driver_invariant_holds()
 /// is one: the header and the table there say its command; and its bit of PxCI is set, or the device has taken the
 /// command, or the request has ended and the bits are clear. (Only where ST is zero may a command have been given up.)
 pub fn law_issued_requests_have_their_slots()
-    ensures { (wanted : List Wanted) (first : JointState Device) (past : List (Happening Device DeviceStep))
+    ensures { (wanted : List Wanted) (first : JointState Device) (past : List (JointEvent Device DeviceStep))
         (e : Pending)
         → IsDriverHistory wanted first past → (now first past).abstract.ports.state e.request.port ≡ Ready
         → Contains (now first past).abstract.machine.book e → e.issued ≡ true
@@ -118,8 +118,8 @@ pub fn law_issued_requests_have_their_slots()
 /// In a service a ready port that stays healthy is left alone: it is what it was, each answer there is Ok, and neither
 /// its PxCMD nor its PxSCTL is written.
 pub fn law_healthy_ports_are_left_alone()
-    ensures { (wanted : List Wanted) (first : JointState Device) (past : List (Happening Device DeviceStep))
-        (h : Happening Device DeviceStep)
+    ensures { (wanted : List Wanted) (first : JointState Device) (past : List (JointEvent Device DeviceStep))
+        (h : JointEvent Device DeviceStep)
         (port : Port) → (history : IsDriverHistory wanted first (h ∷ past)) → h.event.ask ≡ Service
         → (now first past).abstract.ports.state port ≡ Ready
         → StaysHealthy port.0 (now first past).device h.device → IsSpared (now first past) h history.2.accesses port }
@@ -130,8 +130,8 @@ pub fn law_healthy_ports_are_left_alone()
 /// A port that is ready and stays healthy in a call runs well after it, unless the call is a reset, or a tick that
 /// brings a request of the port to its age of three.
 pub fn law_calls_leave_ports_well()
-    ensures { (wanted : List Wanted) (first : JointState Device) (past : List (Happening Device DeviceStep))
-        (h : Happening Device DeviceStep)
+    ensures { (wanted : List Wanted) (first : JointState Device) (past : List (JointEvent Device DeviceStep))
+        (h : JointEvent Device DeviceStep)
         (port : Port) → IsDriverHistory wanted first (h ∷ past) → (now first past).abstract.ports.state port ≡ Ready
         → h.event.ask ≢ Reset
         → (h.event.ask ≡ Tick → HasTimedOut (now first past).abstract port → ⊥)
@@ -145,8 +145,8 @@ pub fn law_calls_leave_ports_well()
 
 /// Each answer of a history rests on what the device did and showed.
 pub fn law_answers_justified()
-    ensures { (wanted : List Wanted) (first : JointState Device) (past : List (Happening Device DeviceStep))
-        (h : Happening Device DeviceStep)
+    ensures { (wanted : List Wanted) (first : JointState Device) (past : List (JointEvent Device DeviceStep))
+        (h : JointEvent Device DeviceStep)
         (history : IsDriverHistory wanted first (h ∷ past)) → (e : Pending) (told : Outcome)
         → Contains h.event.steps (Answer e told)
         → AnswerJustified (now first past) h history.2.accesses e told }
@@ -158,20 +158,20 @@ pub fn law_answers_justified()
 /// calls. Within one, a frame leaves a loan where its request has ended, or its port has stopped: see what each answer
 /// rests on.)
 pub fn law_device_spares_unlent()
-    ensures { (wanted : List Wanted) (first : JointState Device) (past : List (Happening Device DeviceStep))
+    ensures { (wanted : List Wanted) (first : JointState Device) (past : List (JointEvent Device DeviceStep))
         (frame : Frame) → IsDriverHistory wanted first past
         → DRIVER_FRAMES ≤ frame.0 → (now first past).abstract.machine.lent frame ≡ None
         → IsStable (DeviceSparesFrame frame) (now first past).device }
 {
-    law_runs();
+    law_run_prerequisites();
     law_device_spares_frames();
 }
 
 /// Unplugged is told of no request whose port had told of no change and showed a device when the call began, of which
 /// no disk went or came, and which ends the call dead, or ready with the same serial and size.
 pub fn law_unplugged_needs_loss()
-    ensures { (wanted : List Wanted) (first : JointState Device) (past : List (Happening Device DeviceStep))
-        (h : Happening Device DeviceStep)
+    ensures { (wanted : List Wanted) (first : JointState Device) (past : List (JointEvent Device DeviceStep))
+        (h : JointEvent Device DeviceStep)
         (e : Pending) → IsDriverHistory wanted first (h ∷ past)
         → (ShowsChange ((now first past).device.port e.request.port.0)
         → ⊥)
@@ -185,8 +185,8 @@ pub fn law_unplugged_needs_loss()
 /// A service answers each request of a ready port whose bits are clear when it begins, whether or not a command has
 /// failed there or its disk was lost.
 pub fn law_clear_bits_are_answered()
-    ensures { (wanted : List Wanted) (first : JointState Device) (past : List (Happening Device DeviceStep))
-        (h : Happening Device DeviceStep)
+    ensures { (wanted : List Wanted) (first : JointState Device) (past : List (JointEvent Device DeviceStep))
+        (h : JointEvent Device DeviceStep)
         (port : Port) (slot : ℕ) (id : RequestId) → IsDriverHistory wanted first (h ∷ past) → h.event.ask ≡ Service
         → (now first past).abstract.ports.state port ≡ Ready
         → ServesRequest (now first past).abstract.machine (now first past).device.memory
@@ -198,11 +198,11 @@ pub fn law_clear_bits_are_answered()
 
 /// A tick that brings a request of a port to its age of three leaves no unanswered request of the port its issue.
 pub fn law_timeouts_undo_issues()
-    ensures { (wanted : List Wanted) (first : JointState Device) (past : List (Happening Device DeviceStep))
-        (h : Happening Device DeviceStep)
+    ensures { (wanted : List Wanted) (first : JointState Device) (past : List (JointEvent Device DeviceStep))
+        (h : JointEvent Device DeviceStep)
         (port : Port) → IsDriverHistory wanted first (h ∷ past) → h.event.ask ≡ Tick
         → HasTimedOut (now first past).abstract port
-        → NoneKeepsIssue h.event.steps (now first (h ∷ past)).abstract.machine port }
+        → NoneStaysIssued h.event.steps (now first (h ∷ past)).abstract.machine port }
 {}
 
 /// Composition on healthy ports: each call of a history that is healthy for a port goes well for it, whatever was
@@ -210,8 +210,8 @@ pub fn law_timeouts_undo_issues()
 /// service answers exactly the issued requests whose bits are clear in the masks that it read; and a call issues
 /// exactly what is due.
 pub fn law_healthy_calls_go_well()
-    ensures { (wanted : List Wanted) (first : JointState Device) (past : List (Happening Device DeviceStep))
-        (h : Happening Device DeviceStep)
+    ensures { (wanted : List Wanted) (first : JointState Device) (past : List (JointEvent Device DeviceStep))
+        (h : JointEvent Device DeviceStep)
         (port : Port) → IsDriverHistory wanted first (h ∷ past) → IsHealthyFor (now first past) h port
         → GoesWellFor (now first past) h port }
 {
@@ -224,8 +224,8 @@ pub fn law_healthy_calls_go_well()
 /// On a port that is ready at the end of a submit, a service, a tick, a reset or a revocation, exactly what is due was
 /// issued.
 pub fn law_due_are_issued()
-    ensures { (wanted : List Wanted) (first : JointState Device) (past : List (Happening Device DeviceStep))
-        (h : Happening Device DeviceStep)
+    ensures { (wanted : List Wanted) (first : JointState Device) (past : List (JointEvent Device DeviceStep))
+        (h : JointEvent Device DeviceStep)
         (port : Port) → IsDriverHistory wanted first (h ∷ past)
         → IssuesAllDue h.event.ask h.event.steps (now first (h ∷ past)).abstract.machine h.event.ports port }
 {}
@@ -251,7 +251,7 @@ pub fn law_a_turns_evidence_is_the_calls()
     ensures brings { (port : Port) (old new : Device) (page : List ℕ) → IsOn old → (t : HasTurnIn port old new)
         → GainsNoMove port.0 ReadLog t.end new → BringsLog port t.start t.end page → BringsLog port old new page }
 {
-    law_base();
+    law_prerequisites();
 }
 
 /// Of a port that stays healthy in a call nothing is so for which trouble is named: it isn't gone, and has no errors.

@@ -7,6 +7,6 @@
 //! history; those of `troubles` are on faults and lost disks. There is no program code.
 #![tactic(auto)]
 
-mod lawful;
 pub mod laws;
+mod prerequisites;
 pub mod troubles;

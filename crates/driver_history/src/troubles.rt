@@ -9,12 +9,12 @@ ghost use Rattle.adapter.specs.Device.{Device};
 ghost use Rattle.adapter.specs.Rules.{IsOn};
 ghost use Rattle.adapter.specs.Steps.{Steps};
 ghost use Rattle.adapter.specs.declared.access.DeviceStep.{DeviceStep};
-ghost use Rattle.refinement.specs.Driven.{Grows};
+ghost use Rattle.refinement.specs.Driven.{TapeGrows};
 ghost use Rattle.refinement.specs.Errors.{IsFatalOf, NoDiskComes};
-ghost use Rattle.refinement.specs.Facts.{IsFaultOf, Undisturbed};
+ghost use Rattle.refinement.specs.PortFacts.{IsFaultOf, Undisturbed};
 ghost use Rattle.refinement.specs.Links.{ShowsDiskIfIn, NoPlugEvents, DoesNotWrite};
 ghost use Rattle.block_machine.specs.Events.{AbstractState, CallResult, Service};
-ghost use Rattle.block_machine.specs.Histories.{Happening, JointState, now};
+ghost use Rattle.block_machine.specs.Histories.{JointEvent, JointState, now};
 ghost use Rattle.block_machine.specs.Ports.{Evidence, IsStoppedOrStuck, Ports, SamePort};
 ghost use Rattle.error_recovery.specs.Evidence.{GainsSinceStart};
 ghost use Rattle.driver_history.specs.Claims.{HandlesShownFailure, HandlesShownLoss};
@@ -25,15 +25,15 @@ ghost use Rattle.driver_history.specs.Trace.{ClearsNoError, ResetsLink};
 ghost use Rattle.identify.specs.declared.wanted.Wanted.{Wanted};
 ghost use Rattle.port_control.specs.Engines.{Stops};
 
-use super::lawful::law_base;
+use super::prerequisites::law_prerequisites;
 
 /// A service heeds the failure that a ready port showed when it began, a fault or a fatal error, whatever else it
 /// showed: what had ended is answered, the port was stopped, who waits keeps no issue, and one request is told a fault
 /// at most. With a fatal error nobody is told one; with TFES alone, and in the call no fatal error, and no disk that
 /// goes or comes, a plain request always is.
 pub fn law_shown_faults_are_heeded()
-    ensures { (wanted : List Wanted) (first : JointState Device) (past : List (Happening Device DeviceStep))
-        (h : Happening Device DeviceStep)
+    ensures { (wanted : List Wanted) (first : JointState Device) (past : List (JointEvent Device DeviceStep))
+        (h : JointEvent Device DeviceStep)
         (port : Port) → IsDriverHistory wanted first (h ∷ past) → h.event.ask ≡ Service
         → (now first past).abstract.ports.state port ≡ Ready
         → ShowsFailure ((now first past).device.port port.0) → HandlesShownFailure port (now first past) h }
@@ -43,8 +43,8 @@ pub fn law_shown_faults_are_heeded()
 /// meanwhile, whatever else it showed: what had ended is answered, all other requests of the port are told that the
 /// disk is gone, or that the port is dead, and the port was stopped.
 pub fn law_shown_losses_are_heeded()
-    ensures { (wanted : List Wanted) (first : JointState Device) (past : List (Happening Device DeviceStep))
-        (h : Happening Device DeviceStep)
+    ensures { (wanted : List Wanted) (first : JointState Device) (past : List (JointEvent Device DeviceStep))
+        (h : JointEvent Device DeviceStep)
         (port : Port) → IsDriverHistory wanted first (h ∷ past) → h.event.ask ≡ Service
         → (now first past).abstract.ports.state port ≡ Ready
         → ShowsLoss port (now first past).device h.device → HandlesShownLoss port (now first past) h }
@@ -61,7 +61,7 @@ pub fn law_ordinary_accesses_lose_no_error()
     ensures steps { (port : Port) (old : JointState Device) (new : Device) (evidence : Evidence) (ports : Ports)
         → IsOn old.device → Steps old.device new → LosesNoPortError evidence old ports new port }
 {
-    law_base();
+    law_prerequisites();
 }
 
 /// Where a ready port shows TFES alone when a call begins, with no other trouble in it, so it is in the port's own
@@ -72,7 +72,7 @@ pub fn law_a_fault_alone_in_a_call_is_alone_in_a_turn()
         → begun.ports.state port ≡ Ready → HasOnlyTaskFileError port old new
         → HasOnlyTaskFileError port (record { device = t.start; abstract = begun }) t.end }
 {
-    law_base();
+    law_prerequisites();
 }
 
 /// What a port's turn owes of trouble the whole call does, where the turn's and the call's evidence name the port in
@@ -109,7 +109,7 @@ pub fn law_a_turns_errors_are_the_calls()
         → RunsWellAnew turn t.turn (record { device = t.start; abstract = begun }) ended t.end port
         → RunsWellAnew call (call_accesses t) old ports new port }
 {
-    law_base();
+    law_prerequisites();
 }
 
 /// Where a port's turn in a call probes its disk, the call does, if no disk was in a port with one that isn't served
@@ -133,24 +133,25 @@ pub fn law_a_turn_that_probes_a_disk_is_the_calls()
         → EndsNoLinkDue port (record { device = t.start; abstract = begun })
         ended t.end → EndsNoLinkDue port old ports new }
 {
-    law_base();
+    law_prerequisites();
 }
 
 /// Where no disk of a port went or came, and no fault and no fatal error came since its ST was last set, nothing went
 /// wrong on it after any moment that ST was set before.
 pub fn law_what_is_untroubled_since_st_was_set_is_calm()
-    ensures { (port : ℕ) (old mid new : Device) → Grows old mid → Grows mid new → (new.port port).notes.st_set_at
+    ensures { (port : ℕ) (old mid new : Device) → TapeGrows old mid → TapeGrows mid new
+        → (new.port port).notes.st_set_at
         ≤ length mid.tape
         → NoPlugEvents port old new → (GainsSinceStart (IsFaultOf port) port old new → ⊥)
         → (GainsSinceStart (IsFatalOf port) port old new → ⊥) → Undisturbed port mid new }
 {
-    law_base();
+    law_prerequisites();
 }
 
 /// A fatal error that came in a part of a call since ST of its port was last set has come since then in the whole,
 /// where ST wasn't set again after the part.
 pub fn law_a_fatal_error_of_a_part_is_of_the_whole()
-    ensures { (port : ℕ) (old start end new : Device) → Grows old start → Grows end new
+    ensures { (port : ℕ) (old start end new : Device) → TapeGrows old start → TapeGrows end new
         → (new.port port).notes.st_set_at ≡ (end.port port).notes.st_set_at
         → GainsSinceStart (IsFatalOf port) port start end → GainsSinceStart (IsFatalOf port) port old new }
 {}
@@ -161,7 +162,7 @@ pub fn law_a_port_that_was_stopped_was_set_since()
         → DoesAll accesses old new → Stops port accesses → (new.port port.0).st ≡ true
         → length old.tape ≤ (new.port port.0).notes.st_set_at }
 {
-    law_base();
+    law_prerequisites();
 }
 
 /// Where accesses that leave the adapter on reset a port's link, that is noted: PxSCTL was written since they began. So
@@ -172,5 +173,5 @@ pub fn law_a_link_that_was_reset_is_noted()
         → DoesAll accesses old new → ResetsLink port accesses
         → length old.tape ≤ (new.port port.0).notes.sctl_written_at }
 {
-    law_base();
+    law_prerequisites();
 }

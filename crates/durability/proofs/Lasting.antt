@@ -8,9 +8,9 @@ use Rattle.ata_types.specs.declared.request.Op.TheVariants.{Flush}
 use Rattle.ata_types.specs.declared.request.Outcome.TheVariants.{Ok, DeviceError}
 use Rattle.block_machine.specs.State.{Block, DiskBytes, Accepted, Pending, Machine, sector_of, block_written}
 use Rattle.block_machine.specs.Due.{is_flush, changes_sectors}
-use Rattle.block_machine.specs.Steps.{Step, Accept, Issue, Touch, End, Age, Again, Answer, Release, Revoke, Unplug, Replace, Store, Load, May, MayStillMove, after_step, at, newly_issued, touch, mark_ended, requeued, older, newly_accepted, put_sector, SameBytes, HasHeld}
-use Rattle.block_machine.specs.Left.{after, IsLegal, IsInitial, IsAccept, IsTouch, HasTouched, plug_count}
-use Rattle.durability.specs.Durable.{IsOk, takes_out, brings_other, WriteAccepted, WriteAnswered, FlushAccepted, FlushAnswered, IsWrittenSince, FindsFlushed, EveryPlugFinds}
+use Rattle.block_machine.specs.Steps.{Step, Accept, Issue, Touch, End, Age, Again, Answer, Release, Revoke, Unplug, Replace, Store, Load, May, MayStillMove, after_step, at, newly_issued, touch, mark_ended, requeued, older, newly_accepted, put_sector, SameBytes, HoldsOrHeldSinceFlush}
+use Rattle.block_machine.specs.Expected.{after, IsLegal, IsInitial, IsAccept, IsTouch, HasTouched, plug_count}
+use Rattle.durability.specs.Durable.{AnswersOk, takes_out, plugs_other_disk, WriteAccepted, WriteAnswered, FlushAccepted, FlushAnswered, IsWrittenSince, FindsFlushed, EveryPlugFindsFlushed}
 use Rattle.block_machine.proofs.Members.{map_in, at_cases, without_in, append_in}
 use Rattle.block_machine.proofs.Sound.{Sound}
 use Rattle.block_machine.proofs.Keeps.{older_keeps, older_touched}
@@ -29,7 +29,7 @@ starts_lasting old port _ = false
 -- Sector k of the port's disk held this block at some moment since a flush was last ended on that disk, or since the
 -- disk was first in. What it held before the start, the start says.
 abbrev pub HeldSince : Machine → Port → ℕ → Block → List Step → Type 0
-HeldSince start port k block [] = HasHeld start port k block
+HeldSince start port k block [] = HoldsOrHeldSinceFlush start port k block
 HeldSince start port k block (step ∷ past) =
     SameBytes block ((after start (step ∷ past)).disks port k)
     ⊎ ((starts_lasting (after start past) port step ≡ false) × HeldSince start port k block past)
@@ -187,7 +187,7 @@ record Stage (start : Machine) (h : List Step) (w : Accepted) (k : ℕ) : Type 0
   since : IsWrittenSince w k h ((after start h).disks w.port k)
 
 -- the disk keeps its size, unless another comes
-sizes_stay : (m : Machine) (step : Step) (port : Port) → May m step → brings_other m port step ≡ false → (after_step m step).sizes port ≡ m.sizes port
+sizes_stay : (m : Machine) (step : Step) (port : Port) → May m step → plugs_other_disk m port step ≡ false → (after_step m step).sizes port ≡ m.sizes port
 sizes_stay m (Replace p id size disk) port may other = ⊎_elim
     (λ (ne : (p.0 == port.0) ≡ false). cond-false (port.0 == p.0) size (m.sizes port) (ne_eqb port.0 p.0 (λ e. eqb-false p.0 port.0 ne (sym e))))
     (λ (same : not (id == m.disk_ids port) ≡ false). cond_both (port.0 == p.0) size (m.sizes port) (λ n. n ≡ m.sizes port)
@@ -198,7 +198,7 @@ sizes_stay m (Replace p id size disk) port may other = ⊎_elim
 sizes_stay m _ port may other = refl
 
 -- another disk comes only where none is in
-other_absent : (m : Machine) (step : Step) (port : Port) → May m step → brings_other m port step ≡ true → m.present port ≡ false
+other_absent : (m : Machine) (step : Step) (port : Port) → May m step → plugs_other_disk m port step ≡ true → m.present port ≡ false
 other_absent m (Replace p i n d) port may t = ap m.present (sym (ap (λ (n : ℕ). record { 0 = n }) (eqb-true p.0 port.0 (and_parts _ _ t).0))) ∙ may.0
 other_absent m (Answer e outcome) port may t = absurd (false≢true t)
 other_absent m (Accept request) port may t = absurd (false≢true t)
@@ -213,7 +213,7 @@ other_absent m (Unplug q) port may t = absurd (false≢true t)
 other_absent m (Store client frame offset bytes) port may t = absurd (false≢true t)
 other_absent m (Load client frame offset bytes) port may t = absurd (false≢true t)
 
-none_other : (m : Machine) (step : Step) (port : Port) → May m step → m.present port ≡ true → brings_other m port step ≡ false
+none_other : (m : Machine) (step : Step) (port : Port) → May m step → m.present port ≡ true → plugs_other_disk m port step ≡ false
 none_other m step port may here = false_from_ne_true _ (λ t. both_ways _ (other_absent m step port may t) here)
 
 absent_here : (m : Machine) (port : Port) → m.present port ≡ true → m.present port ≡ false → ⊥
@@ -300,7 +300,7 @@ stage_now start (Touch e n block) past w i s legal writes out t =
     }
 stage_now start _ past w i s legal writes out t = absurd t
 
-answer_ok : (step : Step) (w : Accepted) → IsOk step w → (e : Pending) × (step ≡ Answer e Ok) × (e.request ≡ w)
+answer_ok : (step : Step) (w : Accepted) → AnswersOk step w → (e : Pending) × (step ≡ Answer e Ok) × (e.request ≡ w)
 answer_ok (Answer e Ok) w t = (e, refl, t)
 answer_ok (Answer e (DeviceError status error)) w t = absurd t
 answer_ok _ w t = absurd t
@@ -310,14 +310,14 @@ accept_of (Accept request) w t = ap Accept t
 accept_of _ w t = absurd t
 
 -- what the answer Ok of a request says of its request
-ok_entry : (m : Machine) (step : Step) (w : Accepted) → May m step → IsWhole step → IsOk step w → (e : Pending) × Contains m.book e × (e.request ≡ w) × ((i : ℕ) → i < w.asked.count → e.touched i ≡ true) × (e.ended ≡ true)
+ok_entry : (m : Machine) (step : Step) (w : Accepted) → May m step → IsWhole step → AnswersOk step w → (e : Pending) × Contains m.book e × (e.request ≡ w) × ((i : ℕ) → i < w.asked.count → e.touched i ≡ true) × (e.ended ≡ true)
 ok_entry m step w may whole ok =
     let r = answer_ok step w ok in
     let here : May m (Answer r.0 Ok) = subst (λ (x : Step). May m x) r.1 may in
     let law : IsWhole (Answer r.0 Ok) = subst (λ (x : Step). IsWhole x) r.1 whole in
     (r.0, here.0, r.2, (λ i lt. law.0 i (subst (λ (j : Accepted). i < j.asked.count) (sym r.2) lt)), law.1)
 
-ok_out : (port : Port) (step : Step) (w : Accepted) → IsOk step w → takes_out port step ≡ false
+ok_out : (port : Port) (step : Step) (w : Accepted) → AnswersOk step w → takes_out port step ≡ false
 ok_out port step w ok = let r = answer_ok step w ok in ap (takes_out port) r.1
 
 accept_out : (port : Port) (step : Step) (w : Accepted) → IsAccept step w → takes_out port step ≡ false
@@ -370,7 +370,7 @@ pub held_now : (start : Machine) (port : Port) (k : ℕ) (h : List Step) → Hel
 held_now start port k [] = inl (λ b lt. refl)
 held_now start port k (step ∷ past) = inl (λ b lt. refl)
 
-same_disk : (start : Machine) (past : List Step) (step : Step) (port : Port) (k id size : ℕ) (disk : DiskBytes) → May (after start past) step → ComesBack start past step → brings_other (after start past) port step ≡ false
+same_disk : (start : Machine) (past : List Step) (step : Step) (port : Port) (k id size : ℕ) (disk : DiskBytes) → May (after start past) step → ComesBack start past step → plugs_other_disk (after start past) port step ≡ false
     → k < (after start past).sizes port → IsReplace step port id size disk → HeldSince start port k (disk k) past
 same_disk start past (Replace p i n d) port k id size disk may back other inside t =
     let named : i ≡ (after start past).disk_ids port = ⊎_elim
@@ -384,7 +384,7 @@ same_disk start past (Replace p i n d) port k id size disk may back other inside
 same_disk start past _ port k id size disk may back other inside t = absurd t
 
 lasts_step : (start : Machine) (step : Step) (past : List Step) (w : Accepted) (k : ℕ) → IsInitial start → IsLegal start (step ∷ past) → changes_sectors w.asked.op ≡ true
-    → ComesBack start past step → brings_other (after start past) w.port step ≡ false → Lasts start past w k → Lasts start (step ∷ past) w k
+    → ComesBack start past step → plugs_other_disk (after start past) w.port step ≡ false → Lasts start past w k → Lasts start (step ∷ past) w k
 lasts_step start step past w k s legal writes back other g = record {
   inside = subst (λ (n : ℕ). k < n) (sym (sizes_stay (after start past) step w.port legal.1 other)) g.inside;
   disk = g.disk;
@@ -477,8 +477,8 @@ asked_lasts start (step ∷ past) w flush s legal whole back writes port op (inr
     (stage_step start step past w (w.asked.first.0 + i) s legal writes a.0 (asked_stage start past w flush s legal.0 whole.0 writes a.1 i lt)))
     (ended (after start past) step legal.1 (traced start past s legal.0).sound x hx t)
 
-ok_other : (m : Machine) (port : Port) (step : Step) (w : Accepted) → IsOk step w → brings_other m port step ≡ false
-ok_other m port step w ok = let r = answer_ok step w ok in ap (brings_other m port) r.1
+ok_other : (m : Machine) (port : Port) (step : Step) (w : Accepted) → AnswersOk step w → plugs_other_disk m port step ≡ false
+ok_other m port step w ok = let r = answer_ok step w ok in ap (plugs_other_disk m port) r.1
 
 flushed_lasts : (start : Machine) (h : List Step) (w flush : Accepted) → IsInitial start → IsLegal start h → AllWhole h → IsVolatile start h → changes_sectors w.asked.op ≡ true → flush.port ≡ w.port → flush.asked.op ≡ Flush
     → FlushAnswered start w flush h → (i : ℕ) → i < w.asked.count → Lasts start h w (w.asked.first.0 + i)
@@ -499,10 +499,10 @@ finds start past (Replace port id size disk) s legal whole back = λ same w flus
     lasts.since (disk (sector_of w i)) (subst (λ (p : Port). HeldSince start p (sector_of w i) (disk (sector_of w i)) past) (sym here) (back.1 same (sector_of w i) (omega (arith, inside, large))))
 finds start past _ s legal whole back = tt
 
-pub law_flushed_writes_survive_replug : (start : Machine) (h : List Step) → IsInitial start → IsLegal start h → AllWhole h → IsVolatile start h → EveryPlugFinds start h
+pub law_flushed_writes_survive_replug : (start : Machine) (h : List Step) → IsInitial start → IsLegal start h → AllWhole h → IsVolatile start h → EveryPlugFindsFlushed start h
 law_flushed_writes_survive_replug start [] s legal whole back = tt
 law_flushed_writes_survive_replug start (step ∷ past) s legal whole back = (law_flushed_writes_survive_replug start past s legal.0 whole.0 back.0, finds start past step s legal whole.0 back)
 
 -- a disk that comes back in a run has the writes that were flushed
-pub run_finds : {D : Type 0} (first : AbstractState) (run : List (CallRecord D)) → IsRun first run → IsVolatile first.machine (steps_of run) → EveryPlugFinds first.machine (steps_of run)
+pub run_finds : {D : Type 0} (first : AbstractState) (run : List (CallRecord D)) → IsRun first run → IsVolatile first.machine (steps_of run) → EveryPlugFindsFlushed first.machine (steps_of run)
 run_finds first run r back = law_flushed_writes_survive_replug first.machine (steps_of run) (run_starts first run r) (run_legal first run r) (run_whole first run r) back

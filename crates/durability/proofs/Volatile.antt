@@ -6,8 +6,8 @@ use Rattle.ata_types.specs.declared.Port.{Port}
 use Rattle.block_machine.specs.State.{Block, DiskBytes, Pending, Machine, sector_of}
 use Rattle.block_machine.specs.Due.{is_flush, changes_sectors}
 use Rattle.block_machine.specs.Steps.{Step, Touch, End, Replace, SameBytes, after_step}
-use Rattle.block_machine.specs.Left.{after, AllStepsFaithful, StepIsFaithful}
-use Rattle.durability.specs.Durable.{EveryPlugFinds}
+use Rattle.block_machine.specs.Expected.{after, AllStepsFaithful, StepIsFaithful}
+use Rattle.durability.specs.Durable.{EveryPlugFindsFlushed}
 use Rattle.block_machine.proofs.Members.{contains_none, contains_cases}
 use Rattle.block_machine.specs.Events.{AbstractState, CallRecord, IsRun, steps_of}
 use Rattle.durability.proofs.Lasting.{starts_lasting, HeldSince, ComesBack, IsVolatile, held_now, run_finds as flushed_found}
@@ -80,5 +80,5 @@ volatile start [] told = tt
 volatile start (step ∷ past) told = (volatile start past told.0, comes_back start past step told.1)
 
 -- a disk that comes back in a run has the writes that were flushed
-pub run_finds : {D : Type 0} (first : AbstractState) (run : List (CallRecord D)) → IsRun first run → AllStepsFaithful first.machine (steps_of run) → EveryPlugFinds first.machine (steps_of run)
+pub run_finds : {D : Type 0} (first : AbstractState) (run : List (CallRecord D)) → IsRun first run → AllStepsFaithful first.machine (steps_of run) → EveryPlugFindsFlushed first.machine (steps_of run)
 run_finds first run r told = flushed_found first run r (volatile first.machine (steps_of run) told)

@@ -6,12 +6,12 @@ use Rattle.ata_types.specs.declared.request.Outcome.TheVariants.{Ok}
 use Rattle.block_machine.specs.Due.{changes_sectors}
 use Rattle.block_machine.specs.State.{Block, DiskBytes, Accepted, Machine, sector_of, block_written}
 use Rattle.block_machine.specs.Steps.{Step, Answer, Unplug, Replace, SameBytes}
-use Rattle.block_machine.specs.Left.{after, IsAccept, HasTouched}
+use Rattle.block_machine.specs.Expected.{after, IsAccept, HasTouched}
 
 -- the step answers the request Ok
-abbrev pub IsOk : Step → Accepted → Type 0
-IsOk (Answer e Ok) r = e.request ≡ r
-IsOk _ r = ⊥
+abbrev pub AnswersOk : Step → Accepted → Type 0
+AnswersOk (Answer e Ok) r = e.request ≡ r
+AnswersOk _ r = ⊥
 
 -- the step takes the disk of the port out
 abbrev pub takes_out : Port → Step → Bool
@@ -19,9 +19,9 @@ takes_out port (Unplug p) = p.0 == port.0
 takes_out port _ = false
 
 -- the step puts another disk in at the port
-abbrev pub brings_other : Machine → Port → Step → Bool
-brings_other old port (Replace p id size disk) = p.0 == port.0 && not (id == old.disk_ids port)
-brings_other old port _ = false
+abbrev pub plugs_other_disk : Machine → Port → Step → Bool
+plugs_other_disk old port (Replace p id size disk) = p.0 == port.0 && not (id == old.disk_ids port)
+plugs_other_disk old port _ = false
 
 -- the write or trim was accepted, and no disk of its port was taken out since
 abbrev pub WriteAccepted : Accepted → List Step → Type 0
@@ -31,7 +31,7 @@ WriteAccepted w (step ∷ past) = IsAccept step w ⊎ ((takes_out w.port step �
 -- and then it was answered Ok
 abbrev pub WriteAnswered : Accepted → List Step → Type 0
 WriteAnswered w [] = ⊥
-WriteAnswered w (step ∷ past) = (IsOk step w × WriteAccepted w past)
+WriteAnswered w (step ∷ past) = (AnswersOk step w × WriteAccepted w past)
     ⊎ ((takes_out w.port step ≡ false) × WriteAnswered w past)
 
 -- and then this flush was accepted
@@ -44,8 +44,8 @@ FlushAccepted w flush (step ∷ past) =
 abbrev pub FlushAnswered : Machine → Accepted → Accepted → List Step → Type 0
 FlushAnswered start w flush [] = ⊥
 FlushAnswered start w flush (step ∷ past) =
-    (IsOk step flush × FlushAccepted w flush past)
-    ⊎ ((brings_other (after start past) w.port step ≡ false) × FlushAnswered start w flush past)
+    (AnswersOk step flush × FlushAccepted w flush past)
+    ⊎ ((plugs_other_disk (after start past) w.port step ≡ false) × FlushAnswered start w flush past)
 
 -- the write or trim was answered Ok before the flush of its port was accepted, and the flush was answered Ok, all on
 -- one disk
@@ -79,6 +79,6 @@ FindsFlushed start past (Replace port id size disk) = id ≡ (after start past).
 FindsFlushed start past _ = Unit {0}
 
 -- so it is with each step of the history
-abbrev pub EveryPlugFinds : Machine → List Step → Type 0
-EveryPlugFinds start [] = Unit {0}
-EveryPlugFinds start (step ∷ past) = EveryPlugFinds start past × FindsFlushed start past step
+abbrev pub EveryPlugFindsFlushed : Machine → List Step → Type 0
+EveryPlugFindsFlushed start [] = Unit {0}
+EveryPlugFindsFlushed start (step ∷ past) = EveryPlugFindsFlushed start past × FindsFlushed start past step

@@ -2,9 +2,9 @@
 //! the law holds for any device.
 
 ghost use Rattle.std.specs.Prelude.{List};
-ghost use Rattle.block_machine.specs.Left.{AllStepsFaithful};
+ghost use Rattle.block_machine.specs.Expected.{AllStepsFaithful};
 ghost use Rattle.block_machine.specs.Events.{AbstractState, CallRecord, IsRun, steps_of};
-ghost use Rattle.durability.specs.Durable.{EveryPlugFinds};
+ghost use Rattle.durability.specs.Durable.{EveryPlugFindsFlushed};
 
 /// Over every run of calls on disks that tell what they hold: where a write or trim was answered Ok before a flush of
 /// its port was accepted, the flush was answered Ok, and no disk was taken out between, the same disk has what that put
@@ -12,5 +12,5 @@ ghost use Rattle.durability.specs.Durable.{EveryPlugFinds};
 pub fn law_flushed_writes_survive_replug<D>()
     ensures { (first : AbstractState) (run : List (CallRecord D)) → IsRun first run
         → AllStepsFaithful first.machine (steps_of run)
-        → EveryPlugFinds first.machine (steps_of run) }
+        → EveryPlugFindsFlushed first.machine (steps_of run) }
 {}

@@ -21,7 +21,7 @@ use Rattle.disk_page.specs.Asking.{BringsLastPage, IsPageAccess, LeavesRunning, 
 use Rattle.command_table.specs.Written.{IsUnused}
 use Rattle.identify.specs.Log.{TellsNoError}
 use Rattle.identify.specs.declared.error_log.FailedSlot.{FailedSlot}
-use Rattle.port_control.specs.Engines.{FailsToStop, Sticks, Stops}
+use Rattle.port_control.specs.Engines.{FailsToStop, EngineSticks, Stops}
 use Rattle.port_control.specs.Ports.{FailsToStopPort, PortStops, HasStCleared, IsCommandRegister}
 use Rattle.port_control.specs.declared.Running as running_token
 use Rattle.port_control.specs.declared.Stopped as stopped_token
@@ -363,11 +363,11 @@ module _ (laws : Laws) where
           -- or it is stuck
           module _ (has : HasStCleared (log.port port.0) (new.port port.0)) (fails : FailsToStopPort port log new) where
             failing : (First : List Access → Type 0) (next : SlotStates → SlotStates) → IsSimulatedAlongTo First (IsRecoveryAccess port) (λ uses. AllFree uses port.0) next r.quiets.stopped log →
-                IsSimulatedAlongTo (Sticks port) (IsRecoveryAccess port) (λ uses. AllFree uses port.0) next r.quiets.stopped new
-            failing First next t = told_both laws First (FailsToStop port) (Sticks port) (λ early late w is. laws.sticks_since early late port (laws.failing_sticks port late is)) (Recovering PortUnused port)
+                IsSimulatedAlongTo (EngineSticks port) (IsRecoveryAccess port) (λ uses. AllFree uses port.0) next r.quiets.stopped new
+            failing First next t = told_both laws First (FailsToStop port) (EngineSticks port) (λ early late w is. laws.sticks_since early late port (laws.failing_sticks port late is)) (Recovering PortUnused port)
                 (Controlling Commanding AnyUses port) next (λ uses. uses) (commands_recover laws port) (λ uses free. tt) r.quiets.stopped log new t fails.told
 
-            stuck : (next : SlotStates → SlotStates) (t : IsSimulatedAlongTo (Sticks port) (IsRecoveryAccess port) (λ uses. AllFree uses port.0) next r.quiets.stopped new) →
+            stuck : (next : SlotStates → SlotStates) (t : IsSimulatedAlongTo (EngineSticks port) (IsRecoveryAccess port) (λ uses. AllFree uses port.0) next r.quiets.stopped new) →
                 SlotsAfterRecovery port.0 Dead (total laws port outstanding queued before after old d r next new t.followed) old new →
                 (RelatesWith (λ uses. uses port.0 0 ≡ Own Identify → ⊥) old → GainsNoMove port.0 Identify old new) →
                 Recovers port outstanding queued (record { failed = None; again = outstanding; next = Dead }) old new

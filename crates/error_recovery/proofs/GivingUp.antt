@@ -8,7 +8,7 @@ use Rattle.adapter.specs.Device.{Device}
 use Rattle.adapter.specs.Rules.{IsOn}
 use Rattle.refinement.specs.Driven.{AnyUse, OnPortWriting, IsSimulatedAlong}
 use Rattle.refinement.specs.Driver.{AllFree}
-use Rattle.port_control.specs.Engines.{Sticks, Stops}
+use Rattle.port_control.specs.Engines.{EngineSticks, Stops}
 use Rattle.port_control.specs.Ports.{FailsToStopPort, PortStops, HasStCleared, IsCommandRegister}
 use Rattle.port_control.specs.declared.Stopped as stopped_token
 use Rattle.error_recovery.specs.declared.Next.TheVariants.{Dead, Restart}
@@ -29,18 +29,18 @@ module _ (laws : Laws) (port : Port) (outstanding : ℕ) (queued : Bool) (old ne
   pub gives_up_stuck : HasStCleared (old.port port.0) (new.port port.0) → FailsToStopPort port old new → StopsForReset port outstanding queued (record { failed = None; again = outstanding; next = Dead }) old new
   gives_up_stuck has fails = record {
     handling = mends_stuck laws port outstanding queued old new on gets;
-    only = subst (All (OnPortWriting IsCommandRegister port)) (sym (accesses_stuck laws port outstanding queued old new on gets)) (only_commands laws (Sticks port) AnyUses port old new sticks);
+    only = subst (All (OnPortWriting IsCommandRegister port)) (sym (accesses_stuck laws port outstanding queued old new on gets)) (only_commands laws (EngineSticks port) AnyUses port old new sticks);
     nobody = refl;
     halts = λ token run. absurd cc;
   }
     where
-      sticks : IsSimulatedAlong (Sticks port) (OnPortWriting IsCommandRegister port) AnyUse old new
-      sticks = told_wider laws (Sticks port) (Controlling Commanding AnyUses port) (Controlling Commanding AnyUses port) (λ uses. uses) old new (λ access is. is) (λ uses fits. fits)
+      sticks : IsSimulatedAlong (EngineSticks port) (OnPortWriting IsCommandRegister port) AnyUse old new
+      sticks = told_wider laws (EngineSticks port) (Controlling Commanding AnyUses port) (Controlling Commanding AnyUses port) (λ uses. uses) old new (λ access is. is) (λ uses fits. fits)
           (record { followed = fails.told.followed; tells = laws.failing_sticks port fails.told.followed.driven.accesses fails.told.tells })
 
       gets : StopGetsStuck port old new
       gets = record {
-        told = told_commands laws (Sticks port) AnyUses port old new sticks;
+        told = told_commands laws (EngineSticks port) AnyUses port old new sticks;
         st = has.st;
         stuck = fails.stuck;
         silent = λ (uses, none, agreed). commands_silent laws port uses old new fails.told.followed agreed none;

@@ -11,7 +11,7 @@ use Rattle.adapter.specs.Access.{Access, Does, DoesAll}
 use Rattle.adapter.specs.Access.Access.{Reading, Writing, Loading, Storing}
 use Rattle.adapter.specs.Device.{Device, DevicePort}
 use Rattle.adapter.specs.Rules.{IsOn}
-use Rattle.refinement.specs.Driven.{Grows, SparesOtherPorts}
+use Rattle.refinement.specs.Driven.{TapeGrows, SparesOtherPorts}
 use Rattle.refinement.specs.Errors.{ChangesByDisks, NoneFails, NoneFatal}
 use Rattle.refinement.specs.Links.{NoPlugEvents, DoesNotWrite}
 use Rattle.refinement.specs.Recovering.{IsLinked, RunsLinked}
@@ -63,7 +63,7 @@ stores_inside port at bytes small (inr (inr (from, to))) = omega (arith, small, 
 -- The adapter is on, and the port's link and its controls go on.
 pub record Goes (port : Port) (old new : Device) : Type 0 where
   pub on : IsOn new
-  pub grows : Grows old new
+  pub grows : TapeGrows old new
   pub det : (new.port port.0).sctl_det ≡ (old.port port.0).sctl_det
   pub written : (new.port port.0).notes.sctl_written_at ≡ (old.port port.0).notes.sctl_written_at
   pub enabled : (new.port port.0).ie ≡ (old.port port.0).ie
@@ -76,7 +76,7 @@ ShowsNoFatal p = (place : ℕ) → 27 ≤ place → place ≤ 29 → p.is place 
 
 -- Trouble is shown, and no other is; and where none comes that stops it, the port runs on.
 pub record Asks (port : Port) (old new : Device) : Type 0 where
-  pub grows : Grows old new
+  pub grows : TapeGrows old new
   pub raises : NoneFatal port.0 old new → ShowsNoFatal (old.port port.0) → ShowsNoFatal (new.port port.0)
   pub fault : (new.port port.0).is 30 ≡ false → ((old.port port.0).is 30 ≡ false) × NoneFails port.0 old new
   pub fatal : ShowsNoFatal (new.port port.0) → ShowsNoFatal (old.port port.0) × NoneFatal port.0 old new
@@ -108,10 +108,10 @@ module _ (laws : Laws) where
   on_after : (port : Port) (access : Access) (old new : Device) → IsOn old → SparesOtherPorts port access → Does access old new → IsOn new
   on_after port access old new on is does = laws.access_on access old new on (λ v e. absurd (subst (DoesNotWrite Ghc) e (laws.of_spares_ghc port access is) refl)) does
 
-  pub plugs_in_parts : (port : ℕ) (old mid new : Device) → Grows old mid → Grows mid new → NoPlugEvents port old new → NoPlugEvents port old mid × NoPlugEvents port mid new
+  pub plugs_in_parts : (port : ℕ) (old mid new : Device) → TapeGrows old mid → TapeGrows mid new → NoPlugEvents port old new → NoPlugEvents port old mid × NoPlugEvents port mid new
   plugs_in_parts port old mid new early late none = laws.tape.plugs_parts port old mid new early.0 late.0 early.1 late.1 none
 
-  pub fatal_in_parts : (port : ℕ) (old mid new : Device) → Grows old mid → Grows mid new → NoneFatal port old new → NoneFatal port old mid × NoneFatal port mid new
+  pub fatal_in_parts : (port : ℕ) (old mid new : Device) → TapeGrows old mid → TapeGrows mid new → NoneFatal port old new → NoneFatal port old mid × NoneFatal port mid new
   fatal_in_parts port old mid new early late none = laws.tape.fatal_parts port old mid new early.0 late.0 early.1 late.1 none
 
   goes_none : (port : Port) (d : Device) → IsOn d → Goes port d d

@@ -13,7 +13,7 @@ use Rattle.refinement.specs.Driven.{RelatesWith, AnyUse, IsRelated, OnPortWritin
 use Rattle.refinement.specs.Driver.{AllFree}
 use Rattle.refinement.specs.Recovering.{WorksPlainly}
 use Rattle.refinement.specs.Slots.{Free, Own, SlotStates}
-use Rattle.port_control.specs.Engines.{FailsToStop, Sticks, Stops}
+use Rattle.port_control.specs.Engines.{FailsToStop, EngineSticks, Stops}
 use Rattle.port_control.specs.Ports.{FailsToStopPort, ClearsErrorState, PortStops, HasStCleared, IsErrorRegister, ReceivesFises, IsCommandRegister}
 use Rattle.error_recovery.specs.Laws.{Laws}
 use Rattle.error_recovery.specs.Laws.RegisterSet.{Commanding, Clearing}
@@ -106,14 +106,14 @@ module _ (laws : Laws) where
 
     pub read_stuck : (new : Device) → HasStCleared (at.port port.0) (new.port port.0) → FailsToStopPort port at new → StopGetsStuck port old new
     read_stuck new has fails = record {
-      told = told_commands laws (Sticks port) AnyUses port old new both;
+      told = told_commands laws (EngineSticks port) AnyUses port old new both;
       st = has.st;
       stuck = fails.stuck;
       silent = λ (uses, none, agreed). commands_silent port uses old new both.followed agreed none;
     }
       where
-        both : IsSimulatedAlong (Sticks port) (OnPortWriting IsCommandRegister port) AnyUse old new
-        both = told_both laws (λ made. made ≡ Reading (Px port Tfd) v ∷ []) (FailsToStop port) (Sticks port) (λ early late is late_is. laws.sticks_since early late port (laws.failing_sticks port late late_is))
+        both : IsSimulatedAlong (EngineSticks port) (OnPortWriting IsCommandRegister port) AnyUse old new
+        both = told_both laws (λ made. made ≡ Reading (Px port Tfd) v ∷ []) (FailsToStop port) (EngineSticks port) (λ early late is late_is. laws.sticks_since early late port (laws.failing_sticks port late late_is))
             (Controlling Commanding AnyUses port) (Controlling Commanding AnyUses port) (λ uses. uses) (λ uses. uses) (λ access is. is) (λ uses fits. fits) old at new reading fails.told
 
     -- ---- or it was stopped

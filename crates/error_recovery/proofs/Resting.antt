@@ -13,7 +13,7 @@ use Rattle.adapter.specs.declared.command.Operation.TheVariants.{ReadLog}
 use Rattle.adapter.specs.declared.tape.Entry.{Entry}
 use Rattle.adapter.specs.declared.tape.Entry.TheVariants as entry
 use Rattle.adapter.specs.declared.tape.Fault as tape_fault
-use Rattle.refinement.specs.Driven.{Grows, GainsNoMove}
+use Rattle.refinement.specs.Driven.{TapeGrows, GainsNoMove}
 use Rattle.refinement.specs.Links.{DoesNotWrite}
 use Rattle.refinement.specs.Slots.{IsMove}
 use Rattle.disk_page.specs.Asking.{BringsLastPage}
@@ -32,11 +32,11 @@ pub record IsTold (port : Port) (queued : Bool) (shown : ℕ) (accesses : List A
   pub error_is : fault.error ≡ shown / 256 % 256
   pub at : queued ≡ false → fault.slot.0 ≡ 0
 
-longer : (old new : Device) → Grows old new → length old.tape ≤ length new.tape
+longer : (old new : Device) → TapeGrows old new → length old.tape ≤ length new.tape
 longer old new (gained, is) = let n = ap (λ (es : List Entry). length es) is ∙ length-append old.tape gained in omega (arith, n)
 
 -- the last page of the log that came is the last that a longer stretch brought, where none came later
-pub brings_log : (port : Port) (old start asked new : Device) (page : List ℕ) → Grows old start → Grows old asked → BringsLastPage port.0 ReadLog (length start.tape) page asked → GainsNoMove port.0 ReadLog asked new →
+pub brings_log : (port : Port) (old start asked new : Device) (page : List ℕ) → TapeGrows old start → TapeGrows old asked → BringsLastPage port.0 ReadLog (length start.tape) page asked → GainsNoMove port.0 ReadLog asked new →
     BringsLog port old new page
 brings_log port old start asked new page early whole b (gained, later, none) =
     let w = b.brought in

@@ -9,9 +9,9 @@ use Rattle.adapter.specs.Device.{Device, Notes, DevicePort}
 use Rattle.adapter.specs.Device.Halt.{LogOnly, NotHalted}
 use Rattle.adapter.specs.Steps.{halt_after_start}
 use Rattle.adapter.specs.declared.tape.Entry.{Entry}
-use Rattle.refinement.specs.Driven.{Grows, HasNoCommand}
+use Rattle.refinement.specs.Driven.{TapeGrows, HasNoCommand}
 use Rattle.refinement.specs.Errors.{IsFatalOf, NoneFatal}
-use Rattle.refinement.specs.Facts.{RecordsFaults, IsFaultOf, IsFaulted}
+use Rattle.refinement.specs.PortFacts.{RecordsFaults, IsFaultOf, IsFaulted}
 use Rattle.refinement.specs.Links.{IsPlugEvent}
 use Rattle.refinement.specs.Slots.{IsOver}
 use Rattle.disk_page.specs.Asking.{LeavesRunning}
@@ -36,7 +36,7 @@ gained_since Is port old start new set gained is none g =
     All-contains (λ e. Is e → ⊥) gained g.entry none here g.is
 
 -- and what hasn't come since ST was set, a stretch from then on hasn't gained
-none_since : (Is : Entry → Type 0) (port : ℕ) (old start new : Device) → Grows old start → (new.port port).notes.st_set_at ≡ length start.tape → (GainsSinceStart Is port old new → ⊥) → (before later : List Entry) →
+none_since : (Is : Entry → Type 0) (port : ℕ) (old start new : Device) → TapeGrows old start → (new.port port).notes.st_set_at ≡ length start.tape → (GainsSinceStart Is port old new → ⊥) → (before later : List Entry) →
     new.tape ≡ start.tape ++ (before ++ later) → All (λ e. Is e → ⊥) later
 none_since Is port old start new grows set none before [] tape = All-nil (λ e. Is e → ⊥)
 none_since Is port old start new grows set none before (e ∷ later) tape =
@@ -86,7 +86,7 @@ pub no_command : (port : ℕ) (p : DevicePort) → IsRunning port p → HasNoCom
 no_command port p runs slot = record { issued = runs.ci slot; free = runs.taken slot }
 
 -- ST was set at such a moment
-since_set : (port : Port) (old at new : Device) → Grows old at → (new.port port.0).notes.st_set_at ≡ length at.tape → length old.tape ≤ (new.port port.0).notes.st_set_at
+since_set : (port : Port) (old at new : Device) → TapeGrows old at → (new.port port.0).notes.st_set_at ≡ length at.tape → length old.tape ≤ (new.port port.0).notes.st_set_at
 since_set port old at new grows set =
     let n = ap (λ (es : List Entry). length es) grows.1 ∙ length-append old.tape grows.0 in omega (arith, n, set)
 

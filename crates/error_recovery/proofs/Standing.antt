@@ -12,7 +12,7 @@ use Rattle.adapter.specs.declared.command.Operation.TheVariants.{ReadLog}
 use Rattle.adapter.specs.declared.tape.Entry.{Entry}
 use Rattle.adapter.specs.declared.tape.Entry.TheVariants as entry
 use Rattle.adapter.specs.declared.tape.Fault as tape_fault
-use Rattle.refinement.specs.Driven.{Grows, GainsNoMove}
+use Rattle.refinement.specs.Driven.{TapeGrows, GainsNoMove}
 use Rattle.refinement.specs.Links.{DoesNotWrite}
 use Rattle.refinement.specs.Slots.{IsMove}
 use Rattle.error_recovery.specs.Evidence.{BringsLog, HasFailed}
@@ -51,7 +51,7 @@ module _ (laws : Laws) where
         port_is = h.port_is;
       }
 
-pub log_stays : (port : Port) (start old new end : Device) (page : List ℕ) → Grows start old → GainsNoMove port.0 ReadLog new end → BringsLog port old new page → BringsLog port start end page
+pub log_stays : (port : Port) (start old new end : Device) (page : List ℕ) → TapeGrows start old → GainsNoMove port.0 ReadLog new end → BringsLog port old new page → BringsLog port start end page
 log_stays port start old new end page (early, first) (late, last, none) b = record {
   gained = early ++ (b.gained ++ late);
   tape = last

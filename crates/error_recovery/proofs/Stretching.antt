@@ -11,12 +11,12 @@ use Rattle.adapter.specs.Rules.{IsOn}
 use Rattle.refinement.specs.Driven.{AnyAccess, IsRelated, OnPortWriting, IsDrivenBy, IsSimulated, IsSimulatedAlong, IsSimulatedAlongTo}
 use Rattle.refinement.specs.Driver.{AllFree, DriverState}
 use Rattle.refinement.specs.Driven.{known}
-use Rattle.refinement.specs.Facts.{IsEngineStopped}
-use Rattle.refinement.specs.GivingUp.{parking_all}
+use Rattle.refinement.specs.PortFacts.{IsEngineStopped}
+use Rattle.refinement.specs.GivingUp.{with_all_parked}
 use Rattle.refinement.specs.Links.{SameAdapter}
 use Rattle.refinement.specs.Slots.{SlotStates}
 use Rattle.port_control.specs.Ports.{IsErrorRegister, IsCommandRegister}
-use Rattle.error_recovery.specs.Laws.{Laws, AccessPurpose, fits_of, may_of, uses_of, SlotCondition}
+use Rattle.error_recovery.specs.Laws.{Laws, AccessPurpose, slot_uses_for, accesses_for, slot_uses_meeting, SlotCondition}
 use Rattle.error_recovery.specs.Laws.RegisterSet.{Commanding, Clearing, Recovered}
 use Rattle.error_recovery.specs.Laws.AccessPurpose.{Controlling, Recovering}
 use Rattle.error_recovery.specs.Parts.{HasDriverMemory}
@@ -28,17 +28,17 @@ any May old new a = record { accesses = a.accesses; all = a.all; only = All-weak
 
 module _ (laws : Laws) where
   -- what is told of a stretch, also where it is of a wider kind
-  pub told_wider : (Tells : List Access → Type 0) (kind more : AccessPurpose) (next : SlotStates → SlotStates) (old new : Device) → ((access : Access) → may_of kind access → may_of more access) →
-      ((uses : SlotStates) → fits_of more uses → fits_of kind uses) → IsSimulatedAlongTo Tells (may_of kind) (fits_of kind) next old new → IsSimulatedAlongTo Tells (may_of more) (fits_of more) next old new
+  pub told_wider : (Tells : List Access → Type 0) (kind more : AccessPurpose) (next : SlotStates → SlotStates) (old new : Device) → ((access : Access) → accesses_for kind access → accesses_for more access) →
+      ((uses : SlotStates) → slot_uses_for more uses → slot_uses_for kind uses) → IsSimulatedAlongTo Tells (accesses_for kind) (slot_uses_for kind) next old new → IsSimulatedAlongTo Tells (accesses_for more) (slot_uses_for more) next old new
   told_wider Tells kind more next old new wider fits a =
       let f = laws.fragments.wider kind more next wider fits old new a.followed in
       record { followed = f.followed; tells = subst Tells (sym f.tells) a.tells }
 
   -- of two, one after another
   pub told_both : (First Second Tells : List Access → Type 0) → ((early late : List Access) → First early → Second late → Tells (early ++ late)) →
-      (kind more : AccessPurpose) (first second : SlotStates → SlotStates) → ((access : Access) → may_of more access → may_of kind access) → ((uses : SlotStates) → fits_of kind uses → fits_of more (first uses)) →
-      (old mid new : Device) → IsSimulatedAlongTo First (may_of kind) (fits_of kind) first old mid → IsSimulatedAlongTo Second (may_of more) (fits_of more) second mid new →
-      IsSimulatedAlongTo Tells (may_of kind) (fits_of kind) (λ uses. second (first uses)) old new
+      (kind more : AccessPurpose) (first second : SlotStates → SlotStates) → ((access : Access) → accesses_for more access → accesses_for kind access) → ((uses : SlotStates) → slot_uses_for kind uses → slot_uses_for more (first uses)) →
+      (old mid new : Device) → IsSimulatedAlongTo First (accesses_for kind) (slot_uses_for kind) first old mid → IsSimulatedAlongTo Second (accesses_for more) (slot_uses_for more) second mid new →
+      IsSimulatedAlongTo Tells (accesses_for kind) (slot_uses_for kind) (λ uses. second (first uses)) old new
   told_both First Second Tells join kind more first second wider on old mid new a b =
       let f = laws.fragments.both kind more first second wider on old mid new a.followed b.followed in
       record { followed = f.followed; tells = subst Tells (sym f.tells) (join a.followed.driven.accesses b.followed.driven.accesses a.tells b.tells) }
@@ -58,19 +58,19 @@ module _ (laws : Laws) where
   clears_recover port access is = inl (laws.control_wider Clearing Recovered port clearing access is)
 
   -- PxCMD alone is written
-  pub told_commands : (Tells : List Access → Type 0) (fitting : SlotCondition) (port : Port) (old new : Device) → IsSimulatedAlong Tells (OnPortWriting IsCommandRegister port) (uses_of fitting port) old new →
-      IsSimulatedAlong Tells (IsRecoveryAccess port) (uses_of fitting port) old new
+  pub told_commands : (Tells : List Access → Type 0) (fitting : SlotCondition) (port : Port) (old new : Device) → IsSimulatedAlong Tells (OnPortWriting IsCommandRegister port) (slot_uses_meeting fitting port) old new →
+      IsSimulatedAlong Tells (IsRecoveryAccess port) (slot_uses_meeting fitting port) old new
   told_commands Tells fitting port old new a = told_wider Tells (Controlling Commanding fitting port) (Recovering fitting port) (λ uses. uses) old new (commands_recover port) (λ uses fits. fits) a
 
   -- PxCMD alone is accessed then, as before
-  pub only_commands : (Tells : List Access → Type 0) (fitting : SlotCondition) (port : Port) (old new : Device) → (a : IsSimulatedAlong Tells (OnPortWriting IsCommandRegister port) (uses_of fitting port) old new) →
+  pub only_commands : (Tells : List Access → Type 0) (fitting : SlotCondition) (port : Port) (old new : Device) → (a : IsSimulatedAlong Tells (OnPortWriting IsCommandRegister port) (slot_uses_meeting fitting port) old new) →
       All (OnPortWriting IsCommandRegister port) (told_commands Tells fitting port old new a).followed.driven.accesses
   unfolding told_commands told_wider
   only_commands Tells fitting port old new a =
       let f = laws.fragments.wider (Controlling Commanding fitting port) (Recovering fitting port) (λ uses. uses) (commands_recover port) (λ uses fits. fits) old new a.followed in
       subst (All (OnPortWriting IsCommandRegister port)) (sym f.tells) a.followed.driven.only
 
-  pub followed_commands : (fitting : SlotCondition) (port : Port) (old new : Device) → IsSimulated (OnPortWriting IsCommandRegister port) (uses_of fitting port) old new → IsSimulated (IsRecoveryAccess port) (uses_of fitting port) old new
+  pub followed_commands : (fitting : SlotCondition) (port : Port) (old new : Device) → IsSimulated (OnPortWriting IsCommandRegister port) (slot_uses_meeting fitting port) old new → IsSimulated (IsRecoveryAccess port) (slot_uses_meeting fitting port) old new
   followed_commands fitting port old new a = (told_commands (λ made. Unit {0}) fitting port old new (record { followed = a; tells = tt })).followed
 
   -- ---- what stays
@@ -88,7 +88,7 @@ module _ (laws : Laws) where
   pub agreed_free : (uses : SlotStates) (port : ℕ) (d : Device) → IsEngineStopped (d.port port) → IsRelated uses d → (free : SlotStates) × AllFree free port × IsRelated free d
   agreed_free uses port d halted a =
       let k : DriverState = known uses a.parked d in (
-        (parking_all k port).uses,
+        (with_all_parked k port).uses,
         laws.given_up_free k port,
-        record { machine = a.machine; parked = (parking_all k port).parked; reached = a.reached; knows = laws.given_up_halted k a.machine port a.knows halted },
+        record { machine = a.machine; parked = (with_all_parked k port).parked; reached = a.reached; knows = laws.given_up_halted k a.machine port a.knows halted },
       )

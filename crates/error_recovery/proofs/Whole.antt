@@ -12,7 +12,7 @@ use Rattle.hba_regs.specs.declared.reg.PortReg.TheVariants.{Ci, Sact}
 use Rattle.hba_regs.specs.declared.reg.Reg.TheVariants.{Px}
 use Rattle.refinement.specs.Driven.{known, RelatesWith, IsSimulated, IsSimulatedTo, IsSimulatedAlongTo, NoneWrites, GainsNoMove}
 use Rattle.refinement.specs.Driver.{AllFree, DriverState}
-use Rattle.refinement.specs.GivingUp.{given_up, parking_all}
+use Rattle.refinement.specs.GivingUp.{given_up, with_all_parked}
 use Rattle.refinement.specs.Slots.{Own, SlotState, SlotStates, op_of}
 use Rattle.disk_page.specs.Asking.{IsPageAccess}
 use Rattle.command_table.specs.Written.{IsUnused}
@@ -84,9 +84,9 @@ module _ (laws : Laws) (port : Port) (outstanding : ℕ) (queued : Bool) (before
     silent_others q o apart own (uses, none, agreed) =
         let stopped = laws.fragments.agreed (Recovering AnyUses port) (λ uses. uses) uses old r.quiets.stopped tt r.quiets.stops.followed agreed in
         let k : DriverState = known uses stopped.parked r.quiets.stopped in
-        let left : (parking_all k port.0).uses q.0 ≡ uses q.0 = (laws.given_up_others k port.0 q.0 apart).0 in
+        let left : (with_all_parked k port.0).uses q.0 ≡ uses q.0 = (laws.given_up_others k port.0 q.0 apart).0 in
         laws.silent_more q.0 o old r.quiets.stopped new
         (laws.fragments.silent (Recovering AnyUses port) (λ uses. uses) uses q o old r.quiets.stopped tt (spares_other laws port q Ci apart) (spares_other laws port q Sact apart) own none r.quiets.stops.followed agreed)
-        (laws.fragments.silent (Recovering PortUnused port) next (parking_all k port.0).uses q o r.quiets.stopped new (laws.given_up_free k port.0) (spares_other laws port q Ci apart) (spares_other laws port q Sact apart) own
+        (laws.fragments.silent (Recovering PortUnused port) next (with_all_parked k port.0).uses q o r.quiets.stopped new (laws.given_up_free k port.0) (spares_other laws port q Ci apart) (spares_other laws port q Sact apart) own
         (λ is. none (ap (λ (slots : ℕ → SlotState). slots 0) (sym left) ∙ is)) b
-        (record { machine = stopped.machine; parked = (parking_all k port.0).parked; reached = stopped.reached; knows = laws.given_up_halted k stopped.machine port.0 stopped.knows r.quiets.stands }))
+        (record { machine = stopped.machine; parked = (with_all_parked k port.0).parked; reached = stopped.reached; knows = laws.given_up_halted k stopped.machine port.0 stopped.knows r.quiets.stands }))

@@ -11,9 +11,9 @@ use Rattle.adapter.specs.FirstRead.{first_read_device}
 use Rattle.adapter.specs.Memory.{changed}
 use Rattle.refinement.specs.Relation.{port_at}
 use Rattle.refinement.specs.Driven.{IsRelated}
-use Rattle.refinement.specs.Facts.{RecordsFaults, IsFaulted}
+use Rattle.refinement.specs.PortFacts.{RecordsFaults, IsFaulted}
 use Rattle.refinement.specs.Recovered.{FaultIsSeen}
-use Rattle.refinement.specs.Served.{TwoReadsWitness, armed_uses, second_id, two_issued, two_known}
+use Rattle.refinement.specs.TwoReads.{TwoReadsWitness, armed_uses, second_id, two_issued, two_known}
 use Rattle.refinement.specs.Slots.{Free, Serves, SlotState, SlotStates, put}
 use Rattle.refinement.specs.Witness.{FirstReadWitness, first_id, first_uses}
 use Rattle.port_control.specs.Ports.{programmed}

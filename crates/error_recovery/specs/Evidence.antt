@@ -11,7 +11,7 @@ use Rattle.adapter.specs.declared.tape.Entry.TheVariants as entry
 use Rattle.adapter.specs.declared.tape.Fault as tape_fault
 use Rattle.adapter.specs.declared.tape.Move as tape_move
 use Rattle.refinement.specs.Errors.{IsFatalOf}
-use Rattle.refinement.specs.Facts.{IsFaultOf}
+use Rattle.refinement.specs.PortFacts.{IsFaultOf}
 use Rattle.refinement.specs.Links.{IsPlugEvent, DoesNotWrite}
 use Rattle.refinement.specs.Slots.{IsMove}
 

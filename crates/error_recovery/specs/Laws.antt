@@ -11,7 +11,7 @@ use Rattle.adapter.specs.Access.Access.{Writing}
 use Rattle.adapter.specs.Device.{Device, DevicePort}
 use Rattle.adapter.specs.Device.Halt.{NotHalted}
 use Rattle.adapter.specs.Rules.{IsOn}
-use Rattle.adapter.specs.Seen.{PortRegisterRead}
+use Rattle.adapter.specs.RegisterEffects.{PortRegisterRead}
 use Rattle.adapter.specs.declared.command.Operation.{Operation}
 use Rattle.adapter.specs.declared.tape.Entry.{Entry}
 use Rattle.block_machine.specs.State.{Machine}
@@ -20,8 +20,8 @@ use Rattle.refinement.specs.Relation.{StateRelation}
 use Rattle.refinement.specs.Driven.{AnyAccess, AnyUse, HasNoCommand, OnPortWriting, IsDrivenBy, SparesOtherPorts, GainsNoMove}
 use Rattle.refinement.specs.Driver.{AllFree, DriverState, DriverRelation}
 use Rattle.refinement.specs.Errors.{ChangesByErrors, NoneFails, NoneFatal}
-use Rattle.refinement.specs.Facts.{IsFaulted, IsEngineStopped, FaultsOnRecord, RunsWell, ShowsFault, ShowsNoTrouble}
-use Rattle.refinement.specs.GivingUp.{parking_all}
+use Rattle.refinement.specs.PortFacts.{IsFaulted, IsEngineStopped, FaultsOnRecord, RunsWell, ShowsFault, ShowsNoTrouble}
+use Rattle.refinement.specs.GivingUp.{with_all_parked}
 use Rattle.refinement.specs.Links.{LeavesControls, NoPlugEvents, SameAdapter, DoesNotWrite}
 use Rattle.refinement.specs.Noted.{LeavesNotes}
 use Rattle.refinement.specs.Recovering.{IsLinked, RunsLinked, WorksPlainly}
@@ -29,7 +29,7 @@ use Rattle.refinement.specs.Slots.{Free, IsOver, Own, SlotStates, put}
 use Rattle.refinement.specs.Started.{ClearsNoStart, IsStarted, IsUp}
 use Rattle.command_table.specs.Written.{IsUnused}
 use Rattle.disk_page.specs.Asking.{IsPageAccess, LeavesRunning, WaitsInVain}
-use Rattle.port_control.specs.Engines.{FailsToStop, Falls, Sticks}
+use Rattle.port_control.specs.Engines.{FailsToStop, EngineFalls, EngineSticks}
 use Rattle.port_control.specs.Ports.{IsErrorRegister, IsCommandRegister}
 use Rattle.error_recovery.specs.Recovery.{IsRecoveryRegister, IsRecoveryAccess}
 
@@ -53,9 +53,9 @@ pub data SlotCondition : Type 0 where
   AnyUses : SlotCondition
   PortUnused : SlotCondition
 
-abbrev pub uses_of : SlotCondition → Port → SlotStates → Type 0
-uses_of AnyUses port = AnyUse
-uses_of PortUnused port = λ uses. AllFree uses port.0
+abbrev pub slot_uses_meeting : SlotCondition → Port → SlotStates → Type 0
+slot_uses_meeting AnyUses port = AnyUse
+slot_uses_meeting PortUnused port = λ uses. AllFree uses port.0
 
 -- a port's registers are read, and those of a set written; its disk is asked for the log; or it is recovered
 pub data AccessPurpose : Type 0 where
@@ -63,15 +63,15 @@ pub data AccessPurpose : Type 0 where
   Asking : Port → AccessPurpose
   Recovering : SlotCondition → Port → AccessPurpose
 
-abbrev pub may_of : AccessPurpose → Access → Type 0
-may_of (Controlling set fitting port) = OnPortWriting (registers_of set) port
-may_of (Asking port) = IsPageAccess port
-may_of (Recovering fitting port) = IsRecoveryAccess port
+abbrev pub accesses_for : AccessPurpose → Access → Type 0
+accesses_for (Controlling set fitting port) = OnPortWriting (registers_of set) port
+accesses_for (Asking port) = IsPageAccess port
+accesses_for (Recovering fitting port) = IsRecoveryAccess port
 
-abbrev pub fits_of : AccessPurpose → SlotStates → Type 0
-fits_of (Controlling set fitting port) = uses_of fitting port
-fits_of (Asking port) = IsUnused port.0 0
-fits_of (Recovering fitting port) = uses_of fitting port
+abbrev pub slot_uses_for : AccessPurpose → SlotStates → Type 0
+slot_uses_for (Controlling set fitting port) = slot_uses_meeting fitting port
+slot_uses_for (Asking port) = IsUnused port.0 0
+slot_uses_for (Recovering fitting port) = slot_uses_meeting fitting port
 
 -- ---- laws
 
@@ -131,11 +131,11 @@ pub record Laws : Type 0 where
       × HasNoCommand (new.port port.0)
   pub given_up_halted : (k : DriverState) (m : Machine) (port : ℕ) → DriverRelation m k
       → IsEngineStopped (k.device.port port)
-      → DriverRelation m (parking_all k port)
-  pub given_up_free : (k : DriverState) (port : ℕ) → AllFree (parking_all k port).uses port
+      → DriverRelation m (with_all_parked k port)
+  pub given_up_free : (k : DriverState) (port : ℕ) → AllFree (with_all_parked k port).uses port
   pub given_up_others : (k : DriverState) (port other : ℕ) → other ≢ port
-      → ((parking_all k port).uses other ≡ k.uses other)
-      × ((parking_all k port).parked other ≡ k.parked other)
+      → ((with_all_parked k port).uses other ≡ k.uses other)
+      × ((with_all_parked k port).parked other ≡ k.parked other)
   pub put_here : (uses : SlotStates) (port slot : ℕ) (o : Operation) → put uses port slot (Own o) port slot ≡ Own o
   -- fragments
   pub same_any : (old new : Device) → IsDrivenBy AnyAccess old new → SameAdapter old new
@@ -146,12 +146,13 @@ pub record Laws : Type 0 where
   pub asked_none : (port : ℕ) (old new : Device) → LeavesRunning port old new → HasNoCommand (old.port port)
       → IsOver (new.port port) 0 → HasNoCommand (new.port port)
   -- what is told of engines, and of waits
-  pub failing_sticks : (port : Port) (accesses : List Access) → FailsToStop port accesses → Sticks port accesses
-  pub falls_then : (early late : List Access) (start running : ℕ) (port : Port) → Falls start running port early
-      → Falls start running port (early ++ late)
-  pub falls_since : (early late : List Access) (start running : ℕ) (port : Port) → Falls start running port late
-      → Falls start running port (early ++ late)
-  pub sticks_since : (early late : List Access) (port : Port) → Sticks port late → Sticks port (early ++ late)
+  pub failing_sticks : (port : Port) (accesses : List Access) → FailsToStop port accesses → EngineSticks port accesses
+  pub falls_then : (early late : List Access) (start running : ℕ) (port : Port) → EngineFalls start running port early
+      → EngineFalls start running port (early ++ late)
+  pub falls_since : (early late : List Access) (start running : ℕ) (port : Port) → EngineFalls start running port late
+      → EngineFalls start running port (early ++ late)
+  pub sticks_since : (early late : List Access) (port : Port) → EngineSticks port late
+      → EngineSticks port (early ++ late)
   pub vain_then : (port : Port) (early late : List Access) → WaitsInVain port early → WaitsInVain port (early ++ late)
   pub vain_since : (port : Port) (early late : List Access) → WaitsInVain port late → WaitsInVain port (early ++ late)
   -- this crate's kinds of accesses
@@ -162,4 +163,4 @@ pub record Laws : Type 0 where
   pub control_wider : (set more : RegisterSet) (port : Port)
       → ((r : PortReg) → registers_of set r → registers_of more r) → (access : Access)
       → OnPortWriting (registers_of set) port access → OnPortWriting (registers_of more) port access
-  pub fragments : FragmentLaws AccessPurpose may_of fits_of
+  pub fragments : FragmentLaws AccessPurpose accesses_for slot_uses_for

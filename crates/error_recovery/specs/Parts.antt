@@ -14,7 +14,7 @@ use Rattle.adapter.specs.declared.command.Operation.TheVariants.{Identify, ReadL
 use Rattle.refinement.specs.Driven.{RelatesWith, AnyUse, IsSimulated, OnPortWriting, IsSimulatedAlong, GainsNoMove}
 use Rattle.refinement.specs.Driver.{AllFree}
 use Rattle.refinement.specs.Errors.{ChangesByDisks}
-use Rattle.refinement.specs.Facts.{RecordsFaults, IsEngineStopped, IsCleanToStart}
+use Rattle.refinement.specs.PortFacts.{RecordsFaults, IsEngineStopped, IsCleanToStart}
 use Rattle.refinement.specs.Links.{NoPlugEvents}
 use Rattle.refinement.specs.Recovering.{IsLinked, RunsLinked, WorksPlainly}
 use Rattle.refinement.specs.Started.{IsStarted, IsUp}
@@ -22,7 +22,7 @@ use Rattle.refinement.specs.Slots.{Own}
 use Rattle.disk_page.specs.Asking.{LeavesRunning, ReadsPage}
 use Rattle.identify.specs.Log.{TellsError, TellsNoError}
 use Rattle.identify.specs.declared.error_log.FailedSlot.{FailedSlot}
-use Rattle.port_control.specs.Engines.{Sticks, Stops}
+use Rattle.port_control.specs.Engines.{EngineSticks, Stops}
 use Rattle.port_control.specs.Ports.{HasClearErrors, IsRunning, ReceivesFises, SameButStart, BacksFault, ShowsIdle, IsCommandRegister}
 use Rattle.port_control.specs.declared.PortFault.TheVariants.{EngineStuck}
 use Rattle.error_recovery.specs.Recovery.{PlainUsesSlot0, PlainIsSlot0, IsRecoveryAccess, IssueNone, MayRecover, NamesUnknownSlot}
@@ -67,7 +67,7 @@ pub record Quiets (port : Port) (before after : ℕ) (old new : Device) : Type 0
 
 -- The port was to stop, and its engine is stuck.
 pub record StopGetsStuck (port : Port) (old new : Device) : Type 0 where
-  pub told : IsSimulatedAlong (Sticks port) (IsRecoveryAccess port) AnyUse old new
+  pub told : IsSimulatedAlong (EngineSticks port) (IsRecoveryAccess port) AnyUse old new
   pub st : (new.port port.0).st ≡ false
   pub stuck : BacksFault EngineStuck (new.port port.0).notes
   pub silent : RelatesWith (λ uses. uses port.0 0 ≡ Own Identify → ⊥) old → GainsNoMove port.0 Identify old new

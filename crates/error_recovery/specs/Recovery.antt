@@ -17,7 +17,7 @@ use Rattle.adapter.specs.declared.tape.Fault as tape_fault
 use Rattle.refinement.specs.Acts.{AnySlots, ByDeviceAlone, DriverSlots, Performs}
 use Rattle.refinement.specs.Driven.{RelatesWith, OnPortWriting, GainsNoMove}
 use Rattle.refinement.specs.Errors.{IsFatalOf}
-use Rattle.refinement.specs.Facts.{RecordsFaults, IsFaulted, RunsWell}
+use Rattle.refinement.specs.PortFacts.{RecordsFaults, IsFaulted, RunsWell}
 use Rattle.refinement.specs.GivingUp.{given_up}
 use Rattle.refinement.specs.Links.{NoPlugEvents, DoesNotWrite}
 use Rattle.refinement.specs.Recovering.{IsLinked, WorksPlainly}
@@ -25,7 +25,7 @@ use Rattle.refinement.specs.Slots.{Free, Own, SlotStates, op_of, put}
 use Rattle.disk_page.specs.Asking.{IsPageAccess, WaitsInVain}
 use Rattle.identify.specs.Log.{TellsError, TellsNoError}
 use Rattle.identify.specs.declared.error_log.FailedSlot.{FailedSlot}
-use Rattle.port_control.specs.Engines.{Sticks, Stops}
+use Rattle.port_control.specs.Engines.{EngineSticks, Stops}
 use Rattle.port_control.specs.Ports.{IsErrorRegister, IsRunning, IsStopped, BacksFault, ShowsIdle, IsCommandRegister, programmed}
 use Rattle.port_control.specs.declared.PortFault.TheVariants.{EngineStuck}
 use Rattle.port_control.specs.declared.Running as running_token
@@ -92,7 +92,7 @@ SlotsAfterRecovery port _ accesses old new = Performs accesses AnySlots (given_u
 
 -- the accesses tell that the port was stopped; or that its engine is stuck
 abbrev pub TellsEngine : Port → Next → List Access → Type 0
-TellsEngine port Dead accesses = Sticks port accesses
+TellsEngine port Dead accesses = EngineSticks port accesses
 TellsEngine port _ accesses = Stops port accesses
 
 -- ---- what is told

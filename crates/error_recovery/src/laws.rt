@@ -10,19 +10,19 @@ ghost use Rattle.adapter.specs.Device.{Device, DevicePort};
 ghost use Rattle.adapter.specs.Rules.{IsOn};
 ghost use Rattle.adapter.specs.declared.command.Operation.TheVariants.{ReadLog};
 ghost use Rattle.adapter.specs.declared.tape.Fault.{Fault};
-ghost use Rattle.refinement.specs.Driven.{Grows, SparesOtherPorts, GainsNoMove};
+ghost use Rattle.refinement.specs.Driven.{TapeGrows, SparesOtherPorts, GainsNoMove};
 ghost use Rattle.refinement.specs.Links.{DoesNotWrite};
 ghost use Rattle.error_recovery.specs.Evidence.{BringsLog, HasFailed, ShowsFatal};
 ghost use Rattle.error_recovery.specs.Recovery.{IsRecoveryAccess};
 ghost use Rattle.error_recovery.specs.Witness.{RecoverWitness, StopWitness};
 
-use super::lawful::law_base;
+use super::prerequisites::law_prerequisites;
 use adapter::laws::law_accesses_compose;
 use refinement::laws::{
-    law_a_first_read_agrees, law_commanding_is_permitted, law_putting_is_of_one_slot,
-    law_two_queued_reads_agree,
+    law_a_first_read_agrees, law_putting_is_of_one_slot, law_two_queued_reads_agree,
+    law_writing_cmd_is_permitted,
 };
-use refinement::limits::law_a_fault_is_seen;
+use refinement::recovery_witnesses::law_a_fault_is_seen;
 
 /// Recovery touches no register of another port, nor another port's bit of IS: so what is said of such accesses
 /// (`SparesOtherPorts`) is so of each of its own. They write no register of the adapter's own, and of the port's none
@@ -42,7 +42,7 @@ pub fn law_recovery_is_of_its_port()
     ensures stores { (port : Port) (at : ℕ) (bytes : List ℕ) → port.0 < 4 → IsRecoveryAccess port (Storing at bytes)
         → at + length bytes ≤ DRIVER_BYTES }
 {
-    law_base();
+    law_prerequisites();
 }
 
 /// What stands behind a fault in a part of a call stands behind it in the whole: a fault on the tape, where PxCMD
@@ -52,11 +52,11 @@ pub fn law_what_stands_behind_a_fault_stays()
         → IsOn start → All (DoesNotWrite Ghc) early → All (DoesNotWrite (Px port Cmd)) early
         → DoesAll early start old → DoesAll late new end → HasFailed port part old new fault
         → HasFailed port (early ++ (part ++ late)) start end fault }
-    ensures log { (port : Port) (start old new end : Device) (page : List ℕ) → Grows start old
+    ensures log { (port : Port) (start old new end : Device) (page : List ℕ) → TapeGrows start old
         → GainsNoMove port.0 ReadLog new end → BringsLog port old new page → BringsLog port start end page }
 {
     law_accesses_compose();
-    law_base();
+    law_prerequisites();
 }
 
 /// A port shows a fatal error, unless the bits of all three are clear.
@@ -73,7 +73,7 @@ pub fn law_a_port_may_be_recovered()
     law_a_first_read_agrees();
     law_two_queued_reads_agree();
     law_putting_is_of_one_slot();
-    law_base();
+    law_prerequisites();
 }
 
 /// What `stop_for_reset` asks can be met, and what it promises: there is a port that a fatal error has broken while a
@@ -82,7 +82,7 @@ pub fn law_a_port_may_be_stopped()
     ensures { StopWitness }
 {
     law_a_first_read_agrees();
-    law_commanding_is_permitted();
+    law_writing_cmd_is_permitted();
     law_putting_is_of_one_slot();
-    law_base();
+    law_prerequisites();
 }

@@ -21,8 +21,8 @@ ghost use Rattle.disk_page.specs.Costs.{PAGE_ACCESSES};
 ghost use Rattle.port_control.specs.Costs.{START_ACCESSES, STOP_ACCESSES};
 ghost use Rattle.error_recovery.specs.Costs.{FINISH_QUEUED_ACCESSES, QUIET_ACCESSES, RECOVER_ACCESSES};
 
-mod lawful;
 pub mod laws;
+mod prerequisites;
 
 use adapter::Adapter;
 use ata_types::{Port, Slot};
@@ -30,10 +30,10 @@ use disk_page::{Page, read_page};
 use hba_regs::{PortReg, Reg, TaskFile, is_set, without_bit};
 pub use identify::FailedSlot;
 use identify::parse_log;
-use lawful::law_base;
 use port_control::{
     Running, Stopped, clear_error_state, is_bsy_or_drq, keep_receiving, start, stop,
 };
+use prerequisites::law_prerequisites;
 
 /// What a port is after recovery.
 #[derive(Debug, Drop)]
@@ -78,7 +78,7 @@ fn quiet<A: Adapter>(adapter: &mut A, port: Port) -> Option<StoppedAndCleared>
     ensures sticks { IfNone result (StopGetsStuck port (A.device adapter.old) (A.device adapter.new)) }
     ensures cost { MakesAtMost QUIET_ACCESSES (A.access_count adapter.old) (A.access_count adapter.new) }
 {
-    law_base();
+    law_prerequisites();
     let fault = TaskFile(adapter.read(Reg::Px(port, PortReg::Tfd)));
     let Ok(stopped) = stop(adapter, port) else {
         return None;
@@ -98,7 +98,7 @@ fn go_on<A: Adapter>(adapter: &mut A, stopped: Stopped) -> Running
     ensures goes { StartsAgain stopped.port (A.device adapter.old) (A.device adapter.new) }
     ensures cost { MakesAtMost START_ACCESSES (A.access_count adapter.old) (A.access_count adapter.new) }
 {
-    law_base();
+    law_prerequisites();
     let receiving = keep_receiving(adapter, stopped);
     start(adapter, receiving)
 }
@@ -171,7 +171,7 @@ fn finish_plain<A: Adapter>(
         → Recovers quieted.stopped.port outstanding false result old (A.device adapter.new) }
     ensures cost { MakesAtMost START_ACCESSES (A.access_count adapter.old) (A.access_count adapter.new) }
 {
-    law_base();
+    law_prerequisites();
     let failed = fault_of(outstanding, quieted.fault);
     let again = others(outstanding, &failed);
     if is_bsy_or_drq(quieted.shown) {
@@ -207,7 +207,7 @@ fn finish_queued<A: Adapter>(
         → Recovers quieted.stopped.port outstanding true result old (A.device adapter.new) }
     ensures cost { MakesAtMost FINISH_QUEUED_ACCESSES (A.access_count adapter.old) (A.access_count adapter.new) }
 {
-    law_base();
+    law_prerequisites();
     if is_bsy_or_drq(quieted.shown) {
         return unnamed(outstanding, Next::Restart(quieted.stopped));
     }
@@ -258,7 +258,7 @@ pub fn recover<A: Adapter>(adapter: &mut A, port: Port, outstanding: u32, queued
     ensures recovers { Recovers port outstanding queued result (A.device adapter.old) (A.device adapter.new) }
     ensures cost { MakesAtMost RECOVER_ACCESSES (A.access_count adapter.old) (A.access_count adapter.new) }
 {
-    law_base();
+    law_prerequisites();
     let Some(quieted) = quiet(adapter, port) else {
         return unnamed(outstanding, Next::Dead);
     };
@@ -282,7 +282,7 @@ pub fn stop_for_reset<A: Adapter>(adapter: &mut A, port: Port, outstanding: u32)
         (A.device adapter.new) }
     ensures cost { MakesAtMost STOP_ACCESSES (A.access_count adapter.old) (A.access_count adapter.new) }
 {
-    law_base();
+    law_prerequisites();
     match stop(adapter, port) {
         Ok(halted) => unnamed(outstanding, Next::Restart(halted)),
         Err(_) => unnamed(outstanding, Next::Dead),

@@ -54,7 +54,7 @@ impl From<Ended> for FollowError {
 }
 
 /// Want of memory, where that is the error, or else this fault.
-pub fn unless_memory(error: &io::Error, fault: FollowError) -> FollowError {
+pub fn no_memory_or(error: &io::Error, fault: FollowError) -> FollowError {
     if error.kind() == io::ErrorKind::OutOfMemory {
         FollowError::NoMemory
     } else {

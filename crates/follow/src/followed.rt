@@ -3,12 +3,12 @@ ghost use Rattle.std.specs.Prelude.{◌≡◌, ◌+◌, ◌<◌, ◌||◌, IfSom
 ghost use Rattle.adapter.specs.Access.{Reads};
 ghost use Rattle.adapter.specs.Rules.{MayRead};
 ghost use Rattle.follow.specs.Compared.{MatchesUpToKnown, shown_difference};
-ghost use Rattle.follow.specs.Following.{NotesSlot, GoesOnBySteps, NotesFailed, met_with, known_slots};
+ghost use Rattle.follow.specs.NotedDifferences.{NotesSlot, GoesOnBySteps, NotesFailed, with_difference_met, differing_slots};
 
 use crate::differences::{MetDifferences, agree, shown_by};
 use crate::divergence::Divergence;
 use crate::peer::{Peer, PeerFault};
-use adapter::laws::{law_steps_compose, law_steps_guarantee};
+use adapter::laws::{law_step_lists_keep_what_steps_keep, law_steps_compose};
 use adapter::{Adapter, DeviceStep, Entry, FatalError, Stepped};
 use ata_types::{DRIVER_BYTES, PORT_BYTES, PORTS, Port, SCRATCH_OFFSET, Slot};
 use device_model::{Inspectable, TapedAdapter};
@@ -34,7 +34,7 @@ const SWITCHES: u32 = 1 << 4 | 1;
 
 /// How many accesses were made on both, and how many looks at the peer alone.
 #[derive(Clone, Copy, Debug, PartialEq, Eq)]
-pub struct Counts {
+pub struct AccessCounts {
     pub accesses: u64,
     pub looks: u64,
 }
@@ -60,7 +60,7 @@ impl Differing {
 
     /// Those of a register.
     fn of(&self, r: Reg) -> u32
-        ensures { result ≡ known_slots r self.now }
+        ensures { result ≡ differing_slots r self.now }
     {
         match r {
             Reg::Px(port, PortReg::Sact) => slots_at(&self.untaken, port),
@@ -100,9 +100,9 @@ pub struct Followed<A, P> {
     /// What the peer showed last of the register that was read last.
     said: u32,
     /// The known differences that were met.
-    passed_over: MetDifferences,
+    met_differences: MetDifferences,
     divergence: Option<Divergence>,
-    counts: Counts,
+    counts: AccessCounts,
 }
 
 impl<A: Inspectable, P: Peer> Followed<A, P> {
@@ -118,9 +118,9 @@ impl<A: Inspectable, P: Peer> Followed<A, P> {
             differing: Differing::NONE,
             commands: [0; PORTS],
             said: 0,
-            passed_over: MetDifferences::NONE,
+            met_differences: MetDifferences::NONE,
             divergence: None,
-            counts: Counts {
+            counts: AccessCounts {
                 accesses: 0,
                 looks: 0,
             },
@@ -143,14 +143,14 @@ impl<A: Inspectable, P: Peer> Followed<A, P> {
 
     /// The known differences that readings of registers met, and that were passed over. (No clause says that they are
     /// kept from one access to the next.)
-    pub fn passed_over(&self) -> MetDifferences
-        ensures { result ≡ self.now.passed_over }
+    pub fn met_differences(&self) -> MetDifferences
+        ensures { result ≡ self.now.met_differences }
     {
-        self.passed_over
+        self.met_differences
     }
 
     /// How many accesses were made.
-    pub fn counts(&self) -> Counts
+    pub fn counts(&self) -> AccessCounts
         ensures { result ≡ self.now.counts }
     {
         self.counts
@@ -587,10 +587,10 @@ impl<A: Inspectable, P: Peer> Followed<A, P> {
         requires told { said ≡ None → is_some self.old.divergence ≡ true }
         ensures model { self.new.model ≡ self.old.model }
         ensures alike { self.new.divergence ≡ None
-            → MatchesUpToKnown r (known_slots r self.new.differing) shown self.new.said }
-        ensures passed { self.new.divergence ≡ None → self.new.passed_over.met
-            ≡ met_with (shown_difference r
-            (known_slots r self.new.differing) shown self.new.said) self.old.passed_over.met }
+            → MatchesUpToKnown r (differing_slots r self.new.differing) shown self.new.said }
+        ensures passed { self.new.divergence ≡ None → self.new.met_differences.met
+            ≡ with_difference_met (shown_difference r
+            (differing_slots r self.new.differing) shown self.new.said) self.old.met_differences.met }
     {
         let Some(said) = said else {
             return;
@@ -607,7 +607,7 @@ impl<A: Inspectable, P: Peer> Followed<A, P> {
                 said,
             });
         } else if let Some(known) = shown_by(r, slots, shown, said) {
-            self.passed_over.add(known);
+            self.met_differences.add(known);
         }
     }
 
@@ -700,10 +700,10 @@ impl<A: Inspectable, P: Peer> Adapter for Followed<A, P> {
         ensures reads { Reads r result (A.device self.old.model) (A.device self.new.model) }
         ensures counted { A.access_count self.new.model ≡ A.access_count self.old.model + 1 }
         ensures alike { self.new.divergence ≡ None
-            → MatchesUpToKnown r (known_slots r self.new.differing) result self.new.said }
+            → MatchesUpToKnown r (differing_slots r self.new.differing) result self.new.said }
     {
         law_steps_compose();
-        law_steps_guarantee();
+        law_step_lists_keep_what_steps_keep();
         let said = self.prepare_read(r);
         let shown = self.model.read(r);
         self.compare(r, shown, said);

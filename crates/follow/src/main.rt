@@ -21,7 +21,7 @@ mod peer;
 mod words;
 
 use device_model::{Disks, Model, ModelDisk, PortDisks};
-use error::{FollowError, unless_memory};
+use error::{FollowError, no_memory_or};
 use followed::Followed;
 use lines::QtestPeer;
 use play::{PlayError, model_with, parse_inputs, play_adapter};
@@ -47,7 +47,7 @@ fn disks_of(
     let Some(path) = words.images.get(port) else {
         return Ok(None);
     };
-    let image = FileStore::open(rt.alloc(), rt, path.as_str()).map_err(|error| unless_memory(
+    let image = FileStore::open(rt.alloc(), rt, path.as_str()).map_err(|error| no_memory_or(
         &error,
         FollowError::Unread,
     ))?;
@@ -86,7 +86,7 @@ fn open_peer(
     rt: &(impl AllocGlobal + Files<File = File>),
     words: &FollowArgs,
 ) -> Result<QtestPeer<BufReader<File>, File>, FollowError> {
-    let unopened = |error: io::Error| unless_memory(&error, FollowError::Peer);
+    let unopened = |error: io::Error| no_memory_or(&error, FollowError::Peer);
     let to = OpenOptions::new()
         .write(true)
         .open(rt, words.to.as_str())
@@ -110,7 +110,7 @@ fn told(
         "follow: {} accesses, {} looks",
         counts.accesses, counts.looks
     );
-    let _told = eprintln!(rt; "follow: passed over: {}", adapter.passed_over());
+    let _told = eprintln!(rt; "follow: passed over: {}", adapter.met_differences());
     if let Some(divergence) = adapter.divergence() {
         let _told = eprintln!(rt; "follow: strayed: {divergence}");
         return Err(FollowError::Diverged);
@@ -127,7 +127,7 @@ fn run(
     rt: &(impl Env + AllocGlobal + Files<File = File> + Print + Eprint),
 ) -> Result<(), FollowError> {
     let words = FollowArgs::read(rt)?;
-    let unread = |error: io::Error| unless_memory(&error, FollowError::Unread);
+    let unread = |error: io::Error| no_memory_or(&error, FollowError::Unread);
     let config = fs::read(rt, words.config.as_str()).map_err(unread)?;
     let script = fs::read(rt, words.script.as_str()).map_err(unread)?;
     let values = parse_inputs(rt.alloc(), config.as_slice(), script.as_slice())?;

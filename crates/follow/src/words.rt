@@ -1,5 +1,5 @@
 // The words that the program is started with.
-use crate::error::{FollowError, unless_memory};
+use crate::error::{FollowError, no_memory_or};
 use ata_types::PORTS;
 use std::alloc::Global;
 use std::env;
@@ -35,7 +35,7 @@ impl FollowArgs {
     /// one to four images.
     pub fn read(rt: &(impl Env + AllocGlobal)) -> Result<FollowArgs, FollowError> {
         // FollowArgs that are no text aren't a command line either.
-        let words = env::args(rt).map_err(|error| unless_memory(&error, FollowError::CommandLine))?;
+        let words = env::args(rt).map_err(|error| no_memory_or(&error, FollowError::CommandLine))?;
         let words: Vec<String> = words.collect(rt.alloc())?;
         let [_, config, script, to, from, registers, images @ ..] = words.as_slice() else {
             return Err(FollowError::CommandLine);

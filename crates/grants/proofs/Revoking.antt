@@ -8,22 +8,22 @@ use Rattle.std.proofs.lemmas.List.Quantifiers.{all_pairs_remove}
 use Rattle.std.proofs.lemmas.Option.{slice_get_within, get_or_from_slice_get, same_Some}
 use Rattle.ata_types.specs.declared.grant.GrantRow.{GrantRow}
 use Rattle.ata_types.specs.declared.request.ClientId.{ClientId}
-use Rattle.block_machine.specs.Rules.{Names, DifferInName, is_under, without_row}
+use Rattle.block_machine.specs.Rules.{Names, DifferInName, is_same_grant_name, without_row}
 use Rattle.grants.specs.Names.{IsIndexed, Name, name_of, name_rank}
 
 both : (a b : Bool) → a ≡ true → b ≡ true → (a && b) ≡ true
 both a b p q = ap (λ (x : Bool). x && b) p ∙ q
 
-under : (client : ClientId) (n : ℕ) (row : GrantRow) → Names client n row → is_under client n row.client row.number ≡ true
+under : (client : ClientId) (n : ℕ) (row : GrantRow) → Names client n row → is_same_grant_name client n row.client row.number ≡ true
 under client n row named = both (row.client.0 == client.0) (row.number == n) (eq-eqb row.client.0 client.0 (ap (λ (c : ClientId). c.0) named.0)) (eq-eqb row.number n named.1)
 
-not_under : (client : ClientId) (n : ℕ) (row : GrantRow) → (Names client n row → ⊥) → is_under client n row.client row.number ≡ false
+not_under : (client : ClientId) (n : ℕ) (row : GrantRow) → (Names client n row → ⊥) → is_same_grant_name client n row.client row.number ≡ false
 not_under client n row other = go (row.client.0 == client.0) (row.number == n) refl refl
   where
     client_of : ℕ → ClientId
     client_of k = record { 0 = k }
 
-    go : (a b : Bool) → (row.client.0 == client.0) ≡ a → (row.number == n) ≡ b → is_under client n row.client row.number ≡ false
+    go : (a b : Bool) → (row.client.0 == client.0) ≡ a → (row.number == n) ≡ b → is_same_grant_name client n row.client row.number ≡ false
     go true true p q = absurd (other (ap client_of (eqb-true row.client.0 client.0 p), eqb-true row.number n q))
     go true false p q = ap (λ (x : Bool). x && (row.number == n)) p ∙ q
     go false b p q = ap (λ (x : Bool). x && (row.number == n)) p
@@ -38,7 +38,7 @@ rest_differ x xs differ i j d lt small = differ (suc i) (suc j) d (omega (arith,
 none_under : (client : ClientId) (n : ℕ) (xs : List GrantRow) → ((k : ℕ) (d : GrantRow) → k < length xs → Names client n (get_or xs k d) → ⊥) → without_row client n xs ≡ xs
 none_under client n [] none = refl
 none_under client n (x ∷ xs) none =
-    cond-true (not (is_under client n x.client x.number)) (x ∷ without_row client n xs) (without_row client n xs) (ap not (not_under client n x (none 0 x (omega arith))))
+    cond-true (not (is_same_grant_name client n x.client x.number)) (x ∷ without_row client n xs) (without_row client n xs) (ap not (not_under client n x (none 0 x (omega arith))))
     ∙ ap (λ (ys : List GrantRow). x ∷ ys) (none_under client n xs (λ k d lt. none (suc k) d (omega (arith, lt))))
 
 pub dropped_row : (client : ClientId) (n : ℕ) (rows : List GrantRow) (place : ℕ) (row : GrantRow) → AllPairs DifferInName rows → slice_get rows place ≡ Some row → Names client n row
@@ -46,13 +46,13 @@ pub dropped_row : (client : ClientId) (n : ℕ) (rows : List GrantRow) (place : 
 dropped_row client n [] place row differ is named = let no : ◌≡◌ {A = Option GrantRow} None (Some row) = is in cc
 dropped_row client n (x ∷ xs) zero row differ is named =
     let its : Names client n x = subst (Names client n) (sym (same_Some x row is)) named in
-    sym (cond-false (not (is_under client n x.client x.number)) (x ∷ without_row client n xs) (without_row client n xs) (ap not (under client n x its))
+    sym (cond-false (not (is_same_grant_name client n x.client x.number)) (x ∷ without_row client n xs) (without_row client n xs) (ap not (under client n x its))
     ∙ none_under client n xs (λ k d lt other. differ 0 (suc k) d (omega arith) (omega (arith, lt)) (one_name client n x (get_or xs k d) its other)))
 dropped_row client n (x ∷ xs) (suc place) row differ is named =
     let at : get_or xs place row ≡ row = get_or_from_slice_get xs place row row is in
     let lt = slice_get_within xs place row is in
     ap (λ (ys : List GrantRow). x ∷ ys) (dropped_row client n xs place row (rest_differ x xs differ) is named)
-    ∙ sym (cond-true (not (is_under client n x.client x.number)) (x ∷ without_row client n xs) (without_row client n xs)
+    ∙ sym (cond-true (not (is_same_grant_name client n x.client x.number)) (x ∷ without_row client n xs) (without_row client n xs)
     (ap not (not_under client n x (λ its. differ 0 (suc place) row (omega arith) (omega (arith, lt)) (one_name client n x (get_or xs place row) its (subst (Names client n) (sym at) named))))))
 
 -- the names of the rows that are left are the names that are left

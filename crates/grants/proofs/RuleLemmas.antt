@@ -2,7 +2,7 @@
 use Rattle.std.proofs.Common.{◌≡◌, ◌≢◌, ℕ, ◌+◌, ◌<◌, List, length, Option, Some, ◌↔◌, refl, subst, arith, inl, inr}
 use Rattle.std.proofs.lemmas.Bool.{cases_eq}
 use Rattle.std.proofs.lemmas.Option.{same_Some}
-use Rattle.ata_types.specs.Grant.{Allows, Covers}
+use Rattle.ata_types.specs.SectorGrants.{AllowsOp, CoversSectors}
 use Rattle.ata_types.specs.declared.grant.GrantRow.{GrantRow}
 use Rattle.ata_types.specs.declared.request.ClientId.{ClientId}
 use Rattle.ata_types.specs.declared.request.Frame.{Frame}
@@ -14,7 +14,7 @@ use Rattle.ata_types.specs.declared.refusal.FrameFault.TheVariants.{FrameForeign
 use Rattle.ata_types.specs.declared.refusal.Rule.{Rule}
 use Rattle.ata_types.specs.declared.refusal.Rule.TheVariants.{NoGrant, NoRight, BadCount, OutsideGrant, FrameCount, Frames}
 use Rattle.ata_types.specs.declared.refusal.Refusal.TheVariants as refused
-use Rattle.block_machine.specs.Rules.{IsNamed, IsAllowedCount, frame_count_for, Breaks, IsBefore, rank, HasNoFault, IsFirstFault, BreaksNone, IsFirstBroken}
+use Rattle.block_machine.specs.Rules.{IsNamed, IsAllowedCount, frame_count_for, Breaks, RanksBefore, rank, HasNoFault, IsFirstFault, BreaksNone, IsFirstBroken}
 use Rattle.block_machine.proofs.RuleLemmas.{same_rule, number, place, fault_number}
 
 -- the faults of frames come after the other rules
@@ -52,7 +52,7 @@ module _ (rows : List GrantRow) (owner : Frame → Option ClientId) (lent : Fram
   first_broken : (rule : Rule) → number rule < 6 → KeptBelow (number rule) → Breaks rows owner lent r rule → IsFirstBroken rows owner lent r rule
   first_broken rule early kept broken = (broken, none_before)
     where
-      none_before : (other : Rule) → IsBefore (rank (refused.Rule other)) (rank (refused.Rule rule)) → Breaks rows owner lent r other → ⊥
+      none_before : (other : Rule) → RanksBefore (rank (refused.Rule other)) (rank (refused.Rule rule)) → Breaks rows owner lent r other → ⊥
       none_before other before = elim before [
         | inl lower ↦ kept other lower
         | inr same ↦ absurd (omega (arith, same.1, early_place rule early))
@@ -61,7 +61,7 @@ module _ (rows : List GrantRow) (owner : Frame → Option ClientId) (lent : Fram
   first_fault : (fault : FrameFault) → KeptBelow 6 → IsFirstFault owner lent r.client r.frames.items fault → IsFirstBroken rows owner lent r (Frames fault)
   first_fault fault kept first = (first.0, none_before)
     where
-      none_before : (other : Rule) → IsBefore (rank (refused.Rule other)) (rank (refused.Rule (Frames fault))) → Breaks rows owner lent r other → ⊥
+      none_before : (other : Rule) → RanksBefore (rank (refused.Rule other)) (rank (refused.Rule (Frames fault))) → Breaks rows owner lent r other → ⊥
       none_before (Frames other) before = first.1 other before
       none_before NoGrant before = kept NoGrant (omega arith)
       none_before NoRight before = kept NoRight (omega arith)
@@ -83,7 +83,7 @@ module _ (rows : List GrantRow) (owner : Frame → Option ClientId) (lent : Fram
   -- the rules in turn, where the request names this row
   module _ (row : GrantRow) (one : (other : GrantRow) → (Some row ≡ Some other) ↔ IsNamed rows r other) where
     abbrev Leaves : Type 0
-    Leaves = (r.op ≢ Flush) × (Covers row r.first.0 r.count → ⊥)
+    Leaves = (r.op ≢ Flush) × (CoversSectors row r.first.0 r.count → ⊥)
 
     named : IsNamed rows r row
     named = (one row).0 refl
@@ -94,13 +94,13 @@ module _ (rows : List GrantRow) (owner : Frame → Option ClientId) (lent : Fram
     kept_grant : KeptBelow 2
     kept_grant = kept_more NoGrant (omega arith) none_below (λ none. none row named)
 
-    pub no_right : (Allows row.rights r.op → ⊥) → IsFirstBroken rows owner lent r NoRight
+    pub no_right : (AllowsOp row.rights r.op → ⊥) → IsFirstBroken rows owner lent r NoRight
     no_right not = first_broken NoRight (omega arith) kept_grant (row, named, not)
 
-    module _ (allows : Allows row.rights r.op) where
+    module _ (allows : AllowsOp row.rights r.op) where
       kept_right : KeptBelow 3
       kept_right = kept_more NoRight (omega arith) kept_grant
-          (λ w. w.2 (subst (λ (x : GrantRow). Allows x.rights r.op) (same_row w.0 w.1) allows))
+          (λ w. w.2 (subst (λ (x : GrantRow). AllowsOp x.rights r.op) (same_row w.0 w.1) allows))
 
       pub bad_count : (IsAllowedCount r.op r.count → ⊥) → IsFirstBroken rows owner lent r BadCount
       bad_count not = first_broken BadCount (omega arith) kept_right not
@@ -117,7 +117,7 @@ module _ (rows : List GrantRow) (owner : Frame → Option ClientId) (lent : Fram
           kept_sectors = kept_more OutsideGrant (omega arith) kept_count (λ w. stays (
             w.0,
             λ covers.
-                w.1.2 (subst (λ (x : GrantRow). Covers x r.first.0 r.count) (same_row w.1.0 w.1.1) covers),
+                w.1.2 (subst (λ (x : GrantRow). CoversSectors x r.first.0 r.count) (same_row w.1.0 w.1.1) covers),
           ))
 
           pub frame_count : (length r.frames.items ≢ frame_count_for r.op r.count) → IsFirstBroken rows owner lent r FrameCount

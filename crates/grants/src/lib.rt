@@ -5,7 +5,7 @@
 #![tactic(auto)]
 
 ghost use Rattle.std.specs.Prelude.{◌≡◌, ◌≢◌, ◌≤◌, ◌<◌, ◌+◌, ◌*◌, ◌^◌, ◌↔◌, length, map, All, AllPairs, Contains, None, Some, IsTrue, OnOk, IfErr, IfOk, IfSome};
-ghost use Rattle.ata_types.specs.Grant.{Covers};
+ghost use Rattle.ata_types.specs.SectorGrants.{CoversSectors};
 ghost use Rattle.ata_types.specs.declared.grant.GrantRow.{GrantRow};
 ghost use Rattle.ata_types.specs.declared.request.Op.TheVariants.{Flush};
 ghost use Rattle.block_machine.specs.Rules.{Names, DifferInName, HasRow, without_row, IsAllowedCount, frame_count_for, BreaksNone, IsFirstBroken};
@@ -193,7 +193,8 @@ fn frame_count(op: Op, count: u32) -> usize
 
 /// Whether the request has sectors and they leave the row's.
 fn leaves(row: &GrantRow, request: &Request) -> bool
-    ensures { IsTrue result ↔ ((request.now.op ≢ Flush) × (Covers row.now request.now.first.0 request.now.count → ⊥)) }
+    ensures { IsTrue result ↔ ((request.now.op ≢ Flush) × (CoversSectors row.now request.now.first.0 request.now.count →
+        ⊥)) }
 {
     request.op != Op::Flush && !row.covers(request.first, request.count)
 }

@@ -5,11 +5,11 @@ use Rattle.adapter.specs.Device.{Device}
 use Rattle.adapter.specs.Idle.{IsIdle}
 use Rattle.adapter.specs.Rules.{HasPort}
 use Rattle.refinement.specs.Relation.{port_at}
-use Rattle.refinement.specs.Facts.{FaultsOnRecord, RunsWell, Undisturbed}
+use Rattle.refinement.specs.PortFacts.{FaultsOnRecord, RunsWell, Undisturbed}
 use Rattle.refinement.specs.Places.{list_of}
 use Rattle.identify.specs.declared.DiskInfo.{DiskInfo}
 use Rattle.identify.specs.declared.wanted.Wanted.{Wanted}
-use Rattle.host_boot.specs.Taken.{StandsBehind, TakesOver, probe_result_of, wanted_of}
+use Rattle.host_boot.specs.TakeOver.{BacksProbeResult, TakesOver, probe_result_of, wanted_of}
 use Rattle.host_boot.specs.declared.ProbeResult.{ProbeResult}
 use Rattle.host_boot.specs.declared.ProbeResult.TheVariants.{Unserved, Ready}
 use Rattle.host_boot.specs.declared.Host.{Host}
@@ -18,10 +18,10 @@ use Rattle.host_boot.proofs.Running.{taken_recorded, taken_well}
 use Rattle.host_boot.specs.Laws.{Laws}
 
 module _ (wanted : Wanted) (port : ℕ) (d : Device) where
-  still_has : (found : ProbeResult) → port < 4 → found ≢ Unserved → StandsBehind wanted found port d → HasPort d port
+  still_has : (found : ProbeResult) → port < 4 → found ≢ Unserved → BacksProbeResult wanted found port d → HasPort d port
   still_has found below other h = (below, (is_served wanted port d found other h).1)
 
-  may_begin : (info : DiskInfo) → StandsBehind wanted (Ready info) port d → ((d.port port).st ≡ true) × ((d.port port).bases.clb ≡ list_of port)
+  may_begin : (info : DiskInfo) → BacksProbeResult wanted (Ready info) port d → ((d.port port).st ≡ true) × ((d.port port).bases.clb ≡ list_of port)
   may_begin info (is, ready) = (ready.runs.st, ap (λ (b : device.Bases). b.clb) ready.runs.bases)
 
 module _ (wanted : List Wanted) (host : Host) (port : ℕ) (old new : Device) (taken : TakesOver wanted host old new) where
@@ -30,7 +30,7 @@ module _ (wanted : List Wanted) (host : Host) (port : ℕ) (old new : Device) (t
 
   pub taken_ready : (info : DiskInfo) → port < 4 → probe_result_of host.ports port ≡ Ready info → ((new.port port).st ≡ true) × ((new.port port).bases.clb ≡ list_of port) × HasPort new port
   taken_ready info below is =
-      let may = may_begin (wanted_of wanted port) port new info (subst (λ (f : ProbeResult). StandsBehind (wanted_of wanted port) f port new) is (taken.stands port below)) in
+      let may = may_begin (wanted_of wanted port) port new info (subst (λ (f : ProbeResult). BacksProbeResult (wanted_of wanted port) f port new) is (taken.stands port below)) in
       (may.0, may.1, taken_there below (λ e. absurd (let k : Ready info ≡ Unserved = sym is ∙ e in cc)))
 
 module _ (laws : Laws) (wanted : List Wanted) (host : Host) (port : ℕ) (old new : Device) (taken : TakesOver wanted host old new) where

@@ -17,10 +17,10 @@ use Rattle.port_control.specs.Engines.{Stops, StopsBoth}
 use Rattle.port_control.specs.Ports.{IsErrorRegister, IsStopped, BacksFault, IsCommandRegister}
 use Rattle.port_control.specs.declared.PortFault.TheVariants.{NoDevice}
 use Rattle.port_boot.specs.States.{IsBootTo, IsBootable, IsOfBoot}
-use Rattle.host_boot.specs.Again.{RebootsPort, RebootsIfPresent, BootsStopped, IsSurveyOrBoot}
+use Rattle.host_boot.specs.Again.{RebootsPort, RebootsIfPresent, BootsStopped, IsCapPiOrBootAccess}
 use Rattle.host_boot.specs.Laws.{Laws}
 use Rattle.host_boot.specs.Laws.AccessPurpose.{Clearing, Starting, Surveying}
-use Rattle.host_boot.specs.Taken.{Boots, StopsAndBootsPort, ReadyHaltOfTaken, IsSurvey, StandsBehind, WroteSctl}
+use Rattle.host_boot.specs.TakeOver.{Boots, StopsAndBootsPort, ReadyHaltOfTaken, ReadsCapOrPi, BacksProbeResult, WroteSctl}
 use Rattle.host_boot.specs.declared.Booted.{Booted}
 use Rattle.host_boot.specs.declared.ProbeResult.{ProbeResult}
 use Rattle.host_boot.specs.declared.ProbeResult.TheVariants.{Unserved, Ready, Unready}
@@ -46,7 +46,7 @@ pub found_halts : (wanted : Wanted) (port : Port) (old new : Device) (found : Pr
 found_halts wanted port old new found b info is = (subst (λ (f : ProbeResult). BootsStopped wanted port f old new) is b).halts
 
 -- looking at a port is of its boot
-clearing_of_start : (port : Port) (access : Access) → OnPortWriting IsErrorRegister port access → IsSurveyOrBoot port access
+clearing_of_start : (port : Port) (access : Access) → OnPortWriting IsErrorRegister port access → IsCapPiOrBootAccess port access
 clearing_of_start port (Reading (Px at r) v) is = inr (inl is)
 clearing_of_start port (Writing (Px at r) v) (here, kind) = inr (inl (here, inr (inl (inr kind))))
 clearing_of_start port (Reading r v) is = absurd is
@@ -55,7 +55,7 @@ clearing_of_start port (Loading at bytes) is = absurd is
 clearing_of_start port (Storing at bytes) is = absurd is
 
 -- a port was booted, once this was read of CAP, which is as it was
-abbrev boots_again : (port : Port) (v : ℕ) (booted : Booted) (wanted : Wanted) (old asked new : Device) → IsSimulated (IsSurveyOrBoot port) (λ uses. AllFree uses port.0) old asked →
+abbrev boots_again : (port : Port) (v : ℕ) (booted : Booted) (wanted : Wanted) (old asked new : Device) → IsSimulated (IsCapPiOrBootAccess port) (λ uses. AllFree uses port.0) old asked →
     BootsStopped wanted port booted.found asked new → booted.slots ≡ field v 8 5 + 1 → booted.queued ≡ bit v 30 → v ≡ new.cap → RebootsPort wanted port booted old new
 boots_again port v booted wanted old asked new asks boots slots queued cap = record {
   asked = asked;
@@ -80,7 +80,7 @@ module _ (laws : Laws) where
     found_boots (Ready info) b = then_boot laws port old mid stops new b.boots
     found_boots (Unready state) b = then_boot_to laws port old mid stops new state b.boots
 
-    pub found_stands : (found : ProbeResult) → BootsStopped wanted port found mid new → wanted ≢ Nothing → HasPort old port.0 → StandsBehind wanted found port.0 new
+    pub found_stands : (found : ProbeResult) → BootsStopped wanted port found mid new → wanted ≢ Nothing → HasPort old port.0 → BacksProbeResult wanted found port.0 new
     found_stands Unserved b wants there = absurd b
     found_stands (Ready info) b wants there = ((wants, (still_there port old new (boots_same laws port old new (Ready info) (found_boots (Ready info) b)) there).1), b.ready)
     found_stands (Unready state) b wants there = ((wants, (still_there port old new (boots_same laws port old new (Unready state) (found_boots (Unready state) b)) there).1), b.ended)
@@ -105,7 +105,7 @@ module _ (laws : Laws) where
   -- ---- later: CAP is read before
 
   module _ (v : ℕ) (old asked : Device) (asks : Reads Cap v old asked) where
-    asked_followed : IsSimulated IsSurvey AnyUse old asked
+    asked_followed : IsSimulated ReadsCapOrPi AnyUse old asked
     asked_followed = (laws.fragments.reads Surveying Cap v old asked tt asks).followed
 
     -- what was read is what the adapter is capable of, whatever is done then
@@ -113,7 +113,7 @@ module _ (laws : Laws) where
     asked_cap May new driven = asks.shows ∙ (sym (ap (λ (d : Device). d.cap) asks.effect) ∙ sym (same_over laws May asked new driven).cap)
 
     module _ (port : Port) where
-      pub asked_starts : IsSimulated (IsSurveyOrBoot port) (λ uses. AllFree uses port.0) old asked
+      pub asked_starts : IsSimulated (IsCapPiOrBootAccess port) (λ uses. AllFree uses port.0) old asked
       asked_starts = (laws.fragments.wider Surveying (Starting port) (λ uses. uses) (λ access is. inl is) (λ uses free. tt) old asked asked_followed).followed
 
       pub asked_bootable : IsBootable port old → IsBootable port asked
@@ -129,7 +129,7 @@ module _ (laws : Laws) where
 
       -- and then the port is looked at
       module _ (seen : Device) (looks : IsSimulated (OnPortWriting IsErrorRegister port) AnyUse asked seen) where
-        pub seen_starts : IsSimulated (IsSurveyOrBoot port) (λ uses. AllFree uses port.0) old seen
+        pub seen_starts : IsSimulated (IsCapPiOrBootAccess port) (λ uses. AllFree uses port.0) old seen
         seen_starts = (laws.fragments.both (Starting port) (Clearing port) (λ uses. uses) (λ uses. uses) (clearing_of_start port) (λ uses free. tt) old asked seen asked_starts looks).followed
 
         pub seen_bootable : IsOn seen → IsBootable port asked → IsBootable port seen
@@ -139,9 +139,9 @@ module _ (laws : Laws) where
         pub seen_boots : (booted : Booted) (wanted : Wanted) (new : Device) → (seen.port port.0).ssts_det ≡ 3 → BootsStopped wanted port booted.found seen new →
             booted.slots ≡ field v 8 5 + 1 → booted.queued ≡ bit v 30 → RebootsIfPresent wanted port booted old new
         seen_boots booted wanted new there boots slots queued =
-            let its : IsDrivenBy (IsSurveyOrBoot port) seen new = driven_as (IsOfBoot port) (IsSurveyOrBoot port) seen new (λ access is. inr is) (booted_driven wanted port booted.found seen new boots) in
-            let all : IsDrivenBy (IsSurveyOrBoot port) asked new = by_then laws (driven_as (OnPortWriting IsErrorRegister port) (IsSurveyOrBoot port) asked seen (clearing_of_start port) looks.driven) its in
-            inl (boots_again port v booted wanted old seen new seen_starts boots slots queued (asked_cap (IsSurveyOrBoot port) new all), there)
+            let its : IsDrivenBy (IsCapPiOrBootAccess port) seen new = driven_as (IsOfBoot port) (IsCapPiOrBootAccess port) seen new (λ access is. inr is) (booted_driven wanted port booted.found seen new boots) in
+            let all : IsDrivenBy (IsCapPiOrBootAccess port) asked new = by_then laws (driven_as (OnPortWriting IsErrorRegister port) (IsCapPiOrBootAccess port) asked seen (clearing_of_start port) looks.driven) its in
+            inl (boots_again port v booted wanted old seen new seen_starts boots slots queued (asked_cap (IsCapPiOrBootAccess port) new all), there)
 
         -- or it shows none, and is absent
         pub seen_absent : (booted : Booted) (wanted : Wanted) (new : Device) → new ≡ seen → booted.found ≡ Unready Absent → IsStopped (seen.port port.0) →

@@ -7,7 +7,7 @@ use Rattle.adapter.specs.Device.{Device}
 use Rattle.adapter.specs.Rules.{IsOn}
 use Rattle.refinement.specs.Driven.{AnyUse, IsSimulated}
 use Rattle.refinement.specs.Links.{SameAdapter}
-use Rattle.host_boot.specs.Taken.{IsOfHost}
+use Rattle.host_boot.specs.TakeOver.{IsOfHost}
 use Rattle.host_boot.specs.Laws.{Laws}
 use Rattle.host_boot.specs.Laws.AccessPurpose.{Hosting}
 

@@ -14,7 +14,7 @@ use Rattle.refinement.specs.Driven.{LeavesPort, GainsNoMove}
 use Rattle.refinement.specs.Links.{SameAdapter}
 use Rattle.identify.specs.Wanted.{serial_of}
 use Rattle.identify.specs.declared.wanted.Wanted.{Wanted}
-use Rattle.host_boot.specs.Taken.{IsServed, LeavesFound, StandsBehind, StillStandsBehind, WroteSctl}
+use Rattle.host_boot.specs.TakeOver.{IsServed, LeavesFoundPort, BacksProbeResult, StillBacksProbeResult, WroteSctl}
 use Rattle.host_boot.specs.declared.ProbeResult.{ProbeResult}
 use Rattle.host_boot.specs.declared.ProbeResult.TheVariants.{Unserved, Ready, Unready}
 use Rattle.host_boot.specs.Laws.{FoundLaws, Laws}
@@ -39,12 +39,12 @@ module _ (port : ℕ) (old new : Device) (same : SameAdapter old new) (wanted : 
   served_back (is, there) = (is, ap (λ (pi : ℕ). bit pi port) (sym same.pi) ∙ there)
 
 -- a port of which a boot found anything is served
-pub is_served : (wanted : Wanted) (port : ℕ) (d : Device) (found : ProbeResult) → found ≢ Unserved → StandsBehind wanted found port d → IsServed wanted port d
+pub is_served : (wanted : Wanted) (port : ℕ) (d : Device) (found : ProbeResult) → found ≢ Unserved → BacksProbeResult wanted found port d → IsServed wanted port d
 is_served wanted port d Unserved other h = absurd (other refl)
 is_served wanted port d (Ready info) other h = h.0
 is_served wanted port d (Unready state) other h = h.0
 
-pub boots_begin : (wanted : Wanted) (found : ProbeResult) (port : ℕ) (d : Device) → StandsBehind wanted found port d → StillStandsBehind wanted found port d
+pub boots_begin : (wanted : Wanted) (found : ProbeResult) (port : ℕ) (d : Device) → BacksProbeResult wanted found port d → StillBacksProbeResult wanted found port d
 boots_begin wanted Unserved port d h = h
 boots_begin wanted (Ready info) port d (is, ready) = (is, ready.disk)
 boots_begin wanted (Unready state) port d h = h
@@ -64,14 +64,14 @@ module _ (laws : FoundLaws) where
 
   module _ (port : ℕ) (old new : Device) (l : LeavesPort (old.port port) (new.port port)) where
     pub stands_on : SameAdapter old new → (wanted : Wanted) (found : ProbeResult) → (found ≢ Unready Dead → GainsNoMove port Identify old new)
-        → StandsBehind wanted found port old → StandsBehind wanted found port new
+        → BacksProbeResult wanted found port old → BacksProbeResult wanted found port new
     stands_on same wanted Unserved silent (not, idle) = (λ is. not (served_back port old new same wanted is), idle_on (old.port port) (new.port port) l idle)
     stands_on same wanted (Ready info) silent (is, ready) = (served_on port old new same wanted is, laws.ready_on (serial_of wanted) port old new info l (silent (λ e. absurd cc)) ready)
     stands_on same wanted (Unready state) silent (is, ends) =
         (served_on port old new same wanted is, laws.ends_on (serial_of wanted) state port old new l (λ other. silent (λ e. other (let k : Unready state ≡ Unready Dead = e in cc))) ends)
 
-  pub still_on : (wanted : Wanted) (found : ProbeResult) (port : ℕ) (old new : Device) → SameAdapter old new → LeavesFound found (old.port port) (new.port port) →
-      (found ≢ Unready Dead → GainsNoMove port Identify old new) → StillStandsBehind wanted found port old → StillStandsBehind wanted found port new
+  pub still_on : (wanted : Wanted) (found : ProbeResult) (port : ℕ) (old new : Device) → SameAdapter old new → LeavesFoundPort found (old.port port) (new.port port) →
+      (found ≢ Unready Dead → GainsNoMove port Identify old new) → StillBacksProbeResult wanted found port old → StillBacksProbeResult wanted found port new
   still_on wanted Unserved port old new same left silent h = stands_on port old new left same wanted Unserved silent h
   still_on wanted (Ready info) port old new same left silent (is, disk) =
       (served_on port old new same wanted is, laws.disk_on (serial_of wanted) port old new info (silent (λ e. absurd cc)) left.0 left.1 left.2 disk)
@@ -81,12 +81,12 @@ module _ (laws : Laws) where
   -- ---- what the device does by itself, and accesses of the adapter's own registers
 
   pub steps_same : (old new : Device) → Steps old new → SameAdapter old new
-  steps_same old new s = let k : Keeps old new = laws.law_steps_guarantee _ _ s in record { telling = k.telling; size = k.size; cap = k.cap; pi = k.pi }
+  steps_same old new s = let k : Keeps old new = laws.law_step_lists_keep_what_steps_keep _ _ s in record { telling = k.telling; size = k.size; cap = k.cap; pi = k.pi }
 
   module _ (old : Device) (off : old.hr ≡ false) (port : ℕ) where
     pub steps_leave : (mid : Device) → Steps old mid → LeavesPort (old.port port) (mid.port port)
     steps_leave mid s =
-        let k : Keeps old mid = laws.law_steps_guarantee _ _ s in
+        let k : Keeps old mid = laws.law_step_lists_keep_what_steps_keep _ _ s in
         let c : KeepsOutsideReset old mid = k.on off in
         record { keeps = k.port port; controls = c.controls port; notes = k.notes port }
 

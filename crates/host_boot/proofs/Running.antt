@@ -12,11 +12,11 @@ use Rattle.adapter.specs.Idle.{IsIdle}
 use Rattle.adapter.specs.Rules.{IsOn}
 use Rattle.refinement.specs.Relation.{port_at}
 use Rattle.refinement.specs.Driven.{IsDrivenBy, SparesOtherPorts, NoneWrites}
-use Rattle.refinement.specs.Facts.{FaultsOnRecord, RunsWell, Undisturbed}
-use Rattle.refinement.specs.Driven.{Grows}
+use Rattle.refinement.specs.PortFacts.{FaultsOnRecord, RunsWell, Undisturbed}
+use Rattle.refinement.specs.Driven.{TapeGrows}
 use Rattle.identify.specs.declared.DiskInfo.{DiskInfo}
 use Rattle.port_boot.specs.States.{IsOfBoot, RunsOn, HasDiskIfShown}
-use Rattle.host_boot.specs.Taken.{SwitchesOnAndBoots, StopsAndBootsPort, FindsEachPort, IsSurvey, probe_result_of}
+use Rattle.host_boot.specs.TakeOver.{SwitchesOnAndBoots, StopsAndBootsPort, FindsEachPort, ReadsCapOrPi, probe_result_of}
 use Rattle.host_boot.specs.declared.ProbeResult.{ProbeResult}
 use Rattle.host_boot.specs.declared.ProbeResult.TheVariants.{Unserved, Ready, Unready}
 use Rattle.host_boot.specs.Laws.{Laws}
@@ -33,7 +33,7 @@ IsOfFrom n access = (port : Port) × (n ≤ port.0) × SparesOtherPorts port acc
 abbrev pub IsOfOther : ℕ → Access → Type 0
 IsOfOther q access = (port : Port) × (q ≢ port.0) × SparesOtherPorts port access
 
-survey_spares_ghc : NoneWrites IsSurvey Ghc
+survey_spares_ghc : NoneWrites ReadsCapOrPi Ghc
 survey_spares_ghc (Reading r v) is = tt
 survey_spares_ghc (Writing r v) is = absurd is
 survey_spares_ghc (Loading at bytes) is = absurd is
@@ -118,13 +118,13 @@ module _ (laws : Laws) where
   pub taken_well : (port : Port) (info : DiskInfo) (ports : List ProbeResult) (old new : Device) → IsIdle old → probe_result_of ports port.0 ≡ Ready info → SwitchesOnAndBoots ports old new → Undisturbed port.0 old new → RunsWell (new.port port.0)
   taken_well port info ports old new idle is way calm =
       let on : IsOn way.switched = laws.switches_on 0x80000000 old way.switched idle.no_reset refl refl way.switches in
-      let surveyed : IsOn way.surveyed = on_over laws IsSurvey way.switched way.surveyed way.surveys survey_spares_ghc on in
+      let surveyed : IsOn way.surveyed = on_over laws ReadsCapOrPi way.switched way.surveyed way.surveys survey_spares_ghc on in
       let driven = go_driven 0 0 ports way.surveyed way.booted (omega arith) way.boots in
       let booted : IsOn way.booted = on_over laws (IsOfFrom 0) way.surveyed way.booted driven (from_spares_ghc 0) surveyed in
-      let before : Grows old way.surveyed = laws.tape.grows_more old way.switched way.surveyed (laws.tape.access_grows (Writing Ghc 0x80000000) old way.switched way.switches) (tape_over laws IsSurvey way.switched way.surveyed way.surveys) in
-      let boots : Grows way.surveyed way.booted = tape_over laws (IsOfFrom 0) way.surveyed way.booted driven in
+      let before : TapeGrows old way.surveyed = laws.tape.grows_more old way.switched way.surveyed (laws.tape.access_grows (Writing Ghc 0x80000000) old way.switched way.switches) (tape_over laws ReadsCapOrPi way.switched way.surveyed way.surveys) in
+      let boots : TapeGrows way.surveyed way.booted = tape_over laws (IsOfFrom 0) way.surveyed way.booted driven in
       let last : RunsOn port.0 way.booted new = laws.runs_over port (Writing Ghc 0x80000002) way.booted new booted (λ (e : Ghc ≡ Px port Sctl). absurd cc) (λ (e : Ghc ≡ Px port Cmd). absurd cc) way.enables in
-      let ending : Grows way.booted new = laws.tape.access_grows (Writing Ghc 0x80000002) way.booted new way.enables in
+      let ending : TapeGrows way.booted new = laws.tape.access_grows (Writing Ghc 0x80000002) way.booted new way.enables in
       let parts = calm_in_parts laws port.0 old way.booted new (laws.tape.grows_more old way.surveyed way.booted before boots) ending calm in
       let within = calm_in_parts laws port.0 old way.surveyed way.booted before boots parts.0 in
       laws.well_on port.0 way.booted new last parts.1 (go_well port info 0 ports port.0 way.surveyed way.booted (omega arith) is surveyed way.boots within.1)
@@ -135,7 +135,7 @@ module _ (laws : Laws) where
       → (ports : List ProbeResult) (old new : Device) → IsIdle old → probe_result_of ports port.0 ≡ its → SwitchesOnAndBoots ports old new → P new
   taken_last P port its served through lasting enabling ports old new idle is way =
       let on : IsOn way.switched = laws.switches_on 0x80000000 old way.switched idle.no_reset refl refl way.switches in
-      let surveyed : IsOn way.surveyed = on_over laws IsSurvey way.switched way.surveyed way.surveys survey_spares_ghc on in
+      let surveyed : IsOn way.surveyed = on_over laws ReadsCapOrPi way.switched way.surveyed way.surveys survey_spares_ghc on in
       let driven = go_driven 0 0 ports way.surveyed way.booted (omega arith) way.boots in
       let booted : IsOn way.booted = on_over laws (IsOfFrom 0) way.surveyed way.booted driven (from_spares_ghc 0) surveyed in
       enabling way.booted new booted way.enables (go_last P port its served through lasting 0 ports port.0 way.surveyed way.booted (omega arith) is surveyed way.boots)

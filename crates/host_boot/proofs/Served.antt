@@ -15,9 +15,9 @@ use Rattle.refinement.specs.Links.{ShowsDiskIfIn}
 use Rattle.identify.specs.declared.wanted.Wanted.{Wanted}
 use Rattle.port_control.specs.Ports.{IsCommandRegister}
 use Rattle.port_boot.specs.States.{IsBootTo, IsOfBoot, StopsOnWay}
-use Rattle.host_boot.specs.Again.{RebootsPort, RebootsIfPresent, BootsStopped, IsSurveyOrBoot}
+use Rattle.host_boot.specs.Again.{RebootsPort, RebootsIfPresent, BootsStopped, IsCapPiOrBootAccess}
 use Rattle.host_boot.specs.Laws.{Laws}
-use Rattle.host_boot.specs.Taken.{FoundBadDisk, IsServed, IsSurvey, StandsBehind}
+use Rattle.host_boot.specs.TakeOver.{FoundBadDisk, IsServed, ReadsCapOrPi, BacksProbeResult}
 use Rattle.host_boot.specs.declared.Booted.{Booted}
 use Rattle.host_boot.specs.declared.ProbeResult.{ProbeResult}
 use Rattle.host_boot.specs.declared.ProbeResult.TheVariants.{Unserved, Ready, Unready}
@@ -27,7 +27,7 @@ use Rattle.host_boot.proofs.Stopping.{boot_sticks}
 use Rattle.host_boot.proofs.Stretching.{by_none, by_then, driven_as, on_over, same_over}
 
 -- what is read of CAP and PI touches no port
-survey_of : (port : Port) (access : Access) → IsSurvey access → SparesOtherPorts port access
+survey_of : (port : Port) (access : Access) → ReadsCapOrPi access → SparesOtherPorts port access
 survey_of port (Reading Cap v) is = tt
 survey_of port (Reading Pi v) is = tt
 survey_of port (Reading r v) is = absurd is
@@ -36,12 +36,12 @@ survey_of port (Loading at bytes) is = absurd is
 survey_of port (Storing at bytes) is = absurd is
 
 module _ (laws : Laws) where
-  pub start_of : (port : Port) (access : Access) → IsSurveyOrBoot port access → SparesOtherPorts port access
+  pub start_of : (port : Port) (access : Access) → IsCapPiOrBootAccess port access → SparesOtherPorts port access
   start_of port access (inl is) = survey_of port access is
   start_of port access (inr is) = laws.of_boot port access is
 
-  start_driven : (port : Port) (old new : Device) → IsDrivenBy (IsSurveyOrBoot port) old new → IsDrivenBy (SparesOtherPorts port) old new
-  start_driven port old new = driven_as (IsSurveyOrBoot port) (SparesOtherPorts port) old new (start_of port)
+  start_driven : (port : Port) (old new : Device) → IsDrivenBy (IsCapPiOrBootAccess port) old new → IsDrivenBy (SparesOtherPorts port) old new
+  start_driven port old new = driven_as (IsCapPiOrBootAccess port) (SparesOtherPorts port) old new (start_of port)
 
   -- the adapter has the port still
   served_over : (wanted : Wanted) (port : Port) (old new : Device) → IsDrivenBy (SparesOtherPorts port) old new → IsServed wanted port.0 old → IsServed wanted port.0 new
@@ -57,13 +57,13 @@ module _ (laws : Laws) where
     pub again_driven : IsDrivenBy (SparesOtherPorts port) old new
     again_driven = by_then laws surveyed its
 
-    pub again_stands : IsServed wanted port.0 old → StandsBehind wanted booted.found port.0 new
+    pub again_stands : IsServed wanted port.0 old → BacksProbeResult wanted booted.found port.0 new
     again_stands served = by booted.found b.boots
       where
         still : IsServed wanted port.0 new
         still = served_over wanted port old new again_driven served
 
-        by : (found : ProbeResult) → BootsStopped wanted port found b.asked new → StandsBehind wanted found port.0 new
+        by : (found : ProbeResult) → BootsStopped wanted port found b.asked new → BacksProbeResult wanted found port.0 new
         by Unserved none = absurd none
         by (Ready info) is = (still, is.ready)
         by (Unready state) is = (still, is.ended)
@@ -88,10 +88,10 @@ module _ (laws : Laws) where
     there_driven (inl is) = again_driven wanted port booted old new is.0
     there_driven (inr is) = start_driven port old new is.1.driven
 
-    pub there_stands : RebootsIfPresent wanted port booted old new → IsServed wanted port.0 old → StandsBehind wanted booted.found port.0 new
+    pub there_stands : RebootsIfPresent wanted port booted old new → IsServed wanted port.0 old → BacksProbeResult wanted booted.found port.0 new
     there_stands (inl is) served = again_stands wanted port booted old new is.0 served
     there_stands (inr is) served =
-        subst (λ (found : ProbeResult). StandsBehind wanted found port.0 new) (sym is.0) (served_over wanted port old new (start_driven port old new is.1.driven) served, is.2)
+        subst (λ (found : ProbeResult). BacksProbeResult wanted found port.0 new) (sym is.0) (served_over wanted port old new (start_driven port old new is.1.driven) served, is.2)
 
     pub there_shown : (state : PortState) → IsOn old → RebootsIfPresent wanted port booted old new → FoundBadDisk state → booted.found ≡ Unready state → ShowsDiskIfIn (new.port port.0)
     there_shown state on (inl is) bad found = again_shown wanted port booted old new is.0 state on bad found

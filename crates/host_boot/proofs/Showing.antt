@@ -20,7 +20,7 @@ use Rattle.port_control.specs.Ports.{FindsLink, FindsSignature, HasLink, IsPlaci
 use Rattle.port_control.specs.declared.PortFault.{PortFault}
 use Rattle.port_control.specs.declared.PortFault.TheVariants.{NoDevice, Busy, EngineStuck, NotAta}
 use Rattle.port_boot.specs.States.{EndsBeforeStart, EndsAfterStart, IsStateOfFault}
-use Rattle.host_boot.specs.Taken.{FoundBadDisk, SwitchesOnAndBoots, StopsAndBootsPort, probe_result_of}
+use Rattle.host_boot.specs.TakeOver.{FoundBadDisk, SwitchesOnAndBoots, StopsAndBootsPort, probe_result_of}
 use Rattle.host_boot.specs.declared.ProbeResult.{ProbeResult}
 use Rattle.host_boot.specs.declared.ProbeResult.TheVariants.{Unserved, Unready}
 use Rattle.host_boot.proofs.Running.{IsOfOther, other_spares, taken_last}

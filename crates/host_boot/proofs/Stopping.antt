@@ -14,13 +14,13 @@ use Rattle.refinement.specs.Driven.{RelatesWith, AnyUse, OnPortWriting, IsSimula
 use Rattle.refinement.specs.Driver.{AllFree}
 use Rattle.refinement.specs.Slots.{Own, SlotStates, put}
 use Rattle.refinement.specs.Links.{SameAdapter}
-use Rattle.port_control.specs.Engines.{FailsToStop, Stops, StopsBoth, StopsReceiving, Sticks}
+use Rattle.port_control.specs.Engines.{FailsToStop, Stops, StopsBoth, StopsReceiving, EngineSticks}
 use Rattle.port_control.specs.Ports.{IsCommandRegister}
 use Rattle.port_boot.specs.States.{IsBoot, IsBootTo, IsBootable, IsOfBoot, StopsOnWay}
-use Rattle.host_boot.specs.Taken.{SticksOnWay, TellsEngines, WroteSctl}
+use Rattle.host_boot.specs.TakeOver.{SticksOnWay, TellsEngines, WroteSctl}
 use Rattle.host_boot.specs.declared.ProbeResult.{ProbeResult}
 use Rattle.host_boot.specs.declared.ProbeResult.TheVariants.{Unserved, Ready, Unready}
-use Rattle.host_boot.specs.Laws.{Laws, AccessPurpose, fits_of, may_of}
+use Rattle.host_boot.specs.Laws.{Laws, AccessPurpose, slot_uses_for, accesses_for}
 use Rattle.refinement.specs.Tape.{TapeTells}
 use Rattle.host_boot.proofs.Stretching.{told_both, told_more, same_over, tape_over, told_wider}
 use Rattle.host_boot.specs.Laws.AccessPurpose.{Booting, Commanding}
@@ -35,10 +35,10 @@ boot_sticks TapeTells port old new (inr b) = record { driven = b.followed.driven
 
 module _ (laws : Laws) where
   -- a port may be booted after accesses that leave its slots as they are
-  pub bootable_over : (kind : AccessPurpose) (port : Port) (old new : Device) → ((uses : SlotStates) → AllFree uses port.0 → fits_of kind uses) → IsSimulated (may_of kind) (fits_of kind) old new →
+  pub bootable_over : (kind : AccessPurpose) (port : Port) (old new : Device) → ((uses : SlotStates) → AllFree uses port.0 → slot_uses_for kind uses) → IsSimulated (accesses_for kind) (slot_uses_for kind) old new →
       HasPort old port.0 → DRIVER_BYTES ≤ old.size → RelatesWith (λ uses. AllFree uses port.0) old → IsOn new → IsBootable port new
   bootable_over kind port old new fits f there room a on =
-      let same = same_over laws (may_of kind) old new f.driven in
+      let same = same_over laws (accesses_for kind) old new f.driven in
       record {
         on = on;
         there = still_there port old new same there;
@@ -50,8 +50,8 @@ module _ (laws : Laws) where
   stop_boots TapeTells port old mid stops = told_wider laws TapeTells (Commanding port) (Booting port) (λ uses. uses) old mid (laws.command_of_boot port) (λ uses free. tt) stops
 
   -- where it didn't stop, its engine is stuck
-  pub stuck_boots : (port : Port) (old mid : Device) → IsSimulatedAlong (FailsToStop port) (OnPortWriting IsCommandRegister port) AnyUse old mid → IsBoot (Sticks port) port old mid
-  stuck_boots port old mid f = told_more (FailsToStop port) (Sticks port) (IsOfBoot port) (λ uses. AllFree uses port.0) (λ uses. uses) old mid (laws.failing_sticks port) (stop_boots (FailsToStop port) port old mid f)
+  pub stuck_boots : (port : Port) (old mid : Device) → IsSimulatedAlong (FailsToStop port) (OnPortWriting IsCommandRegister port) AnyUse old mid → IsBoot (EngineSticks port) port old mid
+  stuck_boots port old mid f = told_more (FailsToStop port) (EngineSticks port) (IsOfBoot port) (λ uses. AllFree uses port.0) (λ uses. uses) old mid (laws.failing_sticks port) (stop_boots (FailsToStop port) port old mid f)
 
   module _ (port : Port) (old mid : Device) (stops : IsSimulatedAlong (Stops port) (OnPortWriting IsCommandRegister port) AnyUse old mid) where
     pub bootable : HasPort old port.0 → DRIVER_BYTES ≤ old.size → RelatesWith (λ uses. AllFree uses port.0) old → IsOn mid → IsBootable port mid
@@ -70,8 +70,8 @@ module _ (laws : Laws) where
           (Booting port) (Booting port) (λ uses. uses) (λ uses. uses) (λ access may. may) (λ uses free. free) old mid new (stop_boots (Stops port) port old mid stops) f
 
       -- or one is stuck
-      dies : (next : SlotStates → SlotStates) → IsSimulatedAlongTo (Sticks port) (IsOfBoot port) (λ uses. AllFree uses port.0) next mid new → IsSimulatedAlongTo (Sticks port) (IsOfBoot port) (λ uses. AllFree uses port.0) next old new
-      dies next f = told_both laws (Stops port) (Sticks port) (Sticks port) (λ early late any is. laws.sticks_since early late port is) (Booting port) (Booting port) (λ uses. uses) next
+      dies : (next : SlotStates → SlotStates) → IsSimulatedAlongTo (EngineSticks port) (IsOfBoot port) (λ uses. AllFree uses port.0) next mid new → IsSimulatedAlongTo (EngineSticks port) (IsOfBoot port) (λ uses. AllFree uses port.0) next old new
+      dies next f = told_both laws (Stops port) (EngineSticks port) (EngineSticks port) (λ early late any is. laws.sticks_since early late port is) (Booting port) (Booting port) (λ uses. uses) next
           (λ access may. may) (λ uses free. free) old mid new (stop_boots (Stops port) port old mid stops) f
 
       pub then_boot : IsBoot (StopsReceiving port) port mid new → IsBoot (StopsBoth port) port old new
@@ -101,7 +101,7 @@ module _ (laws : Laws) where
   both_since port early late is = (laws.falls_since early late 0 15 port is.0, laws.falls_since early late 4 14 port is.1)
 
   -- what one property goes on with, and the other, they tell of each port
-  tells_on : (port : Port) (found : ProbeResult) (a b : List Access) → (StopsBoth port a → StopsBoth port b) → (Sticks port a → Sticks port b) → TellsEngines port found a → TellsEngines port found b
+  tells_on : (port : Port) (found : ProbeResult) (a b : List Access) → (StopsBoth port a → StopsBoth port b) → (EngineSticks port a → EngineSticks port b) → TellsEngines port found a → TellsEngines port found b
   tells_on port Unserved a b both stick is = tt
   tells_on port (Ready info) a b both stick is = both is
   tells_on port (Unready Dead) a b both stick is = stick is

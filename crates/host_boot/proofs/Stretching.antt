@@ -6,12 +6,12 @@ use Rattle.hba_regs.specs.declared.reg.Reg.TheVariants.{Ghc}
 use Rattle.adapter.specs.Access.{Access, Does}
 use Rattle.adapter.specs.Device.{Device}
 use Rattle.adapter.specs.Rules.{IsOn}
-use Rattle.refinement.specs.Driven.{AnyAccess, Grows, OnPortWriting, IsDrivenBy, SparesOtherPorts, IsSimulatedAlongTo, NoneWrites}
-use Rattle.refinement.specs.Facts.{Undisturbed}
+use Rattle.refinement.specs.Driven.{AnyAccess, TapeGrows, OnPortWriting, IsDrivenBy, SparesOtherPorts, IsSimulatedAlongTo, NoneWrites}
+use Rattle.refinement.specs.PortFacts.{Undisturbed}
 use Rattle.refinement.specs.Links.{SameAdapter, DoesNotWrite}
 use Rattle.refinement.specs.Slots.{SlotStates}
 use Rattle.port_control.specs.Ports.{IsPlacingRegister, IsCommandRegister}
-use Rattle.host_boot.specs.Laws.{Laws, AccessPurpose, fits_of, may_of}
+use Rattle.host_boot.specs.Laws.{Laws, AccessPurpose, slot_uses_for, accesses_for}
 
 -- ---- accesses of one kind
 
@@ -48,13 +48,13 @@ module _ (laws : Laws) where
     pub same_over : SameAdapter old new
     same_over = laws.same_any old new any
 
-    pub tape_over : Grows old new
+    pub tape_over : TapeGrows old new
     tape_over = laws.tape_any old new any
 
     pub on_over : NoneWrites May Ghc → IsOn old → IsOn new
     on_over spares on = laws.on_all driven.accesses old new on (All-weaker May (DoesNotWrite Ghc) spares driven.accesses driven.only) driven.all
 
-  pub calm_in_parts : (port : ℕ) (old mid new : Device) → Grows old mid → Grows mid new → Undisturbed port old new → Undisturbed port old mid × Undisturbed port mid new
+  pub calm_in_parts : (port : ℕ) (old mid new : Device) → TapeGrows old mid → TapeGrows mid new → Undisturbed port old new → Undisturbed port old mid × Undisturbed port mid new
   calm_in_parts port old mid new early late calm = laws.tape.calm_parts port old mid new early.0 late.0 early.1 late.1 calm
 
   -- those that stop a port, or put its areas into their places, are of the port
@@ -67,17 +67,17 @@ module _ (laws : Laws) where
   -- ---- stretches that are followed
 
   -- what is told of a stretch, also where it is of a wider kind
-  pub told_wider : (Tells : List Access → Type 0) (kind more : AccessPurpose) (next : SlotStates → SlotStates) (old new : Device) → ((access : Access) → may_of kind access → may_of more access) →
-      ((uses : SlotStates) → fits_of more uses → fits_of kind uses) → IsSimulatedAlongTo Tells (may_of kind) (fits_of kind) next old new → IsSimulatedAlongTo Tells (may_of more) (fits_of more) next old new
+  pub told_wider : (Tells : List Access → Type 0) (kind more : AccessPurpose) (next : SlotStates → SlotStates) (old new : Device) → ((access : Access) → accesses_for kind access → accesses_for more access) →
+      ((uses : SlotStates) → slot_uses_for more uses → slot_uses_for kind uses) → IsSimulatedAlongTo Tells (accesses_for kind) (slot_uses_for kind) next old new → IsSimulatedAlongTo Tells (accesses_for more) (slot_uses_for more) next old new
   told_wider Tells kind more next old new wider fits a =
       let f = laws.fragments.wider kind more next wider fits old new a.followed in
       record { followed = f.followed; tells = subst Tells (sym f.tells) a.tells }
 
   -- of two, one after another
   module _ (First Second Tells : List Access → Type 0) (join : (early late : List Access) → First early → Second late → Tells (early ++ late)) where
-    pub told_both : (kind then : AccessPurpose) (first second : SlotStates → SlotStates) → ((access : Access) → may_of then access → may_of kind access) → ((uses : SlotStates) → fits_of kind uses → fits_of then (first uses)) →
-        (old mid new : Device) → IsSimulatedAlongTo First (may_of kind) (fits_of kind) first old mid → IsSimulatedAlongTo Second (may_of then) (fits_of then) second mid new →
-        IsSimulatedAlongTo Tells (may_of kind) (fits_of kind) (λ uses. second (first uses)) old new
+    pub told_both : (kind then : AccessPurpose) (first second : SlotStates → SlotStates) → ((access : Access) → accesses_for then access → accesses_for kind access) → ((uses : SlotStates) → slot_uses_for kind uses → slot_uses_for then (first uses)) →
+        (old mid new : Device) → IsSimulatedAlongTo First (accesses_for kind) (slot_uses_for kind) first old mid → IsSimulatedAlongTo Second (accesses_for then) (slot_uses_for then) second mid new →
+        IsSimulatedAlongTo Tells (accesses_for kind) (slot_uses_for kind) (λ uses. second (first uses)) old new
     told_both kind then first second wider on old mid new a b =
         let f = laws.fragments.both kind then first second wider on old mid new a.followed b.followed in
         record { followed = f.followed; tells = subst Tells (sym f.tells) (join a.followed.driven.accesses b.followed.driven.accesses a.tells b.tells) }

@@ -29,14 +29,14 @@ use Rattle.identify.specs.declared.wanted.Wanted.{Wanted}
 use Rattle.identify.specs.declared.wanted.Wanted.TheVariants.{Nothing}
 use Rattle.port_control.specs.Engines.{StopsBoth}
 use Rattle.port_boot.specs.States.{IsBoot, IsBootTo, IsOfBoot}
-use Rattle.host_boot.specs.Taken.{Boots, SwitchesOnAndBoots, ReadyHaltOfTaken, IsUnusedOrDead, IsOfHost, IsOfTaking, LeavesPorts, StandsBehind, TakesOver, TellsEngines, WroteSctl, probe_result_of, unused, wanted_of}
+use Rattle.host_boot.specs.TakeOver.{Boots, SwitchesOnAndBoots, ReadyHaltOfTaken, IsUnusedOrDead, IsOfHost, IsOfTakeOver, LeavesPorts, BacksProbeResult, TakesOver, TellsEngines, WroteSctl, probe_result_of, unused_slots, wanted_of}
 use Rattle.host_boot.specs.declared.Host.{Host}
 use Rattle.host_boot.specs.declared.ProbeResult.{ProbeResult}
 use Rattle.host_boot.specs.declared.ProbeResult.TheVariants.{Unserved, Ready, Unready}
 use Rattle.host_boot.proofs.Stopping.{tells_then, tells_since}
 use Rattle.host_boot.proofs.Leaving.{idle_on, is_served, stands_on, reset_on}
 use Rattle.refinement.specs.Acts.{ActsReach, DriverSlots, driver_state}
-use Rattle.host_boot.specs.Laws.{Laws, SlotCondition, uses_of}
+use Rattle.host_boot.specs.Laws.{Laws, SlotCondition, slot_uses_meeting}
 use Rattle.block_machine.specs.Steps.{May}
 use Rattle.refinement.specs.Tape.{TapeTells}
 use Rattle.host_boot.proofs.Stretching.{driven_as, same_over, tape_over, told_both, told_more, told_wider}
@@ -59,9 +59,9 @@ pub record IsUnderway (wanted : List Wanted) (ports : List ProbeResult) (n : ℕ
   pub uses : SlotStates
   pub left : (port slot : ℕ) → IsUnusedOrDead ports uses port slot
   pub free : (port slot : ℕ) → n ≤ port → uses port slot ≡ Free
-  pub told : IsSimulatedAlongTo (TellsFirst ports n) (IsOfTaking wanted) (SameUses unused) (λ _. uses) start d
+  pub told : IsSimulatedAlongTo (TellsFirst ports n) (IsOfTakeOver wanted) (SameUses unused_slots) (λ _. uses) start d
   pub agreed : IsRelated uses d
-  pub stands : (port : ℕ) → port < n → StandsBehind (wanted_of wanted port) (probe_result_of ports port) port d
+  pub stands : (port : ℕ) → port < n → BacksProbeResult (wanted_of wanted port) (probe_result_of ports port) port d
   pub reset : (port : ℕ) → port < n → WroteSctl (probe_result_of ports port) port (length start.tape) d
   pub halts : (port : ℕ) → port < n → ReadyHaltOfTaken (probe_result_of ports port) port d
   pub idle : (port : ℕ) → n ≤ port → IsIdlePort (d.port port)
@@ -82,33 +82,33 @@ host_spares q r (Writing (Px p x) v) is = absurd is
 module _ (laws : Laws) where
   -- what halts a port is of a taken command still, over what was followed without a write of its PxCMD, where it was found ready
   still_halts : (May : Access → Type 0) (Fits : SlotStates → Type 0) (next : SlotStates → SlotStates) (uses : SlotStates) (q : ℕ) (old new : Device) → NoneWrites May (Px (port_at q) Cmd) → Fits uses
-      → IsSimulatedTo May Fits next old new → IsRelated uses old → (wanted : Wanted) (found : ProbeResult) → StandsBehind wanted found q new → ReadyHaltOfTaken found q old → ReadyHaltOfTaken found q new
+      → IsSimulatedTo May Fits next old new → IsRelated uses old → (wanted : Wanted) (found : ProbeResult) → BacksProbeResult wanted found q new → ReadyHaltOfTaken found q old → ReadyHaltOfTaken found q new
   still_halts May Fits next uses q old new spares fits f a wanted found stands halts info is =
       let slots : DriverSlots = record { uses = uses; parked = a.parked } in
       let c = f.comes slots a.machine a.reached a.knows fits in
       let then : HaltOfTakenIfSt (new.port q) =
       laws.halts_acts (port_at q) c.acts (driver_state slots old) (driver_state (record slots { uses = next uses }) new) a.machine a.reached a.knows c.done
       (subst (All (DoesNotWrite (Px (port_at q) Cmd))) (sym c.accesses_are) (All-weaker May (DoesNotWrite (Px (port_at q) Cmd)) spares f.driven.accesses f.driven.only)) (λ _. halts info is) in
-      then (subst (λ (x : ProbeResult). StandsBehind wanted x q new) is stands).1.runs.st
+      then (subst (λ (x : ProbeResult). BacksProbeResult wanted x q new) is stands).1.runs.st
 
   module _ (wanted : List Wanted) (first : SlotStates) where
     -- nothing is put to use
-    pub goes_on : (old new : Device) → IsSimulated (IsOfTaking wanted) AnyUse old new → GoesTo (IsOfTaking wanted) first first old new
+    pub goes_on : (old new : Device) → IsSimulated (IsOfTakeOver wanted) AnyUse old new → GoesTo (IsOfTakeOver wanted) first first old new
     goes_on old new a = record {
       driven = a.driven;
       comes = λ s m reached x is.
-          subst (λ (u : SlotStates). ActsReach a.driven.accesses (driver_state s old) m (driver_state (record s { uses = u }) new) (OnlyDeviceActs (IsOfTaking wanted) s.uses)) is (a.comes s m reached x tt);
+          subst (λ (u : SlotStates). ActsReach a.driven.accesses (driver_state s old) m (driver_state (record s { uses = u }) new) (OnlyDeviceActs (IsOfTakeOver wanted) s.uses)) is (a.comes s m reached x tt);
     }
 
     -- and then others, with what is told of both
     pub then_told : (Before Here TapeTells : List Access → Type 0) → ((early late : List Access) → Before early → Here late → TapeTells (early ++ late)) → (fitting : SlotCondition) (next : SlotStates → SlotStates) (uses : SlotStates)
-        (old mid new : Device) → uses_of fitting uses → IsSimulatedAlongTo Before (IsOfTaking wanted) (SameUses first) (λ _. uses) old mid → IsSimulatedAlongTo Here (IsOfTaking wanted) (uses_of fitting) next mid new →
-        IsSimulatedAlongTo TapeTells (IsOfTaking wanted) (SameUses first) (λ _. next uses) old new
+        (old mid new : Device) → slot_uses_meeting fitting uses → IsSimulatedAlongTo Before (IsOfTakeOver wanted) (SameUses first) (λ _. uses) old mid → IsSimulatedAlongTo Here (IsOfTakeOver wanted) (slot_uses_meeting fitting) next mid new →
+        IsSimulatedAlongTo TapeTells (IsOfTakeOver wanted) (SameUses first) (λ _. next uses) old new
     then_told Before Here TapeTells join fitting next uses old mid new fits a b =
         told_both laws Before Here TapeTells join (Taking wanted (Only first)) (Taking wanted fitting) (λ _. uses) next (λ access may. may) (λ were is. fits) old mid new a b
 
   module _ (wanted : List Wanted) (ports : List ProbeResult) (port : Port) (below : port.0 < 4) (start old new : Device) (found : ProbeResult)
-      (u : IsUnderway wanted ports port.0 start old) (on : IsOn new) (stands : StandsBehind (wanted_of wanted port.0) found port.0 new)
+      (u : IsUnderway wanted ports port.0 start old) (on : IsOn new) (stands : BacksProbeResult (wanted_of wanted port.0) found port.0 new)
       (reset : WroteSctl found port.0 (length old.tape) new) (halts : ReadyHaltOfTaken found port.0 new) where
     abbrev Later : Type 0
     Later = IsUnderway wanted (slice_set ports port.0 found) (port.0 + 1) start new
@@ -138,9 +138,9 @@ module _ (laws : Laws) where
       pub later_same : SameAdapter start new
       later_same = laws.same_more start old new u.same (same_over laws (IsOfBoot port) old new driven)
 
-      at_other : (q : ℕ) → q ≢ port.0 → q < port.0 → StandsBehind (wanted_of wanted q) (probe_result_of (slice_set ports port.0 found) q) q new
+      at_other : (q : ℕ) → q ≢ port.0 → q < port.0 → BacksProbeResult (wanted_of wanted q) (probe_result_of (slice_set ports port.0 found) q) q new
       at_other q other less =
-          let P : ProbeResult → Type 0 = λ f. StandsBehind (wanted_of wanted q) f q new in
+          let P : ProbeResult → Type 0 = λ f. BacksProbeResult (wanted_of wanted q) f q new in
           subst P (sym (other_is q other))
           (stands_on laws.found q old new (alone q other) (same_over laws (IsOfBoot port) old new driven) (wanted_of wanted q) (probe_result_of ports q)
           (λ alive. quiet (port_at q) other (λ own. elim (u.left q 0) [
@@ -149,11 +149,11 @@ module _ (laws : Laws) where
           ]))
           (u.stands q less))
 
-      pub later_stands : (q : ℕ) → q < port.0 + 1 → StandsBehind (wanted_of wanted q) (probe_result_of (slice_set ports port.0 found) q) q new
+      pub later_stands : (q : ℕ) → q < port.0 + 1 → BacksProbeResult (wanted_of wanted q) (probe_result_of (slice_set ports port.0 found) q) q new
       later_stands q less = elim (cases_eq q port.0) [
         | inl e ↦
-            let P : ℕ → Type 0 = λ k. StandsBehind (wanted_of wanted k) (probe_result_of (slice_set ports port.0 found) k) k new in
-            let Q : ProbeResult → Type 0 = λ f. StandsBehind (wanted_of wanted port.0) f port.0 new in
+            let P : ℕ → Type 0 = λ k. BacksProbeResult (wanted_of wanted k) (probe_result_of (slice_set ports port.0 found) k) k new in
+            let Q : ProbeResult → Type 0 = λ f. BacksProbeResult (wanted_of wanted port.0) f port.0 new in
             subst P (sym e) (subst Q (sym here_is) stands)
         | inr other ↦ at_other q other (omega (arith, less, other))
       ]
@@ -161,7 +161,7 @@ module _ (laws : Laws) where
       -- the tape only grew before it
       longer : length start.tape ≤ length old.tape
       longer =
-          let g = tape_over laws (IsOfTaking wanted) start old u.told.followed.driven in
+          let g = tape_over laws (IsOfTakeOver wanted) start old u.told.followed.driven in
           let n : length old.tape ≡ length start.tape + length g.0 = ap (λ es. length es) g.1 ∙ length-append start.tape g.0 in
           omega (arith, n)
 
@@ -190,7 +190,7 @@ module _ (laws : Laws) where
           let other : q ≢ port.0 = λ (e : q ≡ port.0). absurd (omega (arith, e, more)) in
           idle_on (old.port q) (new.port q) (alone q other) (u.idle q (omega (arith, more)))
 
-      taking : found ≢ Unserved → (access : Access) → IsOfBoot port access → IsOfTaking wanted access
+      taking : found ≢ Unserved → (access : Access) → IsOfBoot port access → IsOfTakeOver wanted access
       taking served access is = inr (port, wants served, is)
 
     -- ---- what is told of engines
@@ -226,7 +226,7 @@ module _ (laws : Laws) where
 
     -- what halts the ports
     later_halts : (next : SlotStates → SlotStates) → IsSimulatedTo (IsOfBoot port) (λ uses. AllFree uses port.0) next old new
-        → ((q : ℕ) → q < port.0 + 1 → StandsBehind (wanted_of wanted q) (probe_result_of (slice_set ports port.0 found) q) q new)
+        → ((q : ℕ) → q < port.0 + 1 → BacksProbeResult (wanted_of wanted q) (probe_result_of (slice_set ports port.0 found) q) q new)
         → (q : ℕ) → q < port.0 + 1 → ReadyHaltOfTaken (probe_result_of (slice_set ports port.0 found) q) q new
     later_halts next f stand q less = elim (cases_eq q port.0) [
       | inl e ↦
@@ -256,7 +256,7 @@ module _ (laws : Laws) where
             | inr other ↦ was_left q slot other
           ];
           free = λ q slot more. u.free q slot (omega (arith, more));
-          told = then_told wanted unused (TellsFirst ports port.0) (TellsEngines port found) (TellsFirst (slice_set ports port.0 found) (port.0 + 1)) later_engines (PortUnused port) (λ uses. uses)
+          told = then_told wanted unused_slots (TellsFirst ports port.0) (TellsEngines port found) (TellsFirst (slice_set ports port.0 found) (port.0 + 1)) later_engines (PortUnused port) (λ uses. uses)
               u.uses start old new unused_here u.told
               (told_wider laws (TellsEngines port found) (Booting port) (Taking wanted (PortUnused port)) (λ uses. uses) old new (taking f.driven quiet served) (λ uses free. free) told);
           agreed = laws.fragments.agreed (Booting port) (λ uses. uses) u.uses old new unused_here f u.agreed;
@@ -302,7 +302,7 @@ module _ (laws : Laws) where
             ]
           ];
           free = λ q slot more. laws.put_other u.uses port.0 0 (Own Identify) q slot (λ driver_state head. absurd (omega (arith, driver_state, more))) ∙ u.free q slot (omega (arith, more));
-          told = then_told wanted unused (TellsFirst ports port.0) (TellsEngines port found) (TellsFirst (slice_set ports port.0 found) (port.0 + 1)) later_engines (PortUnused port) Asked
+          told = then_told wanted unused_slots (TellsFirst ports port.0) (TellsEngines port found) (TellsFirst (slice_set ports port.0 found) (port.0 + 1)) later_engines (PortUnused port) Asked
               u.uses start old new unused_here u.told
               (told_wider laws (TellsEngines port found) (Booting port) (Taking wanted (PortUnused port)) Asked old new (taking f.driven quiet served) (λ uses free. free) told);
           agreed = laws.fragments.agreed (Booting port) Asked u.uses old new unused_here f u.agreed;
@@ -327,16 +327,16 @@ module _ (laws : Laws) where
             | inr other ↦ was_left q slot other
           ];
           free = λ q slot more. u.free q slot (omega (arith, more));
-          told = told_more (TellsFirst ports port.0) (TellsFirst (slice_set ports port.0 found) (port.0 + 1)) (IsOfTaking wanted) (SameUses unused) (λ _. u.uses) start old (same_engines is) u.told;
+          told = told_more (TellsFirst ports port.0) (TellsFirst (slice_set ports port.0 found) (port.0 + 1)) (IsOfTakeOver wanted) (SameUses unused_slots) (λ _. u.uses) start old (same_engines is) u.told;
           agreed = u.agreed;
           stands = λ q less. elim (cases_eq q port.0) [
             | inl e ↦
-                let R : ℕ → Type 0 = λ k. StandsBehind (wanted_of wanted k) (probe_result_of (slice_set ports port.0 found) k) k old in
-                let Q : ProbeResult → Type 0 = λ f. StandsBehind (wanted_of wanted port.0) f port.0 old in
-                let D : Device → Type 0 = λ d. StandsBehind (wanted_of wanted port.0) found port.0 d in
+                let R : ℕ → Type 0 = λ k. BacksProbeResult (wanted_of wanted k) (probe_result_of (slice_set ports port.0 found) k) k old in
+                let Q : ProbeResult → Type 0 = λ f. BacksProbeResult (wanted_of wanted port.0) f port.0 old in
+                let D : Device → Type 0 = λ d. BacksProbeResult (wanted_of wanted port.0) found port.0 d in
                 subst R (sym e) (subst Q (sym here_is) (subst D same stands))
             | inr other ↦
-                let Q : ProbeResult → Type 0 = λ f. StandsBehind (wanted_of wanted q) f q old in
+                let Q : ProbeResult → Type 0 = λ f. BacksProbeResult (wanted_of wanted q) f q old in
                 subst Q (sym (other_is q other)) (u.stands q (omega (arith, less, other)))
           ];
           reset = λ q less. elim (cases_eq q port.0) [
@@ -386,22 +386,22 @@ module _ (laws : Laws) where
   boots_same port old new (Ready info) f = same_over laws (IsOfBoot port) old new f.followed.driven
   boots_same port old new (Unready state) f = same_over laws (IsOfBoot port) old new (laws.stops_driven port state old new f)
 
-  hosting : (wanted : List Wanted) (old new : Device) → IsSimulated IsOfHost AnyUse old new → IsSimulated (IsOfTaking wanted) AnyUse old new
+  hosting : (wanted : List Wanted) (old new : Device) → IsSimulated IsOfHost AnyUse old new → IsSimulated (IsOfTakeOver wanted) AnyUse old new
   hosting wanted old new f = (laws.fragments.wider Hosting (Taking wanted AnyUses) (λ uses. uses) (λ access may. inl may) (λ uses is. is) old new f).followed
 
   module _ (wanted : List Wanted) (start : Device) where
     -- no port was booted yet
-    pub begins : (ports : List ProbeResult) (d : Device) → length ports ≡ 4 → IsIdle start → IsRelated unused start → IsOn d → LeavesPorts start d → IsSimulated IsOfHost AnyUse start d →
+    pub begins : (ports : List ProbeResult) (d : Device) → length ports ≡ 4 → IsIdle start → IsRelated unused_slots start → IsOn d → LeavesPorts start d → IsSimulated IsOfHost AnyUse start d →
         IsUnderway wanted ports 0 start d
     begins ports d long idle agreed on leaves f = record {
       on = on;
       same = same_over laws IsOfHost start d f.driven;
       long = long;
-      uses = unused;
+      uses = unused_slots;
       left = λ port slot. inl refl;
       free = λ port slot more. refl;
-      told = record { followed = goes_on wanted unused start d (hosting wanted start d f); tells = λ port less. absurd (omega (arith, less)) };
-      agreed = laws.fragments.agreed Hosting (λ uses. uses) unused start d tt f agreed;
+      told = record { followed = goes_on wanted unused_slots start d (hosting wanted start d f); tells = λ port less. absurd (omega (arith, less)) };
+      agreed = laws.fragments.agreed Hosting (λ uses. uses) unused_slots start d tt f agreed;
       stands = λ port less. absurd (omega (arith, less));
       reset = λ port less. absurd (omega (arith, less));
       halts = λ port less. absurd (omega (arith, less));
@@ -420,8 +420,8 @@ module _ (laws : Laws) where
             | inr (head, is, dead) ↦ alive dead
           ]) f u.agreed
 
-      all_told : IsSimulatedAlongTo (TellsFirst ports 4) (IsOfTaking wanted) (SameUses unused) (λ _. u.uses) start new
-      all_told = then_told wanted unused (TellsFirst ports 4) (λ late. Unit {0}) (TellsFirst ports 4) (λ early late is any port less. tells_then laws (port_at port) (probe_result_of ports port) early late (is port less))
+      all_told : IsSimulatedAlongTo (TellsFirst ports 4) (IsOfTakeOver wanted) (SameUses unused_slots) (λ _. u.uses) start new
+      all_told = then_told wanted unused_slots (TellsFirst ports 4) (λ late. Unit {0}) (TellsFirst ports 4) (λ early late is any port less. tells_then laws (port_at port) (probe_result_of ports port) early late (is port less))
           AnyUses (λ uses. uses) u.uses start d new tt u.told (record { followed = hosting wanted d new f; tells = tt })
 
       pub ends : (host : Host) → host.ports ≡ ports → host.slots ≡ new.cap / 256 % 32 + 1 → host.queued ≡ bit new.cap 30 → IsOn new → new.ie ≡ true → SwitchesOnAndBoots ports start new → TakesOver wanted host start new
@@ -432,7 +432,7 @@ module _ (laws : Laws) where
         slots = slots;
         queued = queued;
         stands = λ port less.
-            let P : List ProbeResult → Type 0 = λ ps. StandsBehind (wanted_of wanted port) (probe_result_of ps port) port new in
+            let P : List ProbeResult → Type 0 = λ ps. BacksProbeResult (wanted_of wanted port) (probe_result_of ps port) port new in
             subst P (sym is) (stands_on laws.found port d new (leaves port) (same_over laws IsOfHost d new f.driven) (wanted_of wanted port) (probe_result_of ports port) (silent port) (u.stands port less));
         reset = λ port less.
             let P : List ProbeResult → Type 0 = λ ps. WroteSctl (probe_result_of ps port) port (length start.tape) new in

@@ -7,7 +7,7 @@ use Rattle.adapter.specs.Access.{Writes}
 use Rattle.adapter.specs.Device.{Device}
 use Rattle.refinement.specs.Relation.{port_at}
 use Rattle.refinement.specs.Driven.{IsDrivenBy}
-use Rattle.host_boot.specs.Taken.{StopsAndBootsPort, FindsEachPort, SwitchesOnAndBoots, IsSurvey}
+use Rattle.host_boot.specs.TakeOver.{StopsAndBootsPort, FindsEachPort, SwitchesOnAndBoots, ReadsCapOrPi}
 use Rattle.host_boot.specs.declared.ProbeResult.{ProbeResult}
 
 -- the adapter was switched on and surveyed, and so many ports have gone their way
@@ -15,7 +15,7 @@ pub record IsOnWay (ports : List ProbeResult) (n : ℕ) (old d : Device) : Type 
   pub switched : Device
   pub switches : Writes Ghc 0x80000000 old switched
   pub surveyed : Device
-  pub surveys : IsDrivenBy IsSurvey switched surveyed
+  pub surveys : IsDrivenBy ReadsCapOrPi switched surveyed
   pub boots : FindsEachPort 0 (take n ports) surveyed d
 
 -- one more port goes its way

@@ -11,7 +11,7 @@ use Rattle.identify.specs.Wanted.{serial_of}
 use Rattle.identify.specs.declared.wanted.Wanted.{Wanted}
 use Rattle.port_boot.specs.Outcomes.{EndsReady, EndsUnready}
 use Rattle.port_boot.specs.States.{BacksState, IsOfBoot}
-use Rattle.host_boot.specs.Taken.{IsSurvey}
+use Rattle.host_boot.specs.TakeOver.{ReadsCapOrPi}
 use Rattle.host_boot.specs.declared.Booted.{Booted}
 use Rattle.host_boot.specs.declared.ProbeResult.{ProbeResult}
 use Rattle.host_boot.specs.declared.ProbeResult.TheVariants.{Unserved, Ready, Unready}
@@ -23,13 +23,13 @@ BootsStopped wanted port (Ready info) old new = EndsReady (serial_of wanted) por
 BootsStopped wanted port (Unready state) old new = EndsUnready (serial_of wanted) port state old new
 
 -- CAP or PI is read, or it is an access of the port's boot
-abbrev pub IsSurveyOrBoot : Port → Access → Type 0
-IsSurveyOrBoot port access = IsSurvey access ⊎ IsOfBoot port access
+abbrev pub IsCapPiOrBootAccess : Port → Access → Type 0
+IsCapPiOrBootAccess port access = ReadsCapOrPi access ⊎ IsOfBoot port access
 
 -- The adapter was asked what it is capable of (CAP), the port was looked at, if at all, and then it was booted.
 pub record RebootsPort (wanted : Wanted) (port : Port) (booted : Booted) (old new : Device) : Type 0 where
   pub asked : Device
-  pub asks : IsSimulated (IsSurveyOrBoot port) (λ uses. AllFree uses port.0) old asked
+  pub asks : IsSimulated (IsCapPiOrBootAccess port) (λ uses. AllFree uses port.0) old asked
   pub boots : BootsStopped wanted port booted.found asked new
   pub slots : booted.slots ≡ new.cap / 256 % 32 + 1
   pub queued : booted.queued ≡ bit new.cap 30
@@ -39,5 +39,5 @@ pub record RebootsPort (wanted : Wanted) (port : Port) (booted : Booted) (old ne
 abbrev pub RebootsIfPresent : Wanted → Port → Booted → Device → Device → Type 0
 RebootsIfPresent wanted port booted old new =
     ((b : RebootsPort wanted port booted old new) × ((b.asked.port port.0).ssts_det ≡ 3))
-    ⊎ ((booted.found ≡ Unready Absent) × IsSimulated (IsSurveyOrBoot port) (λ uses. AllFree uses port.0) old new
+    ⊎ ((booted.found ≡ Unready Absent) × IsSimulated (IsCapPiOrBootAccess port) (λ uses. AllFree uses port.0) old new
     × BacksState (serial_of wanted) Absent port.0 new)

@@ -12,7 +12,7 @@ use Rattle.adapter.specs.Device.{Device, DevicePort}
 use Rattle.identify.specs.declared.DiskInfo.{DiskInfo}
 use Rattle.port_boot.specs.States.{BacksState, BringsReady, HasFitDisk, IsBootTo, IsOfBoot, IsReady, RunsOn, HasDiskIfShown, StopsOnWay}
 use Rattle.adapter.specs.declared.tape.Entry.{Entry}
-use Rattle.port_control.specs.Engines.{FailsToStop, Falls, Sticks, StopsBoth}
+use Rattle.port_control.specs.Engines.{FailsToStop, EngineFalls, EngineSticks, StopsBoth}
 use Rattle.refinement.specs.Slots.{Free, SlotState, SlotStates, put}
 use Rattle.hba_regs.specs.declared.reg.Reg.TheVariants.{Ghc, Px}
 use Rattle.refinement.specs.Acts.{Act, AreActsDone, accesses_of}
@@ -22,15 +22,15 @@ use Rattle.block_machine.specs.Histories.{IsReachable}
 use Rattle.block_machine.specs.State.{Machine}
 use Rattle.adapter.specs.declared.command.Operation.TheVariants.{Identify}
 use Rattle.adapter.specs.Idle.{IsIdle, TellsDisks}
-use Rattle.host_boot.specs.Again.{IsSurveyOrBoot}
+use Rattle.host_boot.specs.Again.{IsCapPiOrBootAccess}
 use Rattle.host_boot.specs.Resets.{IsOfReset}
-use Rattle.host_boot.specs.Taken.{IsOfHost, IsOfTaking, IsSurvey}
+use Rattle.host_boot.specs.TakeOver.{IsOfHost, IsOfTakeOver, ReadsCapOrPi}
 use Rattle.adapter.specs.Rules.{IsOn}
 use Rattle.port_control.specs.Ports.{IsErrorRegister, IsPlacingRegister, IsCommandRegister}
 use Rattle.adapter.specs.Kept.{Keeps}
 use Rattle.hba_regs.specs.declared.reg.PortReg.{PortReg}
 use Rattle.adapter.specs.Access.Access.{Writing}
-use Rattle.refinement.specs.Facts.{RunsWell, Undisturbed}
+use Rattle.refinement.specs.PortFacts.{RunsWell, Undisturbed}
 use Rattle.adapter.specs.Steps.{Steps}
 use Rattle.identify.specs.declared.wanted.Wanted.{Wanted}
 use Rattle.hba_regs.specs.Bits.{bit}
@@ -43,10 +43,10 @@ pub data SlotCondition : Type 0 where
   PortUnused : Port → SlotCondition
   Only : SlotStates → SlotCondition
 
-abbrev pub uses_of : SlotCondition → SlotStates → Type 0
-uses_of AnyUses = AnyUse
-uses_of (PortUnused port) = λ uses. AllFree uses port.0
-uses_of (Only uses) = SameUses uses
+abbrev pub slot_uses_meeting : SlotCondition → SlotStates → Type 0
+slot_uses_meeting AnyUses = AnyUse
+slot_uses_meeting (PortUnused port) = λ uses. AllFree uses port.0
+slot_uses_meeting (Only uses) = SameUses uses
 
 -- a port is stopped, or booted, with none of its slots used; registers of the adapter's own are read and written, or
 -- CAP and PI alone are read; a port is looked at, or all of this is done for its boot; or all ports are taken over; or
@@ -61,25 +61,25 @@ pub data AccessPurpose : Type 0 where
   Taking : List Wanted → SlotCondition → AccessPurpose
   Resetting : AccessPurpose
 
-abbrev pub may_of : AccessPurpose → Access → Type 0
-may_of (Commanding port) = OnPortWriting IsCommandRegister port
-may_of (Booting port) = IsOfBoot port
-may_of Hosting = IsOfHost
-may_of Surveying = IsSurvey
-may_of (Clearing port) = OnPortWriting IsErrorRegister port
-may_of (Starting port) = IsSurveyOrBoot port
-may_of (Taking wanted fitting) = IsOfTaking wanted
-may_of Resetting = IsOfReset
+abbrev pub accesses_for : AccessPurpose → Access → Type 0
+accesses_for (Commanding port) = OnPortWriting IsCommandRegister port
+accesses_for (Booting port) = IsOfBoot port
+accesses_for Hosting = IsOfHost
+accesses_for Surveying = ReadsCapOrPi
+accesses_for (Clearing port) = OnPortWriting IsErrorRegister port
+accesses_for (Starting port) = IsCapPiOrBootAccess port
+accesses_for (Taking wanted fitting) = IsOfTakeOver wanted
+accesses_for Resetting = IsOfReset
 
-abbrev pub fits_of : AccessPurpose → SlotStates → Type 0
-fits_of (Commanding port) = AnyUse
-fits_of (Booting port) = λ uses. AllFree uses port.0
-fits_of Hosting = AnyUse
-fits_of Surveying = AnyUse
-fits_of (Clearing port) = AnyUse
-fits_of (Starting port) = λ uses. AllFree uses port.0
-fits_of (Taking wanted fitting) = uses_of fitting
-fits_of Resetting = AnyUse
+abbrev pub slot_uses_for : AccessPurpose → SlotStates → Type 0
+slot_uses_for (Commanding port) = AnyUse
+slot_uses_for (Booting port) = λ uses. AllFree uses port.0
+slot_uses_for Hosting = AnyUse
+slot_uses_for Surveying = AnyUse
+slot_uses_for (Clearing port) = AnyUse
+slot_uses_for (Starting port) = λ uses. AllFree uses port.0
+slot_uses_for (Taking wanted fitting) = slot_uses_meeting fitting
+slot_uses_for Resetting = AnyUse
 
 -- ---- laws
 
@@ -99,7 +99,7 @@ pub record FoundLaws : Type 0 where
 pub record Laws : Type 0 where
   pub found : FoundLaws
   -- one access
-  pub law_steps_guarantee : (old new : Device) → Steps old new → Keeps old new
+  pub law_step_lists_keep_what_steps_keep : (old new : Device) → Steps old new → Keeps old new
   pub access_on : (access : Access) (old new : Device) → IsOn old
       → ((v : ℕ) → access ≡ Writing Ghc v → (bit v 31 ≡ true) × (bit v 0 ≡ false)) → Does access old new → IsOn new
   pub access_same : (access : Access) (old new : Device) → Does access old new → SameAdapter old new
@@ -149,13 +149,15 @@ pub record Laws : Type 0 where
   pub placing : (port : Port) (access : Access) → OnPortWriting IsPlacingRegister port access
       → SparesOtherPorts port access
       × DoesNotWrite (Px port Sctl) access
-  pub failing_sticks : (port : Port) (accesses : List Access) → FailsToStop port accesses → Sticks port accesses
-  pub falls_then : (early late : List Access) (start running : ℕ) (port : Port) → Falls start running port early
-      → Falls start running port (early ++ late)
-  pub falls_since : (early late : List Access) (start running : ℕ) (port : Port) → Falls start running port late
-      → Falls start running port (early ++ late)
-  pub sticks_then : (early late : List Access) (port : Port) → Sticks port early → Sticks port (early ++ late)
-  pub sticks_since : (early late : List Access) (port : Port) → Sticks port late → Sticks port (early ++ late)
+  pub failing_sticks : (port : Port) (accesses : List Access) → FailsToStop port accesses → EngineSticks port accesses
+  pub falls_then : (early late : List Access) (start running : ℕ) (port : Port) → EngineFalls start running port early
+      → EngineFalls start running port (early ++ late)
+  pub falls_since : (early late : List Access) (start running : ℕ) (port : Port) → EngineFalls start running port late
+      → EngineFalls start running port (early ++ late)
+  pub sticks_then : (early late : List Access) (port : Port) → EngineSticks port early
+      → EngineSticks port (early ++ late)
+  pub sticks_since : (early late : List Access) (port : Port) → EngineSticks port late
+      → EngineSticks port (early ++ late)
   pub of_boot : (port : Port) (access : Access) → IsOfBoot port access → SparesOtherPorts port access
   pub boots_driven : (port : Port) (state : ShownState) (old new : Device)
       → IsBootTo (StopsOnWay port state) port state old new → IsDrivenBy (IsOfBoot port) old new
@@ -175,4 +177,4 @@ pub record Laws : Type 0 where
       → AreActsDone acts k m later → All (DoesNotWrite (Px port Cmd)) (accesses_of acts)
       → HaltOfTakenIfSt (k.device.port port.0) → HaltOfTakenIfSt (later.device.port port.0)
   -- this crate's kinds of accesses
-  pub fragments : FragmentLaws AccessPurpose may_of fits_of
+  pub fragments : FragmentLaws AccessPurpose accesses_for slot_uses_for

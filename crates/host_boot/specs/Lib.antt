@@ -1,5 +1,5 @@
 pub mod Laws
-pub mod Taken
+pub mod TakeOver
 pub mod Again
 pub mod Resets
 pub mod Costs

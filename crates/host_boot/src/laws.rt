@@ -10,32 +10,34 @@ ghost use Rattle.adapter.specs.Rules.{IsOn, HasPort};
 ghost use Rattle.adapter.specs.Steps.{Steps};
 ghost use Rattle.adapter.specs.declared.command.Operation.TheVariants.{Identify};
 ghost use Rattle.refinement.specs.Driven.{IsDrivenBy, SparesOtherPorts, GainsNoMove};
-ghost use Rattle.refinement.specs.Facts.{FaultsOnRecord, RunsWell, Undisturbed};
+ghost use Rattle.refinement.specs.PortFacts.{FaultsOnRecord, RunsWell, Undisturbed};
 ghost use Rattle.refinement.specs.Links.{ShowsDiskIfIn, SameAdapter};
 ghost use Rattle.refinement.specs.Places.{list_of};
 ghost use Rattle.identify.specs.declared.DiskInfo.{DiskInfo};
 ghost use Rattle.identify.specs.declared.wanted.Wanted.{Wanted};
-ghost use Rattle.host_boot.specs.Again.{RebootsPort, RebootsIfPresent, IsSurveyOrBoot};
-ghost use Rattle.host_boot.specs.Taken.{FoundBadDisk, IsServed, LeavesFound, LeavesPorts, StandsBehind, StillStandsBehind, TakesOver, probe_result_of};
+ghost use Rattle.host_boot.specs.Again.{RebootsPort, RebootsIfPresent, IsCapPiOrBootAccess};
+ghost use Rattle.host_boot.specs.TakeOver.{FoundBadDisk, IsServed, LeavesFoundPort, LeavesPorts, BacksProbeResult, StillBacksProbeResult, TakesOver, probe_result_of};
 ghost use Rattle.host_boot.specs.declared.Booted.{Booted};
 ghost use Rattle.host_boot.specs.declared.ProbeResult.{ProbeResult};
 ghost use Rattle.host_boot.specs.declared.ProbeResult.TheVariants.{Unserved, Ready, Unready};
 ghost use Rattle.host_boot.specs.declared.Host.{Host};
 ghost use Rattle.port_boot.specs.States.{HasDiskIfShown};
 
-use super::lawful::law_base;
+use super::prerequisites::law_prerequisites;
 
 /// What stands behind what a port was found to be still stands as long as the port isn't booted anew. A boot begins it.
 /// It goes on where the adapter is the same, enough is left of the port, and its disk sends no page of IDENTIFY DEVICE,
 /// which a dead port's may.
 pub fn law_what_was_found_still_stands()
-    ensures begins { (wanted : Wanted) (found : ProbeResult) (port : ℕ) (d : Device) → StandsBehind wanted found port d
-        → StillStandsBehind wanted found port d }
+    ensures begins { (wanted : Wanted) (found : ProbeResult) (port : ℕ) (d : Device)
+        → BacksProbeResult wanted found port d
+        → StillBacksProbeResult wanted found port d }
     ensures goes_on { (wanted : Wanted) (found : ProbeResult) (port : ℕ) (old new : Device) → SameAdapter old new
-        → LeavesFound found (old.port port) (new.port port) → (found ≢ Unready Dead → GainsNoMove port Identify old new)
-        → StillStandsBehind wanted found port old → StillStandsBehind wanted found port new }
+        → LeavesFoundPort found (old.port port) (new.port port) → (found ≢ Unready Dead
+        → GainsNoMove port Identify old new)
+        → StillBacksProbeResult wanted found port old → StillBacksProbeResult wanted found port new }
 {
-    law_base();
+    law_prerequisites();
 }
 
 /// What the device does by itself leaves every port to it, while no reset is pending; and the adapter is what it was.
@@ -43,7 +45,7 @@ pub fn law_the_device_leaves_ports()
     ensures ports { (old new : Device) → old.hr ≡ false → Steps old new → LeavesPorts old new }
     ensures adapter { (old new : Device) → Steps old new → SameAdapter old new }
 {
-    law_base();
+    law_prerequisites();
 }
 
 /// A server may begin with what was taken over. The adapter has each port that is served. A port that was found ready
@@ -69,7 +71,7 @@ pub fn law_what_was_taken_over_may_be_served()
         → TakesOver wanted host old new → probe_result_of host.ports port ≡ Ready info
         → HasDiskIfShown (new.port port) }
 {
-    law_base();
+    law_prerequisites();
 }
 
 /// A port that runs well does so still after accesses of another port, where nothing goes wrong on it meanwhile.
@@ -78,7 +80,7 @@ pub fn law_other_ports_run_well()
         → IsDrivenBy (SparesOtherPorts other) old new
         → Undisturbed port.0 old new → RunsWell (old.port port.0) → RunsWell (new.port port.0) }
 {
-    law_base();
+    law_prerequisites();
 }
 
 /// A server may go on with a port that was booted again. The accesses are of the port alone; what stands behind it is
@@ -90,7 +92,7 @@ pub fn law_what_was_booted_again_may_be_served()
         → RebootsPort wanted port booted old new → IsDrivenBy (SparesOtherPorts port) old new }
     ensures stands { (wanted : Wanted) (port : Port) (booted : Booted) (old new : Device)
         → RebootsPort wanted port booted old new → IsServed wanted port.0 old
-        → StandsBehind wanted booted.found port.0 new }
+        → BacksProbeResult wanted booted.found port.0 new }
     ensures shown { (wanted : Wanted) (port : Port) (booted : Booted) (state : PortState) (old new : Device) → IsOn old
         → RebootsPort wanted port booted old new → FoundBadDisk state → booted.found ≡ Unready state
         → ShowsDiskIfIn (new.port port.0) }
@@ -98,14 +100,15 @@ pub fn law_what_was_booted_again_may_be_served()
         → RebootsIfPresent wanted port booted old new → IsDrivenBy (SparesOtherPorts port) old new }
     ensures there_stands { (wanted : Wanted) (port : Port) (booted : Booted) (old new : Device)
         → RebootsIfPresent wanted port booted old new → IsServed wanted port.0 old
-        → StandsBehind wanted booted.found port.0 new }
+        → BacksProbeResult wanted booted.found port.0 new }
     ensures there_shown { (wanted : Wanted) (port : Port) (booted : Booted) (state : PortState) (old new : Device)
         → IsOn old → RebootsIfPresent wanted port booted old new → FoundBadDisk state → booted.found ≡ Unready state
         → ShowsDiskIfIn (new.port port.0) }
-    ensures start_of { (port : Port) (access : Access) → IsSurveyOrBoot port access → SparesOtherPorts port access }
+    ensures start_of { (port : Port) (access : Access) → IsCapPiOrBootAccess port access
+        → SparesOtherPorts port access }
     ensures beside { (port other : Port) (old new : Device) → port.0 ≢ other.0 → IsOn old
         → IsDrivenBy (SparesOtherPorts other) old new → ShowsDiskIfIn (old.port port.0)
         → ShowsDiskIfIn (new.port port.0) }
 {
-    law_base();
+    law_prerequisites();
 }

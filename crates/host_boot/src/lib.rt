@@ -3,7 +3,7 @@
 //! (AHCI 1.3.1, 10.1.2 and 10.4.3; which ports are served is this project's own.) `take_over` asks
 //! for an idle adapter with the driver's memory, and `reset` for nothing. `reboot_port` and
 //! `reboot_if_present` ask for a stopped port, no slot of which is used. Callers go by what stands
-//! behind each port that was found (`StillStandsBehind`), which stays until the port is booted
+//! behind each port that was found (`StillBacksProbeResult`), which stays until the port is booted
 //! anew.
 #![tactic(auto)]
 
@@ -17,7 +17,7 @@ ghost use Rattle.refinement.specs.Driven.{AnyUse, IsDrivenBy, IsSimulated};
 ghost use Rattle.port_boot.specs.States.{IsBootable};
 ghost use Rattle.port_control.specs.Ports.{IsStopped};
 ghost use Rattle.host_boot.specs.Again.{RebootsPort, RebootsIfPresent, BootsStopped};
-ghost use Rattle.host_boot.specs.Taken.{FindsPort, IsOfHost, IsSurvey, MayBootIdle, LeavesPorts, TakesOver};
+ghost use Rattle.host_boot.specs.TakeOver.{FindsPort, IsOfHost, ReadsCapOrPi, MayBootIdle, LeavesPorts, TakesOver};
 ghost use Rattle.adapter.specs.Counted.{MakesAtMost};
 ghost use Rattle.port_boot.specs.Costs.{BOOT_ACCESSES};
 ghost use Rattle.host_boot.specs.Costs.{BOOT_AGAIN_ACCESSES, BOOT_IF_THERE_ACCESSES, FIRST_BOOT_ACCESSES, TAKE_OVER_ACCESSES};
@@ -26,12 +26,12 @@ use adapter::Adapter;
 use ata_types::{DRIVER_BYTES, MOST_READINGS, PORTS, Port, PortState};
 use hba_regs::{Capabilities, GlobalControl, Reg, is_set};
 use identify::{DiskInfo, Wanted};
-use lawful::law_base;
 use port_boot::boot;
 use port_control::{Stopped, clear_serr_and_detect, stop};
+use prerequisites::law_prerequisites;
 
-mod lawful;
 pub mod laws;
+mod prerequisites;
 mod resetting;
 
 pub use resetting::reset;
@@ -78,7 +78,7 @@ fn power_on<A: Adapter>(adapter: &mut A)
     ensures followed { IsSimulated IsOfHost AnyUse (A.device adapter.old) (A.device adapter.new) }
     ensures cost { MakesAtMost 1 (A.access_count adapter.old) (A.access_count adapter.new) }
 {
-    law_base();
+    law_prerequisites();
     adapter.write(Reg::Ghc, GlobalControl::AE.0);
 }
 
@@ -88,11 +88,11 @@ fn survey<A: Adapter>(adapter: &mut A) -> (Capabilities, u32)
     ensures on { IsOn (A.device adapter.new) }
     ensures leaves { LeavesPorts (A.device adapter.old) (A.device adapter.new) }
     ensures followed { IsSimulated IsOfHost AnyUse (A.device adapter.old) (A.device adapter.new) }
-    ensures surveys { IsDrivenBy IsSurvey (A.device adapter.old) (A.device adapter.new) }
+    ensures surveys { IsDrivenBy ReadsCapOrPi (A.device adapter.old) (A.device adapter.new) }
     ensures told { (result.0.0 ≡ (A.device adapter.new).cap) × (result.1 ≡ (A.device adapter.new).pi) }
     ensures cost { MakesAtMost 2 (A.access_count adapter.old) (A.access_count adapter.new) }
 {
-    law_base();
+    law_prerequisites();
     let capabilities = Capabilities(adapter.read(Reg::Cap));
     let implemented = adapter.read(Reg::Pi);
     (capabilities, implemented)
@@ -124,7 +124,7 @@ fn boot_port<A: Adapter>(
     ensures finds { FindsPort wanted.now port result (A.device adapter.old) (A.device adapter.new) }
     ensures cost { MakesAtMost FIRST_BOOT_ACCESSES (A.access_count adapter.old) (A.access_count adapter.new) }
 {
-    law_base();
+    law_prerequisites();
     if *wanted == Wanted::Nothing || !is_set(implemented, u32::from(port.0)) {
         return ProbeResult::Unserved;
     }
@@ -144,7 +144,7 @@ fn enable_interrupts<A: Adapter>(adapter: &mut A)
     ensures followed { IsSimulated IsOfHost AnyUse (A.device adapter.old) (A.device adapter.new) }
     ensures cost { MakesAtMost 1 (A.access_count adapter.old) (A.access_count adapter.new) }
 {
-    law_base();
+    law_prerequisites();
     adapter.write(Reg::Ghc, GlobalControl::AE.0 | GlobalControl::IE.0);
 }
 
@@ -157,7 +157,7 @@ pub fn take_over<A: Adapter>(adapter: &mut A, wanted: &[Wanted; PORTS]) -> Host
     ensures four { length result.ports ≡ 4 }
     ensures cost { MakesAtMost TAKE_OVER_ACCESSES (A.access_count adapter.old) (A.access_count adapter.new) }
 {
-    law_base();
+    law_prerequisites();
     power_on(adapter);
     let (capabilities, implemented) = survey(adapter);
     let mut ports = [ProbeResult::Unserved; PORTS];
@@ -195,7 +195,7 @@ pub fn reboot_port<A: Adapter>(adapter: &mut A, stopped: Stopped, wanted: &Wante
     ensures boots { RebootsPort wanted.now stopped.port result (A.device adapter.old) (A.device adapter.new) }
     ensures cost { MakesAtMost BOOT_AGAIN_ACCESSES (A.access_count adapter.old) (A.access_count adapter.new) }
 {
-    law_base();
+    law_prerequisites();
     let capabilities = Capabilities(adapter.read(Reg::Cap));
     let found = boot_stopped(adapter, stopped, wanted);
     booted_with(capabilities, found)
@@ -212,7 +212,7 @@ pub fn reboot_if_present<A: Adapter>(adapter: &mut A, stopped: Stopped, wanted: 
     ensures boots { RebootsIfPresent wanted.now stopped.port result (A.device adapter.old) (A.device adapter.new) }
     ensures cost { MakesAtMost BOOT_IF_THERE_ACCESSES (A.access_count adapter.old) (A.access_count adapter.new) }
 {
-    law_base();
+    law_prerequisites();
     let capabilities = Capabilities(adapter.read(Reg::Cap));
     let found = if clear_serr_and_detect(adapter, stopped.port()) {
         boot_stopped(adapter, stopped, wanted)

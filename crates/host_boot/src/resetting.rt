@@ -4,7 +4,7 @@ ghost use Rattle.host_boot.specs.Resets.{Resets, ResetStaysPending};
 ghost use Rattle.adapter.specs.Counted.{MakesAtMost};
 ghost use Rattle.host_boot.specs.Costs.{RESET_ACCESSES};
 
-use super::lawful::law_base;
+use super::prerequisites::law_prerequisites;
 use adapter::Adapter;
 use ata_types::{AdapterStuck, MOST_READINGS};
 use hba_regs::{GlobalControl, Reg};
@@ -17,7 +17,7 @@ pub fn reset<A: Adapter>(adapter: &mut A) -> Result<(), AdapterStuck>
     ensures stuck { IfErr result (λ why. ResetStaysPending (A.device adapter.old) (A.device adapter.new)) }
     ensures cost { MakesAtMost RESET_ACCESSES (A.access_count adapter.old) (A.access_count adapter.new) }
 {
-    law_base();
+    law_prerequisites();
     adapter.write(Reg::Ghc, GlobalControl::AE.0 | GlobalControl::HR.0);
     for _reading in 0..MOST_READINGS {
         let shown = GlobalControl(adapter.read(Reg::Ghc));

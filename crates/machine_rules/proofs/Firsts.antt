@@ -11,7 +11,7 @@ use Rattle.ata_types.specs.declared.refusal.Rule.{Rule}
 use Rattle.ata_types.specs.declared.refusal.Rule.TheVariants.{NoGrant, NoRight, BadCount, OutsideGrant, FrameCount, Frames}
 use Rattle.ata_types.specs.declared.refusal.Refusal.{Refusal}
 use Rattle.ata_types.specs.declared.refusal.Refusal.TheVariants as refused
-use Rattle.block_machine.specs.Rules.{DifferInName, IsBefore, IsFirstBroken, rank}
+use Rattle.block_machine.specs.Rules.{DifferInName, RanksBefore, IsFirstBroken, rank}
 use Rattle.block_machine.specs.Refusals.{Situation, Applies, IsFirstRefusal}
 use Rattle.block_machine.proofs.RuleLemmas.{one_row, late, same_rule, number}
 
@@ -38,7 +38,7 @@ same_refusal s r differ _ (refused.Rule b) x y n p = absurd (omega (arith, early
 same_refusal s r differ _ _ x y n p = absurd (omega arith)
 
 -- neither of two ranks is before the other: they are equal
-same_rank : (a b : ℕ × ℕ) → (IsBefore a b → ⊥) → (IsBefore b a → ⊥) → (a.0 ≡ b.0) × (a.1 ≡ b.1)
+same_rank : (a b : ℕ × ℕ) → (RanksBefore a b → ⊥) → (RanksBefore b a → ⊥) → (a.0 ≡ b.0) × (a.1 ≡ b.1)
 same_rank a b below above = elim (cases_order a.0 b.0) [
   | inl e ↦ elim (cases_order a.1 b.1) [
     | inl f ↦ (e, f)

@@ -3,7 +3,7 @@ use Rattle.std.proofs.Common.{◌≡◌, ℕ, ◌-◌, List, Option, Some, None,
 use Rattle.machine_rules.specs.declared.history.HistoryRequest.{HistoryRequest}
 use Rattle.block_machine.specs.State.{Block, block_written}
 use Rattle.block_machine.specs.Steps.{Step}
-use Rattle.block_machine.specs.Left.{IsExpectedBlock, disk_number_read, bytes_when_plugged}
+use Rattle.block_machine.specs.Expected.{IsExpectedBlock, disk_number_read, bytes_when_plugged}
 use Rattle.machine_rules.specs.ReferenceHistories.{accepted_of, start_filled, IsLastWriter}
 
 -- the byte is left in all places of the sector

@@ -1,2 +1,2 @@
-pub mod Plain
+pub mod Reference
 pub mod ReferenceHistories

@@ -7,7 +7,7 @@ use Rattle.machine_rules.specs.declared.history.DiskEvent.TheVariants.{Touched, 
 use Rattle.block_machine.specs.Due.{changes_sectors}
 use Rattle.block_machine.specs.State.{Accepted, Machine}
 use Rattle.block_machine.specs.Steps.{Step, Touch, Replace, newly_accepted}
-use Rattle.block_machine.specs.Left.{IsTouch, Wrote}
+use Rattle.block_machine.specs.Expected.{IsTouch, Wrote}
 
 -- the byte in all places of sector number n of what has this fill
 abbrev pub fill_byte : ℕ → ℕ → ℕ
@@ -56,7 +56,7 @@ start_filled fill = record {
 }
 
 -- the step is a touch of sector k by this write or trim, of the read's port and accepted before it
-pub record IsWriterNow (read : HistoryRequest) (k : ℕ) (step : Step) (w : HistoryRequest) : Type 0 where
+pub record IsTouchOfWriter (read : HistoryRequest) (k : ℕ) (step : Step) (w : HistoryRequest) : Type 0 where
   pub writes : changes_sectors w.op ≡ true
   pub here : w.port ≡ read.port
   pub earlier : w.id.0 < read.id.0

@@ -1,9 +1,9 @@
 // What is left on a sector, as a plain and slow program over small histories.
 ghost use Rattle.std.specs.Prelude.{◌≡◌, ◌≤◌, ◌-◌, ℕ, length, IfSome, IfNone};
-ghost use Rattle.block_machine.specs.Left as left;
+ghost use Rattle.block_machine.specs.Expected as expected_byte;
 ghost use Rattle.block_machine.specs.State.{Block, block_written};
 ghost use Rattle.machine_rules.specs.ReferenceHistories as plain_left;
-ghost use Rattle.machine_rules.specs.ReferenceHistories.{history_of, step_of, accepted_of, start_filled, IsWriterNow, IsLaterOf, IsLastWriter};
+ghost use Rattle.machine_rules.specs.ReferenceHistories.{history_of, step_of, accepted_of, start_filled, IsTouchOfWriter, IsLaterOf, IsLastWriter};
 
 use ata_types::{Op, Port, Range, RequestId};
 use block_machine::changes_sectors;
@@ -30,7 +30,7 @@ pub enum DiskEvent {
 
 /// How many disks were put in at the port.
 fn plug_count(port: Port, history: &[DiskEvent]) -> usize
-    ensures count { result ≡ left.plug_count port (history_of history.now) }
+    ensures count { result ≡ expected_byte.plug_count port (history_of history.now) }
     ensures few { result ≤ length history.now }
 {
     match history.split_first() {
@@ -47,7 +47,7 @@ fn plug_count(port: Port, history: &[DiskEvent]) -> usize
 
 /// Whether this is a touch of the sector by the request.
 fn touches(read: &HistoryRequest, sector: u64, happened: &DiskEvent) -> bool
-    ensures { result ≡ left.touches read.now.id sector (step_of happened.now) }
+    ensures { result ≡ expected_byte.touches read.now.id sector (step_of happened.now) }
 {
     match happened {
         DiskEvent::Touched(request, number) => {
@@ -60,7 +60,7 @@ fn touches(read: &HistoryRequest, sector: u64, happened: &DiskEvent) -> bool
 
 /// The number of the disk that was in when the read last touched the sector.
 fn disk_number_read(read: &HistoryRequest, sector: u64, history: &[DiskEvent]) -> usize
-    ensures { result ≡ left.disk_number_read (accepted_of read.now) sector (history_of history.now) }
+    ensures { result ≡ expected_byte.disk_number_read (accepted_of read.now) sector (history_of history.now) }
 {
     match history.split_first() {
         None => 0,
@@ -84,7 +84,7 @@ fn fill_byte(fill: u8, number: u64) -> u8
 /// The fill that the disk with this number had when it was put in.
 fn fill_when_plugged(start: u8, port: Port, number: usize, history: &[DiskEvent]) -> u8
     ensures { (k b : ℕ)
-        → left.bytes_when_plugged (start_filled start) port number
+        → expected_byte.bytes_when_plugged (start_filled start) port number
         (history_of history.now) k b ≡ plain_left.fill_byte result k }
 {
     match history.split_first() {
@@ -99,9 +99,9 @@ fn fill_when_plugged(start: u8, port: Port, number: usize, history: &[DiskEvent]
 
 /// Whether this is a touch of the sector of the read by an earlier write or trim of its port.
 fn writes(read: &HistoryRequest, sector: u64, happened: &DiskEvent) -> Option<HistoryRequest>
-    ensures some { IfSome result (IsWriterNow read.now sector (step_of happened.now)) }
+    ensures some { IfSome result (IsTouchOfWriter read.now sector (step_of happened.now)) }
     ensures none { IfNone result ((w : HistoryRequest)
-        → IsWriterNow read.now sector (step_of happened.now) w → ⊥) }
+        → IsTouchOfWriter read.now sector (step_of happened.now) w → ⊥) }
 {
     match happened {
         DiskEvent::Touched(writer, number) => {
@@ -162,8 +162,8 @@ fn written(writer: HistoryRequest, sector: u64) -> u8
 
 /// What the writes and trims accepted before the read left on the sector, as the byte in all its places. The newest
 /// happening stands first, and the disks had the fill `start` before the first.
-pub fn left(start: u8, history: &[DiskEvent], read: &HistoryRequest, sector: u64) -> u8
-    ensures { (block : Block) × left.IsExpectedBlock (start_filled start) (history_of history.now)
+pub fn expected_byte(start: u8, history: &[DiskEvent], read: &HistoryRequest, sector: u64) -> u8
+    ensures { (block : Block) × expected_byte.IsExpectedBlock (start_filled start) (history_of history.now)
         (accepted_of read.now) sector block
         × ((b : ℕ) → block b ≡ result) }
 {

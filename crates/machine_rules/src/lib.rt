@@ -10,5 +10,5 @@ pub mod laws;
 mod refuse;
 
 pub use due::{due_list, is_due};
-pub use history::{DiskEvent, HistoryRequest, left};
-pub use refuse::{PlainSituation, PortShown};
+pub use history::{DiskEvent, HistoryRequest, expected_byte};
+pub use refuse::{PortShown, ReferenceSituation};

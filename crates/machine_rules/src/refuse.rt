@@ -1,10 +1,10 @@
 // Why a request, or a client's access to a frame, is refused, as a plain and slow program: each cause by itself, and
 // then the first that applies.
 ghost use Rattle.std.specs.Prelude.{false, ◌≡◌, ◌⊎◌, ◌<◌, ◌≤◌, ◌↔◌, IsTrue, IfSome, IfNone, slice_get, count_by, ◌==◌};
-ghost use Rattle.ata_types.specs.Grant.{Allows, Covers};
+ghost use Rattle.ata_types.specs.SectorGrants.{AllowsOp, CoversSectors};
 ghost use Rattle.block_machine.specs.Rules.{IsNamed, Names, IsAllowedCount, frame_count_for, Breaks, HasFault, BreaksNone, IsFirstBroken, rank};
-ghost use Rattle.block_machine.specs.Refusals.{Applies, IsAcceptable, IsFirstRefusal, MemApplies, MayAccessFrame, IsFirstMemFault};
-ghost use Rattle.machine_rules.specs.Plain.{for_frame, shown_at, situation_in, RowHas, SomeRowHas, IsFirstNumbered};
+ghost use Rattle.block_machine.specs.Refusals.{Applies, IsAcceptable, IsFirstRefusal, MemFaultApplies, MayAccessFrame, IsFirstMemFault};
+ghost use Rattle.machine_rules.specs.Reference.{frame_or_none, port_or_absent, situation_in, RowTriggersCause, SomeRowTriggersCause, IsFirstOfNumber};
 
 use arrayvec::ArrayVec;
 use ata_types::{
@@ -38,7 +38,7 @@ impl Default for PortShown {
 /// What a request meets, in small tables. A frame past their ends is nobody's and lent to none, and a port past the end
 /// is absent.
 #[derive(Debug, Drop)]
-pub struct PlainSituation {
+pub struct ReferenceSituation {
     pub rows: ArrayVec<GrantRow, 64>,
     /// The owner of each frame.
     pub owners: ArrayVec<Option<ClientId>, 128>,
@@ -100,29 +100,29 @@ fn rule_of(cause: Refusal) -> Option<Rule>
 
 /// What stands in the list for a frame; nothing where the list ends before it.
 fn at_frame<T: Copy>(list: &[Option<T>], frame: Frame) -> Option<T>
-    ensures { result ≡ for_frame list.now frame }
+    ensures { result ≡ frame_or_none list.now frame }
 {
     list.get(frame.0 as usize).copied().flatten()
 }
 
-impl PlainSituation {
+impl ReferenceSituation {
     /// The owner of the frame.
     fn owner(&self, frame: Frame) -> Option<ClientId>
-        ensures { result ≡ for_frame self.now.owners.items frame }
+        ensures { result ≡ frame_or_none self.now.owners.items frame }
     {
         at_frame(self.owners.as_slice(), frame)
     }
 
     /// The request that the frame is lent to.
     fn lent_to(&self, frame: Frame) -> Option<RequestId>
-        ensures { result ≡ for_frame self.now.lent.items frame }
+        ensures { result ≡ frame_or_none self.now.lent.items frame }
     {
         at_frame(self.lent.as_slice(), frame)
     }
 
     /// What the port shows.
     fn shown(&self, port: Port) -> PortShown
-        ensures { result ≡ shown_at self.now.ports.items port }
+        ensures { result ≡ port_or_absent self.now.ports.items port }
     {
         match self.ports.as_slice().get(port.0 as usize) {
             Some(shown) => *shown,
@@ -145,7 +145,7 @@ impl PlainSituation {
 
     /// Whether the row, which the request names, has what the cause says of it.
     fn row_has(&self, request: &Request, cause: Refusal, row: &GrantRow) -> bool
-        ensures { IsTrue result ↔ RowHas (situation_in self.now) request.now cause row.now }
+        ensures { IsTrue result ↔ RowTriggersCause (situation_in self.now) request.now cause row.now }
     {
         match cause {
             Refusal::Rule(Rule::NoRight) => !row.rights.allows(request.op),
@@ -162,7 +162,7 @@ impl PlainSituation {
 
     /// Whether a row that the request names has what the cause says of it.
     fn some_row_has(&self, request: &Request, cause: Refusal) -> bool
-        ensures { IsTrue result ↔ SomeRowHas (situation_in self.now) request.now cause }
+        ensures { IsTrue result ↔ SomeRowTriggersCause (situation_in self.now) request.now cause }
     {
         for row in self.rows.as_slice() {
             let named = row.client == request.client && row.number == request.grant;
@@ -175,8 +175,8 @@ impl PlainSituation {
 
     /// Whether the frames of the request have this fault.
     fn has_fault(&self, client: ClientId, frames: &[Frame], fault: FrameFault) -> bool
-        ensures { IsTrue result ↔ HasFault (for_frame self.now.owners.items)
-            (for_frame self.now.lent.items)
+        ensures { IsTrue result ↔ HasFault (frame_or_none self.now.owners.items)
+            (frame_or_none self.now.lent.items)
             client frames.now fault }
     {
         match fault {
@@ -197,8 +197,8 @@ impl PlainSituation {
 
     /// Whether the request breaks the rule.
     fn breaks(&self, request: &Request, rule: Rule) -> bool
-        ensures { IsTrue result ↔ Breaks self.now.rows.items (for_frame self.now.owners.items)
-            (for_frame self.now.lent.items) request.now rule }
+        ensures { IsTrue result ↔ Breaks self.now.rows.items (frame_or_none self.now.owners.items)
+            (frame_or_none self.now.lent.items) request.now rule }
     {
         match rule {
             Rule::NoGrant => !self.some_row_has(request, Refusal::Rule(rule)),
@@ -231,7 +231,7 @@ impl PlainSituation {
     /// The cause, if it applies.
     fn if_applies(&self, request: &Request, cause: Refusal) -> Option<Refusal>
         requires { ((rank cause).0 < 6) ⊎ (9 < (rank cause).0) }
-        ensures { IsFirstNumbered (situation_in self.now) request.now
+        ensures { IsFirstOfNumber (situation_in self.now) request.now
             (rank cause).0 result }
     {
         if self.applies(request, cause) {
@@ -245,7 +245,7 @@ impl PlainSituation {
     fn first_fault(&self, request: &Request, number: u8) -> Option<Refusal>
         requires low { 6 ≤ number }
         requires high { number ≤ 8 }
-        ensures { IsFirstNumbered (situation_in self.now) request.now number result }
+        ensures { IsFirstOfNumber (situation_in self.now) request.now number result }
     {
         for place in 0..request.frames.len() {
             let cause = Refusal::Rule(Rule::Frames(fault_at(number, place)));
@@ -258,7 +258,7 @@ impl PlainSituation {
 
     /// The state of the request's port, if it isn't ready.
     fn not_ready(&self, request: &Request) -> Option<Refusal>
-        ensures { IsFirstNumbered (situation_in self.now) request.now 9 result }
+        ensures { IsFirstOfNumber (situation_in self.now) request.now 9 result }
     {
         for row in self.rows.as_slice() {
             let named = row.client == request.client && row.number == request.grant;
@@ -274,7 +274,7 @@ impl PlainSituation {
     fn first_numbered(&self, request: &Request, number: u8) -> Option<Refusal>
         requires low { 1 ≤ number }
         requires high { number ≤ 13 }
-        ensures { IsFirstNumbered (situation_in self.now) request.now number result }
+        ensures { IsFirstOfNumber (situation_in self.now) request.now number result }
     {
         match number {
             1 => self.if_applies(request, Refusal::Rule(Rule::NoGrant)),
@@ -307,11 +307,11 @@ impl PlainSituation {
     /// The first rule that the request breaks, if it breaks one.
     pub fn first_broken(&self, request: &Request) -> Option<Rule>
         ensures some { IfSome result (IsFirstBroken self.now.rows.items
-            (for_frame self.now.owners.items)
-            (for_frame self.now.lent.items) request.now) }
+            (frame_or_none self.now.owners.items)
+            (frame_or_none self.now.lent.items) request.now) }
         ensures none { IfNone result (BreaksNone self.now.rows.items
-            (for_frame self.now.owners.items)
-            (for_frame self.now.lent.items) request.now) }
+            (frame_or_none self.now.owners.items)
+            (frame_or_none self.now.lent.items) request.now) }
     {
         match self.first_refusal(request) {
             Some(cause) => rule_of(cause),
@@ -320,7 +320,7 @@ impl PlainSituation {
     }
 
     /// Whether the cause applies to the client's access to `count` bytes of the frame from byte `offset` on.
-    pub fn mem_applies(
+    pub fn mem_fault_applies(
         &self,
         client: ClientId,
         frame: Frame,
@@ -328,8 +328,8 @@ impl PlainSituation {
         count: usize,
         fault: MemFault,
     ) -> bool
-        ensures { IsTrue result ↔ MemApplies (for_frame self.now.owners.items)
-            (for_frame self.now.lent.items) client frame offset count fault }
+        ensures { IsTrue result ↔ MemFaultApplies (frame_or_none self.now.owners.items)
+            (frame_or_none self.now.lent.items) client frame offset count fault }
     {
         match fault {
             MemFault::FrameForeign => self.owner(frame) != Some(client),
@@ -347,16 +347,16 @@ impl PlainSituation {
         offset: u32,
         count: usize,
     ) -> Option<MemFault>
-        ensures some { IfSome result (IsFirstMemFault (for_frame self.now.owners.items)
-            (for_frame self.now.lent.items) client frame offset count) }
-        ensures none { IfNone result (MayAccessFrame (for_frame self.now.owners.items)
-            (for_frame self.now.lent.items) client frame offset count) }
+        ensures some { IfSome result (IsFirstMemFault (frame_or_none self.now.owners.items)
+            (frame_or_none self.now.lent.items) client frame offset count) }
+        ensures none { IfNone result (MayAccessFrame (frame_or_none self.now.owners.items)
+            (frame_or_none self.now.lent.items) client frame offset count) }
     {
-        if self.mem_applies(client, frame, offset, count, MemFault::FrameForeign) {
+        if self.mem_fault_applies(client, frame, offset, count, MemFault::FrameForeign) {
             Some(MemFault::FrameForeign)
-        } else if self.mem_applies(client, frame, offset, count, MemFault::FrameLent) {
+        } else if self.mem_fault_applies(client, frame, offset, count, MemFault::FrameLent) {
             Some(MemFault::FrameLent)
-        } else if self.mem_applies(client, frame, offset, count, MemFault::OutsideFrame) {
+        } else if self.mem_fault_applies(client, frame, offset, count, MemFault::OutsideFrame) {
             Some(MemFault::OutsideFrame)
         } else {
             None

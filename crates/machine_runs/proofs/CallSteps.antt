@@ -8,7 +8,7 @@ use Rattle.ata_types.specs.declared.request.Request.{Request}
 use Rattle.block_machine.specs.Ports.{Ports}
 use Rattle.block_machine.specs.State.{Accepted, Pending, Machine}
 use Rattle.block_machine.specs.Steps.{Step, Accept, Issue, Touch, End, Age, Again, Answer, Release, Revoke, Unplug, Replace, Store, Load, MayAccept, after_step, newly_issued, touch, mark_ended, requeued, older}
-use Rattle.block_machine.specs.Left.{after, IsAccept}
+use Rattle.block_machine.specs.Expected.{after, IsAccept}
 use Rattle.block_machine.specs.Events.{AbstractCall, Submit, StoreAt, LoadAt, Service, Tick, Reset, State, Device, RevokeOf, AllMay, IsByDevice, IsByServer, AreStepsOfCall, accepts_of, issues_it, IsIssuedIn}
 use Rattle.block_machine.proofs.Members.{contains_none, contains_here, contains_there, contains_cases, map_in, at_cases, without_in, append_in}
 use Rattle.block_machine.proofs.Keeps.{older_keeps, older_issued}

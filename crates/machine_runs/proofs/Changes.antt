@@ -9,7 +9,7 @@ use Rattle.ata_types.specs.declared.refusal.MemFault.TheVariants as fault
 use Rattle.block_machine.specs.Due.{changes_sectors}
 use Rattle.block_machine.specs.State.{Block, DiskBytes, Memory, Machine, frame_at, sector_of, is_reader, block_written}
 use Rattle.block_machine.specs.Steps.{Step, Touch, Replace, Store, after_step, put_bytes, put_sector, disks_after}
-use Rattle.block_machine.specs.Left.{after, IsLegal, IsInitial}
+use Rattle.block_machine.specs.Expected.{after, IsLegal, IsInitial}
 use Rattle.block_machine.specs.Confined.{MayChangeByte, MayChangeSector}
 use Rattle.block_machine.proofs.Trace.{runs_lives}
 use Rattle.block_machine.proofs.Reading.{open_unlent}
@@ -33,9 +33,9 @@ put_there f g offset n b bytes memory ne = go ((g.0 == f.0) && (leb offset b && 
         (sym (ap (λ (n : ℕ). record { 0 = n }) (eqb-true g.0 f.0 p.0)), leb-true offset b q.0, ltb-true b (offset + n) q.1)
     go false t = absurd (ne (cond-false ((g.0 == f.0) && (leb offset b && ltb b (offset + n))) (bytes (b - offset)) (memory g b) t))
 
-pub law_bytes_change_by : (start : Machine) (h : List Step) (step : Step) (f : Frame) (b : ℕ) → IsInitial start → IsLegal start (step ∷ h)
+pub law_bytes_change_by_touch_or_store : (start : Machine) (h : List Step) (step : Step) (f : Frame) (b : ℕ) → IsInitial start → IsLegal start (step ∷ h)
     → (after start (step ∷ h)).memory f b ≢ (after start h).memory f b → MayChangeByte (after start h) step f b
-law_bytes_change_by start h (Touch e i block) f b s legal ne = by (is_reader e.request.asked.op) refl
+law_bytes_change_by_touch_or_store start h (Touch e i block) f b s legal ne = by (is_reader e.request.asked.op) refl
   where
     by : (t : Bool) → is_reader e.request.asked.op ≡ t → MayChangeByte (after start h) (Touch e i block) f b
     by false t = absurd (ne (ap (λ (x : Memory). x f b)
@@ -48,7 +48,7 @@ law_bytes_change_by start h (Touch e i block) f b s legal ne = by (is_reader e.r
         let room = sound.room e l t in
         let lt = legal.1.1 in
         (reads_only e.request.asked.op t, there.0, ap (after start h).lent (sym there.0) ∙ sound.lent e l (i / 8) (omega (arith, room, lt)), there.1, there.2)
-law_bytes_change_by start h (Store client frame offset bytes) f b s legal ne =
+law_bytes_change_by_touch_or_store start h (Store client frame offset bytes) f b s legal ne =
     let there = put_there frame f offset (length bytes) b (slice_index bytes) (after start h).memory ne in (
       there.0,
       ap (after start h).owner (sym there.0) ∙ owned ((after start h).owner frame) client (legal.1 fault.FrameForeign),
@@ -56,10 +56,10 @@ law_bytes_change_by start h (Store client frame offset bytes) f b s legal ne =
       there.1,
       there.2,
     )
-law_bytes_change_by start h _ f b s legal ne = ne refl
+law_bytes_change_by_touch_or_store start h _ f b s legal ne = ne refl
 
-pub law_sectors_change_by : (m : Machine) (step : Step) (port : Port) (k b : ℕ) → (after_step m step).disks port k b ≢ m.disks port k b → MayChangeSector step port k
-law_sectors_change_by m (Touch e i block) port k b ne = by (changes_sectors e.request.asked.op) refl
+pub law_sectors_change_by_touch_or_plug : (m : Machine) (step : Step) (port : Port) (k b : ℕ) → (after_step m step).disks port k b ≢ m.disks port k b → MayChangeSector step port k
+law_sectors_change_by_touch_or_plug m (Touch e i block) port k b ne = by (changes_sectors e.request.asked.op) refl
   where
     by : (t : Bool) → changes_sectors e.request.asked.op ≡ t → MayChangeSector (Touch e i block) port k
     by false t = absurd (ne (ap (λ (d : Port → DiskBytes). d port k b)
@@ -75,9 +75,9 @@ law_sectors_change_by m (Touch e i block) port k b ne = by (changes_sectors e.re
             (t, sym (ap (λ (n : ℕ). record { 0 = n }) (eqb-true port.0 e.request.port.0 p.0)), sym (eqb-true k (sector_of e.request i) p.1))
         go false u = absurd (ne (ap (λ (d : Port → DiskBytes). d port k b) put
             ∙ ap (λ (x : Block). x b) (cond-false ((port.0 == e.request.port.0) && (k == sector_of e.request i)) (block_written e.request.asked.op e.request.held i) (m.disks port k) u)))
-law_sectors_change_by m (Replace p id size disk) port k b ne = go (port.0 == p.0) refl
+law_sectors_change_by_touch_or_plug m (Replace p id size disk) port k b ne = go (port.0 == p.0) refl
   where
     go : (u : Bool) → (port.0 == p.0) ≡ u → p ≡ port
     go true u = sym (ap (λ (n : ℕ). record { 0 = n }) (eqb-true port.0 p.0 u))
     go false u = absurd (ne (ap (λ (d : DiskBytes). d k b) (cond-false (port.0 == p.0) disk (m.disks port) u)))
-law_sectors_change_by m _ port k b ne = ne refl
+law_sectors_change_by_touch_or_plug m _ port k b ne = ne refl

@@ -9,10 +9,10 @@ use Rattle.ata_types.specs.declared.request.Outcome.{Outcome}
 use Rattle.ata_types.specs.declared.request.Outcome.TheVariants.{Revoked}
 use Rattle.ata_types.specs.declared.request.RequestId.{RequestId}
 use Rattle.block_machine.specs.Ports.{Evidence, Ports}
-use Rattle.block_machine.specs.Rules.{HasRow, IsUnder, is_under}
+use Rattle.block_machine.specs.Rules.{HasRow, IsSameGrantName, is_same_grant_name}
 use Rattle.block_machine.specs.State.{Accepted, Pending, Machine}
 use Rattle.block_machine.specs.Steps.{Step, Accept, Issue, Touch, End, Age, Again, Answer, Revoke, HasGrant, May, MayStillMove, after_step, at, newly_issued, touch, mark_ended, requeued, older, newly_accepted}
-use Rattle.block_machine.specs.Left.{after}
+use Rattle.block_machine.specs.Expected.{after}
 use Rattle.block_machine.specs.Events.{AbstractState, AbstractCall, RevokeOf, CallResult, WasRevoked, CallRecord, AllMay, AreStepsOfCall, IsAnswered, IsByDevice, IsRun, IsByServer, abstract_after_all, steps_of}
 use Rattle.block_machine.proofs.Accepts.{law_accepted_is_granted}
 use Rattle.block_machine.proofs.EventLemmas.{moment_is, run_legal, run_starts}
@@ -174,16 +174,16 @@ granted_event : {D : Type 0} (ask : AbstractCall D) (said : CallResult) (old : A
 granted_event {D} (RevokeOf client number) (WasRevoked (Some replies)) old evidence steps ports a s may b g e h waits =
     let here = waited D client number ports old.machine s steps may b e h waits in
     let had = g e here waits in
-    by had (is_under client number had.0.client had.0.number) refl here
+    by had (is_same_grant_name client number had.0.client had.0.number) refl here
   where
-    by : (had : HasGrant old.machine e) (under : Bool) → is_under client number had.0.client had.0.number ≡ under → Contains old.machine.book e → HasGrant (after old.machine steps) e
+    by : (had : HasGrant old.machine e) (under : Bool) → is_same_grant_name client number had.0.client had.0.number ≡ under → Contains old.machine.book e → HasGrant (after old.machine steps) e
     by had true is here =
         let parts = and_parts (had.0.client.0 == client.0) (had.0.number == number) is in
         let its_client : had.0.client ≡ client = ap (λ (n : ℕ). record { 0 = n }) (eqb-true had.0.client.0 client.0 parts.0) in
-        let under : IsUnder client number e.request.asked.client e.request.asked.grant = (sym had.2.0 ∙ its_client, sym had.2.1 ∙ eqb-true had.0.number number parts.1) in
+        let under : IsSameGrantName client number e.request.asked.client e.request.asked.grant = (sym had.2.0 ∙ its_client, sym had.2.1 ∙ eqb-true had.0.number number parts.1) in
         absurd (answered_gone D client number ports old.machine s steps may b e e Revoked ((a.told e).1 (here, waits, under)) h waits refl)
     by had false is here =
-        (had.0, subst (λ (rows : List GrantRow). Contains rows had.0) (sym a.rows) (in_filter (λ (row : GrantRow). not (is_under client number row.client row.number)) old.machine.rows had.0 had.1 (ap not is)), had.2)
+        (had.0, subst (λ (rows : List GrantRow). Contains rows had.0) (sym a.rows) (in_filter (λ (row : GrantRow). not (is_same_grant_name client number row.client row.number)) old.machine.rows had.0 had.1 (ap not is)), had.2)
 granted_event (RevokeOf client number) (WasRevoked None) old evidence steps ports a s may b g e h waits = subst (λ (list : List Step). IsGrantedAll (after old.machine list)) (sym a.1) g e h waits
 granted_event (RevokeOf client number) said old evidence steps ports a s may b g e h waits = absurd a
 granted_event ask said old evidence steps ports a s may b g e h waits = granted_after old.machine steps s may (all_leave ask ports steps refl b) g e h waits

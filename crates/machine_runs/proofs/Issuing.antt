@@ -11,9 +11,9 @@ use Rattle.ata_types.specs.declared.request.Outcome.TheVariants.{Aborted, Ok}
 use Rattle.block_machine.specs.Ports.{Ports, Evidence}
 use Rattle.block_machine.specs.State.{Accepted, Pending, Machine}
 use Rattle.block_machine.specs.Steps.{Step, Accept, Issue, Touch, End, Age, Again, Answer, Release, Revoke, Unplug, Replace, Store, Load, May, after_step, at, newly_issued, touch, mark_ended, requeued, older}
-use Rattle.block_machine.specs.Left.{after, IsLegal, IsInitial}
+use Rattle.block_machine.specs.Expected.{after, IsLegal, IsInitial}
 use Rattle.block_machine.specs.Confined.{WithinLimits}
-use Rattle.block_machine.specs.Events.{AbstractState, CallRecord, AllLawful, EveryReadHolds, IsLawful, IsRun, issues_it, abstract_after_all, steps_of}
+use Rattle.block_machine.specs.Events.{AbstractState, CallRecord, AllAnswersLawful, EveryReadHolds, IsLawfulAnswer, IsRun, issues_it, abstract_after_all, steps_of}
 use Rattle.block_machine.proofs.Members.{contains_none, contains_here, contains_there, contains_cases, map_in, into_map, at_cases, without_in, append_in}
 use Rattle.block_machine.proofs.Keeps.{older_keeps, older_issued}
 use Rattle.block_machine.proofs.Limits.{law_limits_hold, older_issues}
@@ -28,15 +28,15 @@ use Rattle.machine_runs.proofs.Touching.{law_ok_was_touched, law_ok_was_ended}
 -- Each answer is lawful.
 
 abbrev IsLawfulStep : AbstractState → Evidence → Ports → Step → Type 0
-IsLawfulStep old evidence ports (Answer e o) = IsLawful old evidence ports e o
+IsLawfulStep old evidence ports (Answer e o) = IsLawfulAnswer old evidence ports e o
 IsLawfulStep old evidence ports step = Unit {0}
 
-lawful_first : (old : AbstractState) (evidence : Evidence) (ports : Ports) (step : Step) (before : List Step) → AllLawful old evidence ports (step ∷ before) → AllLawful old evidence ports before × IsLawfulStep old evidence ports step
+lawful_first : (old : AbstractState) (evidence : Evidence) (ports : Ports) (step : Step) (before : List Step) → AllAnswersLawful old evidence ports (step ∷ before) → AllAnswersLawful old evidence ports before × IsLawfulStep old evidence ports step
 lawful_first old evidence ports (Answer e o) before l = l
 lawful_first old evidence ports (Again e) before l = (l.0, tt)
 lawful_first old evidence ports _ before l = (l, tt)
 
-lawful_in : (old : AbstractState) (evidence : Evidence) (ports : Ports) (steps : List Step) → AllLawful old evidence ports steps → (step : Step) → Contains steps step → IsLawfulStep old evidence ports step
+lawful_in : (old : AbstractState) (evidence : Evidence) (ports : Ports) (steps : List Step) → AllAnswersLawful old evidence ports steps → (step : Step) → Contains steps step → IsLawfulStep old evidence ports step
 lawful_in old evidence ports [] l step h = absurd (contains_none step h)
 lawful_in old evidence ports (x ∷ before) l step h =
     let first = lawful_first old evidence ports x before l in
@@ -46,7 +46,7 @@ lawful_in old evidence ports (x ∷ before) l step h =
     (contains_cases x before step h)
 
 pub law_answers_are_lawful : {D : Type 0} (first : AbstractState) (past : List (CallRecord D)) (event : CallRecord D) (e : Pending) (outcome : Outcome) → IsRun first (event ∷ past) → Contains event.steps (Answer e outcome)
-    → IsLawful (abstract_after_all first past) event.evidence event.ports e outcome
+    → IsLawfulAnswer (abstract_after_all first past) event.evidence event.ports e outcome
 law_answers_are_lawful first past event e outcome r h = lawful_in (abstract_after_all first past) event.evidence event.ports event.steps r.1.lawful (Answer e outcome) h
 
 -- How often an id was issued: not yet where it is still to come, as often as its unanswered request says, and four times at most.

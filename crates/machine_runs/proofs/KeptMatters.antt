@@ -11,15 +11,15 @@ use Rattle.ata_types.specs.declared.request.Op.TheVariants.{Read, Write, Trim, F
 use Rattle.ata_types.specs.declared.request.Outcome.TheVariants as outcome
 use Rattle.ata_types.specs.declared.refusal.Refusal.TheVariants as refused
 use Rattle.ata_types.specs.declared.grant.GrantRow.{GrantRow}
-use Rattle.ata_types.specs.Grant.{Allows}
+use Rattle.ata_types.specs.SectorGrants.{AllowsOp}
 use Rattle.block_machine.specs.declared.due.QueueMode.{QueueMode}
 use Rattle.block_machine.specs.Rules.{IsAllowedCount, frame_count_for}
 use Rattle.block_machine.specs.Refusals.{Situation}
 use Rattle.block_machine.specs.Due.{is_flush, changes_sectors}
 use Rattle.block_machine.specs.State.{Block, Memory, Accepted, Pending, Machine, block_of, is_reader, block_written}
 use Rattle.block_machine.specs.Steps.{Step, Accept, Issue, Touch, End, Answer, newly_accepted, newly_issued, touch, mark_ended, unanswered_count, MayAccept}
-use Rattle.block_machine.specs.Left.{after, HoldsExpected, IsExpectedBlock, HasTouched, Wrote}
-use Rattle.machine_runs.specs.Worked.{AllMayWithoutKeptRule, ReadsWrongWithoutKeptRule}
+use Rattle.block_machine.specs.Expected.{after, HoldsExpected, IsExpectedBlock, HasTouched, Wrote}
+use Rattle.machine_runs.specs.ExampleRuns.{AllMayWithoutKeptRule, ReadsWrongWithoutKeptRule}
 use Rattle.block_machine.proofs.Setting.{client, port, frame, row, two_rows, request, empty, its_row, is_trim, filled_starts, IsFit, acceptable}
 
 -- each frame is filled with its number
@@ -61,7 +61,7 @@ abbrev meets : Machine → Situation
 meets m = record { rows = m.rows; owner = m.owner; lent = m.lent; state = λ p. Ready; sectors = λ p. 200; trims = λ p. true; unanswered = unanswered_count m.book; next = m.next }
 
 fit : (m : Machine) (n : ℕ) (op : Op) → m.rows ≡ two_rows → m.owner (frame (100 + n)) ≡ Some client → m.lent (frame (100 + n)) ≡ None → unanswered_count m.book client ≡ 0 → m.next < 2 ^ 64
-    → op ≢ Trim → op ≢ Flush → frame_count_for op 1 ≡ 1 → IsAllowedCount op 1 → Allows (row 0).rights op → IsFit 0 (meets m) (one_sector n op).asked
+    → op ≢ Trim → op ≢ Flush → frame_count_for op 1 ≡ 1 → IsAllowedCount op 1 → AllowsOp (row 0).rights op → IsFit 0 (meets m) (one_sector n op).asked
 fit m n op same_rows own free none ids no_trim no_flush frames count allowed = record {
   rows = same_rows;
   mine = (0, omega arith, refl);

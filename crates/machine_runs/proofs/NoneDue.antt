@@ -9,10 +9,10 @@ use Rattle.ata_types.specs.declared.request.RequestId.{RequestId}
 use Rattle.block_machine.specs.declared.due.QueueMode.{QueueMode}
 use Rattle.block_machine.specs.declared.due.Unanswered.{Unanswered}
 use Rattle.block_machine.specs.Due.{NoneDue, ahead, waits_for, is_unblocked, is_earlier_on_port, is_plain, issued_count}
-use Rattle.block_machine.specs.Ports.{Ports, Evidence, PortsWellFormed, SamePorts, IsStuck}
+use Rattle.block_machine.specs.Ports.{Ports, Evidence, PortsWellFormed, SamePorts, IsAfterStuckReset}
 use Rattle.block_machine.specs.State.{Pending, Machine, unanswered}
 use Rattle.block_machine.specs.Steps.{Step, Accept, Issue, Touch, End, Age, Again, Answer, Store, Load, after_step, at, touch, mark_ended}
-use Rattle.block_machine.specs.Left.{after}
+use Rattle.block_machine.specs.Expected.{after}
 use Rattle.block_machine.specs.Events.{AbstractState, AbstractCall, Submit, StoreAt, LoadAt, Service, Tick, Reset, RevokeOf, State, Device, CallResult, Submitted, Stored, Loaded, Served, WasReset, WasRevoked, Shown, Stepped, CallRecord, NoneDueWhereReady, IsAnswered, IsByDevice, IsByServer, AreStepsOfCall, IsRun, abstract_after_all}
 use Rattle.block_machine.proofs.Members.{contains_none, contains_here, contains_there, at_cases, map_in, into_map}
 use Rattle.machine_runs.proofs.RunLaws.{is_ready, run_fit}
@@ -80,7 +80,7 @@ issued_still old new book same all port ready =
     (subst (λ (us : List Unanswered). NoneDue (old.ports.mode port) us port) (sym book) (all port (sym (same port).1 ∙ ready)))
 
 -- and where each served port is dead, none is ready
-issued_stuck : (old new : AbstractState) (evidence : Evidence) → PortsWellFormed new.ports → ((port : Port) → IsStuck old.ports evidence new.ports port) → NoneDueWhereReady new
+issued_stuck : (old new : AbstractState) (evidence : Evidence) → PortsWellFormed new.ports → ((port : Port) → IsAfterStuckReset old.ports evidence new.ports port) → NoneDueWhereReady new
 issued_stuck old new evidence fit stuck port ready = absurd (⊎_elim
     (λ served. false≢true (ap is_ready (sym ((stuck port).1 served).0) ∙ ap is_ready ready))
     (λ other. false≢true (ap is_ready (sym (fit.absent port ((stuck port).0 ∙ other))) ∙ ap is_ready ready))
@@ -111,9 +111,9 @@ issued_event (RevokeOf c n) (WasRevoked None) old evidence steps ports a b fit a
     issued_still old (left old steps ports) (ap (λ (xs : List Step). map unanswered (after old.machine xs).book) a.1) a.2 all
 issued_event ask said old evidence steps ports a b fit all = absurd a
 
-pub law_none_due_between : {D : Type 0} (first : AbstractState) (run : List (CallRecord D)) → IsRun first run → NoneDueWhereReady (abstract_after_all first run)
-law_none_due_between first [] r = λ port ready x here due. contains_none x (subst (λ (es : List Pending). Contains (map unanswered es) x) r.0.book due.here)
-law_none_due_between first (event ∷ past) r = issued_event event.ask event.said (abstract_after_all first past) event.evidence event.steps event.ports r.1.answered r.1.belong r.1.fit (law_none_due_between first past r.0)
+pub law_none_due_between_calls : {D : Type 0} (first : AbstractState) (run : List (CallRecord D)) → IsRun first run → NoneDueWhereReady (abstract_after_all first run)
+law_none_due_between_calls first [] r = λ port ready x here due. contains_none x (subst (λ (es : List Pending). Contains (map unanswered es) x) r.0.book due.here)
+law_none_due_between_calls first (event ∷ past) r = issued_event event.ask event.said (abstract_after_all first past) event.evidence event.steps event.ports r.1.answered r.1.belong r.1.fit (law_none_due_between_calls first past r.0)
 
 -- The only unanswered request waits for nothing: so where its port is ready, it is issued.
 
@@ -184,7 +184,7 @@ lone_is_issued first run e r h ready alone = true_from_ne_false e.issued due
         let free_there : issued_count (map unanswered book) e.request.port ≡ 0 = none_counted (λ (other : Unanswered). other.port.0 == e.request.port.0 && other.issued) (map unanswered book)
         (none _ (not_issued (e.request.port.0 == e.request.port.0) e.issued waits)) in
         let usable = ((run_fit first run r).slots e.request.port ready).0 in
-        law_none_due_between first run r e.request.port ready (unanswered e) refl (record {
+        law_none_due_between_calls first run r e.request.port ready (unanswered e) refl (record {
           here = into_map unanswered book e h;
           clear = clear_from e.issued (list_any (waits_for mode (unanswered e)) (map unanswered book)) waits alone_there;
           slot = λ queued. omega (arith, first_there, free_there, usable);

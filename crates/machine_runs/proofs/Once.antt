@@ -10,15 +10,15 @@ use Rattle.ata_types.specs.declared.request.Reply.{Reply}
 use Rattle.block_machine.specs.Ports.{Ports, Evidence}
 use Rattle.block_machine.specs.State.{Accepted, Pending, Machine}
 use Rattle.block_machine.specs.Steps.{Step, Accept, Answer, May, after_step}
-use Rattle.block_machine.specs.Left.{after, IsLegal, IsInitial}
+use Rattle.block_machine.specs.Expected.{after, IsLegal, IsInitial}
 use Rattle.block_machine.specs.Confined.{WasAccepted}
-use Rattle.block_machine.specs.Events.{AbstractState, AbstractCall, Submit, Service, Tick, Reset, RevokeOf, CallResult, Submitted, Served, WasReset, WasRevoked, CallRecord, AllMay, AreStepsOfCall, RepliesMatch, IsAnswered, IsRun, accepts_it, answers_it, accepts_of, answers_of, reply_of, replies_of, all_replies, gives_id, WasGiven, abstract_after_all, steps_of}
+use Rattle.block_machine.specs.Events.{AbstractState, AbstractCall, Submit, Service, Tick, Reset, RevokeOf, CallResult, Submitted, Served, WasReset, WasRevoked, CallRecord, AllMay, AreStepsOfCall, RepliesMatch, IsAnswered, IsRun, accepts_it, answers_it, accepts_of, answers_of, reply_of, replies_of, all_replies, gives_id, WasGivenId, abstract_after_all, steps_of}
 use Rattle.block_machine.proofs.Members.{contains_none, contains_here, contains_there, contains_cases, map_in, without_in, append_in}
 use Rattle.block_machine.proofs.Sound.{Sound}
 use Rattle.block_machine.proofs.Runs.{traced, nobody}
 use Rattle.block_machine.proofs.Accepts.{living_accepted}
 use Rattle.block_machine.proofs.Counting.{count_cons, count_append, count_map}
-use Rattle.machine_runs.specs.Told.{CameFrom, WasAsked}
+use Rattle.machine_runs.specs.Told.{WasUnansweredBefore, WasAsked}
 use Rattle.machine_runs.proofs.CallSteps.{Came, came, Since, IsAccepted, since, is_submit, none_accepted, all_fit, accepted_asked}
 use Rattle.block_machine.proofs.EventLemmas.{run_starts, run_legal, step_of_run}
 
@@ -179,8 +179,8 @@ run_gives {D} first (event ∷ past) id r =
     let now = gives_accepted id event.ask event.said (abstract_after_all first past) event.evidence event.steps _ r.1.answered in
     omega (arith, rest, now, count_cons (λ (x : CallRecord D). gives_id id x.said) event past, count_append (accepts_it id) event.steps (steps_of past))
 
-pub law_given_once : {D : Type 0} (first : AbstractState) (run : List (CallRecord D)) (id : RequestId) → IsRun first run → count_by (λ (event : CallRecord D). gives_id id event.said) run ≤ 1
-law_given_once first run id r = let few = run_gives first run id r in let once = law_accepted_once first run id r in omega (arith, few, once)
+pub law_ids_are_given_once : {D : Type 0} (first : AbstractState) (run : List (CallRecord D)) (id : RequestId) → IsRun first run → count_by (λ (event : CallRecord D). gives_id id event.said) run ≤ 1
+law_ids_are_given_once first run id r = let few = run_gives first run id r in let once = law_accepted_once first run id r in omega (arith, few, once)
 
 -- Each unanswered request is one that a submit asked for.
 
@@ -196,7 +196,7 @@ accepts_asked r ask said old evidence steps ports new b a h = absurd (contains_n
 
 -- it was there before its last call, or that asked for it
 pub came_from : {D : Type 0} (first : AbstractState) (past : List (CallRecord D)) (event : CallRecord D) (e : Pending) → IsRun first (event ∷ past) → Contains (abstract_after_all first (event ∷ past)).machine.book e
-    → CameFrom (abstract_after_all first past).machine event.steps e ⊎ ((event.ask ≡ Submit e.request.asked) × (event.said ≡ Submitted (Ok e.request.id)))
+    → WasUnansweredBefore (abstract_after_all first past).machine event.steps e ⊎ ((event.ask ≡ Submit e.request.asked) × (event.said ≡ Submitted (Ok e.request.id)))
 came_from first past event e r h = ⊎_elim
     (λ (s : Since (abstract_after_all first past).machine event.steps e). inl (record {
       before = s.old;
@@ -211,7 +211,7 @@ came_from first past event e r h = ⊎_elim
 was_asked : {D : Type 0} (first : AbstractState) (run : List (CallRecord D)) (e : Pending) → IsRun first run → Contains (abstract_after_all first run).machine.book e → WasAsked e.request run
 was_asked first [] e r h = absurd (nobody first.machine r.0 e (inl h))
 was_asked first (event ∷ past) e r h = ⊎_elim
-    (λ (c : CameFrom (abstract_after_all first past).machine event.steps e). inr
+    (λ (c : WasUnansweredBefore (abstract_after_all first past).machine event.steps e). inr
     (subst (λ (x : Accepted). WasAsked x past) c.same (was_asked first past c.before r.0 c.here)))
     (λ asked. inl asked)
     (came_from first past event e r h)
@@ -232,7 +232,7 @@ law_accepted_was_asked first (event ∷ past) r run w = ⊎_elim
     (accepted_in first.machine event.steps (steps_of past) r w)
 
 -- so a submit of its client gave its id
-asked_given : {D : Type 0} (r : Accepted) (run : List (CallRecord D)) → WasAsked r run → WasGiven r.id r.asked.client run
+asked_given : {D : Type 0} (r : Accepted) (run : List (CallRecord D)) → WasAsked r run → WasGivenId r.id r.asked.client run
 asked_given r [] w = w
 asked_given r (event ∷ past) (inl w) = inl (r.asked, w.0, w.1, refl)
 asked_given r (event ∷ past) (inr w) = inr (asked_given r past w)
@@ -282,7 +282,7 @@ law_replied_was_asked first past event reply r h = ⊎_elim
     (told_or_none event.ask event.said (abstract_after_all first past) event.evidence event.steps _ r.1.answered)
 
 pub law_replied_was_given : {D : Type 0} (first : AbstractState) (past : List (CallRecord D)) (event : CallRecord D) (reply : Reply) → IsRun first (event ∷ past) → Contains (replies_of event.said) reply
-    → WasGiven reply.id reply.client past
+    → WasGivenId reply.id reply.client past
 law_replied_was_given first past event reply r h =
     let told = law_replied_was_asked first past event reply r h in
-    subst (λ (c : ClientId). WasGiven reply.id c past) told.3 (subst (λ (id : RequestId). WasGiven id told.0.request.asked.client past) told.2 (asked_given told.0.request past told.4))
+    subst (λ (c : ClientId). WasGivenId reply.id c past) told.3 (subst (λ (id : RequestId). WasGivenId id told.0.request.asked.client past) told.2 (asked_given told.0.request past told.4))

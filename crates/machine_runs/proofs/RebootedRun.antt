@@ -9,7 +9,7 @@ use Rattle.block_machine.specs.Ports.{MayBecome}
 use Rattle.block_machine.specs.State.{Pending, Machine, unanswered}
 use Rattle.block_machine.specs.Steps.{Issue, Again, Answer, Release, newly_accepted, newly_issued, requeued}
 use Rattle.block_machine.specs.Events.{AbstractState, Reset, WasReset, CallRecord, Happens, IsIssuedIn, reply_of, abstract_after_all, abstract_after}
-use Rattle.machine_runs.specs.Worked.{GoesAgainInResets}
+use Rattle.machine_runs.specs.ExampleRuns.{GoesAgainInResets}
 use Rattle.block_machine.proofs.Setting.{port, empty_starts, two_rows, granted}
 use Rattle.machine_runs.proofs.Scene.{mode, ports, first, one_issued, one_told, none_told, none_unplugged, finds_none, emptied_of, only_one, of_two, ports_fit, none_dead, row_zero}
 use Rattle.machine_runs.proofs.WaitingRun.{write, read, run2, happens1, happens2, none_due}

@@ -10,7 +10,7 @@ use Rattle.block_machine.specs.Ports.{Evidence, SamePorts}
 use Rattle.block_machine.specs.State.{Pending, unanswered}
 use Rattle.block_machine.specs.Steps.{Step, Issue, Age, Again, Answer, Release, newly_accepted, newly_issued, requeued}
 use Rattle.block_machine.specs.Events.{AbstractState, Service, Tick, Reset, Served, WasReset, CallRecord, TellsDead, AgesOnce, HasTimedOut, IsIssuedIn, RestartsTimedOut, Happens, is_age, reply_of, abstract_after_all}
-use Rattle.machine_runs.specs.Worked.{QuarantineEndsWithReset}
+use Rattle.machine_runs.specs.ExampleRuns.{QuarantineEndsWithReset}
 use Rattle.block_machine.proofs.Members.{contains_none, contains_here, contains_cases}
 use Rattle.block_machine.proofs.Setting.{port, frame, empty_starts, granted}
 use Rattle.machine_runs.proofs.Scene.{none, mode, ports, ports_in, at_port, first, call, at_here, is_ready, is_dead, ready_here, none_dead, emptied_one, one_issued, none_there, one_told, none_told, none_ended, none_unplugged, finds_none, ready_port, restarts_here, only_one, ports_fit, row_zero}

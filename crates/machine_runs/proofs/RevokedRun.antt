@@ -5,7 +5,7 @@ use Rattle.ata_types.specs.declared.PortState.TheVariants.{Ready}
 use Rattle.ata_types.specs.declared.grant.GrantRow.{GrantRow}
 use Rattle.ata_types.specs.declared.request.Outcome.TheVariants as outcome
 use Rattle.ata_types.specs.declared.request.Reply.{Reply}
-use Rattle.block_machine.specs.Rules.{HasRow, IsUnder}
+use Rattle.block_machine.specs.Rules.{HasRow, IsSameGrantName}
 use Rattle.block_machine.specs.State.{Pending, frame_at, unanswered}
 use Rattle.block_machine.specs.Steps.{Step, Touch, End, Answer, Revoke, newly_accepted, newly_issued, touch}
 use Rattle.block_machine.specs.Events.{RevokeOf, Service, Served, WasRevoked, CallRecord, Happens, reply_of, abstract_after_all}
@@ -60,7 +60,7 @@ happens3 = record {
   };
 }
   where
-    waiting_told : (e : Pending) → Contains (abstract_after_all first run2).machine.book e → e.issued ≡ false → IsUnder client 0 e.request.asked.client e.request.asked.grant → Contains event3.steps (Answer e outcome.Revoked)
+    waiting_told : (e : Pending) → Contains (abstract_after_all first run2).machine.book e → e.issued ≡ false → IsSameGrantName client 0 e.request.asked.client e.request.asked.grant → Contains event3.steps (Answer e outcome.Revoked)
     waiting_told e h waits under = ⊎_elim
         (λ (same : e ≡ newly_issued (newly_accepted write)). absurd (false≢true (sym waits ∙ ap (λ (x : Pending). x.issued) same)))
         (λ i. ⊎_elim
@@ -69,13 +69,13 @@ happens3 = record {
         (contains_cases (newly_accepted read) [] e i))
         (contains_cases (newly_issued (newly_accepted write)) (newly_accepted read ∷ []) e h)
 
-    told : (e : Pending) → Contains event3.steps (Answer e outcome.Revoked) → Contains (abstract_after_all first run2).machine.book e × (e.issued ≡ false) × IsUnder client 0 e.request.asked.client e.request.asked.grant
+    told : (e : Pending) → Contains event3.steps (Answer e outcome.Revoked) → Contains (abstract_after_all first run2).machine.book e × (e.issued ≡ false) × IsSameGrantName client 0 e.request.asked.client e.request.asked.grant
     told e h = ⊎_elim
         (λ (same : Answer e outcome.Revoked ≡ Answer (newly_accepted read) outcome.Revoked).
         let its : e ≡ newly_accepted read = ap told_of same in (
           contains_there (newly_issued (newly_accepted write)) (newly_accepted read ∷ []) e (contains_here (newly_accepted read) [] e its),
           ap (λ (x : Pending). x.issued) its,
-          subst (λ (x : Pending). IsUnder client 0 x.request.asked.client x.request.asked.grant) (sym its) (refl, refl),
+          subst (λ (x : Pending). IsSameGrantName client 0 x.request.asked.client x.request.asked.grant) (sym its) (refl, refl),
         ))
         (λ i. ⊎_elim
         (λ (same : Answer e outcome.Revoked ≡ Revoke client 0). let no : ⊥ = cc in absurd no)

@@ -13,11 +13,11 @@ use Rattle.ata_types.specs.declared.refusal.Refusal.TheVariants as refused
 use Rattle.ata_types.specs.declared.grant.GrantRow.{GrantRow}
 use Rattle.block_machine.specs.Rules.{IsNamed}
 use Rattle.block_machine.specs.Refusals.{IsAcceptable}
-use Rattle.block_machine.specs.Ports.{Ports, Evidence, MayBecome, SamePorts, PortsWellFormed, IsServiced, IsStuck}
+use Rattle.block_machine.specs.Ports.{Ports, Evidence, MayBecome, SamePorts, PortsWellFormed, IsServiced, IsAfterStuckReset}
 use Rattle.block_machine.specs.State.{Accepted, Pending, Machine}
 use Rattle.block_machine.specs.Steps.{Step, Issue, Age, Touch, End, Again, Answer, Release, MayAccept, touch, mark_ended}
-use Rattle.block_machine.specs.Left.{after}
-use Rattle.block_machine.specs.Events.{AbstractState, AbstractCall, AllMay, AreStepsOfCall, EmptyUnlessReady, Submit, StoreAt, LoadAt, Service, Tick, Reset, State, Device, RevokeOf, CallResult, Submitted, Stored, Loaded, Served, WasReset, WasRevoked, Shown, Stepped, CallRecord, IsAnswered, Happens, AllLawful, AgesOnce, RestartsTimedOut, ReleasesOnce, IssuesLast, IsRun, IsStillStuck, StaysStuck, accepts_of, is_age, is_release, issues_it, handles, abstract_after_all, situation_of, abstract_after}
+use Rattle.block_machine.specs.Expected.{after}
+use Rattle.block_machine.specs.Events.{AbstractState, AbstractCall, AllMay, AreStepsOfCall, EmptyUnlessReady, Submit, StoreAt, LoadAt, Service, Tick, Reset, State, Device, RevokeOf, CallResult, Submitted, Stored, Loaded, Served, WasReset, WasRevoked, Shown, Stepped, CallRecord, IsAnswered, Happens, AllAnswersLawful, AgesOnce, RestartsTimedOut, ReleasesOnce, IssuesLast, IsRun, IsStillStuck, StaysStuck, accepts_of, is_age, is_release, issues_it, handles, abstract_after_all, situation_of, abstract_after}
 use Rattle.block_machine.proofs.Members.{contains_none, contains_cases, map_in}
 use Rattle.block_machine.proofs.Keeps.{at_keeps}
 use Rattle.block_machine.specs.Confined.{IsGranted}
@@ -59,7 +59,7 @@ data Kind {D : Type 0} (ask : AbstractCall D) (said : CallResult) (old : Abstrac
   Ticks : is_reset ask ≡ false → AgesOnce old.ports steps → RestartsTimedOut old evidence steps new → ((port : Port) → old.ports.state port ≡ Ready → EmptyUnlessReady new port)
       → (was → StaysStuck ask said was) → Kind ask said old evidence steps new was
   Resets : is_tick ask ≡ false → ReleasesOnce steps → ((port : Port) → EmptyUnlessReady new port × MayBecome old.ports evidence new.ports port) → Kind ask said old evidence steps new was
-  Sticks : is_tick ask ≡ false → ((port : Port) → IsStuck old.ports evidence new.ports port) → StaysStuck ask said was → Kind ask said old evidence steps new was
+  Sticks : is_tick ask ≡ false → ((port : Port) → IsAfterStuckReset old.ports evidence new.ports port) → StaysStuck ask said was → Kind ask said old evidence steps new was
 
 kind : {D : Type 0} (ask : AbstractCall D) (said : CallResult) (old : AbstractState) (evidence : Evidence) (steps : List Step) (new : AbstractState) (was : Type 0) → IsAnswered ask said old evidence steps new → Kind ask said old evidence steps new was
 kind (Submit r) (Submitted (Ok id)) old evidence steps new was a = Leaves refl refl a.2 (λ w. w)
@@ -183,13 +183,13 @@ law_unanswered_where_ready first (event ∷ past) e r h = ⊎_elim
 
 -- Its sectors are sectors of the disk that the port showed.
 
-pub law_unanswered_on_disk : {D : Type 0} (first : AbstractState) (run : List (CallRecord D)) (e : Pending) → IsRun first run → Contains (abstract_after_all first run).machine.book e → e.request.asked.op ≢ Flush
+pub law_unanswered_sectors_are_on_disk : {D : Type 0} (first : AbstractState) (run : List (CallRecord D)) (e : Pending) → IsRun first run → Contains (abstract_after_all first run).machine.book e → e.request.asked.op ≢ Flush
     → e.request.asked.first.0 + e.request.asked.count ≤ (abstract_after_all first run).ports.sectors e.request.port
-law_unanswered_on_disk first [] e r h op = absurd (nobody first.machine r.0 e (inl h))
-law_unanswered_on_disk first (event ∷ past) e r h op = ⊎_elim
+law_unanswered_sectors_are_on_disk first [] e r h op = absurd (nobody first.machine r.0 e (inl h))
+law_unanswered_sectors_are_on_disk first (event ∷ past) e r h op = ⊎_elim
     (λ (s : Since (abstract_after_all first past).machine event.steps e).
     let le = subst (λ (x : Accepted). x.asked.first.0 + x.asked.count ≤ (abstract_after_all first past).ports.sectors x.port) s.same
-    (law_unanswered_on_disk first past s.old r.0 s.here (subst (λ (x : Accepted). x.asked.op ≢ Flush) (sym s.same) op)) in
+    (law_unanswered_sectors_are_on_disk first past s.old r.0 s.here (subst (λ (x : Accepted). x.asked.op ≢ Flush) (sym s.same) op)) in
     let same = (r.1.disks e s.old h s.here (ap (λ (x : Accepted). x.id) s.same)).1 in
     omega (arith, le, same))
     (λ (a : IsAccepted event.steps e).
@@ -284,7 +284,7 @@ moved_kept ports m step before e x same quiet (inl o) =
     inl (o.0, o.1, o.2 ∙ sym same, omega (arith, none, zero, count_cons is_release step before))
 moved_kept ports m step before e x same quiet (inr dead) = inr (ap (λ (r : Accepted). ports.state r.port) same ∙ dead)
 
-kept_from : (old : AbstractState) (evidence : Evidence) (ports : Ports) (m : Machine) (steps : List Step) → AllLawful old evidence ports steps → (e : Pending) → Contains (after m steps).kept e
+kept_from : (old : AbstractState) (evidence : Evidence) (ports : Ports) (m : Machine) (steps : List Step) → AllAnswersLawful old evidence ports steps → (e : Pending) → Contains (after m steps).kept e
     → ((o : Pending) × Contains m.kept o × (o.request ≡ e.request) × (count_by is_release steps ≡ 0)) ⊎ (ports.state e.request.port ≡ Dead)
 kept_from old evidence ports m [] l e h = inl (e, h, refl, refl)
 kept_from old evidence ports m (Touch p i block ∷ before) l e h =

@@ -20,7 +20,7 @@ use Rattle.ata_types.specs.declared.refusal.MemFault.TheVariants as fault
 use Rattle.ata_types.specs.declared.grant.GrantRow.{GrantRow}
 use Rattle.block_machine.specs.declared.due.QueueMode.{QueueMode}
 use Rattle.block_machine.specs.declared.due.Unanswered.{Unanswered}
-use Rattle.ata_types.specs.Grant.{Allows}
+use Rattle.ata_types.specs.SectorGrants.{AllowsOp}
 use Rattle.block_machine.specs.Rules.{IsAllowedCount, frame_count_for}
 use Rattle.block_machine.specs.Refusals.{MayAccessFrame}
 use Rattle.block_machine.specs.Due.{NoneDue, is_flush}
@@ -97,7 +97,7 @@ pub row_zero : Contains two_rows (row 0)
 row_zero = contains_here (row 0) (row 1 ∷ []) (row 0) refl
 
 -- a request of one sector is fit there
-pub fit_sector : (p : ℕ) (m : AbstractState) (op : Op) (k n : ℕ) → IsQuiet p m → op ≢ Trim → op ≢ Flush → frame_count_for op 1 ≡ 1 → IsAllowedCount op 1 → Allows (row p).rights op → 100 ≤ k → k < 164
+pub fit_sector : (p : ℕ) (m : AbstractState) (op : Op) (k n : ℕ) → IsQuiet p m → op ≢ Trim → op ≢ Flush → frame_count_for op 1 ≡ 1 → IsAllowedCount op 1 → AllowsOp (row p).rights op → 100 ≤ k → k < 164
     → m.machine.owner (frame n) ≡ Some client → m.machine.lent (frame n) ≡ None → IsFit p (situation_of m) (request p op k 1 (frame n ∷ []))
 fit_sector p m op k n q no_trim no_flush frames count allowed from to own free = record {
   rows = q.rows;

@@ -4,7 +4,7 @@ use Rattle.std.proofs.lemmas.Bool.{or_left, and_parts, cond-false, false_from_ne
 use Rattle.block_machine.specs.Due.{changes_sectors}
 use Rattle.block_machine.specs.State.{Block, Accepted, Pending, Machine, sector_of, block_written}
 use Rattle.block_machine.specs.Steps.{Step, Touch, May, HoldsFrames}
-use Rattle.block_machine.specs.Left.{after, IsLegal, IsInitial, IsTouch, touches, HasTouched, plug_count, disk_number_read, IsLastWritten, IsExpectedBlock}
+use Rattle.block_machine.specs.Expected.{after, IsLegal, IsInitial, IsTouch, touches, HasTouched, plug_count, disk_number_read, IsLastWritten, IsExpectedBlock}
 use Rattle.block_machine.proofs.Trace.{Seen, runs_lives, conflict_at, read_number, last_from}
 use Rattle.block_machine.proofs.Runs.{traced}
 

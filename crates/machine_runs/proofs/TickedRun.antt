@@ -9,7 +9,7 @@ use Rattle.ata_types.specs.declared.request.Outcome.TheVariants as outcome
 use Rattle.block_machine.specs.State.{Pending}
 use Rattle.block_machine.specs.Steps.{Step, Touch, End, Age, Again, Answer, touch, mark_ended}
 use Rattle.block_machine.specs.Events.{Tick, Device, Served, Stepped, CallRecord, HasTimedOut, RestartsTimedOut, Happens, reply_of, abstract_after_all}
-use Rattle.machine_runs.specs.Worked.{IsAnsweredByTick}
+use Rattle.machine_runs.specs.ExampleRuns.{IsAnsweredByTick}
 use Rattle.block_machine.proofs.Members.{contains_none, contains_here, contains_cases}
 use Rattle.block_machine.proofs.Setting.{port, empty_starts}
 use Rattle.machine_runs.proofs.Scene.{first, ports, call, ready_port, none_there, one_told, none_unplugged, finds_none, last_ended, one_touched, restarts_here, ports_fit}

@@ -4,10 +4,10 @@ use Rattle.std.proofs.Common.{◌≡◌, ◌⊎◌, ℕ, ◌<◌, Bool, true, fa
 use Rattle.std.proofs.lemmas.Bool.{or_cases, false≢true}
 use Rattle.std.specs.List.{Contains}
 use Rattle.ata_types.specs.declared.request.Outcome.TheVariants.{Ok}
-use Rattle.block_machine.specs.State.{Accepted, Pending, Machine, sector_of, waiting}
+use Rattle.block_machine.specs.State.{Accepted, Pending, Machine, sector_of, newly_unanswered}
 use Rattle.block_machine.specs.Steps.{Step, Accept, Issue, Touch, End, Age, Again, Answer, Release, Revoke, Unplug, Replace, Store, Load, HoldsFrames, May, MayStillMove, after_step, newly_issued, touch, mark_ended, requeued, newly_accepted}
 use Rattle.block_machine.specs.Due.{conflict}
-use Rattle.block_machine.specs.Left.{after, IsLegal, IsInitial, IsIssue, IsTouch, IsEnd, HasTouchedSinceIssue, HasEndedSinceIssue}
+use Rattle.block_machine.specs.Expected.{after, IsLegal, IsInitial, IsIssue, IsTouch, IsEnd, HasTouchedSinceIssue, HasEndedSinceIssue}
 use Rattle.block_machine.specs.Events.{AbstractState, CallRecord, IsRun, steps_of}
 use Rattle.block_machine.proofs.Members.{map_in, at_cases, without_in, append_in}
 use Rattle.block_machine.proofs.Sound.{Sound}
@@ -147,5 +147,5 @@ law_ok_was_ended first run late early e r split =
 
 -- a request isn't moved while an earlier one that conflicts with it is there
 pub take_turns : (start : Machine) (history : List Step) (earlier later : Pending) → IsInitial start → IsLegal start history → HoldsFrames (after start history) earlier → MayStillMove (after start history) later
-    → earlier.request.id.0 < later.request.id.0 → conflict (waiting earlier.request) (waiting later.request) ≡ true → ⊥
+    → earlier.request.id.0 < later.request.id.0 → conflict (newly_unanswered earlier.request) (newly_unanswered later.request) ≡ true → ⊥
 take_turns start history earlier later starts legal living may before conflicts = (traced start history starts legal).sound.order later earlier may living before conflicts

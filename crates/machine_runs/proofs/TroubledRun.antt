@@ -15,7 +15,7 @@ use Rattle.block_machine.specs.Ports.{Ports, Evidence, PortsWellFormed, SamePort
 use Rattle.block_machine.specs.State.{Accepted, Pending, Machine, unanswered, is_reader}
 use Rattle.block_machine.specs.Steps.{Step, Accept, Issue, Touch, End, Again, Answer, Unplug, newly_accepted, newly_issued, touch, requeued}
 use Rattle.block_machine.specs.Events.{AbstractState, Submit, Service, Device, Submitted, Served, Stepped, CallRecord, Happens, AnswersAllUnplugged, RepliesMatch, IsToldBefore, IsIssuedIn, abstract_after, abstract_after_all, situation_of, steps_of, reply_of, ShowsDisk}
-use Rattle.machine_runs.specs.Worked.{MeetsErrors}
+use Rattle.machine_runs.specs.ExampleRuns.{MeetsErrors}
 use Rattle.block_machine.proofs.Members.{contains_none, contains_here, contains_there, contains_cases, none_of}
 use Rattle.block_machine.proofs.Setting.{on, frame, row, two_rows, empty, empty_starts, acceptable, granted}
 use Rattle.machine_runs.proofs.Scene.{none, mode, id, one_sector, done, is_dead, IsQuiet, row_zero, write_at, fit_read, new, none_waits, none_there, one_told, none_told, one_touched, none_unplugged, is_unfit, is_told_dead, emptied_at, none_ended, last_ended}

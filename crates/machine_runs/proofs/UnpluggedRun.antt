@@ -12,7 +12,7 @@ use Rattle.block_machine.specs.Ports.{Evidence}
 use Rattle.block_machine.specs.State.{Pending, Machine}
 use Rattle.block_machine.specs.Steps.{Step, Age, Again, Answer, Unplug, newly_accepted, older}
 use Rattle.block_machine.specs.Events.{AbstractState, Tick, Device, Served, Stepped, CallRecord, HasTimedOut, RestartsTimedOut, Happens, RepliesMatch, IsToldBefore, reply_of, abstract_after_all, abstract_after}
-use Rattle.machine_runs.specs.Worked.{IsTakenOutBeforeATick}
+use Rattle.machine_runs.specs.ExampleRuns.{IsTakenOutBeforeATick}
 use Rattle.block_machine.proofs.Members.{contains_none, contains_here, contains_cases, none_of}
 use Rattle.block_machine.proofs.Setting.{port, frame, empty_starts}
 use Rattle.machine_runs.proofs.Scene.{first, ports, ports_in, call, none_told, ready_port, restarts_into, shows_none, is_told_dead, emptied_of, of_two, none_ended, none_unplugged, absent_not_ready, absent_not_dead, ports_fit}

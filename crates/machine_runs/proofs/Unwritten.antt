@@ -5,11 +5,11 @@ use Rattle.std.specs.List.{Contains}
 use Rattle.ata_types.specs.declared.request.Op.{Op}
 use Rattle.ata_types.specs.declared.request.Op.TheVariants.{Read, Write, Trim, Flush}
 use Rattle.ata_types.specs.declared.grant.GrantRow.{GrantRow}
-use Rattle.ata_types.specs.Grant.{Allows}
+use Rattle.ata_types.specs.SectorGrants.{AllowsOp}
 use Rattle.block_machine.specs.Due.{changes_sectors}
 use Rattle.block_machine.specs.State.{Block, Accepted, Machine}
 use Rattle.block_machine.specs.Steps.{Step, Touch, May}
-use Rattle.block_machine.specs.Left.{after, IsLegal, IsInitial, IsTouch, HasTouched, IsExpectedBlock, disk_number_read, bytes_when_plugged}
+use Rattle.block_machine.specs.Expected.{after, IsLegal, IsInitial, IsTouch, HasTouched, IsExpectedBlock, disk_number_read, bytes_when_plugged}
 use Rattle.block_machine.specs.Confined.{WasAccepted, GrantsNoWrites}
 use Rattle.block_machine.proofs.Trace.{runs_lives}
 use Rattle.block_machine.proofs.Accepts.{living_accepted}
@@ -27,7 +27,7 @@ toucher_accepted start (step ∷ past) s legal r k n (inl t) = inr (toucher_live
 toucher_accepted start (step ∷ past) s legal r k n (inr t) = inr (toucher_accepted start past s legal.0 r k n t)
 
 -- a row without writes and trims allows no writer
-never_writes : (row : GrantRow) → GrantsNoWrites row → (op : Op) → Allows row.rights op → changes_sectors op ≡ true → ⊥
+never_writes : (row : GrantRow) → GrantsNoWrites row → (op : Op) → AllowsOp row.rights op → changes_sectors op ≡ true → ⊥
 never_writes row none Read may writes = false≢true writes
 never_writes row none Write may writes = false≢true (sym none.0 ∙ may)
 never_writes row none Trim may writes = false≢true (sym none.1 ∙ may)

@@ -10,7 +10,7 @@ use Rattle.block_machine.specs.Due.{NoneDue, is_unblocked}
 use Rattle.block_machine.specs.State.{Block, Accepted, is_reader, unanswered}
 use Rattle.block_machine.specs.Steps.{Accept, Issue, Touch, End, Answer, newly_accepted, newly_issued, touch}
 use Rattle.block_machine.specs.Events.{Submit, Service, Device, Submitted, Served, Stepped, CallRecord, Happens, abstract_after_all, situation_of}
-use Rattle.machine_runs.specs.Worked.{WaitsItsTurn}
+use Rattle.machine_runs.specs.ExampleRuns.{WaitsItsTurn}
 use Rattle.block_machine.proofs.Members.{contains_none, contains_here, contains_there, contains_cases}
 use Rattle.block_machine.proofs.Counting.{issued_not_due}
 use Rattle.block_machine.proofs.Setting.{port, empty_starts, acceptable, granted}

@@ -10,9 +10,9 @@ use Rattle.ata_types.specs.declared.request.Outcome.TheVariants as outcome
 use Rattle.block_machine.specs.Due.{is_flush}
 use Rattle.block_machine.specs.Ports.{Evidence}
 use Rattle.block_machine.specs.State.{Block, DiskBytes, Accepted, block_of, is_reader, unanswered}
-use Rattle.block_machine.specs.Steps.{Step, Accept, Issue, Touch, End, Answer, Unplug, Replace, Store, Load, newly_accepted, newly_issued, touch, mark_ended, HasHeld, SameBytes}
+use Rattle.block_machine.specs.Steps.{Step, Accept, Issue, Touch, End, Answer, Unplug, Replace, Store, Load, newly_accepted, newly_issued, touch, mark_ended, HoldsOrHeldSinceFlush, SameBytes}
 use Rattle.block_machine.specs.Events.{Submit, StoreAt, LoadAt, Service, Device, Submitted, Stored, Loaded, Served, Stepped, CallRecord, Happens, IsRun, abstract_after_all, situation_of, steps_of, ShowsDisk}
-use Rattle.machine_runs.specs.Worked.{FindsFlushedOrLater, MayComeBack, ReadsOneOf}
+use Rattle.machine_runs.specs.ExampleRuns.{FindsFlushedOrLater, MayComeBack, ReadsOneOf}
 use Rattle.block_machine.proofs.Members.{contains_none, contains_here, contains_there, contains_cases}
 use Rattle.block_machine.proofs.Setting.{client, port, frame, request, empty_starts, acceptable, granted}
 use Rattle.machine_runs.proofs.Scene.{none, mode, first, at_port, ports_in, id, call, reply, sector_request, done, served, is_open, IsQuiet, row_zero, fit_write, fit_read, fit_flush, new, one_issued, none_there, one_told, none_told, one_touched, ports_fit, none_dead, none_unplugged, plain_service, ready_port, shows_none, changed_here, absent_not_dead, none_ended}
@@ -355,7 +355,7 @@ runs10 : IsRun first run10
 runs10 = (((((((((((empty_starts, ports_fit Ready refl), happens1), happens2), happens3), happens4), happens5), happens6), happens7), happens8), happens9), happens10)
 
 -- What the sector held since the flush was ended: the bytes of the one write or of the other.
-since_flush : (block : Block) → HasHeld (abstract_after_all first run10).machine port 100 block → SameBytes block (write.held 0) ⊎ SameBytes block (later.held 0)
+since_flush : (block : Block) → HoldsOrHeldSinceFlush (abstract_after_all first run10).machine port 100 block → SameBytes block (write.held 0) ⊎ SameBytes block (later.held 0)
 since_flush block (inl p) = inr p
 since_flush block (inr (old, here, same)) = ⊎_elim
     (λ (p : old ≡ flushed_disk 100). inl (λ b lt. same b lt ∙ ap (λ (x : Block). x b) p))
@@ -417,7 +417,7 @@ finds_the_flushed = record {
 }
   where
     -- the sector that was written since is put aside, and any other is as it was
-    lost : (k : ℕ) (b : Bool) → (k == 100) ≡ b → HasHeld (abstract_after_all first run10).machine port k (flushed_disk k)
+    lost : (k : ℕ) (b : Bool) → (k == 100) ≡ b → HoldsOrHeldSinceFlush (abstract_after_all first run10).machine port k (flushed_disk k)
     lost k true at = inr (flushed_disk k, subst (λ (n : ℕ). Contains ((abstract_after_all first run10).machine.aside port n) (flushed_disk n)) (sym (eqb-true k 100 at)) (contains_here (flushed_disk 100) [] (flushed_disk 100) refl), λ b lb. refl)
     lost k false away = inl (λ b lb. sym (ap (λ (x : Block). x b) (cond-false (k == 100) (later.held 0) (flushed_disk k) away)))
 

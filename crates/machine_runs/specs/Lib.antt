@@ -1,3 +1,3 @@
 pub mod Told
-pub mod Worked
+pub mod ExampleRuns
 pub mod Revoked

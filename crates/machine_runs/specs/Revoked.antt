@@ -4,10 +4,10 @@ use Rattle.ata_types.specs.declared.PortState.TheVariants.{Ready}
 use Rattle.ata_types.specs.declared.request.ClientId.{ClientId}
 use Rattle.ata_types.specs.declared.request.Frame.{Frame}
 use Rattle.ata_types.specs.declared.request.Outcome.TheVariants.{Ok, Revoked}
-use Rattle.block_machine.specs.Rules.{IsUnder}
+use Rattle.block_machine.specs.Rules.{IsSameGrantName}
 use Rattle.block_machine.specs.State.{Pending}
 use Rattle.block_machine.specs.Steps.{Answer, HasGrant}
-use Rattle.block_machine.specs.Left.{AllStepsFaithful}
+use Rattle.block_machine.specs.Expected.{AllStepsFaithful}
 use Rattle.block_machine.specs.Events.{AbstractState, CallRecord, RevokeOf, Service, Served, WasRevoked, IsRun, reply_of, steps_of, abstract_after_all}
 
 -- In a run of calls two requests of one grant are unanswered at once: one is issued, and the other waits for it. Then
@@ -31,8 +31,8 @@ pub record RevokesWhileIssued : Type 0 where
   pub issued : Pending
   pub waits : Pending
   pub both : (abstract_after_all first early).machine.book ≡ issued ∷ waits ∷ []
-  pub under : IsUnder client number issued.request.asked.client issued.request.asked.grant
-      × IsUnder client number waits.request.asked.client waits.request.asked.grant
+  pub under : IsSameGrantName client number issued.request.asked.client issued.request.asked.grant
+      × IsSameGrantName client number waits.request.asked.client waits.request.asked.grant
   pub is_issued : issued.issued ≡ true
   pub is_waiting : waits.issued ≡ false
   pub replies : call.said ≡ WasRevoked (Some (reply_of (waits, Revoked) ∷ []))

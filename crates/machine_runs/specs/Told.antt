@@ -5,7 +5,7 @@ use Rattle.ata_types.specs.declared.request.Op.TheVariants.{Read}
 use Rattle.ata_types.specs.declared.request.Outcome.TheVariants as outcome
 use Rattle.block_machine.specs.State.{Accepted, Pending, Machine, sector_of}
 use Rattle.block_machine.specs.Steps.{Step, Again, Answer}
-use Rattle.block_machine.specs.Left.{HasTouchedSinceIssue, HasEndedSinceIssue, HoldsExpected}
+use Rattle.block_machine.specs.Expected.{HasTouchedSinceIssue, HasEndedSinceIssue, HoldsExpected}
 use Rattle.block_machine.specs.Confined.{WasAccepted}
 use Rattle.block_machine.specs.Events.{CallRecord, AbstractState, Submit, Submitted, IsIssuedIn, issues_it, abstract_after_all, steps_of}
 
@@ -45,7 +45,7 @@ pub record CallAnswersOk {D : Type 0} (first : AbstractState) (past : List (Call
 
 -- An unanswered request was there before these steps; and where it is issued, it was issued then, or these steps issue
 -- it.
-pub record CameFrom (old : Machine) (steps : List Step) (e : Pending) : Type 0 where
+pub record WasUnansweredBefore (old : Machine) (steps : List Step) (e : Pending) : Type 0 where
   pub before : Pending
   pub here : Contains old.book before
   pub same : before.request ≡ e.request

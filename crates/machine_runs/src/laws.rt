@@ -13,14 +13,14 @@ ghost use Rattle.ata_types.specs.declared.request.Outcome.TheVariants.{Ok, Abort
 ghost use Rattle.ata_types.specs.declared.request.Reply.{Reply};
 ghost use Rattle.ata_types.specs.declared.grant.GrantRow.{GrantRow};
 ghost use Rattle.block_machine.specs.Due.{conflict};
-ghost use Rattle.block_machine.specs.State.{Block, Accepted, Pending, Machine, sector_of, waiting};
+ghost use Rattle.block_machine.specs.State.{Block, Accepted, Pending, Machine, sector_of, newly_unanswered};
 ghost use Rattle.block_machine.specs.Steps.{Step, Answer, HasGrant, after_step, HoldsFrames, MayStillMove};
-ghost use Rattle.block_machine.specs.Left.{IsInitial, IsLegal, HasTouched, HasTouchedSinceIssue, HasEndedSinceIssue, IsExpectedBlock, after, bytes_when_plugged, disk_number_read};
+ghost use Rattle.block_machine.specs.Expected.{IsInitial, IsLegal, HasTouched, HasTouchedSinceIssue, HasEndedSinceIssue, IsExpectedBlock, after, bytes_when_plugged, disk_number_read};
 ghost use Rattle.block_machine.specs.Confined.{GrantsNoWrites, WasAccepted, MayChangeByte, MayChangeSector};
-ghost use Rattle.block_machine.specs.Events.{AbstractState, CallRecord, NoneDueWhereReady, Happens, EveryReadHolds, IsLawful, IsRun, IsStillStuck, accepts_it, answers_it, issues_it, gives_id, replies_of, all_replies, WasGiven, abstract_after_all, steps_of};
-ghost use Rattle.machine_runs.specs.Told.{AsksFor, CameFrom, CallAnswersOk, WasAsked, waits_again};
+ghost use Rattle.block_machine.specs.Events.{AbstractState, CallRecord, NoneDueWhereReady, Happens, EveryReadHolds, IsLawfulAnswer, IsRun, IsStillStuck, accepts_it, answers_it, issues_it, gives_id, replies_of, all_replies, WasGivenId, abstract_after_all, steps_of};
+ghost use Rattle.machine_runs.specs.Told.{AsksFor, WasUnansweredBefore, CallAnswersOk, WasAsked, waits_again};
 ghost use Rattle.machine_runs.specs.Revoked.{RevokesWhileIssued};
-ghost use Rattle.machine_runs.specs.Worked.{FindsFlushedOrLater, WaitsItsTurn, QuarantineEndsWithReset, MeetsErrors, IsAnsweredByTick, IsTakenOutBeforeATick, GoesAgainInResets, DiesInAService, ReadsWrongWithoutKeptRule};
+ghost use Rattle.machine_runs.specs.ExampleRuns.{FindsFlushedOrLater, WaitsItsTurn, QuarantineEndsWithReset, MeetsErrors, IsAnsweredByTick, IsTakenOutBeforeATick, GoesAgainInResets, DiesInAService, ReadsWrongWithoutKeptRule};
 
 /// Where no grant lets its client write or trim, what is left on a sector for a read is what the disk that it found
 /// there held when it was put in.
@@ -83,7 +83,7 @@ pub fn law_answered_was_accepted<D>()
 {}
 
 /// Over every run one submit at most gives an id.
-pub fn law_given_once<D>()
+pub fn law_ids_are_given_once<D>()
     ensures { (first : AbstractState) (run : List (CallRecord D)) (id : RequestId) → IsRun first run
         → count_by (λ event. gives_id id event.said) run ≤ 1 }
 {}
@@ -98,7 +98,7 @@ pub fn law_replied_once<D>()
 pub fn law_replied_was_given<D>()
     ensures { (first : AbstractState) (past : List (CallRecord D)) (event : CallRecord D) (reply : Reply)
         → IsRun first (event ∷ past) → Contains (replies_of event.said) reply
-        → WasGiven reply.id reply.client past }
+        → WasGivenId reply.id reply.client past }
 {}
 
 /// Each request that was accepted is one for which a submit of the run asked.
@@ -117,10 +117,10 @@ pub fn law_replied_was_asked<D>()
 
 /// An unanswered request was there before the last call of a run, which issues it where it is issued, and wasn't
 /// before; or that call is the submit which asked for it.
-pub fn law_unanswered_came_from<D>()
+pub fn law_unanswered_was_there_or_asked<D>()
     ensures { (first : AbstractState) (past : List (CallRecord D)) (event : CallRecord D) (e : Pending)
         → IsRun first (event ∷ past) → Contains (abstract_after_all first (event ∷ past)).machine.book e
-        → CameFrom (abstract_after_all first past).machine event.steps e
+        → WasUnansweredBefore (abstract_after_all first past).machine event.steps e
         ⊎ AsksFor e.request event }
 {}
 
@@ -147,7 +147,7 @@ pub fn law_answers_are_lawful<D>()
     ensures { (first : AbstractState) (past : List (CallRecord D)) (event : CallRecord D) (e : Pending)
         (outcome : Outcome)
         → IsRun first (event ∷ past) → Contains event.steps (Answer e outcome)
-        → IsLawful (abstract_after_all first past) event.evidence event.ports e outcome }
+        → IsLawfulAnswer (abstract_after_all first past) event.evidence event.ports e outcome }
 {}
 
 /// A port that is dead after a call was dead when it began, or its engine or the adapter got stuck in it. So this
@@ -191,7 +191,7 @@ pub fn law_issued_once_a_call<D>()
 {}
 
 /// At each moment of a run no request of a ready port is due: calls that issue leave none, and no other makes one due.
-pub fn law_none_due_between<D>()
+pub fn law_none_due_between_calls<D>()
     ensures { (first : AbstractState) (run : List (CallRecord D)) → IsRun first run
         → NoneDueWhereReady (abstract_after_all first run) }
 {}
@@ -213,7 +213,7 @@ pub fn law_unanswered_where_ready<D>()
 {}
 
 /// At each moment of a run the sectors of an unanswered request are sectors that its port's disk showed to have.
-pub fn law_unanswered_on_disk<D>()
+pub fn law_unanswered_sectors_are_on_disk<D>()
     ensures { (first : AbstractState) (run : List (CallRecord D)) (e : Pending) → IsRun first run
         → Contains (abstract_after_all first run).machine.book e → e.request.asked.op ≢ Flush
         → e.request.asked.first.0 + e.request.asked.count
@@ -228,7 +228,7 @@ pub fn law_kept_where_dead<D>()
 {}
 
 /// A byte of a client's frame changes by a touch of a read that the frame is lent to, or by its owner's store.
-pub fn law_bytes_change_by()
+pub fn law_bytes_change_by_touch_or_store()
     ensures { (start : Machine) (history : List Step) (step : Step) (frame : Frame) (place : ℕ)
         → IsInitial start → IsLegal start (step ∷ history)
         → (after start (step ∷ history)).memory frame place ≢ (after start history).memory frame place
@@ -236,7 +236,7 @@ pub fn law_bytes_change_by()
 {}
 
 /// A sector of a port's disk changes by a touch of it by a write or trim of the port, or by a disk that is put in.
-pub fn law_sectors_change_by()
+pub fn law_sectors_change_by_touch_or_plug()
     ensures { (m : Machine) (step : Step) (port : Port) (sector place : ℕ)
         → (after_step m step).disks port sector place ≢ m.disks port sector place
         → MayChangeSector step port sector }
@@ -250,12 +250,12 @@ pub fn law_conflicting_requests_take_turns()
         → IsLegal start history
         → HoldsFrames (after start history) earlier → MayStillMove (after start history) later
         → earlier.request.id.0 < later.request.id.0
-        → conflict (waiting earlier.request) (waiting later.request) ≡ true
+        → conflict (newly_unanswered earlier.request) (newly_unanswered later.request) ≡ true
         → ⊥ }
 {}
 
 /// A machine to begin with exists.
-pub fn law_a_start_exists()
+pub fn law_an_initial_machine_exists()
     ensures { (m : Machine) × IsInitial m }
 {}
 
@@ -312,6 +312,6 @@ pub fn law_a_dying_run_exists()
 {}
 
 /// Without the rule on kept requests a read may go wrong.
-pub fn law_kept_requests_matter()
+pub fn law_the_kept_rule_is_needed()
     ensures { ReadsWrongWithoutKeptRule }
 {}

@@ -7,13 +7,13 @@ use Rattle.ata_types.specs.declared.call.CallResult.{CallResult}
 use Rattle.ata_types.specs.declared.request.Reply.{Reply}
 use Rattle.adapter.specs.Device.{Device}
 use Rattle.adapter.specs.declared.access.DeviceStep.{DeviceStep}
-use Rattle.configuration.specs.Document.{IsReadFrom}
+use Rattle.configuration.specs.Document.{TextReadsAs}
 use Rattle.configuration.specs.declared.Config.{Config}
 use Rattle.device_model.specs.Modelled.{device_at, is_starved}
 use Rattle.device_model.specs.declared.model.Model.{Model}
 use Rattle.block_server.specs.Promise.{Simulates}
 use Rattle.block_server.specs.View.{ServerView}
-use Rattle.play.specs.Played.{Prints, none, call, IsServerOfModel, Played, Ran}
+use Rattle.play.specs.Played.{Prints, none, call, IsServerOfModel, Played, RanFirstLines}
 
 -- no call keeps the promise, nor do calls after others that keep it break it
 pub record GoOn {A : Type 0} (device : A → Device) : Type 0 where
@@ -35,8 +35,8 @@ both_tell (Some x) (Some y) a b = refl
 
 -- What a new server ran of a script was played.
 abbrev pub played_of : {S : Type 0} (size : S → ℕ) (told : S → Option (ℕ → List ℕ)) (config script : List ℕ) (image blank : S) (trace : Bool)
-    (old new : Option (List ℕ)) (values : Config) → IsReadFrom config values → (server last : ServerView (Model S))
-    → IsServerOfModel size told values image blank server → Ran (device_at size told) is_starved trace script server last old new
+    (old new : Option (List ℕ)) (values : Config) → TextReadsAs config values → (server last : ServerView (Model S))
+    → IsServerOfModel size told values image blank server → RanFirstLines (device_at size told) is_starved trace script server last old new
     → GoOn (device_at size told) → (model : Model S) → model ≡ last.adapter → Played size told config script image blank trace old new model
 played_of size told config script image blank trace old new values read server last started ran laws model left =
     let begun = started.made.begun in

@@ -19,7 +19,7 @@ use Rattle.block_server.specs.Promise.{Simulates}
 use Rattle.block_server.specs.View.{ServerView}
 use Rattle.script.specs.Script.{Asks, AskInTurn, done, IsFirstLine, IsScript, LineLaws, SplitsAt, asked_lines, lines_of, lines_after}
 use Rattle.play.specs.Lines.{call_text}
-use Rattle.play.specs.Played.{Prints, none, call, PrintsPart, Ran, IsWhole}
+use Rattle.play.specs.Played.{Prints, none, call, PrintsPart, RanFirstLines, RanWholeScript}
 
 pub appends_none : (known : Option (List ℕ)) → Appends known known []
 appends_none None = tt
@@ -126,7 +126,7 @@ module _ {A : Type 0} (device : A → Device) (starved : A → Bool) (trace : Bo
   pub ran_part : (laws : LineLaws) (now next : ServerView A) (shown : ℕ) (text : List ℕ) (asked : Call DeviceStep) (t : Bor (List ℕ)) (left : Option (Bor (List ℕ)))
       (before mid after : Option (List ℕ)) → PlayedSoFar device starved trace first (lines_of script) now shown (Some t) before mid → IsFirstLine t.now text left → Asks text (Some asked)
       → (texts : List (List ℕ)) (lines : List (Call DeviceStep)) → SplitsAt texts text (lines_after left) lines → (p : PrintsPart device starved trace shown asked now next mid after)
-      → starved now.adapter ≡ false → (ran : Ran device starved trace script first next before after) × (ran.part ≡ p.part)
+      → starved now.adapter ≡ false → (ran : RanFirstLines device starved trace script first next before after) × (ran.part ≡ p.part)
   ran_part laws now next shown text asked t left before mid after so_far is asks texts lines from p fed = (
     record {
       played = so_far.played ++ asked ∷ [];
@@ -149,7 +149,7 @@ module _ {A : Type 0} (device : A → Device) (starved : A → Bool) (trace : Bo
   )
 
   -- before the first one
-  pub ran_none : (before : Option (List ℕ)) (lines : List (Call DeviceStep)) → IsScript script lines → (ran : Ran device starved trace script first first before before) × (ran.part ≡ 0)
+  pub ran_none : (before : Option (List ℕ)) (lines : List (Call DeviceStep)) → IsScript script lines → (ran : RanFirstLines device starved trace script first first before before) × (ran.part ≡ 0)
   ran_none before lines asks = (
     record {
       played = [];
@@ -169,7 +169,7 @@ module _ {A : Type 0} (device : A → Device) (starved : A → Bool) (trace : Bo
 
   -- at the end
   pub ran_all : (now : ServerView A) (shown : ℕ) (before after : Option (List ℕ)) → PlayedSoFar device starved trace first (lines_of script) now shown None before after
-      → starved now.adapter ≡ false → (ran : Ran device starved trace script first now before after) × IsWhole ran
+      → starved now.adapter ≡ false → (ran : RanFirstLines device starved trace script first now before after) × RanWholeScript ran
   ran_all now shown before after so_far fed = (
     record {
       played = so_far.played;

@@ -17,8 +17,8 @@ use Rattle.script.specs.Answer.{answer_line}
 use Rattle.script.specs.declared.answer.Answer.TheVariants as answer
 
 -- a value as an answer refers to it; no line tells where it lies
-abbrev pub referred : {X : Type 0} → X → Bor X
-referred x = record { ref_ptr = (0, 0); now = x }
+abbrev pub as_reference : {X : Type 0} → X → Bor X
+as_reference x = record { ref_ptr = (0, 0); now = x }
 
 -- a line for each reply, or one that there is none
 abbrev pub replies_text : List Reply → List ℕ
@@ -35,7 +35,7 @@ said_text (said.Submitted (Ok id)) = answer_line (answer.Accepted id)
 said_text (said.Submitted (Err refusal)) = answer_line (answer.Refused refusal)
 said_text (said.Stored (Ok done)) = answer_line answer.Stored
 said_text (said.Stored (Err fault)) = answer_line (answer.Barred fault)
-said_text (said.Loaded (Ok bytes)) = answer_line (answer.Bytes (referred bytes.items))
+said_text (said.Loaded (Ok bytes)) = answer_line (answer.Bytes (as_reference bytes.items))
 said_text (said.Loaded (Err fault)) = answer_line (answer.Barred fault)
 said_text (said.Served replies) = replies_text replies.items
 said_text (said.WasReset (Ok replies)) = done_text replies.items
@@ -52,7 +52,7 @@ end_text _ done = []
 
 -- a move, a clear and the end of a flush have a line; nothing else on a tape has one
 abbrev pub entry_text : Entry → List ℕ
-entry_text (entry.Move moved) = answer_line (answer.Moved (referred moved))
+entry_text (entry.Move moved) = answer_line (answer.Moved (as_reference moved))
 entry_text (entry.Clear cleared) = answer_line (answer.Cleared cleared)
 entry_text (entry.Done done) = end_text done.operation done
 entry_text (entry.Fault fault) = []

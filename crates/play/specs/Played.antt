@@ -11,7 +11,7 @@ use Rattle.block_machine.specs.Histories.{JointState}
 use Rattle.block_server.specs.Made.{IsInitialServer}
 use Rattle.block_server.specs.Promise.{KeepsPromise, Simulates}
 use Rattle.block_server.specs.View.{ServerView, server_of}
-use Rattle.configuration.specs.Document.{IsReadFrom, IsTextFault}
+use Rattle.configuration.specs.Document.{TextReadsAs, IsTextFault}
 use Rattle.configuration.specs.declared.Config.{Config}
 use Rattle.configuration.specs.declared.ConfigFault.{ConfigFault}
 use Rattle.configuration.specs.declared.ConfigFault.TheVariants as config
@@ -34,10 +34,10 @@ use Rattle.play.specs.declared.session.Ended.TheVariants.{Done, Config as BadCon
 -- ---- the model
 
 -- how a configuration names a disk's promise on trims
-abbrev pub word_of : Trim → List ℕ
-word_of Full = codes "full"
-word_of Weak = codes "weak"
-word_of Without = codes "none"
+abbrev pub trim_word_of : Trim → List ℕ
+trim_word_of Full = codes "full"
+trim_word_of Weak = codes "weak"
+trim_word_of Without = codes "none"
 
 -- The model is as the configuration says, and has all four ports.
 pub record IsSetBy (config : Config) (settings : ModelConfig) : Type 0 where
@@ -46,7 +46,7 @@ pub record IsSetBy (config : Config) (settings : ModelConfig) : Type 0 where
   pub slots : settings.slots ≡ config.slots
   pub queuing : settings.ncq ≡ config.ncq
   pub depth : settings.depth ≡ config.depth
-  pub trim : word_of settings.trim ≡ string_bytes config.trim
+  pub trim : trim_word_of settings.trim ≡ string_bytes config.trim
   pub cache : settings.cache ≡ config.cache
 
 -- The model is new and as the configuration says, with these disks.
@@ -116,7 +116,7 @@ pub record PrintsPart {A : Type 0} (device : A → Device) (starved : A → Bool
 -- Of a script the first lines were played, which lead from the old server to the new one, and the rest were not. Each
 -- of them was printed but for the last one, of whose text a part was, from its beginning on: nothing, where it starved
 -- the adapter.
-pub record Ran {A : Type 0} (device : A → Device) (starved : A → Bool) (trace : Bool) (script : List ℕ)
+pub record RanFirstLines {A : Type 0} (device : A → Device) (starved : A → Bool) (trace : Bool) (script : List ℕ)
     (old new : ServerView A)
     (before after : Option (List ℕ)) : Type 0 where
   pub played : List (Call DeviceStep)
@@ -132,12 +132,13 @@ pub record Ran {A : Type 0} (device : A → Device) (starved : A → Bool) (trac
   pub silent : starved new.adapter ≡ true → part ≡ 0
 
 -- all of it was played and printed, and nothing was left out
-pub record IsWhole {A : Type 0} {device : A → Device} {starved : A → Bool} {trace : Bool} {script : List ℕ}
+pub record RanWholeScript {A : Type 0} {device : A → Device} {starved : A → Bool} {trace : Bool} {script : List ℕ}
     {old new : ServerView A}
-    {before after : Option (List ℕ)} (ran : Ran device starved trace script old new before after) : Type 0 where
-  pub played : ran.rest ≡ []
-  pub printed : length ran.last ≤ ran.part
-  pub fed : starved new.adapter ≡ false
+    {before after : Option (List ℕ)} (ran : RanFirstLines device starved trace script old new before after) : Type 0
+  where
+    pub played : ran.rest ≡ []
+    pub printed : length ran.last ≤ ran.part
+    pub fed : starved new.adapter ≡ false
 
 -- The configuration's text and the whole script were read. A new server was asked what the first lines ask, and of what
 -- they print all was printed but for a part of the last one's. At first nothing of the tape counts as shown: so with a
@@ -147,10 +148,10 @@ pub record Played {S : Type 0} (size : S → ℕ) (told : S → Option (ℕ → 
     (image blank : S) (trace : Bool)
     (old new : Option (List ℕ)) (model : Model S) : Type 0 where
   pub values : Config
-  pub read : IsReadFrom config values
+  pub read : TextReadsAs config values
   pub server : ServerView (Model S)
   pub last : ServerView (Model S)
-  pub ran : Ran (device_at size told) is_starved trace script server last old new
+  pub ran : RanFirstLines (device_at size told) is_starved trace script server last old new
   pub answers : AreAnswers size told values image blank server last ran.played ran.said
   pub left : model ≡ last.adapter
 
@@ -171,15 +172,15 @@ ended_by_stop stop.Unwritten = Unwritten
 -- What is so where a run stopped at its last line, of whether the adapter is starved and how much of that line's text
 -- was printed: where want of memory is told, nothing was; where an output that failed is told, the adapter isn't
 -- starved.
-abbrev pub IsWhy : Bool → ℕ → PlayError → Type 0
-IsWhy starved part stop.NoMemory = part ≡ 0
-IsWhy starved part stop.Unwritten = starved ≡ false
+abbrev pub IsWhyItStopped : Bool → ℕ → PlayError → Type 0
+IsWhyItStopped starved part stop.NoMemory = part ≡ 0
+IsWhyItStopped starved part stop.Unwritten = starved ≡ false
 
 -- Why nothing is played: the configuration has a fault, or it has none and the script has a bad line, or memory was
 -- refused.
 abbrev pub IsRefused : List ℕ → List ℕ → Ended → Type 0
 IsRefused config script (BadConfig kind) = IsTextFault config kind
-IsRefused config script (BadLine number) = (values : Config) × IsReadFrom config values × IsFirstBad script number
+IsRefused config script (BadLine number) = (values : Config) × TextReadsAs config values × IsFirstBad script number
 IsRefused config script NoMemory = Unit {0}
 IsRefused config script Done = ⊥
 IsRefused config script Unwritten = ⊥
@@ -191,7 +192,7 @@ IsRefused config script Unwritten = ⊥
 abbrev pub Ends : {S : Type 0} → (S → ℕ) → (S → Option (ℕ → List ℕ)) → List ℕ → List ℕ → S → S → Bool → Option (List ℕ)
     → Option (List ℕ) → Ended → Option (Model S) → Type 0
 Ends size told config script image blank trace old new Done (Some model) =
-    (played : Played size told config script image blank trace old new model) × IsWhole played.ran
+    (played : Played size told config script image blank trace old new model) × RanWholeScript played.ran
 Ends size told config script image blank trace old new Unwritten (Some model) =
     Played size told config script image blank trace old new model × (is_starved model ≡ false)
 Ends size told config script image blank trace old new NoMemory (Some model) =

@@ -6,9 +6,9 @@
 //! `play_adapter` does so over any adapter that can be watched.
 #![tactic(auto)]
 
+mod model_setup;
 mod printed;
 mod session;
-mod setting;
 
+pub use model_setup::{model_with, new_model};
 pub use session::{Ended, Finished, PlayError, parse_inputs, play, play_adapter};
-pub use setting::{model_with, new_model};

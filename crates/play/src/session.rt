@@ -8,14 +8,14 @@ ghost use Rattle.block_server.specs.CallResults.{with_replies};
 ghost use Rattle.block_server.specs.Made.{IsInitialServer, IsReadyFor};
 ghost use Rattle.block_server.specs.Promise.{Simulates};
 ghost use Rattle.block_server.specs.View.{ServerView};
-ghost use Rattle.configuration.specs.Document.{IsReadFrom};
+ghost use Rattle.configuration.specs.Document.{TextReadsAs};
 ghost use Rattle.configuration.specs.Rules.{LacksEveryFault};
 ghost use Rattle.script.specs.Script.{IsScript};
 ghost use Rattle.device_model.specs.Modelled.{device_at, is_starved};
-ghost use Rattle.play.specs.Played.{Ends, IsRefused, IsServerOfModel, IsWhole, IsWhy, PrintsPart, Ran};
+ghost use Rattle.play.specs.Played.{Ends, IsRefused, IsServerOfModel, RanWholeScript, IsWhyItStopped, PrintsPart, RanFirstLines};
 
+use crate::model_setup::new_model;
 use crate::printed::{print_call, write_out};
-use crate::setting::new_model;
 use adapter::{Adapter, DeviceStep, Stepped};
 use ata_types::Call;
 use block_server::laws::law_runs_keep_their_promise;
@@ -111,7 +111,7 @@ impl From<BadLine> for Ended {
 
 /// The values of a configuration's text, where the lines of the script are good, too.
 pub fn parse_inputs(alloc: Global, config: &[u8], script: &[u8]) -> Result<Config, Ended>
-    ensures read { IfOk result (IsReadFrom config.now) }
+    ensures read { IfOk result (TextReadsAs config.now) }
     ensures good { OnOk result ((calls : List (Call DeviceStep)) × IsScript script.now calls) }
     ensures refused { IfErr result (IsRefused config.now script.now) }
 {
@@ -192,7 +192,7 @@ fn play_line<A: TapedAdapter, W: io::Write>(
     ensures room { 1 ≤ vec_capacity room.new.said.earlier }
     ensures printed { (p : PrintsPart A.device A.ended trace shown call.now server.old server.new
         (W.contents out.old) (W.contents out.new))
-        × OnOk result (length p.text ≤ p.part) × IfErr result (IsWhy (A.ended server.new.adapter) p.part) }
+        × OnOk result (length p.text ≤ p.part) × IfErr result (IsWhyItStopped (A.ended server.new.adapter) p.part) }
     ensures fed { OnOk result (A.ended server.new.adapter ≡ false) }
     ensures shown { IfOk result (λ count. count ≡ length (A.device server.new.adapter).tape) }
 {
@@ -232,9 +232,9 @@ fn perform<A: TapedAdapter, W: io::Write>(
     out: &mut W,
 ) -> Result<(), PlayError>
     requires good { (calls : List (Call DeviceStep)) × IsScript script.now calls }
-    ensures { (ran : Ran A.device A.ended trace script.now server.old server.new (W.contents out.old)
+    ensures { (ran : RanFirstLines A.device A.ended trace script.now server.old server.new (W.contents out.old)
         (W.contents out.new))
-        × OnOk result (IsWhole ran) × IfErr result (IsWhy (A.ended server.new.adapter) ran.part) }
+        × OnOk result (RanWholeScript ran) × IfErr result (IsWhyItStopped (A.ended server.new.adapter) ran.part) }
 {
     law_lines_are_asked_in_turn();
     if server.adapter().has_ended() {
@@ -291,8 +291,8 @@ pub fn play_adapter<A: TapedAdapter + Drop, W: io::Write>(
         × (W.contents out.new ≡ W.contents out.old))
         ⊎ ((server last : ServerView A) × IsInitialServer A.device config.now adapter server
         × (left ≡ last.adapter)
-        × (ran : Ran A.device A.ended trace script.now server last (W.contents out.old) (W.contents out.new))
-        × OnOk result.0 (IsWhole ran) × IfErr result.0 (IsWhy (A.ended last.adapter) ran.part))) }
+        × (ran : RanFirstLines A.device A.ended trace script.now server last (W.contents out.old) (W.contents out.new))
+        × OnOk result.0 (RanWholeScript ran) × IfErr result.0 (IsWhyItStopped (A.ended last.adapter) ran.part))) }
     ensures none { result.1 ≡ None → (result.0 ≡ Err PlayError.NoMemory) × (W.contents out.new ≡ W.contents out.old) }
 {
     // The configuration is sound, so memory is all that can be wanting.

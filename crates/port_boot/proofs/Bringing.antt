@@ -11,7 +11,7 @@ use Rattle.adapter.specs.declared.tape.Entry.{Entry}
 use Rattle.refinement.specs.Driven.{AnyUse, OnPortWriting, IsSimulated, IsSimulatedAlong}
 use Rattle.refinement.specs.Driver.{AllFree}
 use Rattle.refinement.specs.Slots.{SlotStates}
-use Rattle.refinement.specs.Driven.{Grows}
+use Rattle.refinement.specs.Driven.{TapeGrows}
 use Rattle.port_control.specs.Calls.{FindsDisk, FindsFault, StaysReceiving, Starts}
 use Rattle.port_control.specs.Engines.{StopsReceiving}
 use Rattle.port_control.specs.Ports.{IsCommandRegister, IsPlacingRegister, IsResetRegister, ReceivesFises, BacksFault, SendsComresetThen, IsDeviceFound}
@@ -21,7 +21,7 @@ use Rattle.port_boot.specs.States.{BacksState, IsBootRegister, IsBootable, IsBro
 use Rattle.port_boot.specs.Laws.SlotCondition.{AnyUses, PortUnused}
 use Rattle.port_boot.specs.Laws.RegisterSet.{BootRegisters, Commanding, Placing, Resetting}
 use Rattle.port_boot.specs.Laws.AccessPurpose.{Controlling}
-use Rattle.port_boot.specs.Laws.{Laws, SlotCondition, RegisterSet, registers_of, uses_of}
+use Rattle.port_boot.specs.Laws.{Laws, SlotCondition, RegisterSet, registers_of, slot_uses_meeting}
 use Rattle.refinement.specs.Tape.{TapeTells}
 use Rattle.port_boot.proofs.Stretching.{driven_grows, stays_on, there_after, told_then, comes_in_parts, plugs_in_parts, same_over, told_wider}
 
@@ -54,14 +54,14 @@ starting r is = inl (inl is)
 module _ (laws : Laws) where
   -- ---- stretches of accesses
 
-  module _ (set : RegisterSet) (fitting : SlotCondition) (port : Port) (old new : Device) (f : IsSimulated (OnPortWriting (registers_of set) port) (uses_of fitting port) old new) where
+  module _ (set : RegisterSet) (fitting : SlotCondition) (port : Port) (old new : Device) (f : IsSimulated (OnPortWriting (registers_of set) port) (slot_uses_meeting fitting port) old new) where
     pub later : length old.tape ≤ length new.tape
     later =
         let g = driven_grows laws (OnPortWriting (registers_of set) port) old new f.driven in
         let n : length new.tape ≡ length old.tape + length g.0 = ap (λ (es : List Entry). length es) g.1 ∙ length-append old.tape g.0 in
         omega (arith, n)
 
-    pub bootable_after : ((uses : SlotStates) → AllFree uses port.0 → uses_of fitting port uses) → IsBootable port old → IsBootable port new
+    pub bootable_after : ((uses : SlotStates) → AllFree uses port.0 → slot_uses_meeting fitting port uses) → IsBootable port old → IsBootable port new
     bootable_after fits b =
         let s = same_over laws (OnPortWriting (registers_of set) port) old new f.driven in
         record {
@@ -73,13 +73,13 @@ module _ (laws : Laws) where
 
   -- it is a part of the boot, and as much is told of it
   pub told_boots : (TapeTells : List Access → Type 0) (set : RegisterSet) (fitting : SlotCondition) (port : Port) (old new : Device) → ((r : PortReg) → registers_of set r → IsBootRegister r) →
-      ((uses : SlotStates) → AllFree uses port.0 → uses_of fitting port uses) → IsSimulatedAlong TapeTells (OnPortWriting (registers_of set) port) (uses_of fitting port) old new →
+      ((uses : SlotStates) → AllFree uses port.0 → slot_uses_meeting fitting port uses) → IsSimulatedAlong TapeTells (OnPortWriting (registers_of set) port) (slot_uses_meeting fitting port) old new →
       IsSimulatedAlong TapeTells (OnPortWriting IsBootRegister port) (λ uses. AllFree uses port.0) old new
   told_boots TapeTells set fitting port old new wider fits f =
       told_wider laws TapeTells (Controlling set fitting port) (Controlling BootRegisters PortUnused port) (λ uses. uses) old new (laws.control_wider set BootRegisters port wider) fits f
 
-  pub boots : (set : RegisterSet) (fitting : SlotCondition) (port : Port) (old new : Device) → IsSimulated (OnPortWriting (registers_of set) port) (uses_of fitting port) old new →
-      ((r : PortReg) → registers_of set r → IsBootRegister r) → ((uses : SlotStates) → AllFree uses port.0 → uses_of fitting port uses) → IsSimulated (OnPortWriting IsBootRegister port) (λ uses. AllFree uses port.0) old new
+  pub boots : (set : RegisterSet) (fitting : SlotCondition) (port : Port) (old new : Device) → IsSimulated (OnPortWriting (registers_of set) port) (slot_uses_meeting fitting port) old new →
+      ((r : PortReg) → registers_of set r → IsBootRegister r) → ((uses : SlotStates) → AllFree uses port.0 → slot_uses_meeting fitting port uses) → IsSimulated (OnPortWriting IsBootRegister port) (λ uses. AllFree uses port.0) old new
   boots set fitting port old new f wider fits = (told_boots (λ made. Unit {0}) set fitting port old new wider fits (record { followed = f; tells = tt })).followed
 
   pub placed_bootable : (port : Port) (old mid : Device) → IsBootable port old → IsSimulated (OnPortWriting IsPlacingRegister port) AnyUse old mid → IsBootable port mid
@@ -94,10 +94,10 @@ module _ (laws : Laws) where
     reset_boots = told_then laws (StopsReceiving port) (Controlling BootRegisters PortUnused port) (λ early late. laws.falls_then early late 4 14 port) old mid reset
         (told_boots (StopsReceiving port) Placing AnyUses port old mid placing (λ uses free. tt) first) (boots Resetting AnyUses port mid reset second resetting (λ uses free. tt))
 
-    early : Grows old mid
+    early : TapeGrows old mid
     early = driven_grows laws (OnPortWriting IsPlacingRegister port) old mid first.followed.driven
 
-    late : Grows mid reset
+    late : TapeGrows mid reset
     late = driven_grows laws (OnPortWriting IsResetRegister port) mid reset second.driven
 
     pub reset_since : {Then : Device → Device → Type 0} → SendsComresetThen port Then mid reset → length old.tape ≤ (reset.port port.0).notes.sctl_written_at
@@ -132,7 +132,7 @@ module _ (laws : Laws) where
       up_boots = told_then laws (StopsReceiving port) (Controlling BootRegisters PortUnused port) (λ early late. laws.falls_then early late 4 14 port) old reset new reset_boots
           (boots Commanding PortUnused port reset new third starting (λ uses free. free))
 
-      last : Grows reset new
+      last : TapeGrows reset new
       last = driven_grows laws (OnPortWriting IsCommandRegister port) reset new third.driven
 
       pub brought_up : FindsDisk port mid reset → Starts port reset new → IsBroughtUp port old new

@@ -7,10 +7,10 @@ use Rattle.adapter.specs.Access.{Access, Does, DoesAll}
 use Rattle.adapter.specs.Device.{Device}
 use Rattle.adapter.specs.Rules.{IsOn}
 use Rattle.refinement.specs.Errors.{ChangesByErrors}
-use Rattle.refinement.specs.Facts.{Undisturbed, RunsWell}
+use Rattle.refinement.specs.PortFacts.{Undisturbed, RunsWell}
 use Rattle.refinement.specs.Links.{DoesNotWrite}
 use Rattle.refinement.specs.Started.{IsUp}
-use Rattle.refinement.specs.Driven.{Grows}
+use Rattle.refinement.specs.Driven.{TapeGrows}
 use Rattle.port_boot.specs.States.{BitsRiseWithCause, RunsOn}
 use Rattle.port_boot.specs.Laws.{Laws}
 use Rattle.std.specs.List.{All}
@@ -21,17 +21,17 @@ use Rattle.std.proofs.lemmas.Bool.{cases_eq}
 
 -- a link that is up stays so where nothing goes wrong
 pub record Endures (port : ℕ) (old new : Device) : Type 0 where
-  pub grows : Grows old new
+  pub grows : TapeGrows old new
   pub goes : BitsRiseWithCause port old new
   pub up : Undisturbed port old new → IsUp (old.port port) → IsUp (new.port port)
 
 -- a port that runs does so still
 pub record Lasts (port : ℕ) (old new : Device) : Type 0 where
-  pub grows : Grows old new
+  pub grows : TapeGrows old new
   pub runs : RunsOn port old new
 
 module _ (laws : Laws) where
-  pub errors_more : (port : ℕ) (old mid new : Device) → Grows old mid → Grows mid new → ChangesByErrors port old mid → ChangesByErrors port mid new → ChangesByErrors port old new
+  pub errors_more : (port : ℕ) (old mid new : Device) → TapeGrows old mid → TapeGrows mid new → ChangesByErrors port old mid → ChangesByErrors port mid new → ChangesByErrors port old new
   errors_more port old mid new early late a b = record {
     fatal = λ none place low high clear.
         let parts = laws.tape.fatal_parts port old mid new early.0 late.0 early.1 late.1 none in
@@ -41,7 +41,7 @@ module _ (laws : Laws) where
         b.fault parts.1 (a.fault parts.0 clear);
   }
 
-  pub goes_more : (port : ℕ) (old mid new : Device) → Grows old mid → Grows mid new → BitsRiseWithCause port old mid → BitsRiseWithCause port mid new → BitsRiseWithCause port old new
+  pub goes_more : (port : ℕ) (old mid new : Device) → TapeGrows old mid → TapeGrows mid new → BitsRiseWithCause port old mid → BitsRiseWithCause port mid new → BitsRiseWithCause port old new
   goes_more port old mid new early late a b = record {
     undue = λ h. b.undue (a.undue h);
     disks = λ h. laws.tape.change_more port old mid new early late (a.disks h) (b.disks (a.undue h));

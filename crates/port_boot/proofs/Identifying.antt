@@ -17,7 +17,7 @@ use Rattle.adapter.specs.Rules.{IsOn, HasPort, MayWrite, IsStable}
 use Rattle.adapter.specs.declared.command.Operation.TheVariants.{Identify}
 use Rattle.adapter.specs.declared.tape.Entry.{Entry}
 use Rattle.adapter.specs.declared.tape.Entry.TheVariants as entry
-use Rattle.adapter.specs.Seen.{PortRegisterWritten}
+use Rattle.adapter.specs.RegisterEffects.{PortRegisterWritten}
 use Rattle.refinement.specs.Driven.{RelatesWith, AnyUse, IsRelated, OnPortWriting, IsDrivenBy, IsSimulated, IsSimulatedAlong, IsSimulatedAlongTo, GainsNoMove}
 use Rattle.refinement.specs.Halting.{HaltIsOfTaken}
 use Rattle.refinement.specs.Links.{SameAdapter}
@@ -26,7 +26,7 @@ use Rattle.refinement.specs.Slots.{Own, SlotStates, put as used, IsMove, IsOver}
 use Rattle.command_table.specs.Written.{IsUnused}
 use Rattle.disk_page.specs.Asking.{IsPageAccess, LeavesRunning, BringsLastPage, ReadsPage}
 use Rattle.identify.specs.declared.DiskInfo.{DiskInfo}
-use Rattle.port_control.specs.Engines.{FailsToStop, FailsToStopReceiving, Stops, StopsReceiving, Sticks}
+use Rattle.port_control.specs.Engines.{FailsToStop, FailsToStopReceiving, Stops, StopsReceiving, EngineSticks}
 use Rattle.port_control.specs.Ports.{IsCommandRegister, IsPlacingRegister, IsRunning, HasStCleared, SawDevice}
 use Rattle.port_boot.specs.States.{HasIdentity, IsFit, IsStateByPage, BacksState, IsReady, IsBootRegister, IsOfBoot, IsBoot, IsBootTo, IsBootable, IsBroughtUp, IsStoppedAs, IsAfterStart, StopsOnWay, IsStateOfFault}
 use Rattle.port_control.specs.declared.PortFault.{PortFault}
@@ -145,8 +145,8 @@ module _ (laws : Laws) where
       asked_room = let same = (asking_adapter port old mid driven).size in let room = up.bootable.room in omega (arith, same, room)
 
   -- where it didn't stop, its engine is stuck
-  halting_sticks : (port : Port) (old new : Device) → IsSimulatedAlong (FailsToStop port) (OnPortWriting IsCommandRegister port) AnyUse old new → IsSimulatedAlong (Sticks port) (OnPortWriting IsCommandRegister port) AnyUse old new
-  halting_sticks port old new f = told_more (FailsToStop port) (Sticks port) (OnPortWriting IsCommandRegister port) AnyUse (λ uses. uses) old new (laws.failing_sticks port) f
+  halting_sticks : (port : Port) (old new : Device) → IsSimulatedAlong (FailsToStop port) (OnPortWriting IsCommandRegister port) AnyUse old new → IsSimulatedAlong (EngineSticks port) (OnPortWriting IsCommandRegister port) AnyUse old new
+  halting_sticks port old new f = told_more (FailsToStop port) (EngineSticks port) (OnPortWriting IsCommandRegister port) AnyUse (λ uses. uses) old new (laws.failing_sticks port) f
 
   -- ---- no page came
 
@@ -194,7 +194,7 @@ module _ (laws : Laws) where
           subst P (sym x.0) (stopped_boots (Stops port) (λ early late. laws.falls_since early late 0 15 port) x.1.told (record { issued = x.1.stopped.halted.ci 0; free = x.1.stopped.halted.taken 0 }))
       unasked_boots result (inr x) =
           let P : PortState → Type 0 = λ s. IsBootTo (Stops port) port s old new in
-          subst P (sym x.0) (inr (given_boots (Sticks port) (λ early late. laws.sticks_since early late port) (halting_sticks port mid new x.2.told)))
+          subst P (sym x.0) (inr (given_boots (EngineSticks port) (λ early late. laws.sticks_since early late port) (halting_sticks port mid new x.2.told)))
 
   -- ---- a page came
 
@@ -285,7 +285,7 @@ module _ (laws : Laws) where
         subst P (sym x.0) (boots_to (Stops port) port old new state alive (halted_as (Stops port) (λ early late. laws.falls_since early late 0 15 port) new x.1.told))
     halted_boots wanted state result new judged (inr x) =
         let P : PortState → Type 0 = λ s. IsBootTo (Stops port) port s old new in
-        subst P (sym x.0) (inl (halted_as (Sticks port) (λ early late. laws.sticks_since early late port) new (halting_sticks port mid new x.2.told)))
+        subst P (sym x.0) (inl (halted_as (EngineSticks port) (λ early late. laws.sticks_since early late port) new (halting_sticks port mid new x.2.told)))
 
     module _ (new : Device) (stops : IsDrivenBy (OnPortWriting IsCommandRegister port) mid new) (has : HasStCleared (mid.port port.0) (new.port port.0)) where
       halted_page : HasIdentity port.0 new page
@@ -309,8 +309,8 @@ module _ (laws : Laws) where
   up_boots TapeTells port old mid f = told_wider laws TapeTells (Controlling BootRegisters PortUnused port) (Booting PortUnused port) (λ uses. uses) old mid (controlling port) (λ uses free. free) f
 
   -- no part came after it, since FR didn't fall
-  pub stuck_boots : (port : Port) (old mid : Device) → IsSimulatedAlong (FailsToStopReceiving port) (OnPortWriting IsPlacingRegister port) AnyUse old mid → IsBoot (Sticks port) port old mid
-  stuck_boots port old mid f = told_more (FailsToStopReceiving port) (Sticks port) (IsOfBoot port) (λ uses. AllFree uses port.0) (λ uses. uses) old mid (laws.failing_receiving_sticks port)
+  pub stuck_boots : (port : Port) (old mid : Device) → IsSimulatedAlong (FailsToStopReceiving port) (OnPortWriting IsPlacingRegister port) AnyUse old mid → IsBoot (EngineSticks port) port old mid
+  stuck_boots port old mid f = told_more (FailsToStopReceiving port) (EngineSticks port) (IsOfBoot port) (λ uses. AllFree uses port.0) (λ uses. uses) old mid (laws.failing_receiving_sticks port)
       (up_boots (FailsToStopReceiving port) port old mid (told_boots laws (FailsToStopReceiving port) Placing AnyUses port old mid placing (λ uses free. tt) f))
 
   -- no part came after it, since there was a fault
@@ -342,8 +342,8 @@ module _ (laws : Laws) where
         (λ uses. uses) (λ uses. uses) (λ access may. may) (λ uses free. free) old mid new (up_boots (StopsReceiving port) port old mid first) then
 
     -- or one is stuck
-    dies : (next : SlotStates → SlotStates) → IsSimulatedAlongTo (Sticks port) (IsOfBoot port) (λ uses. AllFree uses port.0) next mid new → IsSimulatedAlongTo (Sticks port) (IsOfBoot port) (λ uses. AllFree uses port.0) next old new
-    dies next then = told_since laws (Sticks port) (Booting PortUnused port) (λ early late. laws.sticks_since early late port) next old mid new (up_boots (StopsReceiving port) port old mid first).followed then
+    dies : (next : SlotStates → SlotStates) → IsSimulatedAlongTo (EngineSticks port) (IsOfBoot port) (λ uses. AllFree uses port.0) next mid new → IsSimulatedAlongTo (EngineSticks port) (IsOfBoot port) (λ uses. AllFree uses port.0) next old new
+    dies next then = told_since laws (EngineSticks port) (Booting PortUnused port) (λ early late. laws.sticks_since early late port) next old mid new (up_boots (StopsReceiving port) port old mid first).followed then
 
     pub whole_ended : (result : Result DiskInfo PortState) → IfErr result (λ state. IsBootTo (Stops port) port state mid new) → IfErr result (λ state. IsBootTo (StopsOnWay port state) port state old new)
     whole_ended (Ok info) then = then

@@ -15,10 +15,10 @@ use Rattle.adapter.specs.Device.{Device}
 use Rattle.adapter.specs.Rules.{IsOn}
 use Rattle.refinement.specs.Driven.{OnPortWriting, IsDrivenBy}
 use Rattle.refinement.specs.Errors.{NoneFatal, NoneFails}
-use Rattle.refinement.specs.Facts.{Undisturbed, ShowsNoTrouble}
+use Rattle.refinement.specs.PortFacts.{Undisturbed, ShowsNoTrouble}
 use Rattle.refinement.specs.Links.{NoPlugEvents, DoesNotWrite}
 use Rattle.refinement.specs.Started.{IsStarted}
-use Rattle.refinement.specs.Driven.{Grows}
+use Rattle.refinement.specs.Driven.{TapeGrows}
 use Rattle.disk_page.specs.Asking.{IsPageAccess, LeavesRunning}
 use Rattle.port_control.specs.Engines.{Stops}
 use Rattle.port_control.specs.Ports.{IsCommandRegister, HasClearErrors}
@@ -29,7 +29,7 @@ use Rattle.identify.specs.declared.DiskInfo.{DiskInfo}
 use Rattle.identify.specs.declared.Unfit.{Unfit as Fault}
 use Rattle.identify.specs.declared.Unfit.TheVariants.{BadChecksum, Word83, No48Bit, SectorSize, NoFlush, NoSectors}
 use Rattle.port_boot.specs.Outcomes.{EndsReady, EndsUnready, FailsToIdentify, Identifies, BootBringsUp}
-use Rattle.port_boot.specs.States.{IsStateOfFault, IsStateByPage, IsBootRegister, IsBeforeStart, IsStoppedAs, IsOfBoot, IsBroughtUp, AsksDisk, BringsReady, EndsBeforeStart, EndsAfterStart, IsAfterStart, ShowsOnlyNewErrors, BitsRiseWithCause, RunsOn, StopsAtEnd}
+use Rattle.port_boot.specs.States.{IsStateOfFault, IsStateByPage, IsBootRegister, IsBeforeStart, IsStoppedAs, IsOfBoot, IsBroughtUp, AsksDisk, BringsReady, EndsBeforeStart, EndsAfterStart, IsAfterStart, ShowsOnlyNewErrors, BitsRiseWithCause, RunsOn, StopsWithLinkUp}
 use Rattle.port_boot.proofs.Identifying.{whole_ended, whole_ready}
 use Rattle.port_boot.proofs.Staying.{boot_driven}
 use Rattle.port_boot.proofs.Enduring.{Endures, Lasts, endures, lasts, lasts_access, lasts_more, goes_more}
@@ -114,7 +114,7 @@ module _ (laws : Laws) where
         (λ (e : Px port Ie ≡ Px port Sctl). absurd (cc)) call (λ (e : Px port Ie ≡ Px port Cmd). absurd (cc)))).runs
 
     -- or the port is stopped
-    pub stops_then : (new : Device) → IsOn mid → LeavesRunning port.0 old mid → IsDrivenBy (OnPortWriting IsCommandRegister port) mid new → StopsAtEnd port old new
+    pub stops_then : (new : Device) → IsOn mid → LeavesRunning port.0 old mid → IsDrivenBy (OnPortWriting IsCommandRegister port) mid new → StopsWithLinkUp port old new
     stops_then new on l stop =
         let late : Endures port.0 mid new = endures laws port stop.accesses mid new on stop.all
         (All-weaker (OnPortWriting IsCommandRegister port) (DoesNotWrite Ghc) (λ access is. laws.of_spares_ghc port access (laws.control_of Commanding port access is)) stop.accesses stop.only)
@@ -130,7 +130,7 @@ module _ (laws : Laws) where
 
   -- ---- the whole boot
 
-  module _ (port : Port) (start old new : Device) (up : IsBroughtUp port start old) (early : Grows start old) (late : Grows old new) where
+  module _ (port : Port) (start old new : Device) (up : IsBroughtUp port start old) (early : TapeGrows start old) (late : TapeGrows old new) where
     linked : (old.port port.0).link_due ≡ false
     linked = (up.recorded up.runs.st).linked
 
@@ -187,7 +187,7 @@ module _ (laws : Laws) where
           laws.well_of (new.port port.0) (runs.started calm (up.well parts.0)) (no_trouble runs.goes plugs calm);
     }
 
-    pub ends_late : StopsAtEnd port old new → EndsAfterStart port start new
+    pub ends_late : StopsWithLinkUp port old new → EndsAfterStart port start new
     ends_late stops = record {
       up = old;
       first = up.way;
@@ -201,7 +201,7 @@ module _ (laws : Laws) where
 
   module _ (port : Port) (start old new : Device) (rises : BootBringsUp port start old) (wanted : Option (List ℕ))
       (written : (new.port port.0).notes.sctl_written_at ≡ (old.port port.0).notes.sctl_written_at) where
-    risen : Grows start old
+    risen : TapeGrows start old
     risen = driven_grows laws (OnPortWriting IsBootRegister port) start old rises.boots.followed.driven
 
     since : length start.tape ≤ (new.port port.0).notes.sctl_written_at

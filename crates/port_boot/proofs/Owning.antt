@@ -11,11 +11,11 @@ use Rattle.hba_regs.specs.declared.reg.Reg.{Reg}
 use Rattle.hba_regs.specs.declared.reg.Reg.TheVariants.{Cap, Ghc, Pi, Vs, Cap2, Bohc, Px}
 use Rattle.hba_regs.specs.declared.reg.Reg.TheVariants as adapter
 use Rattle.adapter.specs.Steps.{halt_after_start}
-use Rattle.adapter.specs.Access.{Access, Does, DoesAll, noted, port_written, with_is_cleared, with_fre, with_st, written, named_causes}
+use Rattle.adapter.specs.Access.{Access, Does, DoesAll, noted, port_written, with_is_bit_cleared, with_fre, with_st, written, named_causes}
 use Rattle.adapter.specs.Access.Access.{Reading, Writing, Loading, Storing}
 use Rattle.adapter.specs.Device.{Device, DevicePort}
 use Rattle.adapter.specs.Memory.{changed}
-use Rattle.adapter.specs.Steps.{DeviceTransition, Can, StepLeads, Steps, device_after}
+use Rattle.adapter.specs.Steps.{DeviceTransition, Can, TransitionsLead, Steps, device_after}
 use Rattle.adapter.specs.Steps.DeviceTransition.{Fetch, FetchFault, Move, Clear, Done, Fault, Fatal, Fall, FrFall, LinkUp, Unplug, Plug, ResetEnds, Scribble}
 use Rattle.refinement.specs.Driven.{IsDrivenBy}
 use Rattle.port_control.specs.Ports.{FindsSignature, ReadsUntil}
@@ -56,7 +56,7 @@ own_step port d (Plug p disk) can h = at d.port p port _ h (λ x up. refl)
 own_step port d ResetEnds can h = λ none. absurd (not_three none)
 own_step port d (Scribble p slot at_byte bytes) can h = h
 
-leads_own : (port : ℕ) (steps : List DeviceTransition) (old new : Device) → StepLeads steps old new → HasDiskIfShown (old.port port) → HasDiskIfShown (new.port port)
+leads_own : (port : ℕ) (steps : List DeviceTransition) (old new : Device) → TransitionsLead steps old new → HasDiskIfShown (old.port port) → HasDiskIfShown (new.port port)
 leads_own port [] old new e h = subst (λ (d : Device). HasDiskIfShown (d.port port)) (sym e) h
 leads_own port (step ∷ steps) old new (can, lead) h = leads_own port steps (device_after step old) new lead (own_step port old step can h)
 
@@ -95,7 +95,7 @@ written_own Cmd v tape p h = command_own (bit v 0) (bit v 4) tape p h
 written_own Sctl v tape p h = control_own (nat_eq (v % 16) 1) p h
 written_own _ v tape p h = h
 
-acknowledged_own : (is : Bool) (p : DevicePort) → HasDiskIfShown p → HasDiskIfShown (if is then with_is_cleared p else p)
+acknowledged_own : (is : Bool) (p : DevicePort) → HasDiskIfShown p → HasDiskIfShown (if is then with_is_bit_cleared p else p)
 acknowledged_own true p h = h
 acknowledged_own false p h = h
 

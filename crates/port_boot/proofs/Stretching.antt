@@ -6,12 +6,12 @@ use Rattle.hba_regs.specs.Bits.{bit}
 use Rattle.adapter.specs.Access.{Access}
 use Rattle.adapter.specs.Device.{Device}
 use Rattle.adapter.specs.Rules.{IsOn, HasPort}
-use Rattle.refinement.specs.Driven.{AnyAccess, Grows, OnPortWriting, IsDrivenBy, IsSimulated, IsSimulatedTo, SparesOtherPorts, IsSimulatedAlong, IsSimulatedAlongTo}
+use Rattle.refinement.specs.Driven.{AnyAccess, TapeGrows, OnPortWriting, IsDrivenBy, IsSimulated, IsSimulatedTo, SparesOtherPorts, IsSimulatedAlong, IsSimulatedAlongTo}
 use Rattle.refinement.specs.Errors.{NoDiskComes}
-use Rattle.refinement.specs.Facts.{Undisturbed}
+use Rattle.refinement.specs.PortFacts.{Undisturbed}
 use Rattle.refinement.specs.Links.{NoPlugEvents, SameAdapter}
 use Rattle.refinement.specs.Slots.{SlotStates}
-use Rattle.port_boot.specs.Laws.{Laws, RegisterSet, AccessPurpose, fits_of, may_of, registers_of}
+use Rattle.port_boot.specs.Laws.{Laws, RegisterSet, AccessPurpose, slot_uses_for, accesses_for, registers_of}
 
 pub there_after : {old new : Device} {port : ℕ} → SameAdapter old new → HasPort old port → HasPort new port
 there_after {old} {new} {port} s h = (h.0, ap (λ (pi : ℕ). bit pi port) s.pi ∙ h.1)
@@ -35,7 +35,7 @@ module _ (laws : Laws) where
     pub same_over : SameAdapter old new
     same_over = laws.same_any old new any
 
-    pub driven_grows : Grows old new
+    pub driven_grows : TapeGrows old new
     driven_grows = laws.tape_any old new any
 
   pub stays_on : (set : RegisterSet) (port : Port) (old new : Device) → IsDrivenBy (OnPortWriting (registers_of set) port) old new → IsOn old → IsOn new
@@ -43,7 +43,7 @@ module _ (laws : Laws) where
 
   -- ---- parts of a stretch
 
-  module _ (port : ℕ) (old mid new : Device) (early : Grows old mid) (late : Grows mid new) where
+  module _ (port : ℕ) (old mid new : Device) (early : TapeGrows old mid) (late : TapeGrows mid new) where
     pub comes_in_parts : NoDiskComes port old new → NoDiskComes port old mid × NoDiskComes port mid new
     comes_in_parts none = laws.tape.comes_parts port old mid new early.0 late.0 early.1 late.1 none
 
@@ -56,36 +56,36 @@ module _ (laws : Laws) where
   -- ---- stretches that are followed
 
   -- what is told of a stretch, also where it is of a wider kind
-  pub told_wider : (Tells : List Access → Type 0) (kind more : AccessPurpose) (next : SlotStates → SlotStates) (old new : Device) → ((access : Access) → may_of kind access → may_of more access) →
-      ((uses : SlotStates) → fits_of more uses → fits_of kind uses) → IsSimulatedAlongTo Tells (may_of kind) (fits_of kind) next old new → IsSimulatedAlongTo Tells (may_of more) (fits_of more) next old new
+  pub told_wider : (Tells : List Access → Type 0) (kind more : AccessPurpose) (next : SlotStates → SlotStates) (old new : Device) → ((access : Access) → accesses_for kind access → accesses_for more access) →
+      ((uses : SlotStates) → slot_uses_for more uses → slot_uses_for kind uses) → IsSimulatedAlongTo Tells (accesses_for kind) (slot_uses_for kind) next old new → IsSimulatedAlongTo Tells (accesses_for more) (slot_uses_for more) next old new
   told_wider Tells kind more next old new wider fits a =
       let f = laws.fragments.wider kind more next wider fits old new a.followed in
       record { followed = f.followed; tells = subst Tells (sym f.tells) a.tells }
 
-  pub followed_wider : (kind more : AccessPurpose) (next : SlotStates → SlotStates) (old new : Device) → ((access : Access) → may_of kind access → may_of more access) →
-      ((uses : SlotStates) → fits_of more uses → fits_of kind uses) → IsSimulatedTo (may_of kind) (fits_of kind) next old new → IsSimulatedTo (may_of more) (fits_of more) next old new
+  pub followed_wider : (kind more : AccessPurpose) (next : SlotStates → SlotStates) (old new : Device) → ((access : Access) → accesses_for kind access → accesses_for more access) →
+      ((uses : SlotStates) → slot_uses_for more uses → slot_uses_for kind uses) → IsSimulatedTo (accesses_for kind) (slot_uses_for kind) next old new → IsSimulatedTo (accesses_for more) (slot_uses_for more) next old new
   followed_wider kind more next old new wider fits a = (laws.fragments.wider kind more next wider fits old new a).followed
 
   -- of two, one after another
   module _ (First Second Tells : List Access → Type 0) (join : (early late : List Access) → First early → Second late → Tells (early ++ late)) where
-    pub told_both : (kind then : AccessPurpose) (first second : SlotStates → SlotStates) → ((access : Access) → may_of then access → may_of kind access) → ((uses : SlotStates) → fits_of kind uses → fits_of then (first uses)) →
-        (old mid new : Device) → IsSimulatedAlongTo First (may_of kind) (fits_of kind) first old mid → IsSimulatedAlongTo Second (may_of then) (fits_of then) second mid new →
-        IsSimulatedAlongTo Tells (may_of kind) (fits_of kind) (λ uses. second (first uses)) old new
+    pub told_both : (kind then : AccessPurpose) (first second : SlotStates → SlotStates) → ((access : Access) → accesses_for then access → accesses_for kind access) → ((uses : SlotStates) → slot_uses_for kind uses → slot_uses_for then (first uses)) →
+        (old mid new : Device) → IsSimulatedAlongTo First (accesses_for kind) (slot_uses_for kind) first old mid → IsSimulatedAlongTo Second (accesses_for then) (slot_uses_for then) second mid new →
+        IsSimulatedAlongTo Tells (accesses_for kind) (slot_uses_for kind) (λ uses. second (first uses)) old new
     told_both kind then first second wider on old mid new a b =
         let f = laws.fragments.both kind then first second wider on old mid new a.followed b.followed in
         record { followed = f.followed; tells = subst Tells (sym f.tells) (join a.followed.driven.accesses b.followed.driven.accesses a.tells b.tells) }
 
   -- of one that goes on, or that was begun before
   module _ (Tells : List Access → Type 0) (kind : AccessPurpose) where
-    pub told_then : ((early late : List Access) → Tells early → Tells (early ++ late)) → (old mid new : Device) → IsSimulatedAlong Tells (may_of kind) (fits_of kind) old mid →
-        IsSimulated (may_of kind) (fits_of kind) mid new → IsSimulatedAlong Tells (may_of kind) (fits_of kind) old new
+    pub told_then : ((early late : List Access) → Tells early → Tells (early ++ late)) → (old mid new : Device) → IsSimulatedAlong Tells (accesses_for kind) (slot_uses_for kind) old mid →
+        IsSimulated (accesses_for kind) (slot_uses_for kind) mid new → IsSimulatedAlong Tells (accesses_for kind) (slot_uses_for kind) old new
     told_then on old mid new a b = told_both Tells (λ late. Unit {0}) Tells (λ early late is any. on early late is) kind kind (λ uses. uses) (λ uses. uses) (λ access may. may) (λ uses fits. fits) old mid new a
         (record { followed = b; tells = tt })
 
-    pub told_since : ((early late : List Access) → Tells late → Tells (early ++ late)) → (next : SlotStates → SlotStates) (old mid new : Device) → IsSimulated (may_of kind) (fits_of kind) old mid →
-        IsSimulatedAlongTo Tells (may_of kind) (fits_of kind) next mid new → IsSimulatedAlongTo Tells (may_of kind) (fits_of kind) next old new
+    pub told_since : ((early late : List Access) → Tells late → Tells (early ++ late)) → (next : SlotStates → SlotStates) (old mid new : Device) → IsSimulated (accesses_for kind) (slot_uses_for kind) old mid →
+        IsSimulatedAlongTo Tells (accesses_for kind) (slot_uses_for kind) next mid new → IsSimulatedAlongTo Tells (accesses_for kind) (slot_uses_for kind) next old new
     told_since on next old mid new a b = told_both (λ early. Unit {0}) Tells Tells (λ early late any is. on early late is) kind kind (λ uses. uses) next (λ access may. may) (λ uses fits. fits) old mid new
         (record { followed = a; tells = tt }) b
 
-  pub followed_then : (kind : AccessPurpose) (old mid new : Device) → IsSimulated (may_of kind) (fits_of kind) old mid → IsSimulated (may_of kind) (fits_of kind) mid new → IsSimulated (may_of kind) (fits_of kind) old new
+  pub followed_then : (kind : AccessPurpose) (old mid new : Device) → IsSimulated (accesses_for kind) (slot_uses_for kind) old mid → IsSimulated (accesses_for kind) (slot_uses_for kind) mid new → IsSimulated (accesses_for kind) (slot_uses_for kind) old new
   followed_then kind old mid new a b = (laws.fragments.both kind kind (λ uses. uses) (λ uses. uses) (λ access may. may) (λ uses fits. fits) old mid new a b).followed

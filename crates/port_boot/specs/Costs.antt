@@ -4,8 +4,8 @@ use Rattle.disk_page.specs.Costs.{PAGE_ACCESSES}
 use Rattle.port_control.specs.Costs.{COMRESET_ACCESSES, RECEIVE_ACCESSES, START_ACCESSES, STOP_ACCESSES}
 
 -- the port receives FISes, is sent COMRESET, and is started
-abbrev pub RISE_ACCESSES : ℕ
-RISE_ACCESSES = RECEIVE_ACCESSES + COMRESET_ACCESSES + START_ACCESSES
+abbrev pub BRING_UP_ACCESSES : ℕ
+BRING_UP_ACCESSES = RECEIVE_ACCESSES + COMRESET_ACCESSES + START_ACCESSES
 
 -- the disk is asked for its page; and then PxIE is written, or the port is stopped
 abbrev pub IDENTIFY_ACCESSES : ℕ
@@ -13,4 +13,4 @@ IDENTIFY_ACCESSES = PAGE_ACCESSES + STOP_ACCESSES
 
 -- both, one after the other
 abbrev pub BOOT_ACCESSES : ℕ
-BOOT_ACCESSES = RISE_ACCESSES + IDENTIFY_ACCESSES
+BOOT_ACCESSES = BRING_UP_ACCESSES + IDENTIFY_ACCESSES

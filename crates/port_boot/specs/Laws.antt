@@ -15,19 +15,19 @@ use Rattle.refinement.specs.Halting.{HaltIsOfTaken, HaltOfTakenIfSt}
 use Rattle.block_machine.specs.Histories.{IsReachable}
 use Rattle.block_machine.specs.State.{Machine}
 use Rattle.adapter.specs.declared.tape.Entry.{Entry}
-use Rattle.port_control.specs.Engines.{FailsToStop, FailsToStopReceiving, Falls, Sticks}
+use Rattle.port_control.specs.Engines.{FailsToStop, FailsToStopReceiving, EngineFalls, EngineSticks}
 use Rattle.refinement.specs.Slots.{IsOver, SlotStates}
 use Rattle.hba_regs.specs.declared.reg.Reg.TheVariants.{Ghc, Px}
 use Rattle.disk_page.specs.Asking.{IsPageAccess, LeavesRunning}
 use Rattle.port_boot.specs.States.{IsBootRegister, IsOfBoot}
 use Rattle.adapter.specs.Rules.{IsOn, MayWrite, IsStable}
 use Rattle.port_control.specs.Ports.{IsPlacingRegister, IsResetRegister, IsCommandRegister}
-use Rattle.refinement.specs.Facts.{FaultsOnRecord, RunsWell, ShowsNoTrouble, Undisturbed}
+use Rattle.refinement.specs.PortFacts.{FaultsOnRecord, RunsWell, ShowsNoTrouble, Undisturbed}
 use Rattle.command_table.specs.Written.{IsUnused}
 use Rattle.adapter.specs.declared.command.Operation.{Operation}
 use Rattle.refinement.specs.Links.{NoPlugEvents, SameAdapter, DoesNotWrite}
 use Rattle.hba_regs.specs.declared.reg.PortReg.{PortReg}
-use Rattle.adapter.specs.Seen.{PortRegisterWritten}
+use Rattle.adapter.specs.RegisterEffects.{PortRegisterWritten}
 use Rattle.hba_regs.specs.declared.reg.Reg.{Reg}
 use Rattle.adapter.specs.Access.Access.{Writing}
 use Rattle.hba_regs.specs.Bits.{bit}
@@ -55,10 +55,10 @@ pub data SlotCondition : Type 0 where
   HeadUnused : SlotCondition
   PortUnused : SlotCondition
 
-abbrev pub uses_of : SlotCondition → Port → SlotStates → Type 0
-uses_of AnyUses port = AnyUse
-uses_of HeadUnused port = IsUnused port.0 0
-uses_of PortUnused port = λ uses. AllFree uses port.0
+abbrev pub slot_uses_meeting : SlotCondition → Port → SlotStates → Type 0
+slot_uses_meeting AnyUses port = AnyUse
+slot_uses_meeting HeadUnused port = IsUnused port.0 0
+slot_uses_meeting PortUnused port = λ uses. AllFree uses port.0
 
 -- a port's registers are read, and those of a set written; a port is booted; or its disk is asked for its page
 pub data AccessPurpose : Type 0 where
@@ -66,15 +66,15 @@ pub data AccessPurpose : Type 0 where
   Booting : SlotCondition → Port → AccessPurpose
   Asking : Port → AccessPurpose
 
-abbrev pub may_of : AccessPurpose → Access → Type 0
-may_of (Controlling set fitting port) = OnPortWriting (registers_of set) port
-may_of (Booting fitting port) = IsOfBoot port
-may_of (Asking port) = IsPageAccess port
+abbrev pub accesses_for : AccessPurpose → Access → Type 0
+accesses_for (Controlling set fitting port) = OnPortWriting (registers_of set) port
+accesses_for (Booting fitting port) = IsOfBoot port
+accesses_for (Asking port) = IsPageAccess port
 
-abbrev pub fits_of : AccessPurpose → SlotStates → Type 0
-fits_of (Controlling set fitting port) = uses_of fitting port
-fits_of (Booting fitting port) = uses_of fitting port
-fits_of (Asking port) = IsUnused port.0 0
+abbrev pub slot_uses_for : AccessPurpose → SlotStates → Type 0
+slot_uses_for (Controlling set fitting port) = slot_uses_meeting fitting port
+slot_uses_for (Booting fitting port) = slot_uses_meeting fitting port
+slot_uses_for (Asking port) = IsUnused port.0 0
 
 -- ---- laws
 
@@ -127,14 +127,15 @@ pub record Laws : Type 0 where
   pub asked_none : (port : ℕ) (old new : Device) → LeavesRunning port old new → HasNoCommand (old.port port)
       → IsOver (new.port port) 0 → HasNoCommand (new.port port)
   -- what is told of engines
-  pub failing_sticks : (port : Port) (accesses : List Access) → FailsToStop port accesses → Sticks port accesses
+  pub failing_sticks : (port : Port) (accesses : List Access) → FailsToStop port accesses → EngineSticks port accesses
   pub failing_receiving_sticks : (port : Port) (accesses : List Access) → FailsToStopReceiving port accesses
-      → Sticks port accesses
-  pub falls_then : (early late : List Access) (start running : ℕ) (port : Port) → Falls start running port early
-      → Falls start running port (early ++ late)
-  pub falls_since : (early late : List Access) (start running : ℕ) (port : Port) → Falls start running port late
-      → Falls start running port (early ++ late)
-  pub sticks_since : (early late : List Access) (port : Port) → Sticks port late → Sticks port (early ++ late)
+      → EngineSticks port accesses
+  pub falls_then : (early late : List Access) (start running : ℕ) (port : Port) → EngineFalls start running port early
+      → EngineFalls start running port (early ++ late)
+  pub falls_since : (early late : List Access) (start running : ℕ) (port : Port) → EngineFalls start running port late
+      → EngineFalls start running port (early ++ late)
+  pub sticks_since : (early late : List Access) (port : Port) → EngineSticks port late
+      → EngineSticks port (early ++ late)
   -- this crate's kinds of accesses
   pub control_of : (set : RegisterSet) (port : Port) (access : Access) → OnPortWriting (registers_of set) port access
       → SparesOtherPorts port access
@@ -143,4 +144,4 @@ pub record Laws : Type 0 where
   pub control_wider : (set more : RegisterSet) (port : Port)
       → ((r : PortReg) → registers_of set r → registers_of more r) → (access : Access)
       → OnPortWriting (registers_of set) port access → OnPortWriting (registers_of more) port access
-  pub fragments : FragmentLaws AccessPurpose may_of fits_of
+  pub fragments : FragmentLaws AccessPurpose accesses_for slot_uses_for

@@ -10,7 +10,7 @@ use Rattle.refinement.specs.Driver.{AllFree}
 use Rattle.refinement.specs.Halting.{HaltIsOfTaken}
 use Rattle.identify.specs.declared.DiskInfo.{DiskInfo}
 use Rattle.port_control.specs.Engines.{Stops, StopsReceiving}
-use Rattle.port_boot.specs.States.{BacksState, EndsBeforeStart, EndsAfterStart, AsksDisk, BringsReady, IsBoot, IsBootTo, IsBootRegister, IsBroughtUp, IsBeforeStart, IsAfterStart, IsOfBoot, IsReady, RunsOn, ShowsOnlyNewErrors, StopsOnWay, StopsAtEnd}
+use Rattle.port_boot.specs.States.{BacksState, EndsBeforeStart, EndsAfterStart, AsksDisk, BringsReady, IsBoot, IsBootTo, IsBootRegister, IsBroughtUp, IsBeforeStart, IsAfterStart, IsOfBoot, IsReady, RunsOn, ShowsOnlyNewErrors, StopsOnWay, StopsWithLinkUp}
 
 -- A boot that leaves the port ready: what stands behind that; PxSCTL was written in it; what it is to a machine that
 -- agrees; and its way, with what the port shows of trouble; and what halts it is of a command that is taken.
@@ -61,5 +61,5 @@ pub record FailsToIdentify (wanted : Option (List ℕ)) (port : Port) (state : P
     (old new : Device) : Type 0 where
   pub ended : BacksState wanted state port.0 new
   pub boots : IsBootTo (Stops port) port state old new
-  pub stops : StopsAtEnd port old new
+  pub stops : StopsWithLinkUp port old new
   pub late : IsBeforeStart state → ⊥

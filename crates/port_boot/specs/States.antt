@@ -19,7 +19,7 @@ use Rattle.adapter.specs.Rules.{IsOn, HasPort}
 use Rattle.refinement.specs.Driven.{RelatesWith, OnPortWriting, IsDrivenBy, IsSimulatedAlong, IsSimulatedAlongTo}
 use Rattle.refinement.specs.Driver.{AllFree}
 use Rattle.refinement.specs.Errors.{NoDiskComes, ChangesByDisks, ChangesByErrors, NoneFatal, NoneFails}
-use Rattle.refinement.specs.Facts.{FaultsOnRecord, RunsWell, Undisturbed}
+use Rattle.refinement.specs.PortFacts.{FaultsOnRecord, RunsWell, Undisturbed}
 use Rattle.refinement.specs.Links.{NoPlugEvents}
 use Rattle.refinement.specs.Slots.{Own, put, IsMove}
 use Rattle.refinement.specs.Started.{IsUp, IsComingUp, IsStarted}
@@ -27,7 +27,7 @@ use Rattle.disk_page.specs.Asking.{IsPageAccess}
 use Rattle.identify.specs.Page.{Describes, HasNoUnfit, IsFirstUnfit, IsSerial, unfit_number}
 use Rattle.identify.specs.declared.DiskInfo.{DiskInfo}
 use Rattle.identify.specs.declared.Unfit.{Unfit as Fault}
-use Rattle.port_control.specs.Engines.{Stops, StopsReceiving, Sticks}
+use Rattle.port_control.specs.Engines.{Stops, StopsReceiving, EngineSticks}
 use Rattle.port_control.specs.Ports.{FailsToStopPort, PortStops, IsCommandRegister, IsStopped, IsRunning, IsPlacingRegister, IsResetRegister, SawDevice, BacksFault, FindsSignature, SeesResetFault, SendsComresetThen, HasClearErrors, IsDeviceFound}
 use Rattle.port_control.specs.declared.PortFault.{PortFault}
 use Rattle.port_control.specs.declared.PortFault.TheVariants.{NoDevice, Busy, EngineStuck, NotAta}
@@ -135,8 +135,8 @@ IsBoot Tells port old new = IsSimulatedAlong Tells (IsOfBoot port) (λ uses. All
 -- So it is of a boot to this state. Where the port is dead, 64 readings are told in place of that, which showed an
 -- engine that is stuck; and its slot 0 may have IDENTIFY DEVICE.
 abbrev pub IsBootTo : (List Access → Type 0) → Port → PortState → Device → Device → Type 0
-IsBootTo Tells port Dead old new = IsBoot (Sticks port) port old new
-    ⊎ IsSimulatedAlongTo (Sticks port) (IsOfBoot port) (λ uses. AllFree uses port.0)
+IsBootTo Tells port Dead old new = IsBoot (EngineSticks port) port old new
+    ⊎ IsSimulatedAlongTo (EngineSticks port) (IsOfBoot port) (λ uses. AllFree uses port.0)
     (λ uses. put uses port.0 0 (Own Identify))
     old new
 IsBootTo Tells port _ old new = IsBoot Tells port old new
@@ -265,7 +265,7 @@ pub record RunsOn (port : ℕ) (old new : Device) : Type 0 where
   pub recorded : FaultsOnRecord old.tape (old.port port) port → FaultsOnRecord new.tape (new.port port) port
 
 -- and where ST is cleared in the end, the link of a port that was started is up
-pub record StopsAtEnd (port : Port) (old new : Device) : Type 0 where
+pub record StopsWithLinkUp (port : Port) (old new : Device) : Type 0 where
   pub way : AsksThenStops port old new
   pub goes : BitsRiseWithCause port.0 old new
   pub up : Undisturbed port.0 old new → IsStarted (old.port port.0) → IsUp (new.port port.0)

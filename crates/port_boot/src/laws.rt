@@ -7,20 +7,20 @@ ghost use Rattle.hba_regs.specs.declared.reg.PortReg.TheVariants.{Cmd, Sctl};
 ghost use Rattle.hba_regs.specs.declared.reg.Reg.TheVariants.{Ghc, Px};
 ghost use Rattle.adapter.specs.Access.{Access, Does, DoesAll, is_cause, is_pending, shown_interrupt};
 ghost use Rattle.adapter.specs.Device.{Device};
-ghost use Rattle.adapter.specs.Pending.{LeavesIe, KeepsIsBit, SetsCause, interrupts};
+ghost use Rattle.adapter.specs.Pending.{LeavesIe, KeepsIsBit, SetsCause, interrupting_port};
 ghost use Rattle.adapter.specs.Rules.{IsOn};
 ghost use Rattle.adapter.specs.Steps.{Can, DeviceTransition, Steps, device_after};
 ghost use Rattle.adapter.specs.declared.tape.Entry.{Entry};
 ghost use Rattle.adapter.specs.declared.command.Operation.TheVariants.{Identify};
 ghost use Rattle.refinement.specs.Driven.{OnPortWriting, IsDrivenBy, SparesOtherPorts, LeavesPort, GainsNoMove};
-ghost use Rattle.refinement.specs.Facts.{RunsWell, Undisturbed};
+ghost use Rattle.refinement.specs.PortFacts.{RunsWell, Undisturbed};
 ghost use Rattle.refinement.specs.Links.{DoesNotWrite};
 ghost use Rattle.identify.specs.declared.DiskInfo.{DiskInfo};
 ghost use Rattle.port_boot.specs.States.{BacksState, BringsReady, HasFitDisk, HasIdentity, IsBootTo, IsOfBoot, IsReady, RunsOn, HasDiskIfShown, StopsOnWay};
 ghost use Rattle.port_control.specs.Engines.{StopsBoth};
 ghost use Rattle.port_control.specs.Ports.{IsCommandRegister};
 
-use super::lawful::law_base;
+use super::prerequisites::law_prerequisites;
 use adapter::laws::{law_an_enabled_cause_is_pending, law_what_the_tape_tells_is_pending};
 
 /// What a boot found of a port goes on as long as the port isn't booted anew. The last page is the last one still where
@@ -59,7 +59,7 @@ pub fn law_a_ready_port_interrupts()
         → is_pending ((device_after step d).port port) ≡ true }
     ensures told { (wanted : Option (List ℕ)) (port : ℕ) (entry : Entry) (accesses : List Access)
         (gained : List Entry) (old new : Device) (info : DiskInfo) → HasFitDisk wanted port old info
-        → interrupts entry ≡ Some port → DoesAll accesses old new → All (KeepsIsBit port) accesses
+        → interrupting_port entry ≡ Some port → DoesAll accesses old new → All (KeepsIsBit port) accesses
         → All (LeavesIe port) accesses → old.hr ≡ false → new.tape ≡ old.tape ++ gained
         → Contains gained entry → is_pending (new.port port) ≡ true }
 {
@@ -71,7 +71,7 @@ pub fn law_a_ready_port_interrupts()
 pub fn law_a_boot_is_of_its_port()
     ensures { (port : Port) (access : Access) → IsOfBoot port access → SparesOtherPorts port access }
 {
-    law_base();
+    law_prerequisites();
 }
 
 /// A boot, to whatever state, was made by its accesses; and those of a stop are among them.
@@ -83,7 +83,7 @@ pub fn law_boots_are_driven()
     ensures commanding { (port : Port) (access : Access) → OnPortWriting IsCommandRegister port access
         → IsOfBoot port access }
 {
-    law_base();
+    law_prerequisites();
 }
 
 /// A port that runs does so still after an access that writes neither its PxCMD nor its PxSCTL, and after several that
@@ -97,7 +97,7 @@ pub fn law_a_port_runs_on()
     ensures well { (port : ℕ) (old new : Device) → RunsOn port old new → Undisturbed port old new
         → RunsWell (old.port port) → RunsWell (new.port port) }
 {
-    law_base();
+    law_prerequisites();
 }
 
 /// Where a port shows a device, a disk is in: this goes on, whatever the device does, and over each access, also one

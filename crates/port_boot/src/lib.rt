@@ -15,18 +15,18 @@ ghost use Rattle.port_boot.specs.Outcomes.{EndsReady, EndsUnready, FailsToIdenti
 ghost use Rattle.port_boot.specs.States.{IsStateOfFault, SerialMatches, IsFit, IsStateByPage, IsBootable, IsBroughtUp, IsStoppedAs};
 ghost use Rattle.adapter.specs.Counted.{MakesAtMost};
 ghost use Rattle.port_control.specs.Costs.{STOP_ACCESSES};
-ghost use Rattle.port_boot.specs.Costs.{BOOT_ACCESSES, IDENTIFY_ACCESSES, RISE_ACCESSES};
+ghost use Rattle.port_boot.specs.Costs.{BOOT_ACCESSES, IDENTIFY_ACCESSES, BRING_UP_ACCESSES};
 
 use adapter::Adapter;
 use ata_types::{Port, PortState};
 use disk_page::{Page, read_page};
 use hba_regs::{PortReg, Reg};
 use identify::{DiskInfo, parse};
-use lawful::law_base;
 use port_control::{PortFault, Running, Stopped, comreset, receive, start, stop};
+use prerequisites::law_prerequisites;
 
-mod lawful;
 pub mod laws;
+mod prerequisites;
 
 /// A device that stayed busy after COMRESET.
 const BUSY: u8 = 7;
@@ -85,9 +85,9 @@ fn bring_up<A: Adapter>(adapter: &mut A, stopped: Stopped) -> Result<Running, Po
     ensures rises { OnOk result (BootBringsUp stopped.port (A.device adapter.old) (A.device adapter.new)) }
     ensures fails { IfErr result (λ state. BootFailsToBringUp stopped.port state (A.device adapter.old)
         (A.device adapter.new)) }
-    ensures cost { MakesAtMost RISE_ACCESSES (A.access_count adapter.old) (A.access_count adapter.new) }
+    ensures cost { MakesAtMost BRING_UP_ACCESSES (A.access_count adapter.old) (A.access_count adapter.new) }
 {
-    law_base();
+    law_prerequisites();
     let Ok(receiving) = receive(adapter, stopped) else {
         return Err(PortState::Dead);
     };
@@ -138,7 +138,7 @@ fn identify_disk<A: Adapter>(
         (A.device adapter.new)) }
     ensures cost { MakesAtMost IDENTIFY_ACCESSES (A.access_count adapter.old) (A.access_count adapter.new) }
 {
-    law_base();
+    law_prerequisites();
     let Some(page) = read_page(adapter, port, Page::Identity) else {
         return Err(halt(adapter, port, PortState::Unfit(NOT_IDENTIFIED)));
     };
@@ -172,7 +172,7 @@ pub fn boot<A: Adapter>(
         (A.device adapter.new)) }
     ensures cost { MakesAtMost BOOT_ACCESSES (A.access_count adapter.old) (A.access_count adapter.new) }
 {
-    law_base();
+    law_prerequisites();
     let running = bring_up(adapter, stopped)?;
     identify_disk(adapter, running.port(), wanted)
 }

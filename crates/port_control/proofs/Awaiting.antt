@@ -9,7 +9,7 @@ use Rattle.hba_regs.specs.declared.reg.Reg.TheVariants.{Px}
 use Rattle.adapter.specs.Access.{Access}
 use Rattle.adapter.specs.Access.Access.{Reading, Writing, Loading, Storing}
 use Rattle.refinement.specs.Links.{DoesNotWrite}
-use Rattle.port_control.specs.Engines.{Awaits, Falls, ShowsStillRunning, ReadsPortCmd}
+use Rattle.port_control.specs.Engines.{AwaitsEngineStop, EngineFalls, ShowsStillRunning, ReadsPortCmd}
 
 -- a reading writes nothing
 reading_spares : (Shown : ℕ → Type 0) (port : Port) (access : Access) → ReadsPortCmd Shown port access → DoesNotWrite (Px port Cmd) access
@@ -20,7 +20,7 @@ reading_spares Shown port (Storing at bytes) is = absurd is
 
 module _ (start running : ℕ) (port : Port) where
   -- the bit is written 0
-  pub awaits_none : (cleared : ℕ) → bit cleared start ≡ false → (early late : List Access) → late ≡ Writing (Px port Cmd) cleared ∷ [] → Awaits start running port 0 (early ++ late)
+  pub awaits_none : (cleared : ℕ) → bit cleared start ≡ false → (early late : List Access) → late ≡ Writing (Px port Cmd) cleared ∷ [] → AwaitsEngineStop start running port 0 (early ++ late)
   awaits_none cleared zero early late is = record {
     before = early;
     cleared = cleared;
@@ -32,14 +32,14 @@ module _ (start running : ℕ) (port : Port) where
   }
 
   -- PxCMD is read
-  module _ (n v : ℕ) (early late : List Access) (a : Awaits start running port n early) (is : late ≡ Reading (Px port Cmd) v ∷ []) where
+  module _ (n v : ℕ) (early late : List Access) (a : AwaitsEngineStop start running port n early) (is : late ≡ Reading (Px port Cmd) v ∷ []) where
     then_reads : early ++ late ≡ a.before ++ (Writing (Px port Cmd) a.cleared ∷ (a.stuck ++ Reading (Px port Cmd) v ∷ []))
     then_reads =
         ap (λ (accesses : List Access). accesses ++ late) a.here
         ∙ (append_assoc a.before (Writing (Px port Cmd) a.cleared ∷ a.stuck) late
         ∙ ap (λ (accesses : List Access). a.before ++ (Writing (Px port Cmd) a.cleared ∷ (a.stuck ++ accesses))) is)
 
-    pub awaits_more : ShowsStillRunning start running v → Awaits start running port (n + 1) (early ++ late)
+    pub awaits_more : ShowsStillRunning start running v → AwaitsEngineStop start running port (n + 1) (early ++ late)
     awaits_more shows = record {
       before = a.before;
       cleared = a.cleared;
@@ -50,7 +50,7 @@ module _ (start running : ℕ) (port : Port) where
       all = All-push (ReadsPortCmd (ShowsStillRunning start running) port) a.stuck (Reading (Px port Cmd) v) a.all (refl, shows);
     }
 
-    pub awaits_falls : bit v running ≡ false → Falls start running port (early ++ late)
+    pub awaits_falls : bit v running ≡ false → EngineFalls start running port (early ++ late)
     awaits_falls zero = record {
       before = a.before;
       cleared = a.cleared;

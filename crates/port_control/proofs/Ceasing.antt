@@ -6,17 +6,17 @@ use Rattle.ata_types.specs.declared.limits.TheConstants.{MOST_READINGS}
 use Rattle.hba_regs.specs.Bits.{bit}
 use Rattle.hba_regs.specs.declared.reg.PortReg.TheVariants.{Cmd, Sact}
 use Rattle.hba_regs.specs.declared.reg.Reg.TheVariants.{Px}
-use Rattle.adapter.specs.Access.{Access, Reads, Writes, counted}
+use Rattle.adapter.specs.Access.{Access, Reads, Writes, readings_counted}
 use Rattle.adapter.specs.Access.Access.{Reading, Writing}
 use Rattle.adapter.specs.Device.{Bases, Notes, DevicePort, Device}
 use Rattle.adapter.specs.Rules.{MayWrite, IsStable}
-use Rattle.adapter.specs.Seen.{PortRegisterRead}
+use Rattle.adapter.specs.RegisterEffects.{PortRegisterRead}
 use Rattle.refinement.specs.Driven.{AnyUse, OnPortWriting, IsSimulated, IsSimulatedAlong}
 use Rattle.refinement.specs.Driver.{LeavesUses}
-use Rattle.refinement.specs.Facts.{IsQuiescentPort}
+use Rattle.refinement.specs.PortFacts.{IsQuiescentPort}
 use Rattle.refinement.specs.Slots.{SlotStates}
-use Rattle.port_control.specs.Engines.{Awaits, Falls, ShowsStillRunning}
-use Rattle.port_control.specs.Ports.{IsCommandRegister, IsUsable, IsStopped, ReceivesFises, SameSctlAndNotes, HasStCleared, programmed}
+use Rattle.port_control.specs.Engines.{AwaitsEngineStop, EngineFalls, ShowsStillRunning}
+use Rattle.port_control.specs.Ports.{IsCommandRegister, IsOnAndAgrees, IsStopped, ReceivesFises, SameSctlAndNotes, HasStCleared, programmed}
 use Rattle.port_control.proofs.Awaiting.{awaits_none, awaits_more, awaits_falls}
 use Rattle.port_control.proofs.Using.{usable_after, usable_read, beside_then, beside_read, beside_command, bases_command, stopped_on, stopped_read, stopped_write}
 use Rattle.port_control.specs.Laws.RegisterSet.{Commanding}
@@ -30,15 +30,15 @@ IsButAt at was v = (k : ℕ) → k < 32 → k ≢ at → bit v k ≡ bit was k
 
 -- ST was cleared, and so many readings found CR set
 pub record IsFalling (port : Port) (start : Device) (n : ℕ) (d : Device) : Type 0 where
-  pub told : IsSimulatedAlong (Awaits 0 15 port n) (OnPortWriting IsCommandRegister port) AnyUse start d
-  pub usable : IsUsable AnyUse port d
+  pub told : IsSimulatedAlong (AwaitsEngineStop 0 15 port n) (OnPortWriting IsCommandRegister port) AnyUse start d
+  pub usable : IsOnAndAgrees AnyUse port d
   pub has : HasStCleared (start.port port.0) (d.port port.0)
   pub low : n ≤ (d.port port.0).notes.engine_count
   pub high : 0 < n → (d.port port.0).notes.engine_count ≤ MOST_READINGS
 
 -- the port is stopped still, FRE is 0, and all else is as it was
 pub record HasEmptied (port : Port) (start d : Device) : Type 0 where
-  pub usable : IsUsable AnyUse port d
+  pub usable : IsOnAndAgrees AnyUse port d
   pub stopped : IsStopped (d.port port.0)
   pub fre : (d.port port.0).fre ≡ false
   pub bases : (d.port port.0).bases ≡ (start.port port.0).bases
@@ -46,13 +46,13 @@ pub record HasEmptied (port : Port) (start d : Device) : Type 0 where
 
 -- FRE was cleared, and so many readings found FR set
 pub record IsEmptying (port : Port) (start : Device) (n : ℕ) (d : Device) : Type 0 where
-  pub told : IsSimulatedAlong (Awaits 4 14 port n) (OnPortWriting IsCommandRegister port) AnyUse start d
+  pub told : IsSimulatedAlong (AwaitsEngineStop 4 14 port n) (OnPortWriting IsCommandRegister port) AnyUse start d
   pub has : HasEmptied port start d
   pub low : n ≤ (d.port port.0).notes.engine_count
   pub high : 0 < n → (d.port port.0).notes.engine_count ≤ MOST_READINGS
 
 -- one more reading that the wait goes on for
-pub counted_again : (again : Bool) (n count : ℕ) → again ≡ true → n ≤ count → n < MOST_READINGS → (n + 1 ≤ counted again count) × (counted again count ≤ MOST_READINGS)
+pub counted_again : (again : Bool) (n count : ℕ) → again ≡ true → n ≤ count → n < MOST_READINGS → (n + 1 ≤ readings_counted again count) × (readings_counted again count ≤ MOST_READINGS)
 counted_again again n count on low small = rw on (omega arith, omega arith)
 
 or_true : (a b : Bool) → b ≡ true → a || b ≡ true
@@ -74,39 +74,39 @@ module _ (laws : Laws) where
   module _ (start running : ℕ) (port : Port) where
     -- PxCMD was read, and written with the bit of an engine 0
     pub told_clears : (was v : ℕ) (old mid new : Device) → bit v start ≡ false → Reads (Px port Cmd) was old mid → IsStable (MayWrite (Px port Cmd) v) mid →
-        ((uses : SlotStates) → AnyUse uses → LeavesUses uses (Px port Cmd) v mid) → Writes (Px port Cmd) v mid new → IsSimulatedAlong (Awaits start running port 0) (OnPortWriting IsCommandRegister port) AnyUse old new
+        ((uses : SlotStates) → AnyUse uses → LeavesUses uses (Px port Cmd) v mid) → Writes (Px port Cmd) v mid new → IsSimulatedAlong (AwaitsEngineStop start running port 0) (OnPortWriting IsCommandRegister port) AnyUse old new
     told_clears was v old mid new zero read may leaves write =
-        told_both laws (λ accesses. accesses ≡ Reading (Px port Cmd) was ∷ []) (λ accesses. accesses ≡ Writing (Px port Cmd) v ∷ []) (Awaits start running port 0)
+        told_both laws (λ accesses. accesses ≡ Reading (Px port Cmd) was ∷ []) (λ accesses. accesses ≡ Writing (Px port Cmd) v ∷ []) (AwaitsEngineStop start running port 0)
         (λ early late is then. awaits_none start running port v zero early late then) (Controlling Commanding port) old mid new
         (laws.fragments.reads (Controlling Commanding port) (Px port Cmd) was old mid refl read)
         (laws.fragments.writes (Controlling Commanding port) (Px port Cmd) v mid new (refl, refl) may leaves write)
 
-    module _ (n v : ℕ) (old mid new : Device) (a : IsSimulatedAlong (Awaits start running port n) (OnPortWriting IsCommandRegister port) AnyUse old mid) (call : Reads (Px port Cmd) v mid new) where
+    module _ (n v : ℕ) (old mid new : Device) (a : IsSimulatedAlong (AwaitsEngineStop start running port n) (OnPortWriting IsCommandRegister port) AnyUse old mid) (call : Reads (Px port Cmd) v mid new) where
       -- what is told of them, and of one more reading
-      with_reading : (Tells : List Access → Type 0) → ((early late : List Access) → Awaits start running port n early → late ≡ Reading (Px port Cmd) v ∷ [] → Tells (early ++ late)) →
+      with_reading : (Tells : List Access → Type 0) → ((early late : List Access) → AwaitsEngineStop start running port n early → late ≡ Reading (Px port Cmd) v ∷ [] → Tells (early ++ late)) →
           IsSimulatedAlong Tells (OnPortWriting IsCommandRegister port) AnyUse old new
       with_reading Tells join =
-          told_both laws (Awaits start running port n) (λ accesses. accesses ≡ Reading (Px port Cmd) v ∷ []) Tells join
+          told_both laws (AwaitsEngineStop start running port n) (λ accesses. accesses ≡ Reading (Px port Cmd) v ∷ []) Tells join
           (Controlling Commanding port) old mid new a
           (laws.fragments.reads (Controlling Commanding port) (Px port Cmd) v mid new refl call)
 
-      pub told_stuck : ShowsStillRunning start running v → IsSimulatedAlong (Awaits start running port (n + 1)) (OnPortWriting IsCommandRegister port) AnyUse old new
-      told_stuck shows = with_reading (Awaits start running port (n + 1)) (λ early late a is. awaits_more start running port n v early late a is shows)
+      pub told_stuck : ShowsStillRunning start running v → IsSimulatedAlong (AwaitsEngineStop start running port (n + 1)) (OnPortWriting IsCommandRegister port) AnyUse old new
+      told_stuck shows = with_reading (AwaitsEngineStop start running port (n + 1)) (λ early late a is. awaits_more start running port n v early late a is shows)
 
-      pub told_falls : bit v running ≡ false → IsSimulatedAlong (Falls start running port) (OnPortWriting IsCommandRegister port) AnyUse old new
-      told_falls zero = with_reading (Falls start running port) (λ early late a is. awaits_falls start running port n v early late a is zero)
+      pub told_falls : bit v running ≡ false → IsSimulatedAlong (EngineFalls start running port) (OnPortWriting IsCommandRegister port) AnyUse old new
+      told_falls zero = with_reading (EngineFalls start running port) (λ early late a is. awaits_falls start running port n v early late a is zero)
 
     -- after all of them
-    pub told_awaits : (n : ℕ) → n ≡ MOST_READINGS → (old new : Device) → IsSimulatedAlong (Awaits start running port n) (OnPortWriting IsCommandRegister port) AnyUse old new →
-        IsSimulatedAlong (Awaits start running port MOST_READINGS) (OnPortWriting IsCommandRegister port) AnyUse old new
-    told_awaits n all old new a = subst (λ (k : ℕ). IsSimulatedAlong (Awaits start running port k) (OnPortWriting IsCommandRegister port) AnyUse old new) all a
+    pub told_awaits : (n : ℕ) → n ≡ MOST_READINGS → (old new : Device) → IsSimulatedAlong (AwaitsEngineStop start running port n) (OnPortWriting IsCommandRegister port) AnyUse old new →
+        IsSimulatedAlong (AwaitsEngineStop start running port MOST_READINGS) (OnPortWriting IsCommandRegister port) AnyUse old new
+    told_awaits n all old new a = subst (λ (k : ℕ). IsSimulatedAlong (AwaitsEngineStop start running port k) (OnPortWriting IsCommandRegister port) AnyUse old new) all a
 
   -- PxCMD is read, and written
-  module _ (port : Port) (was v : ℕ) (old mid : Device) (u : IsUsable AnyUse port old) (read : Reads (Px port Cmd) was old mid) where
+  module _ (port : Port) (was v : ℕ) (old mid : Device) (u : IsOnAndAgrees AnyUse port old) (read : Reads (Px port Cmd) was old mid) where
     p : DevicePort
     p = mid.port port.0
 
-    here : IsUsable AnyUse port mid
+    here : IsOnAndAgrees AnyUse port mid
     here = usable_read laws AnyUse port Cmd was old mid u read
 
     s : PortRegisterRead port.0 Cmd was old mid
@@ -137,12 +137,12 @@ module _ (laws : Laws) where
       }
 
       module _ (new : Device) (write : Writes (Px port Cmd) v mid new) where
-        pub stop_told : IsSimulatedAlong (Awaits 0 15 port 0) (OnPortWriting IsCommandRegister port) AnyUse old new
+        pub stop_told : IsSimulatedAlong (AwaitsEngineStop 0 15 port 0) (OnPortWriting IsCommandRegister port) AnyUse old new
         stop_told = told_clears 0 15 port was v old mid new zero read stop_may stop_leaves write
 
         pub stop_has : HasStCleared (old.port port.0) (new.port port.0)
         stop_has =
-            let after : IsUsable AnyUse port new = usable_after laws Commanding port old new u stop_told.followed in
+            let after : IsOnAndAgrees AnyUse port new = usable_after laws Commanding port old new u stop_told.followed in
             let set = laws.command_set port v mid new write in
             let same = beside_then (old.port port.0) (mid.port port.0) (new.port port.0) (beside_read laws port was old mid u.on.no_reset read) (beside_command laws port v mid new here.on.no_reset zero write) in
             let bits : (slot : ℕ) → ((new.port port.0).ci slot ≡ false) × ((new.port port.0).sact slot ≡ false) =
@@ -173,7 +173,7 @@ module _ (laws : Laws) where
       empty_leaves uses is = record { start = λ on. absurd (true≢false (sym on ∙ st_zero)); receive = λ on. absurd (true≢false (sym on ∙ zero)) }
 
       module _ (new : Device) (write : Writes (Px port Cmd) v mid new) where
-        pub empty_begins : IsSimulatedAlong (Awaits 4 14 port 0) (OnPortWriting IsCommandRegister port) AnyUse old new × IsStopped (new.port port.0) × ((new.port port.0).fre ≡ false)
+        pub empty_begins : IsSimulatedAlong (AwaitsEngineStop 4 14 port 0) (OnPortWriting IsCommandRegister port) AnyUse old new × IsStopped (new.port port.0) × ((new.port port.0).fre ≡ false)
             × ((new.port port.0).bases ≡ (old.port port.0).bases) × SameSctlAndNotes (old.port port.0) (new.port port.0)
         empty_begins = (
           told_clears 4 14 port was v old mid new zero read empty_may empty_leaves write,
@@ -221,10 +221,10 @@ module _ (laws : Laws) where
     off : d.hr ≡ false
     off = w.usable.on.no_reset
 
-    pub falls : bit v 15 ≡ false → IsSimulatedAlong (Falls 0 15 port) (OnPortWriting IsCommandRegister port) AnyUse start e
+    pub falls : bit v 15 ≡ false → IsSimulatedAlong (EngineFalls 0 15 port) (OnPortWriting IsCommandRegister port) AnyUse start e
     falls clear = told_falls 0 15 port n v start d e w.told call clear
 
-    pub falling_on : IsUsable AnyUse port e
+    pub falling_on : IsOnAndAgrees AnyUse port e
     falling_on = usable_read laws AnyUse port Cmd v d e w.usable call
 
     pub has_still : HasStCleared (start.port port.0) (e.port port.0)
@@ -283,7 +283,7 @@ module _ (laws : Laws) where
     pub emptied : bit v 14 ≡ false → (e.port port.0).fr ≡ false
     emptied clear = sym (laws.shown_after port Cmd v d e quiet call).2 ∙ clear
 
-    pub empties_told : bit v 14 ≡ false → IsSimulatedAlong (Falls 4 14 port) (OnPortWriting IsCommandRegister port) AnyUse start e
+    pub empties_told : bit v 14 ≡ false → IsSimulatedAlong (EngineFalls 4 14 port) (OnPortWriting IsCommandRegister port) AnyUse start e
     empties_told clear = told_falls 4 14 port n v start d e w.told call clear
 
     held : bit v 14 ≡ true → not (d.port port.0).st && bit v 15 || not (d.port port.0).fre && bit v 14 ≡ true

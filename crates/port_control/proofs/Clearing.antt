@@ -12,7 +12,7 @@ use Rattle.adapter.specs.Device.{Device}
 use Rattle.adapter.specs.Rules.{IsOn, MayWrite, IsStable}
 use Rattle.refinement.specs.Driven.{AnyUse, OnPortWriting, IsSimulated}
 use Rattle.refinement.specs.Links.{DoesNotWrite}
-use Rattle.port_control.specs.Ports.{IsErrorRegister, IsUsable, ReceivesFises, SawDevice, ClearsErrors, HasClearErrors, ClearsErrorState}
+use Rattle.port_control.specs.Ports.{IsErrorRegister, IsOnAndAgrees, ReceivesFises, SawDevice, ClearsErrors, HasClearErrors, ClearsErrorState}
 use Rattle.port_control.proofs.Using.{usable_after}
 use Rattle.port_control.proofs.Settling.{comes_in_parts, plugs_in_parts, Settles, settles}
 use Rattle.port_control.specs.Laws.RegisterSet.{Clearing}
@@ -24,10 +24,10 @@ pub ones : (place : ℕ) → place < 32 → bit 0xffffffff place ≡ true
 ones place small = ap (λ (n : ℕ). n == 1) (bit_at_ones 32 place small)
 
 module _ (laws : Laws) where
-  pub serr_may : (port : Port) (v : ℕ) (d : Device) → IsUsable AnyUse port d → IsStable (MayWrite (Px port Serr) v) d
+  pub serr_may : (port : Port) (v : ℕ) (d : Device) → IsOnAndAgrees AnyUse port d → IsStable (MayWrite (Px port Serr) v) d
   serr_may port v d u = laws.write_stays (Px port Serr) v d (λ p e. cc) (u.on, u.there, tt)
 
-  pub is_may : (port : Port) (v : ℕ) (d : Device) → IsUsable AnyUse port d → IsStable (MayWrite (Px port Is) v) d
+  pub is_may : (port : Port) (v : ℕ) (d : Device) → IsOnAndAgrees AnyUse port d → IsStable (MayWrite (Px port Is) v) d
   is_may port v d u = laws.write_stays (Px port Is) v d (λ p e. cc) (u.on, u.there, tt)
 
   -- what PxSSTS was read as stays
@@ -37,11 +37,11 @@ module _ (laws : Laws) where
       let link = (laws.access_notes port (Writing (Px port r) v) old new call).link tt in
       (ap (λ (n : ℕ). n % 16) link.0 ∙ saw.0, link.1 spares ∙ saw.1)
 
-  module _ (port : Port) (old mid new : Device) (u : IsUsable AnyUse port old) (serr : Writes (Px port Serr) 0xffffffff old mid) where
+  module _ (port : Port) (old mid new : Device) (u : IsOnAndAgrees AnyUse port old) (serr : Writes (Px port Serr) 0xffffffff old mid) where
     pub first : IsSimulated (OnPortWriting IsErrorRegister port) AnyUse old mid
     first = followed_write laws (Controlling Clearing port) (Px port Serr) 0xffffffff old mid (refl, inl refl) (serr_may port 0xffffffff old u) (λ uses is. tt) serr
 
-    pub clearing : IsUsable AnyUse port mid
+    pub clearing : IsOnAndAgrees AnyUse port mid
     clearing = usable_after laws Clearing port old mid u first
 
     -- PxSERR tells no disk of before, whatever is cleared after it
@@ -79,10 +79,10 @@ module _ (laws : Laws) where
 
   -- ---- and PxTFD is read then
 
-  module _ (port : Port) (v : ℕ) (old mid new : Device) (u : IsUsable AnyUse port old) (receives : ReceivesFises port.0 (old.port port.0))
+  module _ (port : Port) (v : ℕ) (old mid new : Device) (u : IsOnAndAgrees AnyUse port old) (receives : ReceivesFises port.0 (old.port port.0))
       (undue : (old.port port.0).link_due ≡ false) (det : (old.port port.0).sctl_det ≡ 0) (first : IsSimulated (OnPortWriting IsErrorRegister port) AnyUse old mid)
       (clears : ClearsErrors port old mid) (read : Reads (Px port Tfd) v mid new) where
-    forgetting : IsUsable AnyUse port mid
+    forgetting : IsOnAndAgrees AnyUse port mid
     forgetting = usable_after laws Clearing port old mid u first
 
     then : IsSimulated (OnPortWriting IsErrorRegister port) AnyUse mid new

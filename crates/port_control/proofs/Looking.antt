@@ -10,14 +10,14 @@ use Rattle.hba_regs.specs.Bits.{bit}
 use Rattle.hba_regs.specs.declared.reg.PortReg.{PortReg}
 use Rattle.hba_regs.specs.declared.reg.PortReg.TheVariants.{Tfd, Sig, Ssts}
 use Rattle.hba_regs.specs.declared.reg.Reg.TheVariants.{Px}
-use Rattle.adapter.specs.Access.{Reads, counted, link_counted}
+use Rattle.adapter.specs.Access.{Reads, readings_counted, link_readings_counted}
 use Rattle.adapter.specs.Access.Access.{Reading}
 use Rattle.adapter.specs.Device.{Notes, DevicePort, Device}
 use Rattle.refinement.specs.Driven.{AnyUse, OnPortWriting, IsSimulated}
 use Rattle.refinement.specs.Errors.{NoDiskComes}
-use Rattle.refinement.specs.Facts.{ShowsDrqTillLink, IsCleanToStart, StoppedTfesClear}
+use Rattle.refinement.specs.PortFacts.{ShowsDrqTillLink, IsCleanToStart, StoppedTfesClear}
 use Rattle.refinement.specs.Started.{IsUp, IsComingUp}
-use Rattle.port_control.specs.Ports.{IsErrorRegister, IsUsable, HasLink, ShowsIdle, SawDevice, SawIdle, IsVainReading, ReadsInVain, ReadsUntil, ShowsSignature}
+use Rattle.port_control.specs.Ports.{IsErrorRegister, IsOnAndAgrees, HasLink, ShowsIdle, SawDevice, SawIdle, IsVainReading, ReadsInVain, ReadsUntil, ShowsSignature}
 use Rattle.port_control.proofs.Using.{usable_read}
 use Rattle.port_control.proofs.Ceasing.{counted_again}
 use Rattle.port_control.proofs.Settling.{comes_in_parts, Settles, settles}
@@ -29,8 +29,8 @@ use Rattle.port_control.proofs.Stretching.{followed_read, followed_then}
 -- so many readings of PxSSTS showed no device with a link
 pub record IsMissing (port : Port) (start : Device) (n : ℕ) (d : Device) : Type 0 where
   pub followed : IsSimulated (OnPortWriting IsErrorRegister port) AnyUse start d
-  pub usable : IsUsable AnyUse port d
-  pub on : IsUsable AnyUse port start
+  pub usable : IsOnAndAgrees AnyUse port d
+  pub on : IsOnAndAgrees AnyUse port start
   pub det : (d.port port.0).sctl_det ≡ 0
   pub low : n ≤ (d.port port.0).notes.link_count
   pub high : 0 < n → (d.port port.0).notes.link_count ≤ MOST_READINGS
@@ -38,22 +38,22 @@ pub record IsMissing (port : Port) (start : Device) (n : ℕ) (d : Device) : Typ
   pub misses : ReadsInVain port Ssts HasLink n start d
 
 -- a link is awaited on a port whose TFES is clear
-abbrev Awaits : DevicePort → Type 0
-Awaits p = ShowsDrqTillLink p × StoppedTfesClear p
+abbrev AwaitsEngineStop : DevicePort → Type 0
+AwaitsEngineStop p = ShowsDrqTillLink p × StoppedTfesClear p
 
 -- so many readings of PxTFD showed BSY or DRQ
 pub record IsBusyStill (port : Port) (start : Device) (n : ℕ) (d : Device) : Type 0 where
   pub followed : IsSimulated (OnPortWriting IsErrorRegister port) AnyUse start d
-  pub usable : IsUsable AnyUse port d
+  pub usable : IsOnAndAgrees AnyUse port d
   pub det : (d.port port.0).sctl_det ≡ 0
   pub saw : SawDevice (d.port port.0).notes
   pub low : n ≤ (d.port port.0).notes.busy_count
   pub high : 0 < n → (d.port port.0).notes.busy_count ≤ MOST_READINGS
   pub stays : ReadsInVain port Tfd ShowsIdle n start d
-  pub awaits : Awaits (start.port port.0) → Awaits (d.port port.0)
-  pub quiet : 0 < n → Awaits (start.port port.0) → bit (d.port port.0).notes.last_tfd 3 ≡ false → IsCleanToStart (d.port port.0)
+  pub awaits : AwaitsEngineStop (start.port port.0) → AwaitsEngineStop (d.port port.0)
+  pub quiet : 0 < n → AwaitsEngineStop (start.port port.0) → bit (d.port port.0).notes.last_tfd 3 ≡ false → IsCleanToStart (d.port port.0)
 
-counted_far : (det n count : ℕ) → det ≢ 3 → n ≤ count → n < MOST_READINGS → (n + 1 ≤ link_counted det count) × (link_counted det count ≤ MOST_READINGS)
+counted_far : (det n count : ℕ) → det ≢ 3 → n ≤ count → n < MOST_READINGS → (n + 1 ≤ link_readings_counted det count) × (link_readings_counted det count ≤ MOST_READINGS)
 counted_far det n count far low small =
     elim (eqb_tells det 3) [
       | inl both ↦ absurd (far both.1)
@@ -95,16 +95,16 @@ module _ (laws : Laws) where
     pub missing_followed : IsSimulated (OnPortWriting IsErrorRegister port) AnyUse start e
     missing_followed = looks_more port Ssts v start d e w.followed call
 
-    missing_count : (e.port port.0).notes.link_count ≡ link_counted (v % 16) (d.port port.0).notes.link_count
+    missing_count : (e.port port.0).notes.link_count ≡ link_readings_counted (v % 16) (d.port port.0).notes.link_count
     missing_count =
         ap (λ (k : Notes). k.link_count) (laws.notes_read port Ssts v d e off call)
-        ∙ ap (λ (det : ℕ). if nat_eq det 0 then link_counted (v % 16) (d.port port.0).notes.link_count else (d.port port.0).notes.link_count) w.det
+        ∙ ap (λ (det : ℕ). if nat_eq det 0 then link_readings_counted (v % 16) (d.port port.0).notes.link_count else (d.port port.0).notes.link_count) w.det
 
     missing_last : (e.port port.0).notes.last_ssts ≡ v
     missing_last = ap (λ (k : Notes). k.last_ssts) (laws.notes_read port Ssts v d e off call)
 
     pub device_seen : v % 16 ≡ 3 → SawDevice (e.port port.0).notes
-    device_seen three = (ap (λ (k : ℕ). k % 16) missing_last ∙ three, missing_count ∙ ap (λ (k : ℕ). link_counted k (d.port port.0).notes.link_count) three)
+    device_seen three = (ap (λ (k : ℕ). k % 16) missing_last ∙ three, missing_count ∙ ap (λ (k : ℕ). link_readings_counted k (d.port port.0).notes.link_count) three)
 
     pub device_up : v % 16 ≡ 3 → NoDiskComes port.0 start e → IsComingUp (start.port port.0) → IsUp (e.port port.0)
     device_up three none coming =
@@ -148,7 +148,7 @@ module _ (laws : Laws) where
     busy_waits small neither = until_shown port Tfd ShowsIdle n small w.stays call neither
 
     -- without DRQ the link isn't due
-    pub busy_quiet : Awaits (start.port port.0) → bit (e.port port.0).notes.last_tfd 3 ≡ false → IsCleanToStart (e.port port.0)
+    pub busy_quiet : AwaitsEngineStop (start.port port.0) → bit (e.port port.0).notes.last_tfd 3 ≡ false → IsCleanToStart (e.port port.0)
     busy_quiet awaits clear =
         let h = w.awaits awaits in
         let last : (e.port port.0).notes.last_tfd ≡ v = ap (λ (k : Notes). k.last_tfd) (laws.notes_read port Tfd v d e quiet call) in
@@ -159,7 +159,7 @@ module _ (laws : Laws) where
         let one = counted_again (bit v 7 || bit v 3) n (d.port port.0).notes.busy_count busy w.low small in
         let count =
         ap (λ (k : Notes). k.busy_count) (laws.notes_read port Tfd v d e quiet call)
-        ∙ ap (λ (det : ℕ). if nat_eq det 0 then counted (bit v 7 || bit v 3) (d.port port.0).notes.busy_count else (d.port port.0).notes.busy_count) w.det in
+        ∙ ap (λ (det : ℕ). if nat_eq det 0 then readings_counted (bit v 7 || bit v 3) (d.port port.0).notes.busy_count else (d.port port.0).notes.busy_count) w.det in
         record {
           followed = busy_followed;
           usable = usable_read laws AnyUse port Tfd v d e w.usable call;
@@ -174,7 +174,7 @@ module _ (laws : Laws) where
 
   -- ---- the signature is read
 
-  module _ (port : Port) (d e : Device) (v : ℕ) (u : IsUsable AnyUse port d) (call : Reads (Px port Sig) v d e) where
+  module _ (port : Port) (d e : Device) (v : ℕ) (u : IsOnAndAgrees AnyUse port d) (call : Reads (Px port Sig) v d e) where
     signed : (e.port port.0).notes ≡ record (d.port port.0).notes { last_sig = v }
     signed = laws.notes_read port Sig v d e u.on.no_reset call
 

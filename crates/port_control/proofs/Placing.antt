@@ -8,13 +8,13 @@ use Rattle.hba_regs.specs.declared.reg.Reg.TheVariants.{Px}
 use Rattle.adapter.specs.Access.{Writes, port_written}
 use Rattle.adapter.specs.Device.{Bases, DevicePort, Device}
 use Rattle.adapter.specs.Rules.{MayWrite, IsStable}
-use Rattle.adapter.specs.Seen.{PortRegisterWritten}
+use Rattle.adapter.specs.RegisterEffects.{PortRegisterWritten}
 use Rattle.refinement.specs.Driven.{AnyUse, OnPortWriting, IsSimulated}
 use Rattle.refinement.specs.Driver.{LeavesUses}
-use Rattle.refinement.specs.Facts.{IsQuiescentPort}
+use Rattle.refinement.specs.PortFacts.{IsQuiescentPort}
 use Rattle.refinement.specs.Places.{list_of, received_of}
 use Rattle.refinement.specs.Slots.{SlotStates}
-use Rattle.port_control.specs.Ports.{IsPlacingRegister, IsUsable, SameButCmdNotes, SameSctlAndNotes, programmed}
+use Rattle.port_control.specs.Ports.{IsPlacingRegister, IsOnAndAgrees, SameButCmdNotes, SameSctlAndNotes, programmed}
 use Rattle.port_control.proofs.Using.{usable_after, beside_none, beside_then, same_adapter}
 use Rattle.port_control.specs.Laws.AccessPurpose.{Controlling}
 use Rattle.port_control.specs.Laws.{Laws}
@@ -24,7 +24,7 @@ use Rattle.port_control.proofs.Stretching.{followed_then, followed_write}
 -- some of the four were written, and the addresses are these
 pub record IsPlacedBy (port : Port) (start d : Device) (b : Bases) : Type 0 where
   pub followed : IsSimulated (OnPortWriting IsPlacingRegister port) AnyUse start d
-  pub usable : IsUsable AnyUse port d
+  pub usable : IsOnAndAgrees AnyUse port d
   pub quiet : IsQuiescentPort (d.port port.0)
   pub room : DRIVER_BYTES ≤ d.size
   pub bases : (d.port port.0).bases ≡ b
@@ -35,7 +35,7 @@ pub programmed_by : (port list : ℕ) (b : Bases) → list ≡ list_of port → 
 programmed_by port list b is = ap (λ (n : ℕ). record b { clb = n; fb = n + RECEIVED_FIS_OFFSET; clb_set = true; clbu_set = true; fb_set = true; fbu_set = true }) is
 
 module _ (laws : Laws) where
-  pub placed_first : (port : Port) (d : Device) → IsUsable AnyUse port d → IsQuiescentPort (d.port port.0) → DRIVER_BYTES ≤ d.size → IsPlacedBy port d d (d.port port.0).bases
+  pub placed_first : (port : Port) (d : Device) → IsOnAndAgrees AnyUse port d → IsQuiescentPort (d.port port.0) → DRIVER_BYTES ≤ d.size → IsPlacedBy port d d (d.port port.0).bases
   placed_first port d u quiet room = record { followed = (laws.fragments.none (Controlling Placing port) d).followed; usable = u; quiet = quiet; room = room; bases = refl; same = beside_none (d.port port.0) }
 
   module _ (port : Port) (start d e : Device) (b : Bases) (w : IsPlacedBy port start d b) where

@@ -12,10 +12,10 @@ use Rattle.adapter.specs.Device.{Device}
 use Rattle.adapter.specs.Rules.{IsOn, MayWrite, IsStable}
 use Rattle.refinement.specs.Driven.{AnyUse, OnPortWriting, IsSimulated}
 use Rattle.refinement.specs.Errors.{NoDiskComes}
-use Rattle.refinement.specs.Facts.{ShowsDrqTillLink, IsCleanToStart, StoppedTfesClear}
+use Rattle.refinement.specs.PortFacts.{ShowsDrqTillLink, IsCleanToStart, StoppedTfesClear}
 use Rattle.refinement.specs.Started.{IsUp, IsComingUp}
-use Rattle.refinement.specs.Driven.{Grows}
-use Rattle.port_control.specs.Ports.{IsErrorRegister, IsResetRegister, IsUsable, ReceivesFises, HasLink, ShowsIdle, ReadsInVain, ReadsUntil, ClearsErrors, FindsLink, FindsSignature, FindsBusy, SendsComresetThen, HasClearErrors, FindsAwaited, IsDeviceFound}
+use Rattle.refinement.specs.Driven.{TapeGrows}
+use Rattle.port_control.specs.Ports.{IsErrorRegister, IsResetRegister, IsOnAndAgrees, ReceivesFises, HasLink, ShowsIdle, ReadsInVain, ReadsUntil, ClearsErrors, FindsLink, FindsSignature, FindsBusy, SendsComresetThen, HasClearErrors, FindsAwaitedLink, IsDeviceFound}
 use Rattle.port_control.proofs.Using.{usable_after, receiving_write, stays_on, tape_gains}
 use Rattle.port_control.proofs.Settling.{comes_in_parts, plugs_in_parts, no_start, Settles, settles}
 use Rattle.port_control.specs.Laws.RegisterSet.{Clearing, Resetting}
@@ -23,7 +23,7 @@ use Rattle.port_control.specs.Laws.AccessPurpose.{Controlling}
 use Rattle.port_control.specs.Laws.{Laws}
 use Rattle.port_control.proofs.Stretching.{followed_then, followed_wider, followed_write}
 
-pub grows_longer : (old new : Device) → Grows old new → length old.tape ≤ length new.tape
+pub grows_longer : (old new : Device) → TapeGrows old new → length old.tape ≤ length new.tape
 grows_longer old new g =
     let sum : length new.tape ≡ length old.tape + length g.0 = ap length g.1 ∙ length-append old.tape g.0 in
     omega (arith, sum)
@@ -58,14 +58,14 @@ pub finds_signature : (port : Port) (signature : ℕ) {old linked idle new : Dev
 finds_signature port signature {old} {linked} {idle} {new} links waits reads = record { linked = linked; links = links; idle = idle; waits = waits; reads = reads }
 
 module _ (laws : Laws) where
-  pub sctl_may : (port : Port) (v : ℕ) (d : Device) → IsUsable AnyUse port d → ReceivesFises port.0 (d.port port.0) → (v % 16 ≡ 0) ⊎ (v % 16 ≡ 1) → IsStable (MayWrite (Px port Sctl) v) d
+  pub sctl_may : (port : Port) (v : ℕ) (d : Device) → IsOnAndAgrees AnyUse port d → ReceivesFises port.0 (d.port port.0) → (v % 16 ≡ 0) ⊎ (v % 16 ≡ 1) → IsStable (MayWrite (Px port Sctl) v) d
   sctl_may port v d u r det = laws.write_stays (Px port Sctl) v d (λ p e. cc) (u.on, u.there, (r.stopped.halted.st, det))
 
-  module _ (port : Port) (old sent : Device) (u : IsUsable AnyUse port old) (receives : ReceivesFises port.0 (old.port port.0)) (one : Writes (Px port Sctl) 1 old sent) where
+  module _ (port : Port) (old sent : Device) (u : IsOnAndAgrees AnyUse port old) (receives : ReceivesFises port.0 (old.port port.0)) (one : Writes (Px port Sctl) 1 old sent) where
     first : IsSimulated (OnPortWriting IsResetRegister port) AnyUse old sent
     first = followed_write laws (Controlling Resetting port) (Px port Sctl) 1 old sent (refl, inl refl) (sctl_may port 1 old u receives (inr refl)) (λ uses is. tt) one
 
-    sending : IsUsable AnyUse port sent
+    sending : IsOnAndAgrees AnyUse port sent
     sending = usable_after laws Resetting port old sent u first
 
     receives_still : ReceivesFises port.0 (sent.port port.0)
@@ -82,10 +82,10 @@ module _ (laws : Laws) where
       pub reset_receives : ReceivesFises port.0 (new.port port.0)
       reset_receives = receiving_write laws port Sctl 0 sent new sending.on.no_reset (inl refl) zero receives_still
 
-      early : Grows old sent
+      early : TapeGrows old sent
       early = laws.tape.access_grows (Writing (Px port Sctl) 1) old sent one
 
-      late : Grows sent new
+      late : TapeGrows sent new
       late = laws.tape.access_grows (Writing (Px port Sctl) 0) sent new zero
 
       pub was_reset : SendsComresetThen port (λ ended now. now ≡ ended) old new
@@ -106,7 +106,7 @@ module _ (laws : Laws) where
 
       pub reset_awaited : ShowsDrqTillLink (new.port port.0)
       reset_awaited = laws.writes_awaited port.0 (Px port Sctl) 0 sent new ending_may
-          (λ d steps. ((laws.law_steps_guarantee _ _ steps).port port.0).cr receives_still.stopped.halted.cr) zero
+          (λ d steps. ((laws.law_step_lists_keep_what_steps_keep _ _ steps).port port.0).cr receives_still.stopped.halted.cr) zero
           (laws.comreset_begins port 1 old sent receives.stopped.halted.cr refl one)
 
       pub reset_coming : NoDiskComes port.0 old new → IsComingUp (new.port port.0)
@@ -117,7 +117,7 @@ module _ (laws : Laws) where
           (laws.comreset_comes port 1 old sent receives.stopped.halted.cr refl one)
 
   -- what was found since, where the link was coming up
-  pub found_on : (port : ℕ) (old mid new : Device) → Grows old mid → Grows mid new → (NoDiskComes port old mid → IsComingUp (mid.port port)) → ShowsDrqTillLink (mid.port port) → FindsAwaited port mid new → IsDeviceFound port old new
+  pub found_on : (port : ℕ) (old mid new : Device) → TapeGrows old mid → TapeGrows mid new → (NoDiskComes port old mid → IsComingUp (mid.port port)) → ShowsDrqTillLink (mid.port port) → FindsAwaitedLink port mid new → IsDeviceFound port old new
   found_on port old mid new early late coming awaited finds = record {
     calm = finds.calm;
     clear = record {
@@ -130,8 +130,8 @@ module _ (laws : Laws) where
   }
 
   -- the two together
-  module _ (port : Port) (old mid new : Device) (u : IsUsable AnyUse port old) (sends : IsSimulated (OnPortWriting IsResetRegister port) AnyUse old mid) (looks : IsSimulated (OnPortWriting IsErrorRegister port) AnyUse mid new) where
-    pub looking : IsUsable AnyUse port mid
+  module _ (port : Port) (old mid new : Device) (u : IsOnAndAgrees AnyUse port old) (sends : IsSimulated (OnPortWriting IsResetRegister port) AnyUse old mid) (looks : IsSimulated (OnPortWriting IsErrorRegister port) AnyUse mid new) where
+    pub looking : IsOnAndAgrees AnyUse port mid
     looking = usable_after laws Resetting port old mid u sends
 
     pub looked : Settles port mid new
@@ -143,14 +143,14 @@ module _ (laws : Laws) where
     pub both_on : IsOn new
     both_on = stays_on laws Resetting port old new both_followed.driven u.on
 
-    sent_grows : Grows old mid
+    sent_grows : TapeGrows old mid
     sent_grows = tape_gains laws Resetting port old mid sends.driven
 
     module _ (coming : NoDiskComes port.0 old mid → IsComingUp (mid.port port.0)) where
       pub both_coming : NoDiskComes port.0 old new → IsComingUp (new.port port.0)
       both_coming none = let parts = comes_in_parts laws port.0 old mid new sent_grows looked.grows none in looked.coming parts.1 (coming parts.0)
 
-      pub both_found : ShowsDrqTillLink (mid.port port.0) → FindsAwaited port.0 mid new → IsDeviceFound port.0 old new
+      pub both_found : ShowsDrqTillLink (mid.port port.0) → FindsAwaitedLink port.0 mid new → IsDeviceFound port.0 old new
       both_found awaited finds = found_on port.0 old mid new sent_grows looked.grows coming awaited finds
 
   -- ---- looking for the device
@@ -160,10 +160,10 @@ module _ (laws : Laws) where
       (calm : (place : ℕ) → place < 32 → (cleared.port port.0).is place ≡ false)
       (clear : (seen.port port.0).link_due ≡ false → HasClearErrors port.0 seen cleared)
       (quiet : ShowsDrqTillLink (cleared.port port.0) → StoppedTfesClear (cleared.port port.0) → bit (new.port port.0).notes.last_tfd 3 ≡ false → IsCleanToStart (new.port port.0)) where
-    early_half : Grows old cleared
+    early_half : TapeGrows old cleared
     early_half = laws.tape.grows_more old seen cleared a.grows b.grows
 
-    late_half : Grows seen new
+    late_half : TapeGrows seen new
     late_half = laws.tape.grows_more seen cleared new b.grows c.grows
 
     receives_seen : ReceivesFises port.0 (seen.port port.0)
@@ -185,7 +185,7 @@ module _ (laws : Laws) where
           serr_x = λ none. let parts = comes_in_parts laws port.0 seen cleared new b.grows c.grows none in change.serr_x parts.1 ((clear undue).serr_x parts.0);
         }
 
-    pub has_device : FindsAwaited port.0 old new
+    pub has_device : FindsAwaitedLink port.0 old new
     has_device = record {
       calm = λ place small. c.calm receives_cleared place (calm place small);
       clear = λ coming. record {

@@ -5,12 +5,12 @@ use Rattle.ata_types.specs.declared.Port.{Port}
 use Rattle.ata_types.specs.declared.limits.TheConstants.{MOST_READINGS}
 use Rattle.hba_regs.specs.declared.reg.PortReg.TheVariants.{Cmd, Sact, Sctl, Serr, Ssts}
 use Rattle.hba_regs.specs.declared.reg.Reg.TheVariants.{Px}
-use Rattle.adapter.specs.Access.{Reads, Writes, link_counted}
+use Rattle.adapter.specs.Access.{Reads, Writes, link_readings_counted}
 use Rattle.adapter.specs.Access.Access.{Writing}
 use Rattle.adapter.specs.Device.{Notes, Device}
 use Rattle.adapter.specs.Rules.{IsOn}
 use Rattle.refinement.specs.Driven.{AnyUse, OnPortWriting, IsSimulated}
-use Rattle.port_control.specs.Ports.{IsErrorRegister, IsStopped, IsUsable, HasClearErrors, BacksFault}
+use Rattle.port_control.specs.Ports.{IsErrorRegister, IsStopped, IsOnAndAgrees, HasClearErrors, BacksFault}
 use Rattle.port_control.specs.declared.PortFault.TheVariants.{NoDevice}
 use Rattle.port_control.specs.Laws.{Laws}
 use Rattle.port_control.specs.Laws.RegisterSet.{Clearing}
@@ -21,22 +21,22 @@ use Rattle.port_control.proofs.Stretching.{followed_then}
 use Rattle.port_control.proofs.Using.{stopped_read, stopped_write, usable_read}
 
 -- a count of 64 readings stays, whatever the next one shows
-full_stays : (shown : ℕ) → link_counted shown MOST_READINGS ≡ MOST_READINGS
+full_stays : (shown : ℕ) → link_readings_counted shown MOST_READINGS ≡ MOST_READINGS
 full_stays shown = elim (eqb_tells shown 3) [
   | inl both ↦ rw both.0 refl
   | inr both ↦ rw both.0 refl
 ]
 
 -- and whether it is counted or not
-full_noted : (det shown : ℕ) → (if nat_eq det 0 then link_counted shown MOST_READINGS else MOST_READINGS) ≡ MOST_READINGS
+full_noted : (det shown : ℕ) → (if nat_eq det 0 then link_readings_counted shown MOST_READINGS else MOST_READINGS) ≡ MOST_READINGS
 full_noted det shown = elim (eqb_tells det 0) [
   | inl both ↦ rw both.0 (full_stays shown)
   | inr both ↦ rw both.0 refl
 ]
 
-module _ (laws : Laws) (port : Port) (v : ℕ) (old mid new : Device) (u : IsUsable AnyUse port old) (serr : Writes (Px port Serr) 0xffffffff old mid)
+module _ (laws : Laws) (port : Port) (v : ℕ) (old mid new : Device) (u : IsOnAndAgrees AnyUse port old) (serr : Writes (Px port Serr) 0xffffffff old mid)
     (read : Reads (Px port Ssts) v mid new) where
-  usable : IsUsable AnyUse port mid
+  usable : IsOnAndAgrees AnyUse port mid
   usable = clearing laws port old mid new u serr
 
   pub seen_followed : IsSimulated (OnPortWriting IsErrorRegister port) AnyUse old new
@@ -61,5 +61,5 @@ module _ (laws : Laws) (port : Port) (v : ℕ) (old mid new : Device) (u : IsUsa
       let still = ((laws.access_notes port (Writing (Px port Serr) 0xffffffff) old mid serr).link tt).1 (λ (e : Px port Serr ≡ Px port Sctl). absurd (cc)) ∙ full in
       let det = (mid.port port.0).sctl_det in (
         λ three. far (sym (ap (λ (k : Notes). k.last_ssts % 16) noted) ∙ three),
-        ap (λ (k : Notes). k.link_count) noted ∙ (ap (λ (n : ℕ). if nat_eq det 0 then link_counted (v % 16) n else n) still ∙ full_noted det (v % 16)),
+        ap (λ (k : Notes). k.link_count) noted ∙ (ap (λ (n : ℕ). if nat_eq det 0 then link_readings_counted (v % 16) n else n) still ∙ full_noted det (v % 16)),
       )

@@ -8,10 +8,10 @@ use Rattle.adapter.specs.Device.{Device}
 use Rattle.adapter.specs.Rules.{IsOn}
 use Rattle.refinement.specs.Driven.{OnPortWriting, IsDrivenBy}
 use Rattle.refinement.specs.Errors.{NoDiskComes, ChangesByDisks}
-use Rattle.refinement.specs.Facts.{ShowsDrqTillLink, IsCleanToStart}
+use Rattle.refinement.specs.PortFacts.{ShowsDrqTillLink, IsCleanToStart}
 use Rattle.refinement.specs.Links.{DoesNotWrite, NoPlugEvents}
 use Rattle.refinement.specs.Started.{IsUp, IsComingUp, SetsNoStart}
-use Rattle.refinement.specs.Driven.{Grows}
+use Rattle.refinement.specs.Driven.{TapeGrows}
 use Rattle.port_control.specs.Ports.{IsErrorRegister, ReceivesFises}
 use Rattle.port_control.proofs.Using.{receiving_read, receiving_write}
 use Rattle.std.specs.Prelude.{All, List}
@@ -20,7 +20,7 @@ use Rattle.port_control.specs.Laws.RegisterSet.{Clearing}
 use Rattle.port_control.specs.Laws.{Laws}
 
 pub record Settles (port : Port) (old new : Device) : Type 0 where
-  pub grows : Grows old new
+  pub grows : TapeGrows old new
   pub receiving : ReceivesFises port.0 (old.port port.0) → ReceivesFises port.0 (new.port port.0)
   pub det : (new.port port.0).sctl_det ≡ (old.port port.0).sctl_det
   pub written : (new.port port.0).notes.sctl_written_at ≡ (old.port port.0).notes.sctl_written_at
@@ -48,7 +48,7 @@ spares_command (inr e) = absurd (let k : Cmd ≡ Is = e in cc)
 module _ (laws : Laws) where
   -- ---- parts of a stretch
 
-  module _ (port : ℕ) (old mid new : Device) (early : Grows old mid) (late : Grows mid new) where
+  module _ (port : ℕ) (old mid new : Device) (early : TapeGrows old mid) (late : TapeGrows mid new) where
     pub comes_in_parts : NoDiskComes port old new → NoDiskComes port old mid × NoDiskComes port mid new
     comes_in_parts none = laws.tape.comes_parts port old mid new early.0 late.0 early.1 late.1 none
 

@@ -9,17 +9,17 @@ use Rattle.adapter.specs.Access.{Reads, Writes, port_written, with_st, with_fre}
 use Rattle.adapter.specs.Access.Access.{Reading, Writing}
 use Rattle.adapter.specs.Device.{Bases, Notes, DevicePort, Device}
 use Rattle.adapter.specs.Rules.{MayWrite, IsStable}
-use Rattle.adapter.specs.Seen.{PortRegisterRead, PortRegisterWritten}
+use Rattle.adapter.specs.RegisterEffects.{PortRegisterRead, PortRegisterWritten}
 use Rattle.refinement.specs.Driven.{OnPortWriting, IsSimulated}
 use Rattle.refinement.specs.Driver.{AllFree, LeavesUses}
 use Rattle.refinement.specs.Errors.{ChangesByDisks}
-use Rattle.refinement.specs.Facts.{IsCleanToStart, FaultsOnRecord}
+use Rattle.refinement.specs.PortFacts.{IsCleanToStart, FaultsOnRecord}
 use Rattle.refinement.specs.Links.{NoPlugEvents}
 use Rattle.refinement.specs.Recovering.{IsLinked, RunsLinked}
 use Rattle.refinement.specs.Slots.{SlotState, Free, SlotStates, IsOver, RelatesSlot, IsEmptySlot}
 use Rattle.refinement.specs.Started.{IsUp, IsStarted}
-use Rattle.refinement.specs.Driven.{Grows}
-use Rattle.port_control.specs.Ports.{IsCommandRegister, IsUsable, ReceivesFises, IsRunning, SawIdle, SameButStart}
+use Rattle.refinement.specs.Driven.{TapeGrows}
+use Rattle.port_control.specs.Ports.{IsCommandRegister, IsOnAndAgrees, ReceivesFises, IsRunning, SawIdle, SameButStart}
 use Rattle.port_control.proofs.Using.{usable_read, receiving_read, usable_by}
 use Rattle.port_control.proofs.Ceasing.{IsButAt, bit_four}
 use Rattle.port_control.proofs.Resetting.{grows_longer}
@@ -56,9 +56,9 @@ over_free : (P : SlotState → Type 0) (u : SlotState) → u ≡ Free → P u �
 over_free P u is h = subst P is h
 
 module _ (laws : Laws) where
-  module _ (port : Port) (was v : ℕ) (old mid : Device) (u : IsUsable (NoneUsed port) port old) (read : Reads (Px port Cmd) was old mid) (receives : ReceivesFises port.0 (old.port port.0))
+  module _ (port : Port) (was v : ℕ) (old mid : Device) (u : IsOnAndAgrees (NoneUsed port) port old) (read : Reads (Px port Cmd) was old mid) (receives : ReceivesFises port.0 (old.port port.0))
       (linked : (old.port port.0).notes.last_ssts % 16 ≡ 3) (idle : SawIdle (old.port port.0).notes) (one : bit v 0 ≡ true) (others : IsButAt 0 was v) where
-    here : IsUsable (NoneUsed port) port mid
+    here : IsOnAndAgrees (NoneUsed port) port mid
     here = usable_read laws (NoneUsed port) port Cmd was old mid u read
 
     still : ReceivesFises port.0 (mid.port port.0)
@@ -95,7 +95,7 @@ module _ (laws : Laws) where
       start_followed = followed_then laws (Starting port) old mid new (followed_read laws (Starting port) (Px port Cmd) was old mid refl read)
           (followed_write laws (Starting port) (Px port Cmd) v mid new (refl, refl) start_may start_leaves write)
 
-      pub start_usable : IsUsable (NoneUsed port) port new
+      pub start_usable : IsOnAndAgrees (NoneUsed port) port new
       start_usable = usable_by laws Commanding port old new (NoneUsed port) start_followed.driven (λ uses free. laws.fragments.agreed (Starting port) (λ uses. uses) uses old new free start_followed) u
 
       started : ((new.port port.0).cr ≡ true) × ((new.port port.0).notes.st_set_at ≡ length new.tape)
@@ -132,10 +132,10 @@ module _ (laws : Laws) where
       pub start_set_at : (new.port port.0).notes.st_set_at ≡ length new.tape
       start_set_at = started.1
 
-      early : Grows old mid
+      early : TapeGrows old mid
       early = laws.tape.access_grows (Reading (Px port Cmd) was) old mid read
 
-      late : Grows mid new
+      late : TapeGrows mid new
       late = laws.tape.access_grows (Writing (Px port Cmd) v) mid new write
 
       pub start_marked : (old.port port.0).notes.sctl_written_at ≤ length old.tape → (new.port port.0).notes.sctl_written_at ≤ length new.tape

@@ -5,7 +5,7 @@ use Rattle.hba_regs.specs.declared.reg.PortReg.{PortReg}
 use Rattle.adapter.specs.Access.{Access, Reads, Writes}
 use Rattle.adapter.specs.Device.{Device}
 use Rattle.refinement.specs.Driven.{AnyUse, OnPortWriting, IsSimulated, IsSimulatedAlong}
-use Rattle.port_control.specs.Laws.{Laws, RegisterSet, AccessPurpose, fits_of, may_of, registers_of}
+use Rattle.port_control.specs.Laws.{Laws, RegisterSet, AccessPurpose, slot_uses_for, accesses_for, registers_of}
 use Rattle.port_control.specs.Laws.AccessPurpose.{Controlling}
 use Rattle.refinement.specs.Driver.{LeavesUses}
 use Rattle.adapter.specs.Rules.{MayWrite, IsStable}
@@ -14,13 +14,13 @@ use Rattle.hba_regs.specs.declared.reg.Reg.{Reg}
 use Rattle.refinement.specs.Slots.{SlotStates}
 
 module _ (laws : Laws) where
-  pub followed_then : (kind : AccessPurpose) (old mid new : Device) → IsSimulated (may_of kind) (fits_of kind) old mid → IsSimulated (may_of kind) (fits_of kind) mid new →
-      IsSimulated (may_of kind) (fits_of kind) old new
+  pub followed_then : (kind : AccessPurpose) (old mid new : Device) → IsSimulated (accesses_for kind) (slot_uses_for kind) old mid → IsSimulated (accesses_for kind) (slot_uses_for kind) mid new →
+      IsSimulated (accesses_for kind) (slot_uses_for kind) old new
   followed_then kind old mid new a b = (laws.fragments.both kind kind (λ uses. uses) (λ uses. uses) (λ access may. may) (λ uses fits. fits) old mid new a b).followed
 
   -- what is told of both
   pub told_both : (First Second Tells : List Access → Type 0) → ((early late : List Access) → First early → Second late → Tells (early ++ late)) → (kind : AccessPurpose) (old mid new : Device) →
-      IsSimulatedAlong First (may_of kind) (fits_of kind) old mid → IsSimulatedAlong Second (may_of kind) (fits_of kind) mid new → IsSimulatedAlong Tells (may_of kind) (fits_of kind) old new
+      IsSimulatedAlong First (accesses_for kind) (slot_uses_for kind) old mid → IsSimulatedAlong Second (accesses_for kind) (slot_uses_for kind) mid new → IsSimulatedAlong Tells (accesses_for kind) (slot_uses_for kind) old new
   told_both First Second Tells join kind old mid new a b =
       let f = laws.fragments.both kind kind (λ uses. uses) (λ uses. uses) (λ access may. may) (λ uses fits. fits) old mid new a.followed b.followed in
       record { followed = f.followed; tells = subst Tells (sym f.tells) (join a.followed.driven.accesses b.followed.driven.accesses a.tells b.tells) }
@@ -37,9 +37,9 @@ module _ (laws : Laws) where
 
   -- ---- one access
 
-  pub followed_read : (kind : AccessPurpose) (r : Reg) (v : ℕ) (old new : Device) → may_of kind (Reading r v) → Reads r v old new → IsSimulated (may_of kind) (fits_of kind) old new
+  pub followed_read : (kind : AccessPurpose) (r : Reg) (v : ℕ) (old new : Device) → accesses_for kind (Reading r v) → Reads r v old new → IsSimulated (accesses_for kind) (slot_uses_for kind) old new
   followed_read kind r v old new may call = (laws.fragments.reads kind r v old new may call).followed
 
-  pub followed_write : (kind : AccessPurpose) (r : Reg) (v : ℕ) (old new : Device) → may_of kind (Writing r v) → IsStable (MayWrite r v) old → ((uses : SlotStates) → fits_of kind uses → LeavesUses uses r v old) →
-      Writes r v old new → IsSimulated (may_of kind) (fits_of kind) old new
+  pub followed_write : (kind : AccessPurpose) (r : Reg) (v : ℕ) (old new : Device) → accesses_for kind (Writing r v) → IsStable (MayWrite r v) old → ((uses : SlotStates) → slot_uses_for kind uses → LeavesUses uses r v old) →
+      Writes r v old new → IsSimulated (accesses_for kind) (slot_uses_for kind) old new
   followed_write kind r v old new may permitted leaves call = (laws.fragments.writes kind r v old new may permitted leaves call).followed

@@ -12,12 +12,12 @@ use Rattle.adapter.specs.Access.Access.{Reading, Writing, Loading, Storing}
 use Rattle.adapter.specs.Device.{Notes, DevicePort, Device}
 use Rattle.adapter.specs.Kept.{KeepsPort, KeepsControls}
 use Rattle.adapter.specs.Rules.{HasPort, MayWrite, IsStable, IsOn}
-use Rattle.adapter.specs.Seen.{PortRegisterRead, PortRegisterWritten}
-use Rattle.refinement.specs.Driven.{AnyUse, IsRelated, OnPortWriting, IsSimulated, AnyAccess, Grows, IsDrivenBy, SparesOtherPorts}
+use Rattle.adapter.specs.RegisterEffects.{PortRegisterRead, PortRegisterWritten}
+use Rattle.refinement.specs.Driven.{AnyUse, IsRelated, OnPortWriting, IsSimulated, AnyAccess, TapeGrows, IsDrivenBy, SparesOtherPorts}
 use Rattle.refinement.specs.Links.{SameAdapter}
 use Rattle.refinement.specs.Slots.{SlotStates}
-use Rattle.port_control.specs.Engines.{Awaits, FailsToStop, FailsToStopReceiving, Falls, ShowsStillRunning, ReadsPortCmd, ShowsStuck, Sticks}
-use Rattle.port_control.specs.Ports.{IsResetRegister, IsUsable, IsStopped, ReceivesFises, SameButCmdNotes, SameSctlAndNotes}
+use Rattle.port_control.specs.Engines.{AwaitsEngineStop, FailsToStop, FailsToStopReceiving, EngineFalls, ShowsStillRunning, ReadsPortCmd, ShowsStuck, EngineSticks}
+use Rattle.port_control.specs.Ports.{IsResetRegister, IsOnAndAgrees, IsStopped, ReceivesFises, SameButCmdNotes, SameSctlAndNotes}
 use Rattle.port_control.specs.Laws.RegisterSet.{Commanding}
 use Rattle.port_control.specs.Laws.AccessPurpose.{Controlling}
 use Rattle.port_control.specs.Laws.{Laws, RegisterSet, registers_of}
@@ -71,7 +71,7 @@ module _ (port : ℕ) (v tape : ℕ) (p : DevicePort) (h : ReceivesFises port p)
   written_receiving r (inr (inr e)) = subst (λ (z : PortReg). ReceivesFises port (port_written z v tape p)) (sym e) (same_receiving _ refl refl refl refl refl refl refl)
 
 -- an engine that was awaited for 64 readings is stuck
-awaits_sticks : (start running : ℕ) → ((v : ℕ) → ShowsStillRunning start running v → ShowsStuck v) → (port : Port) (accesses : List Access) → Awaits start running port MOST_READINGS accesses → Sticks port accesses
+awaits_sticks : (start running : ℕ) → ((v : ℕ) → ShowsStillRunning start running v → ShowsStuck v) → (port : Port) (accesses : List Access) → AwaitsEngineStop start running port MOST_READINGS accesses → EngineSticks port accesses
 awaits_sticks start running shows port accesses a = record {
   before = a.before ++ Writing (Px port Cmd) a.cleared ∷ [];
   stuck = a.stuck;
@@ -88,16 +88,16 @@ awaits_sticks start running shows port accesses a = record {
     reading (Loading at bytes) is = absurd is
     reading (Storing at bytes) is = absurd is
 
-pub failing_sticks : (port : Port) (accesses : List Access) → FailsToStop port accesses → Sticks port accesses
+pub failing_sticks : (port : Port) (accesses : List Access) → FailsToStop port accesses → EngineSticks port accesses
 failing_sticks = awaits_sticks 0 15 (λ v is. inl is)
 
-pub failing_receiving_sticks : (port : Port) (accesses : List Access) → FailsToStopReceiving port accesses → Sticks port accesses
+pub failing_receiving_sticks : (port : Port) (accesses : List Access) → FailsToStopReceiving port accesses → EngineSticks port accesses
 failing_receiving_sticks = awaits_sticks 4 14 (λ v is. inr is)
 
 -- what is told of accesses is told of more
 
 module _ (early late : List Access) where
-  pub falls_then : (start running : ℕ) (port : Port) → Falls start running port early → Falls start running port (early ++ late)
+  pub falls_then : (start running : ℕ) (port : Port) → EngineFalls start running port early → EngineFalls start running port (early ++ late)
   falls_then start running port f = record {
     before = f.before;
     cleared = f.cleared;
@@ -112,7 +112,7 @@ module _ (early late : List Access) where
     shown = f.shown;
   }
 
-  pub falls_since : (start running : ℕ) (port : Port) → Falls start running port late → Falls start running port (early ++ late)
+  pub falls_since : (start running : ℕ) (port : Port) → EngineFalls start running port late → EngineFalls start running port (early ++ late)
   falls_since start running port f = record {
     before = early ++ f.before;
     cleared = f.cleared;
@@ -126,7 +126,7 @@ module _ (early late : List Access) where
     shown = f.shown;
   }
 
-  pub sticks_then : (port : Port) → Sticks port early → Sticks port (early ++ late)
+  pub sticks_then : (port : Port) → EngineSticks port early → EngineSticks port (early ++ late)
   sticks_then port s = record {
     before = s.before;
     stuck = s.stuck;
@@ -137,7 +137,7 @@ module _ (early late : List Access) where
     all = s.all;
   }
 
-  pub sticks_since : (port : Port) → Sticks port late → Sticks port (early ++ late)
+  pub sticks_since : (port : Port) → EngineSticks port late → EngineSticks port (early ++ late)
   sticks_since port s = record {
     before = early ++ s.before;
     stuck = s.stuck;
@@ -161,21 +161,21 @@ module _ (laws : Laws) where
     pub same_adapter : IsDrivenBy (OnPortWriting (registers_of set) port) old new → SameAdapter old new
     same_adapter driven = laws.same_over old new (any driven)
 
-    pub tape_gains : IsDrivenBy (OnPortWriting (registers_of set) port) old new → Grows old new
+    pub tape_gains : IsDrivenBy (OnPortWriting (registers_of set) port) old new → TapeGrows old new
     tape_gains driven = laws.tape_over old new (any driven)
 
-    pub usable_by : (Fits : SlotStates → Type 0) → IsDrivenBy (OnPortWriting (registers_of set) port) old new → ((uses : SlotStates) → Fits uses → IsRelated uses old → IsRelated uses new) → IsUsable Fits port old → IsUsable Fits port new
+    pub usable_by : (Fits : SlotStates → Type 0) → IsDrivenBy (OnPortWriting (registers_of set) port) old new → ((uses : SlotStates) → Fits uses → IsRelated uses old → IsRelated uses new) → IsOnAndAgrees Fits port old → IsOnAndAgrees Fits port new
     usable_by Fits driven agrees u = record {
       on = stays_on driven u.on;
       there = there_after (same_adapter driven) u.there;
       agreed = (u.agreed.0, u.agreed.1, agrees u.agreed.0 u.agreed.1 u.agreed.2);
     }
 
-    pub usable_after : IsUsable AnyUse port old → IsSimulated (OnPortWriting (registers_of set) port) AnyUse old new → IsUsable AnyUse port new
+    pub usable_after : IsOnAndAgrees AnyUse port old → IsSimulated (OnPortWriting (registers_of set) port) AnyUse old new → IsOnAndAgrees AnyUse port new
     usable_after u f = usable_by AnyUse f.driven (λ uses fits. laws.fragments.agreed (Controlling set port) (λ uses. uses) uses old new fits f) u
 
   -- over a reading, whatever uses fit
-  pub usable_read : (Fits : SlotStates → Type 0) (port : Port) (r : PortReg) (v : ℕ) (old new : Device) → IsUsable Fits port old → Reads (Px port r) v old new → IsUsable Fits port new
+  pub usable_read : (Fits : SlotStates → Type 0) (port : Port) (r : PortReg) (v : ℕ) (old new : Device) → IsOnAndAgrees Fits port old → Reads (Px port r) v old new → IsOnAndAgrees Fits port new
   usable_read Fits port r v old new u call =
       let f = followed_read laws (Controlling Commanding port) (Px port r) v old new refl call in
       usable_by Commanding port old new Fits f.driven (λ uses fits. laws.fragments.agreed (Controlling Commanding port) (λ uses. uses) uses old new tt f) u

@@ -8,7 +8,7 @@ use Rattle.adapter.specs.Rules.{IsOn, HasPort}
 use Rattle.refinement.specs.Driven.{RelatesWith, AnyUse}
 use Rattle.refinement.specs.Driver.{AllFree}
 use Rattle.refinement.specs.Errors.{NoDiskComes, ChangesByDisks}
-use Rattle.refinement.specs.Facts.{IsCleanToStart, FaultsOnRecord}
+use Rattle.refinement.specs.PortFacts.{IsCleanToStart, FaultsOnRecord}
 use Rattle.refinement.specs.Links.{NoPlugEvents}
 use Rattle.refinement.specs.Recovering.{IsLinked, RunsLinked}
 use Rattle.refinement.specs.Started.{IsUp, IsComingUp, IsStarted}

@@ -12,7 +12,7 @@ use Rattle.refinement.specs.Links.{DoesNotWrite}
 
 -- An engine fell: the bit that starts it was written 0, and the bit that shows it running was read 0 after that, with
 -- PxCMD not written between.
-pub record Falls (start running : ℕ) (port : Port) (accesses : List Access) : Type 0 where
+pub record EngineFalls (start running : ℕ) (port : Port) (accesses : List Access) : Type 0 where
   pub before : List Access
   pub cleared : ℕ
   pub between : List Access
@@ -25,11 +25,11 @@ pub record Falls (start running : ℕ) (port : Port) (accesses : List Access) : 
 
 -- ST was cleared, and CR was read 0
 abbrev pub Stops : Port → List Access → Type 0
-Stops port accesses = Falls 0 15 port accesses
+Stops port accesses = EngineFalls 0 15 port accesses
 
 -- FRE was cleared, and FR was read 0
 abbrev pub StopsReceiving : Port → List Access → Type 0
-StopsReceiving port accesses = Falls 4 14 port accesses
+StopsReceiving port accesses = EngineFalls 4 14 port accesses
 
 -- both engines fell
 abbrev pub StopsBoth : Port → List Access → Type 0
@@ -50,7 +50,7 @@ ReadsPortCmd Shown port access = ⊥
 
 -- An engine is awaited: the bit that starts it was written 0, and so many readings of PxCMD since, and nothing else,
 -- showed that it runs still.
-pub record Awaits (start running : ℕ) (port : Port) (count : ℕ) (accesses : List Access) : Type 0 where
+pub record AwaitsEngineStop (start running : ℕ) (port : Port) (count : ℕ) (accesses : List Access) : Type 0 where
   pub before : List Access
   pub cleared : ℕ
   pub stuck : List Access
@@ -61,14 +61,14 @@ pub record Awaits (start running : ℕ) (port : Port) (count : ℕ) (accesses : 
 
 -- ST was cleared, and then 64 readings, the last of the accesses, showed CR still
 abbrev pub FailsToStop : Port → List Access → Type 0
-FailsToStop port accesses = Awaits 0 15 port MOST_READINGS accesses
+FailsToStop port accesses = AwaitsEngineStop 0 15 port MOST_READINGS accesses
 
 -- FRE was cleared, and then they showed FR still
 abbrev pub FailsToStopReceiving : Port → List Access → Type 0
-FailsToStopReceiving port accesses = Awaits 4 14 port MOST_READINGS accesses
+FailsToStopReceiving port accesses = AwaitsEngineStop 4 14 port MOST_READINGS accesses
 
 -- 64 readings in a row showed an engine that was cleared and runs still.
-pub record Sticks (port : Port) (accesses : List Access) : Type 0 where
+pub record EngineSticks (port : Port) (accesses : List Access) : Type 0 where
   pub before : List Access
   pub stuck : List Access
   pub later : List Access

@@ -12,12 +12,12 @@ use Rattle.adapter.specs.Access.Access.{Writing}
 use Rattle.adapter.specs.Device.{DevicePort, Device}
 use Rattle.adapter.specs.Kept.{Keeps}
 use Rattle.adapter.specs.Rules.{IsOn, MayWrite, IsStable}
-use Rattle.adapter.specs.Seen.{PortRegisterWritten}
+use Rattle.adapter.specs.RegisterEffects.{PortRegisterWritten}
 use Rattle.adapter.specs.Steps.{Steps}
 use Rattle.refinement.specs.Laws.{FragmentLaws, TapeLaws}
 use Rattle.refinement.specs.Driven.{AnyAccess, AnyUse, IsDrivenBy, SparesOtherPorts, SameUses, LeavesPort}
 use Rattle.refinement.specs.Errors.{ChangesByErrors, NoneFails, StaysClear}
-use Rattle.refinement.specs.Facts.{IsFaulted, FaultsOnRecord, RunsWell, ShowsNoTrouble, TellsNoTrouble, Undisturbed}
+use Rattle.refinement.specs.PortFacts.{IsFaulted, FaultsOnRecord, RunsWell, ShowsNoTrouble, TellsNoTrouble, Undisturbed}
 use Rattle.refinement.specs.Links.{LeavesControls, LeavesLink, NoPlugEvents, SameAdapter, DoesNotWrite}
 use Rattle.refinement.specs.Noted.{LeavesNotes}
 use Rattle.refinement.specs.Slots.{SlotStates}
@@ -30,18 +30,18 @@ pub data AccessPurpose : Type 0 where
   Looking : Port → AccessPurpose
   Serving : SlotStates → AccessPurpose
 
-abbrev pub may_of : AccessPurpose → Access → Type 0
-may_of (Looking port) = IsLooking port
-may_of (Serving uses) = IsService
+abbrev pub accesses_for : AccessPurpose → Access → Type 0
+accesses_for (Looking port) = IsLooking port
+accesses_for (Serving uses) = IsService
 
-abbrev pub fits_of : AccessPurpose → SlotStates → Type 0
-fits_of (Looking port) = AnyUse
-fits_of (Serving uses) = SameUses uses
+abbrev pub slot_uses_for : AccessPurpose → SlotStates → Type 0
+slot_uses_for (Looking port) = AnyUse
+slot_uses_for (Serving uses) = SameUses uses
 
 pub record Laws : Type 0 where
   -- one access
   pub steps_none : (d : Device) → Steps d d
-  pub law_steps_guarantee : (old new : Device) → Steps old new → Keeps old new
+  pub law_step_lists_keep_what_steps_keep : (old new : Device) → Steps old new → Keeps old new
   pub put : (port : Port) (r : PortReg) (v : ℕ) (old new : Device) → Writes (Px port r) v old new → old.hr ≡ false
       → PortRegisterWritten port.0 r v old new
   pub store_leaves : (at : ℕ) (bytes : List ℕ) (old new : Device) → Stores at bytes old new
@@ -141,4 +141,4 @@ pub record Laws : Type 0 where
       → IsDrivenBy (SparesOtherPorts port) old new
       → LeavesPort (old.port q) (new.port q)
   pub same_over : (old new : Device) → IsDrivenBy AnyAccess old new → SameAdapter old new
-  pub fragments : FragmentLaws AccessPurpose may_of fits_of
+  pub fragments : FragmentLaws AccessPurpose accesses_for slot_uses_for

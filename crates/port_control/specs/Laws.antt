@@ -13,7 +13,7 @@ use Rattle.adapter.specs.declared.tape.Entry.{Entry}
 use Rattle.refinement.specs.Slots.{Free, SlotStates}
 use Rattle.hba_regs.specs.declared.reg.Reg.TheVariants.{Ghc, Px}
 use Rattle.adapter.specs.Rules.{HasPort, IsOn, MaySetFre, MayStart, MayStopReceiving, MayWrite, IsStable}
-use Rattle.refinement.specs.Facts.{IsQuiescentPort, ShowsDrqTillLink, IsEngineStopped, IsCleanToStart, FaultsOnRecord, StoppedTfesClear, KeepsRecord}
+use Rattle.refinement.specs.PortFacts.{IsQuiescentPort, ShowsDrqTillLink, IsEngineStopped, IsCleanToStart, FaultsOnRecord, StoppedTfesClear, KeepsFaultRecord}
 use Rattle.port_control.specs.Ports.{IsErrorRegister, IsPlacingRegister, IsResetRegister, IsCommandRegister}
 use Rattle.refinement.specs.Recovering.{IsLinked, RunsLinked}
 use Rattle.refinement.specs.Started.{IsComingUp, IsStarted, IsUp, SetsNoStart}
@@ -24,7 +24,7 @@ use Rattle.refinement.specs.Links.{LeavesControls, NoPlugEvents, SameAdapter, Do
 use Rattle.refinement.specs.Noted.{LeavesNotes}
 use Rattle.block_machine.specs.State.{Machine}
 use Rattle.hba_regs.specs.declared.reg.PortReg.{PortReg}
-use Rattle.adapter.specs.Seen.{PortRegisterWritten, PortRegisterRead}
+use Rattle.adapter.specs.RegisterEffects.{PortRegisterWritten, PortRegisterRead}
 use Rattle.adapter.specs.Access.Access.{Reading, Writing}
 use Rattle.hba_regs.specs.declared.reg.Reg.{Reg}
 use Rattle.adapter.specs.Steps.{Steps}
@@ -51,13 +51,13 @@ pub data AccessPurpose : Type 0 where
   Controlling : RegisterSet → Port → AccessPurpose
   Starting : Port → AccessPurpose
 
-abbrev pub may_of : AccessPurpose → Access → Type 0
-may_of (Controlling set port) = OnPortWriting (registers_of set) port
-may_of (Starting port) = OnPortWriting IsCommandRegister port
+abbrev pub accesses_for : AccessPurpose → Access → Type 0
+accesses_for (Controlling set port) = OnPortWriting (registers_of set) port
+accesses_for (Starting port) = OnPortWriting IsCommandRegister port
 
-abbrev pub fits_of : AccessPurpose → SlotStates → Type 0
-fits_of (Controlling set port) = AnyUse
-fits_of (Starting port) = λ uses. AllFree uses port.0
+abbrev pub slot_uses_for : AccessPurpose → SlotStates → Type 0
+slot_uses_for (Controlling set port) = AnyUse
+slot_uses_for (Starting port) = λ uses. AllFree uses port.0
 
 -- ---- laws
 
@@ -69,7 +69,7 @@ pub record Laws : Type 0 where
       → PortRegisterWritten port.0 r v old new
   pub does_append : (early late : List Access) (old mid new : Device) → DoesAll early old mid → DoesAll late mid new
       → DoesAll (early ++ late) old new
-  pub law_steps_guarantee : (old new : Device) → Steps old new → Keeps old new
+  pub law_step_lists_keep_what_steps_keep : (old new : Device) → Steps old new → Keeps old new
   pub access_on : (access : Access) (old new : Device) → IsOn old
       → ((v : ℕ) → access ≡ Writing Ghc v → (bit v 31 ≡ true) × (bit v 0 ≡ false)) → Does access old new → IsOn new
   pub write_stays : (r : Reg) (v : ℕ) (d : Device) → ((port : Port) → r ≢ Px port Ci) → MayWrite r v d
@@ -145,7 +145,7 @@ pub record Laws : Type 0 where
   pub comreset_begins : (port : Port) (v : ℕ) (old new : Device) → (old.port port.0).cr ≡ false → v % 16 ≡ 1
       → Writes (Px port Sctl) v old new → ShowsDrqTillLink (new.port port.0)
   pub writes_awaited : (port : ℕ) (r : Reg) (v : ℕ) (old new : Device) → IsStable (MayWrite r v) old
-      → IsStable (KeepsRecord r v) old → Writes r v old new → ShowsDrqTillLink (old.port port)
+      → IsStable (KeepsFaultRecord r v) old → Writes r v old new → ShowsDrqTillLink (old.port port)
       → ShowsDrqTillLink (new.port port)
   pub reads_awaited : (port : ℕ) (r : Reg) (v : ℕ) (old new : Device) → Reads r v old new
       → ShowsDrqTillLink (old.port port)
@@ -191,7 +191,7 @@ pub record Laws : Type 0 where
   pub tape : TapeLaws
   pub stopped_recorded : (tape : List Entry) (p : DevicePort) (port : ℕ) → p.st ≡ false → FaultsOnRecord tape p port
   pub writes_recorded : (port : ℕ) (r : Reg) (v : ℕ) (old new : Device) → IsStable (MayWrite r v) old
-      → IsStable (KeepsRecord r v) old → Writes r v old new → FaultsOnRecord old.tape (old.port port) port
+      → IsStable (KeepsFaultRecord r v) old → Writes r v old new → FaultsOnRecord old.tape (old.port port) port
       → FaultsOnRecord new.tape (new.port port) port
   -- fragments
   pub of_on : (port : Port) (old new : Device) → IsOn old → IsDrivenBy (SparesOtherPorts port) old new → IsOn new
@@ -211,4 +211,4 @@ pub record Laws : Type 0 where
   pub control_wider : (set more : RegisterSet) (port : Port)
       → ((r : PortReg) → registers_of set r → registers_of more r) → (access : Access)
       → OnPortWriting (registers_of set) port access → OnPortWriting (registers_of more) port access
-  pub fragments : FragmentLaws AccessPurpose may_of fits_of
+  pub fragments : FragmentLaws AccessPurpose accesses_for slot_uses_for

@@ -6,9 +6,9 @@ use Rattle.hba_regs.specs.Bits.{bit}
 use Rattle.hba_regs.specs.declared.reg.PortReg.TheVariants.{Ssts, Tfd}
 use Rattle.adapter.specs.Device.{Device, DevicePort}
 use Rattle.refinement.specs.Errors.{NoDiskComes}
-use Rattle.refinement.specs.Facts.{IsQuiescentPort, ShowsDrqTillLink, IsCleanToStart, StoppedTfesClear}
+use Rattle.refinement.specs.PortFacts.{IsQuiescentPort, ShowsDrqTillLink, IsCleanToStart, StoppedTfesClear}
 use Rattle.refinement.specs.Started.{IsUp, IsComingUp}
-use Rattle.port_control.specs.Ports.{BacksFault, ClearsErrors, FindsAwaited, FindsSignature, HasClearErrors, HasLink, IsStopped, SeesResetFault, ReadsUntil, ReadsInVain, ReceivesFises, SameSctlAndNotes, SawDevice, SawIdle, ShowsIdle, ShowsSignature, SendsComresetThen, programmed}
+use Rattle.port_control.specs.Ports.{BacksFault, ClearsErrors, FindsAwaitedLink, FindsSignature, HasClearErrors, HasLink, IsStopped, SeesResetFault, ReadsUntil, ReadsInVain, ReceivesFises, SameSctlAndNotes, SawDevice, SawIdle, ShowsIdle, ShowsSignature, SendsComresetThen, programmed}
 use Rattle.port_control.specs.declared.PortFault.{PortFault}
 use Rattle.port_control.specs.declared.PortFault.TheVariants.{Busy, EngineStuck, NoDevice, NotAta}
 
@@ -67,12 +67,12 @@ pub record AwaitsIdle (port : Port) (found : Bool) (old new : Device) : Type 0 w
 pub record SeesDisk (port : Port) (old new : Device) : Type 0 where
   pub looks : FindsSignature port 0x101 old new
   pub ready : let notes = (new.port port.0).notes in SawDevice notes × SawIdle notes × (notes.last_sig ≡ 0x101)
-  pub found : FindsAwaited port.0 old new
+  pub found : FindsAwaitedLink port.0 old new
   pub signature : ShowsSignature (new.port port.0)
 
 -- Or this fault was found in its place.
 pub record SeesFault (port : Port) (told : PortFault) (old new : Device) : Type 0 where
   pub looks : SeesResetFault port told old new
   pub fault : BacksFault told (new.port port.0).notes × (told ≢ EngineStuck)
-  pub found : told ≢ NoDevice → FindsAwaited port.0 old new
+  pub found : told ≢ NoDevice → FindsAwaitedLink port.0 old new
   pub signature : (signature : ℕ) → told ≡ NotAta signature → ShowsSignature (new.port port.0)

@@ -13,7 +13,7 @@ use Rattle.adapter.specs.Device.{Bases, Notes, DevicePort, Device}
 use Rattle.adapter.specs.Rules.{IsOn, HasPort}
 use Rattle.refinement.specs.Driven.{RelatesWith, AnyUse, OnPortWriting, IsDrivenBy, IsSimulatedAlong}
 use Rattle.refinement.specs.Errors.{NoDiskComes}
-use Rattle.refinement.specs.Facts.{ShowsDrqTillLink, IsEngineStopped, IsCleanToStart}
+use Rattle.refinement.specs.PortFacts.{ShowsDrqTillLink, IsEngineStopped, IsCleanToStart}
 use Rattle.refinement.specs.Links.{NoPlugEvents}
 use Rattle.refinement.specs.Places.{list_of, received_of}
 use Rattle.refinement.specs.Slots.{SlotStates}
@@ -43,7 +43,7 @@ IsResetRegister r = (r ≡ Sctl) ⊎ IsErrorRegister r
 -- ---- the states of a port
 
 -- The adapter is on and has the port; and some machine agrees with its device, with uses of the slots that fit.
-pub record IsUsable (Fits : SlotStates → Type 0) (port : Port) (d : Device) : Type 0 where
+pub record IsOnAndAgrees (Fits : SlotStates → Type 0) (port : Port) (d : Device) : Type 0 where
   pub on : IsOn d
   pub there : HasPort d port.0
   pub agreed : RelatesWith Fits d
@@ -214,7 +214,7 @@ pub record IsDeviceFound (port : ℕ) (old new : Device) : Type 0 where
   pub quiet : bit (new.port port).notes.last_tfd 3 ≡ false → IsCleanToStart (new.port port)
 
 -- So it is where the link was coming up before, and was awaited.
-pub record FindsAwaited (port : ℕ) (old new : Device) : Type 0 where
+pub record FindsAwaitedLink (port : ℕ) (old new : Device) : Type 0 where
   pub calm : (place : ℕ) → place < 32 → (new.port port).is place ≡ false
   pub clear : IsComingUp (old.port port) → HasClearErrors port old new
   pub undue : NoDiskComes port old new → IsComingUp (old.port port) → (new.port port).link_due ≡ false

@@ -3,7 +3,7 @@
 //! `take_event` is for ready ports, and acknowledges what it has read. `has_device` and
 //! `has_changed` are for others, and write nothing. No call asks for a machine, and none hides
 //! trouble that it hasn't read. Here stand, too, the words and laws on accesses that serve ports
-//! (`IsService`, `law_services_leave`): they let these write PxCI, since it is between issues that
+//! (`IsService`, `law_services_keep_ports_running`): they let these write PxCI, since it is between issues that
 //! ports are looked at.
 ghost use Rattle.std.specs.Prelude.{◌≡◌, ◌||◌, ◌==◌, ◌%◌, not};
 ghost use Rattle.adapter.specs.Rules.{IsOn, HasPort};
@@ -17,10 +17,10 @@ ghost use Rattle.port_control.specs.LookCosts.{CHANGE_CHECK_ACCESSES, LOOK_ACCES
 use adapter::Adapter;
 use ata_types::Port;
 use hba_regs::{PortInterrupts, PortReg, Reg, SataStatus, with_bit};
-use lawful::law_base;
+use prerequisites::law_prerequisites;
 
-pub mod lawful;
 pub mod laws;
+pub mod prerequisites;
 
 /// What a look at a port told.
 #[derive(Clone, Copy, Debug, PartialEq, Eq)]
@@ -90,7 +90,7 @@ pub fn take_event<A: Adapter>(adapter: &mut A, port: Port) -> PortEvent
     ensures followed { IsSimulated (IsLooking port) AnyUse (A.device adapter.old) (A.device adapter.new) }
     ensures cost { MakesAtMost LOOK_ACCESSES (A.access_count adapter.old) (A.access_count adapter.new) }
 {
-    law_base();
+    law_prerequisites();
     let interrupts = PortInterrupts(adapter.read(Reg::Px(port, PortReg::Is)));
     adapter.write(Reg::Px(port, PortReg::Is), interrupts.0);
     adapter.write(Reg::Is, with_bit(0, u32::from(port.0)));
@@ -108,7 +108,7 @@ pub fn has_device<A: Adapter>(adapter: &mut A, port: Port) -> bool
     ensures followed { IsSimulated (IsLooking port) AnyUse (A.device adapter.old) (A.device adapter.new) }
     ensures cost { MakesAtMost 1 (A.access_count adapter.old) (A.access_count adapter.new) }
 {
-    law_base();
+    law_prerequisites();
     let status = SataStatus(adapter.read(Reg::Px(port, PortReg::Ssts)));
     shows_linked_device(status)
 }
@@ -124,7 +124,7 @@ pub fn has_changed<A: Adapter>(adapter: &mut A, port: Port) -> bool
     ensures followed { IsSimulated (IsLooking port) AnyUse (A.device adapter.old) (A.device adapter.new) }
     ensures cost { MakesAtMost CHANGE_CHECK_ACCESSES (A.access_count adapter.old) (A.access_count adapter.new) }
 {
-    law_base();
+    law_prerequisites();
     let interrupts = PortInterrupts(adapter.read(Reg::Px(port, PortReg::Is)));
     let status = SataStatus(adapter.read(Reg::Px(port, PortReg::Ssts)));
     tells_change(interrupts, status)

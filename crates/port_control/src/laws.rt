@@ -6,23 +6,27 @@ ghost use Rattle.refinement.specs.Driven.{OnPortWriting, SparesOtherPorts};
 ghost use Rattle.refinement.specs.Links.{DoesNotWrite};
 ghost use Rattle.hba_regs.specs.declared.reg.PortReg.TheVariants.{Sctl};
 ghost use Rattle.hba_regs.specs.declared.reg.Reg.TheVariants.{Px};
-ghost use Rattle.port_control.specs.Engines.{FailsToStop, FailsToStopReceiving, Falls, Sticks};
+ghost use Rattle.port_control.specs.Engines.{FailsToStop, FailsToStopReceiving, EngineFalls, EngineSticks};
 ghost use Rattle.port_control.specs.Ports.{IsPlacingRegister, IsResetRegister, IsCommandRegister};
 
-use super::lawful::law_base;
+use super::prerequisites::law_prerequisites;
 
 /// What accesses tell of a port's engines, they tell with others after them, and with others before them. Those of a
 /// call that failed to stop one show that it is stuck.
 pub fn law_what_is_told_of_engines_stays()
-    ensures fails { (port : Port) (accesses : List Access) → FailsToStop port accesses → Sticks port accesses }
+    ensures fails { (port : Port) (accesses : List Access) → FailsToStop port accesses → EngineSticks port accesses }
     ensures fails_receiving { (port : Port) (accesses : List Access) → FailsToStopReceiving port accesses
-        → Sticks port accesses }
-    ensures falls_then { (early late : List Access) (start running : ℕ) (port : Port) → Falls start running port early
-        → Falls start running port (early ++ late) }
-    ensures falls_since { (early late : List Access) (start running : ℕ) (port : Port) → Falls start running port late
-        → Falls start running port (early ++ late) }
-    ensures sticks_then { (early late : List Access) (port : Port) → Sticks port early → Sticks port (early ++ late) }
-    ensures sticks_since { (early late : List Access) (port : Port) → Sticks port late → Sticks port (early ++ late) }
+        → EngineSticks port accesses }
+    ensures falls_then { (early late : List Access) (start running : ℕ) (port : Port)
+        → EngineFalls start running port early
+        → EngineFalls start running port (early ++ late) }
+    ensures falls_since { (early late : List Access) (start running : ℕ) (port : Port)
+        → EngineFalls start running port late
+        → EngineFalls start running port (early ++ late) }
+    ensures sticks_then { (early late : List Access) (port : Port) → EngineSticks port early
+        → EngineSticks port (early ++ late) }
+    ensures sticks_since { (early late : List Access) (port : Port) → EngineSticks port late
+        → EngineSticks port (early ++ late) }
 {}
 
 /// No call touches a register of another port, nor another port's bit of IS: so what is said of such accesses
@@ -35,5 +39,5 @@ pub fn law_calls_are_of_one_port()
     ensures resetting { (port : Port) (access : Access) → OnPortWriting IsResetRegister port access
         → SparesOtherPorts port access }
 {
-    law_base();
+    law_prerequisites();
 }

@@ -12,22 +12,22 @@ ghost use Rattle.hba_regs.specs.Bits.{bit};
 ghost use Rattle.adapter.specs.Rules.{IsOn};
 ghost use Rattle.refinement.specs.Driven.{AnyUse, OnPortWriting, IsSimulated, IsSimulatedAlong};
 ghost use Rattle.refinement.specs.Driver.{AllFree};
-ghost use Rattle.refinement.specs.Facts.{IsQuiescentPort};
+ghost use Rattle.refinement.specs.PortFacts.{IsQuiescentPort};
 ghost use Rattle.port_control.specs.Calls.{AsksForDevice, FindsDisk, FindsFault, MayBeginReceiving, MayBeStarted, MayClearErrorState, MayResetLink, StaysReceiving, Starts, StaysStopped};
 ghost use Rattle.port_control.specs.Engines.{FailsToStopReceiving, StopsReceiving};
 ghost use Rattle.port_control.specs.Parts.{AwaitsIdle, ClearsFre, DeviceComes, LeavesNoError, MissesDevice, PlacesAreas, SeesDisk, SeesFault, SendsComreset};
-ghost use Rattle.port_control.specs.Ports.{FailsToStopPort, FailsToReceive, PortStops, Receives, IsCommandRegister, IsPlacingRegister, IsErrorRegister, IsResetRegister, IsUsable, IsStopped, ReceivesFises, SawDevice, BacksFault, SameSctlAndNotes, HasStCleared, ClearsErrorState, programmed};
+ghost use Rattle.port_control.specs.Ports.{FailsToStopPort, FailsToReceive, PortStops, Receives, IsCommandRegister, IsPlacingRegister, IsErrorRegister, IsResetRegister, IsOnAndAgrees, IsStopped, ReceivesFises, SawDevice, BacksFault, SameSctlAndNotes, HasStCleared, ClearsErrorState, programmed};
 ghost use Rattle.adapter.specs.Counted.{MakesAtMost};
 ghost use Rattle.port_control.specs.Costs.{AWAIT_DEVICE_ACCESSES, CLEAR_ACCESSES, COMRESET_ACCESSES, ERROR_STATE_ACCESSES, RECEIVE_ACCESSES, DETECT_ACCESSES, START_ACCESSES, STOP_ACCESSES};
 
 use adapter::Adapter;
 use ata_types::{DRIVER_BYTES, MOST_READINGS, PORT_BYTES, Port, RECEIVED_FIS_OFFSET};
 use hba_regs::{ATA_SIGNATURE, PortCommand, PortReg, Reg, SataControl, SataStatus, TaskFile};
-use lawful::law_base;
+use prerequisites::law_prerequisites;
 
 pub mod events;
-mod lawful;
 pub mod laws;
+mod prerequisites;
 
 const ALL_ONES: u32 = 0xffff_ffff;
 
@@ -102,7 +102,7 @@ pub fn is_bsy_or_drq(task_file: TaskFile) -> bool
 ///
 /// `EngineStuck` where 64 readings find CR set: ST is 0 then, too.
 pub fn stop<A: Adapter>(adapter: &mut A, port: Port) -> Result<Stopped, PortFault>
-    requires usable { IsUsable AnyUse port (A.device adapter.old) }
+    requires usable { IsOnAndAgrees AnyUse port (A.device adapter.old) }
     ensures on { IsOn (A.device adapter.new) }
     ensures has { HasStCleared ((A.device adapter.old).port port.0) ((A.device adapter.new).port port.0) }
     ensures names { IfOk result (λ token. token.port ≡ port) }
@@ -111,7 +111,7 @@ pub fn stop<A: Adapter>(adapter: &mut A, port: Port) -> Result<Stopped, PortFaul
         (A.device adapter.new)) }
     ensures cost { MakesAtMost STOP_ACCESSES (A.access_count adapter.old) (A.access_count adapter.new) }
 {
-    law_base();
+    law_prerequisites();
     let command = PortCommand(adapter.read(Reg::Px(port, PortReg::Cmd)));
     adapter.write(Reg::Px(port, PortReg::Cmd), command.without_start().0);
     for _reading in 0..MOST_READINGS {
@@ -125,7 +125,7 @@ pub fn stop<A: Adapter>(adapter: &mut A, port: Port) -> Result<Stopped, PortFaul
 
 // Clears FRE, and waits until FR is 0 (AHCI 1.3.1, 10.3.2).
 fn stop_receiving<A: Adapter>(adapter: &mut A, port: Port) -> bool
-    requires usable { IsUsable AnyUse port (A.device adapter.old) }
+    requires usable { IsOnAndAgrees AnyUse port (A.device adapter.old) }
     requires stopped { IsStopped ((A.device adapter.old).port port.0) }
     ensures clears { ClearsFre ((A.device adapter.old).port port.0) ((A.device adapter.new).port port.0) }
     ensures stops { result ≡ true → IsSimulatedAlong (StopsReceiving port) (OnPortWriting IsCommandRegister port) AnyUse
@@ -137,7 +137,7 @@ fn stop_receiving<A: Adapter>(adapter: &mut A, port: Port) -> bool
         × BacksFault PortFault.EngineStuck ((A.device adapter.new).port port.0).notes }
     ensures cost { MakesAtMost STOP_ACCESSES (A.access_count adapter.old) (A.access_count adapter.new) }
 {
-    law_base();
+    law_prerequisites();
     let command = PortCommand(adapter.read(Reg::Px(port, PortReg::Cmd)));
     adapter.write(Reg::Px(port, PortReg::Cmd), command.without_receive().0);
     for _reading in 0..MOST_READINGS {
@@ -151,7 +151,7 @@ fn stop_receiving<A: Adapter>(adapter: &mut A, port: Port) -> bool
 
 // Puts the command list and the received FIS area in their places, below 4 GiB (AHCI 1.3.1, 3.3.1 to 3.3.4).
 fn place<A: Adapter>(adapter: &mut A, port: Port)
-    requires usable { IsUsable AnyUse port (A.device adapter.old) }
+    requires usable { IsOnAndAgrees AnyUse port (A.device adapter.old) }
     requires quiet { IsQuiescentPort ((A.device adapter.old).port port.0) }
     requires room { DRIVER_BYTES ≤ (A.device adapter.old).size }
     ensures followed { IsSimulated (OnPortWriting IsPlacingRegister port) AnyUse (A.device adapter.old)
@@ -159,7 +159,7 @@ fn place<A: Adapter>(adapter: &mut A, port: Port)
     ensures places { PlacesAreas port.0 ((A.device adapter.old).port port.0) ((A.device adapter.new).port port.0) }
     ensures cost { MakesAtMost 4 (A.access_count adapter.old) (A.access_count adapter.new) }
 {
-    law_base();
+    law_prerequisites();
     let list = PORT_BYTES * u32::from(port.0);
     adapter.write(Reg::Px(port, PortReg::Clb), list);
     adapter.write(Reg::Px(port, PortReg::Clbu), 0);
@@ -169,7 +169,7 @@ fn place<A: Adapter>(adapter: &mut A, port: Port)
 
 // Sets FRE (AHCI 1.3.1, 10.3.2).
 fn start_receiving<A: Adapter>(adapter: &mut A, port: Port)
-    requires usable { IsUsable AnyUse port (A.device adapter.old) }
+    requires usable { IsOnAndAgrees AnyUse port (A.device adapter.old) }
     requires quiet { IsQuiescentPort ((A.device adapter.old).port port.0) }
     requires bases { ((A.device adapter.old).port port.0).bases ≡ programmed port.0 }
     ensures followed { IsSimulated (OnPortWriting IsCommandRegister port) AnyUse (A.device adapter.old)
@@ -178,7 +178,7 @@ fn start_receiving<A: Adapter>(adapter: &mut A, port: Port)
     ensures same { SameSctlAndNotes ((A.device adapter.old).port port.0) ((A.device adapter.new).port port.0) }
     ensures cost { MakesAtMost START_ACCESSES (A.access_count adapter.old) (A.access_count adapter.new) }
 {
-    law_base();
+    law_prerequisites();
     let command = PortCommand(adapter.read(Reg::Px(port, PortReg::Cmd)));
     adapter.write(Reg::Px(port, PortReg::Cmd), command.with_receive().0);
 }
@@ -201,7 +201,7 @@ pub fn receive<A: Adapter>(
         × FailsToReceive stopped.port (A.device adapter.old) (A.device adapter.new)) }
     ensures cost { MakesAtMost RECEIVE_ACCESSES (A.access_count adapter.old) (A.access_count adapter.new) }
 {
-    law_base();
+    law_prerequisites();
     let port = stopped.port;
     if !stop_receiving(adapter, port) {
         return Err((PortFault::EngineStuck, stopped));
@@ -213,21 +213,21 @@ pub fn receive<A: Adapter>(
 
 // Sends COMRESET, and ends it (AHCI 1.3.1, 10.4.2).
 fn send_comreset<A: Adapter>(adapter: &mut A, port: Port)
-    requires usable { IsUsable AnyUse port (A.device adapter.old) }
+    requires usable { IsOnAndAgrees AnyUse port (A.device adapter.old) }
     requires receives { ReceivesFises port.0 ((A.device adapter.old).port port.0) }
     ensures followed { IsSimulated (OnPortWriting IsResetRegister port) AnyUse (A.device adapter.old)
         (A.device adapter.new) }
     ensures sends { SendsComreset port (A.device adapter.old) (A.device adapter.new) }
     ensures cost { MakesAtMost 2 (A.access_count adapter.old) (A.access_count adapter.new) }
 {
-    law_base();
+    law_prerequisites();
     adapter.write(Reg::Px(port, PortReg::Sctl), SataControl::SEND_COMRESET);
     adapter.write(Reg::Px(port, PortReg::Sctl), SataControl::NO_ACTION);
 }
 
 // Waits until the port has a device with a link, for 64 readings at most.
 fn wait_for_device<A: Adapter>(adapter: &mut A, port: Port) -> bool
-    requires usable { IsUsable AnyUse port (A.device adapter.old) }
+    requires usable { IsOnAndAgrees AnyUse port (A.device adapter.old) }
     requires det { ((A.device adapter.old).port port.0).sctl_det ≡ 0 }
     ensures followed { IsSimulated (OnPortWriting IsErrorRegister port) AnyUse (A.device adapter.old)
         (A.device adapter.new) }
@@ -235,7 +235,7 @@ fn wait_for_device<A: Adapter>(adapter: &mut A, port: Port) -> bool
     ensures misses { result ≡ false → MissesDevice port (A.device adapter.old) (A.device adapter.new) }
     ensures cost { MakesAtMost MOST_READINGS (A.access_count adapter.old) (A.access_count adapter.new) }
 {
-    law_base();
+    law_prerequisites();
     for _reading in 0..MOST_READINGS {
         let status = SataStatus(adapter.read(Reg::Px(port, PortReg::Ssts)));
         if status.detection() == SataStatus::DEVICE_WITH_LINK {
@@ -247,7 +247,7 @@ fn wait_for_device<A: Adapter>(adapter: &mut A, port: Port) -> bool
 
 // Clears what the link and the port have told so far: PxSERR, and then PxIS.
 fn clear_errors<A: Adapter>(adapter: &mut A, port: Port)
-    requires usable { IsUsable AnyUse port (A.device adapter.old) }
+    requires usable { IsOnAndAgrees AnyUse port (A.device adapter.old) }
     requires receives { ReceivesFises port.0 ((A.device adapter.old).port port.0) }
     ensures followed { IsSimulated (OnPortWriting IsErrorRegister port) AnyUse (A.device adapter.old)
         (A.device adapter.new) }
@@ -256,7 +256,7 @@ fn clear_errors<A: Adapter>(adapter: &mut A, port: Port)
     ensures clears { LeavesNoError port (A.device adapter.old) (A.device adapter.new) }
     ensures cost { MakesAtMost CLEAR_ACCESSES (A.access_count adapter.old) (A.access_count adapter.new) }
 {
-    law_base();
+    law_prerequisites();
     adapter.write(Reg::Px(port, PortReg::Serr), ALL_ONES);
     adapter.write(Reg::Px(port, PortReg::Is), ALL_ONES);
 }
@@ -272,7 +272,7 @@ pub fn clear_error_state<A: Adapter>(adapter: &mut A, port: Port) -> TaskFile
     ensures forgets { ClearsErrorState port result.0 (A.device adapter.old) (A.device adapter.new) }
     ensures cost { MakesAtMost ERROR_STATE_ACCESSES (A.access_count adapter.old) (A.access_count adapter.new) }
 {
-    law_base();
+    law_prerequisites();
     clear_errors(adapter, port);
     TaskFile(adapter.read(Reg::Px(port, PortReg::Tfd)))
 }
@@ -280,14 +280,14 @@ pub fn clear_error_state<A: Adapter>(adapter: &mut A, port: Port) -> TaskFile
 /// Whether a device with a link shows in a port, as where a device went or came: clears each bit of PxSERR, and reads
 /// PxSSTS (AHCI 1.3.1, 3.3.10 and 3.3.12). A stopped port stays stopped.
 pub fn clear_serr_and_detect<A: Adapter>(adapter: &mut A, port: Port) -> bool
-    requires usable { IsUsable AnyUse port (A.device adapter.old) }
+    requires usable { IsOnAndAgrees AnyUse port (A.device adapter.old) }
     ensures on { IsOn (A.device adapter.new) }
     ensures followed { IsSimulated (OnPortWriting IsErrorRegister port) AnyUse (A.device adapter.old)
         (A.device adapter.new) }
     ensures asks { AsksForDevice port result (A.device adapter.old) (A.device adapter.new) }
     ensures cost { MakesAtMost DETECT_ACCESSES (A.access_count adapter.old) (A.access_count adapter.new) }
 {
-    law_base();
+    law_prerequisites();
     adapter.write(Reg::Px(port, PortReg::Serr), ALL_ONES);
     let shown = SataStatus(adapter.read(Reg::Px(port, PortReg::Ssts)));
     shown.detection() == SataStatus::DEVICE_WITH_LINK
@@ -295,7 +295,7 @@ pub fn clear_serr_and_detect<A: Adapter>(adapter: &mut A, port: Port) -> bool
 
 // Waits until the device is neither busy nor asks for a transfer, for 64 readings at most.
 fn wait_until_idle<A: Adapter>(adapter: &mut A, port: Port) -> bool
-    requires usable { IsUsable AnyUse port (A.device adapter.old) }
+    requires usable { IsOnAndAgrees AnyUse port (A.device adapter.old) }
     requires det { ((A.device adapter.old).port port.0).sctl_det ≡ 0 }
     requires saw { SawDevice ((A.device adapter.old).port port.0).notes }
     ensures followed { IsSimulated (OnPortWriting IsErrorRegister port) AnyUse (A.device adapter.old)
@@ -303,7 +303,7 @@ fn wait_until_idle<A: Adapter>(adapter: &mut A, port: Port) -> bool
     ensures awaits { AwaitsIdle port result (A.device adapter.old) (A.device adapter.new) }
     ensures cost { MakesAtMost MOST_READINGS (A.access_count adapter.old) (A.access_count adapter.new) }
 {
-    law_base();
+    law_prerequisites();
     for _reading in 0..MOST_READINGS {
         let task_file = TaskFile(adapter.read(Reg::Px(port, PortReg::Tfd)));
         if !is_bsy_or_drq(task_file) {
@@ -315,7 +315,7 @@ fn wait_until_idle<A: Adapter>(adapter: &mut A, port: Port) -> bool
 
 // Looks for an ATA disk that is idle, once COMRESET was sent.
 fn look<A: Adapter>(adapter: &mut A, port: Port) -> Result<(), PortFault>
-    requires usable { IsUsable AnyUse port (A.device adapter.old) }
+    requires usable { IsOnAndAgrees AnyUse port (A.device adapter.old) }
     requires receives { ReceivesFises port.0 ((A.device adapter.old).port port.0) }
     requires det { ((A.device adapter.old).port port.0).sctl_det ≡ 0 }
     ensures followed { IsSimulated (OnPortWriting IsErrorRegister port) AnyUse (A.device adapter.old)
@@ -324,7 +324,7 @@ fn look<A: Adapter>(adapter: &mut A, port: Port) -> Result<(), PortFault>
     ensures fault { IfErr result (λ fault. SeesFault port fault (A.device adapter.old) (A.device adapter.new)) }
     ensures cost { MakesAtMost AWAIT_DEVICE_ACCESSES (A.access_count adapter.old) (A.access_count adapter.new) }
 {
-    law_base();
+    law_prerequisites();
     if !wait_for_device(adapter, port) {
         return Err(PortFault::NoDevice);
     }
@@ -370,7 +370,7 @@ pub fn comreset<A: Adapter>(
         × FindsFault receiving.port fault.0 (A.device adapter.old) (A.device adapter.new)) }
     ensures cost { MakesAtMost COMRESET_ACCESSES (A.access_count adapter.old) (A.access_count adapter.new) }
 {
-    law_base();
+    law_prerequisites();
     let port = receiving.port;
     send_comreset(adapter, port);
     match look(adapter, port) {
@@ -395,7 +395,7 @@ pub fn start<A: Adapter>(adapter: &mut A, receiving: Receiving) -> Running
     ensures starts { Starts receiving.port (A.device adapter.old) (A.device adapter.new) }
     ensures cost { MakesAtMost START_ACCESSES (A.access_count adapter.old) (A.access_count adapter.new) }
 {
-    law_base();
+    law_prerequisites();
     let port = receiving.port;
     let command = PortCommand(adapter.read(Reg::Px(port, PortReg::Cmd)));
     adapter.write(Reg::Px(port, PortReg::Cmd), command.with_start().0);

@@ -8,14 +8,14 @@ use Rattle.refinement.specs.Driven.{AnyUse, IsSimulated}
 use Rattle.block_machine.specs.declared.due.QueueMode.{QueueMode}
 use Rattle.error_recovery.specs.declared.Next.{Next}
 use Rattle.error_recovery.specs.declared.Next.TheVariants as next
-use Rattle.host_boot.specs.Taken.{probe_result_of, wanted_of}
+use Rattle.host_boot.specs.TakeOver.{probe_result_of, wanted_of}
 use Rattle.host_boot.specs.declared.ProbeResult.{ProbeResult}
 use Rattle.host_boot.specs.declared.ProbeResult.TheVariants.{Unready}
 use Rattle.identify.specs.declared.wanted.Wanted.{Wanted}
 use Rattle.port_control.specs.declared.Running.{Running}
 use Rattle.port_control.specs.declared.Stopped.{Stopped}
 use Rattle.port_control.specs.Looks.{IsLooking}
-use Rattle.server_history.specs.ErrorHandling.{AreEmptySlots}
+use Rattle.server_history.specs.ErrorHandling.{HasNoUsedSlot}
 use Rattle.server_history.specs.Server.{ServerState, SettledInvariant}
 use Rattle.server_history.specs.Probing.{ProbesAnew, IsProbedAnew, IsLookedAt, ProbesPort}
 use Rattle.server_history.specs.Turns.{ProbesUnready}
@@ -66,7 +66,7 @@ module _ (law : SettlesTried) (s : ServerState) (port : Port) (state : PortState
       }
 
   module _ (looks : IsLookedAt state port true s.device seen) (followed : IsSimulated (IsLooking port) AnyUse s.device seen) (new : Device) (found : ProbeResult) (mode : QueueMode) (slots : PortSlots)
-      (finds : ProbesAnew (wanted_of s.wanted port.0) port found mode seen new) (unused : AreEmptySlots mode slots) where
+      (finds : ProbesAnew (wanted_of s.wanted port.0) port found mode seen new) (unused : HasNoUsedSlot mode slots) where
     boots_so : ProbesPort port s (found_anew s new found mode slots port.0)
     boots_so = record {
       state = state;

@@ -18,10 +18,10 @@ use Rattle.block_machine.specs.declared.due.Unanswered.{Unanswered}
 use Rattle.commands.specs.Costs.{ISSUE_ACCESSES}
 use Rattle.commands.specs.Tasks.{IsFitTransfer, IsTransfer}
 use Rattle.host_boot.specs.declared.ProbeResult.{ProbeResult}
-use Rattle.commands.specs.Batches.{SlotTask}
+use Rattle.commands.specs.Batches.{PlacedTask}
 use Rattle.request_queue.specs.Entries.{BookEntry, BookIsInOrder, IsAccepted, asks, asks_of, due_ids, issue, update_if_id}
 use Rattle.request_queue.specs.declared.PendingRequest.{PendingRequest}
-use Rattle.server_history.specs.Served.{IssuesBatchOf, IssuesTogether, LeavesBookInOrder, PutsInSlot, PutsInSlots, task_of, use_for}
+use Rattle.server_history.specs.Served.{IssuesTogetherIfAny, IssuesTogether, ChangesSlotsAndBook, PutsInSlot, PutsInSlots, task_of, use_for}
 use Rattle.server_history.specs.Server.{InCallInvariant, ServerState, mode_in, no_slots, slots_at, state_of}
 use Rattle.slots.specs.Uses.{IsLowestFree, PortSlots, with_use}
 use Rattle.port_driver.specs.Issuing.{IssuesWhatIsDue, MayIssueDue}
@@ -30,7 +30,7 @@ use Rattle.port_driver.specs.declared.served_port.ServedPort.{ServedPort}
 use Rattle.port_driver.proofs.Sending as sending
 
 -- no request came or went
-put_length : (port : Port) (ids : List RequestId) (tasks : List SlotTask) (old new : ServerState) → PutsInSlots port ids tasks old new → length new.book ≡ length old.book
+put_length : (port : Port) (ids : List RequestId) (tasks : List PlacedTask) (old new : ServerState) → PutsInSlots port ids tasks old new → length new.book ≡ length old.book
 put_length port [] [] old new same = ap (λ (s : ServerState). length s.book) same
 put_length port [] (u ∷ tasks) old new none = absurd none
 put_length port (i ∷ ids) [] old new none = absurd none
@@ -54,7 +54,7 @@ puts_none : (port : Port) (ids : List RequestId) (old new : ServerState) → Put
 puts_none port [] old new same = refl
 puts_none port (i ∷ ids) old new none = absurd none
 
-not_empty : (tasks : List SlotTask) (t : SlotTask) → tasks ++ t ∷ [] ≡ [] → ⊥
+not_empty : (tasks : List PlacedTask) (t : PlacedTask) → tasks ++ t ∷ [] ≡ [] → ⊥
 not_empty [] t same = let z : t ∷ [] ≡ [] = same in absurd cc
 not_empty (u ∷ tasks) t same = let z : u ∷ (tasks ++ t ∷ []) ≡ [] = same in absurd cc
 
@@ -68,7 +68,7 @@ pub record Preparing : Type 0 where
   pub first_book : List BookEntry
   pub first_slots : PortSlots
   pub ids : List RequestId
-  pub tasks : List SlotTask
+  pub tasks : List PlacedTask
   pub book : List BookEntry
   pub slots : PortSlots
   pub puts : (s : ServerState) → HasFoundPort s start first_book first_slots port mode found → PutsInSlots port ids tasks s (with_port_slots s start book slots port)
@@ -89,21 +89,21 @@ module _ (x : Preparing) (s : ServerState) (l : HasFoundPort s x.start x.first_b
   mid_due = subst (λ (m : QueueMode). IsDue m (asks_of x.book) (asks e.entry)) (sym l.mode_is) x.turn.4
 
   -- the request as its entry was found
-  module _ (goes_on : LeavesBookInOrder s mid) (one : (entries : List BookEntry) (a b : BookEntry) → BookIsInOrder entries → Contains entries a → Contains entries b → a.entry.id ≡ b.entry.id → a ≡ b)
+  module _ (goes_on : ChangesSlotsAndBook s mid) (one : (entries : List BookEntry) (a b : BookEntry) → BookIsInOrder entries → Contains entries a → Contains entries b → a.entry.id ≡ b.entry.id → a ≡ b)
       (r : PendingRequest) (frames : List Frame) (held : Contains x.book (record { entry = r; frames = frames })) (same : r.id ≡ x.id) (queued : is_plain x.mode e.entry.op ≡ false) where
     found_is : record { entry = r; frames = frames } ≡ e
     found_is = one x.book (record { entry = r; frames = frames }) e goes_on.ordered held x.turn.1 (same ∙ sym x.turn.2)
 
     -- its task, as it is made
     pub task_made : (slot : ℕ) (made : List Frame) → made ≡ frames
-        → ◌≡◌ {A = SlotTask} (record { slot = slot; task = record { op = r.op; range = r.range; queued = true }; frames = made }) (record { slot = slot; task = task_of x.mode e; frames = e.frames })
+        → ◌≡◌ {A = PlacedTask} (record { slot = slot; task = record { op = r.op; range = r.range; queued = true }; frames = made }) (record { slot = slot; task = task_of x.mode e; frames = e.frames })
     task_made slot made made_is = λ i. record {
       slot = slot;
       task = record { op = (found_is i).entry.op; range = (found_is i).entry.range; queued = sym (ap not queued) i };
       frames = (made_is ∙ ap (λ (b : BookEntry). b.frames) found_is) i;
     }
 
-  pub fits : LeavesBookInOrder s mid → is_plain x.mode e.entry.op ≡ false → (slot : ℕ) → (is_plain x.mode e.entry.op ≡ true → slot ≡ 0) → IsFitTransfer (task_of x.mode e) e.frames
+  pub fits : ChangesSlotsAndBook s mid → is_plain x.mode e.entry.op ≡ false → (slot : ℕ) → (is_plain x.mode e.entry.op ≡ true → slot ≡ 0) → IsFitTransfer (task_of x.mode e) e.frames
   fits goes_on queued slot head =
       (sending.may_go s.table e (All-contains (IsAccepted s.table) x.book e goes_on.accepted x.turn.1) x.mode slot head (not (is_plain x.mode e.entry.op)) refl e.entry refl e.frames refl).transfer
       (transfers_of x.mode e.entry.op queued)
@@ -111,7 +111,7 @@ module _ (x : Preparing) (s : ServerState) (l : HasFoundPort s x.start x.first_b
   -- it is put in a slot
   module _ (slot : ℕ) (small : slot < 32) (lowest : IsLowestFree x.slots slot) (later : List BookEntry) (later_is : later ≡ map (update_if_id x.id issue) x.book)
       (used : PortSlots) (used_is : used ≡ with_use x.slots slot (Some (use_for x.mode (sending.with_id x.id e)))) where
-    abbrev t : SlotTask
+    abbrev t : PlacedTask
     t = record { slot = slot; task = task_of x.mode e; frames = e.frames }
 
     pub puts_it : PutsInSlot x.port x.id t mid (with_port_slots s x.start later used x.port)
@@ -119,19 +119,19 @@ module _ (x : Preparing) (s : ServerState) (l : HasFoundPort s x.start x.first_b
         (sending.put mid x.book x.slots x.port x.mode refl mid_slots l.mode_is x.id x.turn slot small lowest later later_is used used_is)
 
 -- some task, where the place isn't the first
-pub puts_place : (port : Port) (items : List RequestId) (place : ℕ) (tasks : List SlotTask) (old new : ServerState) → place < length items → PutsInSlots port (take place items) tasks old new → tasks ≡ [] → place ≡ 0
+pub puts_place : (port : Port) (items : List RequestId) (place : ℕ) (tasks : List PlacedTask) (old new : ServerState) → place < length items → PutsInSlots port (take place items) tasks old new → tasks ≡ [] → place ≡ 0
 puts_place port items place tasks old new low puts none =
-    let short = puts_none port (take place items) old new (subst (λ (ts : List SlotTask). PutsInSlots port (take place items) ts old new) none puts) in
+    let short = puts_none port (take place items) old new (subst (λ (ts : List PlacedTask). PutsInSlots port (take place items) ts old new) none puts) in
     let long = length-take-le place items (omega (arith, low)) in
     sym long ∙ short
 
 -- what law_due_requests_get_slots says of several
 abbrev MorePut : Type 0
-MorePut = (s mid new : ServerState) (port : Port) (ids : List RequestId) (tasks : List SlotTask) (id : RequestId) (t : SlotTask) → PutsInSlots port ids tasks s mid → PutsInSlot port id t mid new
+MorePut = (s mid new : ServerState) (port : Port) (ids : List RequestId) (tasks : List PlacedTask) (id : RequestId) (t : PlacedTask) → PutsInSlots port ids tasks s mid → PutsInSlot port id t mid new
     → PutsInSlots port (ids ++ id ∷ []) (tasks ++ t ∷ []) s new
 
 abbrev Together : Type 0
-Together = (s mid : ServerState) (port : Port) (ids : List RequestId) (tasks : List SlotTask) (request : BookEntry) → InCallInvariant s → PutsInSlots port ids tasks s mid → Contains mid.book request
+Together = (s mid : ServerState) (port : Port) (ids : List RequestId) (tasks : List PlacedTask) (request : BookEntry) → InCallInvariant s → PutsInSlots port ids tasks s mid → Contains mid.book request
     → request.entry.port ≡ port → IsDue (mode_in mid port) (asks_of mid.book) (asks request.entry)
     → (tasks ≡ [] → ⊥) → (is_plain (mode_in s port) request.entry.op ≡ false) × All (λ t. t.task.queued ≡ true) tasks
 
@@ -148,7 +148,7 @@ first_queued x s l slot small lowest issues more together items place d low id_i
     used : PortSlots
     used = with_use x.slots slot (Some (use_for x.mode (sending.with_id x.id x.turn.0)))
 
-    task : SlotTask
+    task : PlacedTask
     task = record { slot = slot; task = task_of x.mode x.turn.0; frames = x.turn.0.frames }
 
     then : ServerState
@@ -179,7 +179,7 @@ first_queued x s l slot small lowest issues more together items place d low id_i
     by true is = absurd (false≢true (sym (ap not is) ∙ its))
 
 -- together, where there are some
-pub as_batch : (port : Port) (ids : List RequestId) (old new : ServerState) → 1 < length ids → IssuesTogether port ids old new → IssuesBatchOf port ids old new
+pub as_batch : (port : Port) (ids : List RequestId) (old new : ServerState) → 1 < length ids → IssuesTogether port ids old new → IssuesTogetherIfAny port ids old new
 as_batch port [] old new some issues = absurd (omega (arith, some))
 as_batch port (id ∷ ids) old new some issues = issues
 
@@ -194,8 +194,8 @@ module _ {A : Type 0} (device : A → Device) (accesses : A → ℕ) (port : Por
   none_due none = record {
     issues = λ s l.
         let after : ServerState = with_port_slots s (device before) book self.slots port in
-        let M : QueueMode → Type 0 = λ mode. IssuesBatchOf port (due_ids mode port (asks_of s.book)) s after in
-        subst M (sym l.mode_is) (subst (λ (ids : List RequestId). IssuesBatchOf port ids s after) (sym (ap (λ (b : List BookEntry). due_ids self.mode port (asks_of b)) l.book_is ∙ none))
+        let M : QueueMode → Type 0 = λ mode. IssuesTogetherIfAny port (due_ids mode port (asks_of s.book)) s after in
+        subst M (sym l.mode_is) (subst (λ (ids : List RequestId). IssuesTogetherIfAny port ids s after) (sym (ap (λ (b : List BookEntry). due_ids self.mode port (asks_of b)) l.book_is ∙ none))
         (sending.lent_same s (device before) book self.slots port self.mode self.found may.ready l));
     rest = refl;
     as_many = refl;
@@ -210,8 +210,8 @@ module _ {A : Type 0} (device : A → Device) (accesses : A → ℕ) (port : Por
   one_due new after left id only issues rest cost = record {
     issues = λ s l.
         let then : ServerState = with_port_slots s (device after) left new.slots port in
-        let M : QueueMode → Type 0 = λ mode. IssuesBatchOf port (due_ids mode port (asks_of s.book)) s then in
-        subst M (sym l.mode_is) (subst (λ (ids : List RequestId). IssuesBatchOf port ids s then) (sym (ap (λ (b : List BookEntry). due_ids self.mode port (asks_of b)) l.book_is ∙ only)) (issues s l));
+        let M : QueueMode → Type 0 = λ mode. IssuesTogetherIfAny port (due_ids mode port (asks_of s.book)) s then in
+        subst M (sym l.mode_is) (subst (λ (ids : List RequestId). IssuesTogetherIfAny port ids s then) (sym (ap (λ (b : List BookEntry). due_ids self.mode port (asks_of b)) l.book_is ∙ only)) (issues s l));
     rest = rest;
     as_many = issued_length port (id ∷ []) may.lends.0 _ (issues may.lends.0 may.lends.1) ∙ ap (λ (b : List BookEntry). length b) may.lends.1.book_is;
     none = λ none. absurd (let long = as_long (id ∷ []) only in let least : length (due_of self.mode port (asks_of book)) ≡ 0 = ap length none in omega (arith, long, least));

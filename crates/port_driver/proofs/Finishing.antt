@@ -18,7 +18,7 @@ use Rattle.block_machine.specs.declared.due.QueueMode.{QueueMode}
 use Rattle.refinement.specs.Slots.{IsOver}
 use Rattle.port_driver.specs.Ports.{AnswersDoneSlots, AnswersSlot, HasFoundPort, HasDonePort, with_answers, with_port_slots}
 use Rattle.dma_frames.specs.Table.{LendsOnly, Table}
-use Rattle.host_boot.specs.Taken.{probe_result_of}
+use Rattle.host_boot.specs.TakeOver.{probe_result_of}
 use Rattle.host_boot.specs.declared.ProbeResult.{ProbeResult}
 use Rattle.request_queue.specs.Entries.{BookEntry, IsEarlier, BookIsInOrder, has_id, without_entry}
 use Rattle.server_history.specs.Served.{AnswersDone, AnswersEach, AnswersOne, IssuesAll, done_reply}

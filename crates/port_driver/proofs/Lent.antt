@@ -15,7 +15,7 @@ use Rattle.dma_frames.specs.Table.{Table}
 use Rattle.identify.specs.declared.error_log.FailedSlot.{FailedSlot}
 use Rattle.error_recovery.specs.Recovery.{PlainUsesSlot0, PlainIsSlot0, MayRecover, RecoversOrStops, BacksFailure}
 use Rattle.error_recovery.specs.declared.Recovered.{Recovered}
-use Rattle.host_boot.specs.Taken.{probe_result_of}
+use Rattle.host_boot.specs.TakeOver.{probe_result_of}
 use Rattle.commands.specs.Masks.{ReadsDone}
 use Rattle.port_control.specs.Looks.{IsLooking, LooksAt}
 use Rattle.port_control.specs.declared.events.PortEvent.TheVariants.{TaskFileError}

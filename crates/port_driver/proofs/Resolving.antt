@@ -4,18 +4,18 @@ use Rattle.ata_types.specs.declared.Port.{Port}
 use Rattle.ata_types.specs.declared.request.Reply.{Reply}
 use Rattle.dma_frames.specs.Loan.{Lending}
 use Rattle.dma_frames.specs.Table.{Table}
-use Rattle.host_boot.specs.Taken.{probe_result_of}
+use Rattle.host_boot.specs.TakeOver.{probe_result_of}
 use Rattle.host_boot.specs.declared.ProbeResult.{ProbeResult}
 use Rattle.identify.specs.declared.DiskInfo.{DiskInfo}
 use Rattle.request_queue.specs.Entries.{BookEntry}
-use Rattle.request_queue.specs.Dispositions.{Holdings, AreResolved, disposition_of}
+use Rattle.request_queue.specs.Dispositions.{BookAndLoans, AreResolved, disposition_of}
 use Rattle.request_queue.specs.declared.PendingRequest.{PendingRequest}
 use Rattle.request_queue.specs.declared.disposition.Disposition.{Disposition}
 use Rattle.request_queue.specs.declared.disposition.Revalidation.{Revalidation}
 use Rattle.server_history.specs.ErrorHandling.{requests_of}
 use Rattle.server_history.specs.Resets.{IsResetRevalidation, ResolvesPort}
 use Rattle.server_history.specs.Server.{ServerState, quarantined_at}
-use Rattle.port_driver.specs.Dispositions.{holding}
+use Rattle.port_driver.specs.Dispositions.{book_and_loans}
 use Rattle.port_driver.specs.Parts.{HasPortAndShared}
 use Rattle.port_driver.specs.declared.served_port.ServedPort.{ServedPort}
 use Rattle.port_driver.specs.declared.served_port.Shared.{Shared}
@@ -23,7 +23,7 @@ use Rattle.port_driver.specs.declared.served_port.Shared.{Shared}
 -- The port's requests were resolved.
 pub settles_port : (s : ServerState) (shared : Shared) (port : Port) (p : ServedPort) → HasPortAndShared s s.device shared port p → (table : Table) (book : List BookEntry) (kept : List Lending)
     → (revalidation : Revalidation) → IsResetRevalidation p.remembered p.found revalidation → (its : List Reply)
-    → AreResolved (disposition_of None revalidation) (requests_of port shared.book) its (holding shared.book shared.table.value p.kept) (holding book table kept)
+    → AreResolved (disposition_of None revalidation) (requests_of port shared.book) its (book_and_loans shared.book shared.table.value p.kept) (book_and_loans book table kept)
     → ResolvesPort port its s (record s { table = table; kept = set s.kept port.0 kept; book = book })
 settles_port s shared port p has table book kept revalidation expects its meets = record {
   revalidation = revalidation;
@@ -32,12 +32,12 @@ settles_port s shared port p has table book kept revalidation expects its meets 
   now = now;
   meets = subst (λ (x : List BookEntry). AreResolved disposition (requests_of port x) its (record { book = x; table = s.table; kept = quarantined_at s.kept port.0 }) now) (sym has.book_is)
       (subst (λ (x : Table). AreResolved disposition (requests_of port shared.book) its (record { book = shared.book; table = x; kept = quarantined_at s.kept port.0 }) now) (sym has.table_is)
-      (subst (λ (x : List Lending). AreResolved disposition (requests_of port shared.book) its (holding shared.book shared.table.value x) now) (sym has.port_is.kept_is) meets));
+      (subst (λ (x : List Lending). AreResolved disposition (requests_of port shared.book) its (book_and_loans shared.book shared.table.value x) now) (sym has.port_is.kept_is) meets));
   server = refl;
 }
   where
-    now : Holdings
-    now = holding book table kept
+    now : BookAndLoans
+    now = book_and_loans book table kept
 
     disposition : PendingRequest → Disposition
     disposition = disposition_of None revalidation

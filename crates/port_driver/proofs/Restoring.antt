@@ -18,7 +18,7 @@ use Rattle.dma_frames.specs.Table.{Table}
 use Rattle.error_recovery.specs.Recovery.{EndsAsNext}
 use Rattle.error_recovery.specs.declared.Next.{Next}
 use Rattle.error_recovery.specs.declared.Next.TheVariants.{Restart}
-use Rattle.host_boot.specs.Taken.{probe_result_of, wanted_of}
+use Rattle.host_boot.specs.TakeOver.{probe_result_of, wanted_of}
 use Rattle.host_boot.specs.declared.ProbeResult.{ProbeResult}
 use Rattle.host_boot.specs.Again.{RebootsPort}
 use Rattle.host_boot.specs.declared.Booted.{Booted}
@@ -29,8 +29,8 @@ use Rattle.port_boot.specs.States.{IsBootable}
 use Rattle.port_control.specs.Ports.{IsStopped}
 use Rattle.port_control.specs.declared.Stopped.{Stopped}
 use Rattle.port_control.specs.Looks.{IsLooking}
-use Rattle.request_queue.specs.Entries.{BookEntry, is_of}
-use Rattle.request_queue.specs.Dispositions.{Holdings, AreResolved, disposition_of}
+use Rattle.request_queue.specs.Entries.{BookEntry, is_of_port}
+use Rattle.request_queue.specs.Dispositions.{BookAndLoans, AreResolved, disposition_of}
 use Rattle.request_queue.specs.declared.disposition.FailedRequest.{FailedRequest}
 use Rattle.request_queue.specs.declared.disposition.Revalidation.{Revalidation}
 use Rattle.server_history.specs.ErrorHandling.{BootsAfter, IsFailedRequest, IsRevalidated, IsRevalidation, IsErrorHandled, HasResolved, HandlesPortError, requests_of, with_port_found}
@@ -40,7 +40,7 @@ use Rattle.server_history.specs.Turns.{IsPortTurn, InRestart, ServesPort}
 use Rattle.port_control.specs.declared.events.PortError.{PortError}
 use Rattle.port_control.specs.declared.events.PortError.TheVariants.{FatalError, TaskFileError, TimedOut, LinkChanged}
 use Rattle.slots.specs.Uses.{PortSlots, use_at}
-use Rattle.port_driver.specs.Dispositions.{HaveLoanRoom, BookIsSound, holding}
+use Rattle.port_driver.specs.Dispositions.{HaveLoanRoom, BookIsSound, book_and_loans}
 use Rattle.port_driver.specs.Ports.{HasFoundPort, with_port_slots}
 use Rattle.port_driver.specs.Recovery.{HandlesPortErrorOf, CompletesAndRecovers, SeesPortError}
 use Rattle.port_driver.proofs.Sending.{ready_there}
@@ -107,9 +107,9 @@ pub record Restoration (x : Recovery) : Type 0 where
   pub free : (slot : ℕ) → use_at fresh slot ≡ None
   pub revalidation : Revalidation
   pub expects : IsRevalidation x.port_error x.was found revalidation
-  pub now : Holdings
+  pub now : BookAndLoans
   pub later : List Reply
-  pub meets : AreResolved (disposition_of x.failed revalidation) (requests_of x.port x.b) later (holding x.b x.t (quarantined_at x.s.kept x.port.0)) now
+  pub meets : AreResolved (disposition_of x.failed revalidation) (requests_of x.port x.b) later (book_and_loans x.b x.t (quarantined_at x.s.kept x.port.0)) now
 
 -- the server then
 abbrev pub then : (x : Recovery) → Restoration x → ServerState
@@ -158,7 +158,7 @@ module _ (x : Recovery) where
   pub kept_said : (number : ℕ) → number ≡ x.port.0 → (default : List Lending) → quarantined_at x.s.kept x.port.0 ≡ get_or x.s.kept number default
   kept_said number is default = let f = x.sees.kept.four_kept in let l = low in get_or_default x.s.kept x.port.0 [] default (omega (arith, f, l)) ∙ ap (λ (n : ℕ). get_or x.s.kept n default) (sym is)
 
-  pub have_places : (number : ℕ) → number ≡ x.port.0 → (default : List Lending) → HaveLoanRoom (filter (λ (e : BookEntry). is_of x.port e.entry) x.b) (get_or x.s.kept number default)
+  pub have_places : (number : ℕ) → number ≡ x.port.0 → (default : List Lending) → HaveLoanRoom (filter (λ (e : BookEntry). is_of_port x.port e.entry) x.b) (get_or x.s.kept number default)
   have_places number is default =
       let few = places.1 in
       let none = ap length (sym (kept_said number is default) ∙ places.0) in
@@ -184,7 +184,7 @@ module _ (x : Recovery) where
       revalidation = y.revalidation;
       expects = subst (λ (its : PortError). IsRevalidation its x.was y.found y.revalidation) (sym x.rest.trouble_is) y.expects;
       now = y.now;
-      meets = subst (λ (n : ServerState). AreResolved (disposition_of x.failed y.revalidation) (requests_of x.port n.book) y.later (holding n.book n.table (quarantined_at n.kept x.port.0)) y.now) (sym x.rest.mid_is) y.meets;
+      meets = subst (λ (n : ServerState). AreResolved (disposition_of x.failed y.revalidation) (requests_of x.port n.book) y.later (book_and_loans n.book n.table (quarantined_at n.kept x.port.0)) y.now) (sym x.rest.mid_is) y.meets;
       server = (λ i. record (then x y) { slots = sym (set-set x.s.slots x.port.0 x.u y.fresh) i }) ∙ (λ i. put (sym x.rest.mid_is i));
     }
       where

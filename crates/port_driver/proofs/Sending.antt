@@ -14,22 +14,22 @@ use Rattle.block_machine.specs.Due.{AreAllDueInOrder, IsDue, is_plain}
 use Rattle.block_machine.specs.Rules.{IsAllowedCount, frame_count_for}
 use Rattle.block_machine.specs.declared.due.QueueMode.{QueueMode}
 use Rattle.block_machine.specs.declared.due.Unanswered.{Unanswered}
-use Rattle.port_driver.specs.Ports.{HasFoundPort, MayIssueIn, with_port_slots}
+use Rattle.port_driver.specs.Ports.{HasFoundPort, FitsSlot, with_port_slots}
 use Rattle.dma_frames.specs.Table.{Table}
 use Rattle.adapter.specs.Rules.{HasPort}
 use Rattle.refinement.specs.Driven.{RelatesWith}
 use Rattle.command_table.specs.Written.{IsUnused}
-use Rattle.host_boot.specs.Taken.{probe_result_of}
+use Rattle.host_boot.specs.TakeOver.{probe_result_of}
 use Rattle.host_boot.specs.declared.ProbeResult.{ProbeResult}
 use Rattle.host_boot.specs.declared.ProbeResult.TheVariants.{Unserved, Ready as FoundReady, Unready}
 use Rattle.identify.specs.declared.DiskInfo.{DiskInfo}
 use Rattle.request_queue.specs.Entries.{BookEntry, IsAccepted, BookIsInOrder, asks, asks_of, update_if_id, due_ids, issue}
 use Rattle.request_queue.specs.Store.{blank_entry}
 use Rattle.request_queue.specs.declared.PendingRequest.{PendingRequest}
-use Rattle.server_history.specs.Served.{IssuesAll, IssuesBatchOf, IssuesTogether, PutsInSlot, task_of, use_for}
+use Rattle.server_history.specs.Served.{IssuesAll, IssuesTogetherIfAny, IssuesTogether, PutsInSlot, task_of, use_for}
 use Rattle.server_history.specs.Server.{ServerState, InCallInvariant, is_served, mode_in, no_slots, slots_at, state_of, with_slot}
 use Rattle.slots.specs.Uses.{PortSlots, IsLowestFree, IsTaken, with_use}
-use Rattle.commands.specs.Batches.{IsBatchIssued, only_task}
+use Rattle.commands.specs.Batches.{IsBatchIssued, batch_of_one}
 use Rattle.commands.specs.Issuing.{MayIssueTask}
 use Rattle.commands.specs.Tasks.{IsFitTransfer, IsTransfer}
 
@@ -57,7 +57,7 @@ module _ (table : Table) (e : BookEntry) (is : IsAccepted table e) (mode : Queue
   in_slot_0 : (queued : Bool) → queued ≡ not (is_plain mode e.entry.op) → (op : Op) → is_plain mode op ≡ true → e.entry.op ≡ op → (slot ≡ 0) × (queued ≡ false)
   in_slot_0 queued kind op plain same = let is_so = ap (is_plain mode) same ∙ plain in (head is_so, kind ∙ ap not is_so)
 
-  goes : (queued : Bool) → queued ≡ not (is_plain mode e.entry.op) → MayIssueIn (record { op = e.entry.op; range = e.entry.range; queued = queued }) e.frames slot
+  goes : (queued : Bool) → queued ≡ not (is_plain mode e.entry.op) → FitsSlot (record { op = e.entry.op; range = e.entry.range; queued = queued }) e.frames slot
   goes queued kind = record {
     transfer = fits queued;
     trim = λ same. ((counted Trim same).0, (counted Trim same).1, is.below (not_flush Trim (λ e. cc) same));
@@ -66,10 +66,10 @@ module _ (table : Table) (e : BookEntry) (is : IsAccepted table e) (mode : Queue
 
   -- it may go in the slot, wherever its entry and its frames are told
   pub may_go : (queued : Bool) → queued ≡ not (is_plain mode e.entry.op) → (entry : PendingRequest) → entry ≡ e.entry → (frames : List Frame) → frames ≡ e.frames
-      → MayIssueIn (record { op = entry.op; range = entry.range; queued = queued }) frames slot
+      → FitsSlot (record { op = entry.op; range = entry.range; queued = queued }) frames slot
   may_go queued kind entry entry_is frames frames_are =
-      subst (λ (x : PendingRequest). MayIssueIn (record { op = x.op; range = x.range; queued = queued }) frames slot) (sym entry_is)
-      (subst (λ (fs : List Frame). MayIssueIn (record { op = e.entry.op; range = e.entry.range; queued = queued }) fs slot) (sym frames_are) (goes queued kind))
+      subst (λ (x : PendingRequest). FitsSlot (record { op = x.op; range = x.range; queued = queued }) frames slot) (sym entry_is)
+      (subst (λ (fs : List Frame). FitsSlot (record { op = e.entry.op; range = e.entry.range; queued = queued }) fs slot) (sym frames_are) (goes queued kind))
 
 -- ---- what is lent
 
@@ -221,14 +221,14 @@ module _ (s : ServerState) (device : Device) (book : List BookEntry) (slots : Po
 
     -- it was issued alone
     pub sent : (slot : ℕ) → slot < 32 → IsLowestFree slots slot → (new : Device)
-        → IsBatchIssued port (only_task slot (task_of mode e) e.frames) device new
+        → IsBatchIssued port (batch_of_one slot (task_of mode e) e.frames) device new
         → (later : List BookEntry) → later ≡ map (update_if_id id issue) book
         → (used : PortSlots) → used ≡ with_use slots slot (Some (use_for mode (with_id id e))) → IssuesTogether port (id ∷ []) s (with_port_slots s new later used port)
     sent slot small lowest new issued later later_is used used_is = record {
-      tasks = only_task slot (task_of mode e) e.frames;
+      tasks = batch_of_one slot (task_of mode e) e.frames;
       taken = record s { slots = set s.slots port.0 used; book = later };
       puts = (_, put s book slots port mode l.book_is l.slots_are l.mode_is id turn slot small lowest later later_is used used_is, refl);
-      issued = subst (λ (d : Device). IsBatchIssued port (only_task slot (task_of mode e) e.frames) d new) (sym l.device_is) issued;
+      issued = subst (λ (d : Device). IsBatchIssued port (batch_of_one slot (task_of mode e) e.frames) d new) (sym l.device_is) issued;
       server = refl;
     }
 
@@ -262,7 +262,7 @@ pub none_issued : ((s : ServerState) (port : Port) → InCallInvariant s → ((i
     → (s : ServerState) (device : Device) (book : List BookEntry) (slots : PortSlots) (port : Port) (mode : QueueMode) (found : ProbeResult) → HasFoundPort s device book slots port mode found → ((info : DiskInfo) → found ≡ FoundReady info → ⊥)
     → IssuesAll port s (with_port_slots s device book slots port)
 none_issued undue s device book slots port mode found l unready =
-    subst (λ (ids : List RequestId). IssuesBatchOf port ids s (with_port_slots s device book slots port)) (sym (undue s port l.kept (λ info is. unready info (sym l.found_is ∙ is)))) same
+    subst (λ (ids : List RequestId). IssuesTogetherIfAny port ids s (with_port_slots s device book slots port)) (sym (undue s port l.kept (λ info is. unready info (sym l.found_is ∙ is)))) same
   where
     same : with_port_slots s device book slots port ≡ s
     same =

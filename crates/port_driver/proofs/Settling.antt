@@ -15,14 +15,14 @@ use Rattle.ata_types.specs.declared.request.RequestId.{RequestId}
 use Rattle.std.specs.List.{All, AllPairs, Contains}
 use Rattle.port_driver.proofs.Finishing as finishing
 use Rattle.request_queue.specs.Entries.{HasFewIssues, BookEntry, IsAccepted, IsEarlier, BookIsInOrder, update_if_id, ids_where, requeued_entry, without_entry}
-use Rattle.request_queue.specs.Dispositions.{KeepsOrEndsLoan, Holdings, AreResolved, IsResolved, disposition_of, disposition_of_unfailed, keeps_loan, reply_to}
+use Rattle.request_queue.specs.Dispositions.{KeepsOrEndsLoan, BookAndLoans, AreResolved, IsResolved, disposition_of, disposition_of_unfailed, keeps_loan, reply_to}
 use Rattle.request_queue.specs.declared.PendingRequest.{PendingRequest}
 use Rattle.request_queue.specs.declared.disposition.Disposition.{Disposition}
 use Rattle.request_queue.specs.declared.disposition.Disposition.TheVariants.{Complete, Requeue, Wait}
 use Rattle.request_queue.specs.declared.disposition.FailedRequest.{FailedRequest}
 use Rattle.request_queue.specs.declared.disposition.Revalidation.{Revalidation}
 use Rattle.request_queue.specs.declared.disposition.Revalidation.TheVariants.{Dead, DiskLost, SameDisk}
-use Rattle.port_driver.specs.Dispositions.{HasLoanRoom, HaveLoanRoom, BookIsSound, MayAnswerAll, holding}
+use Rattle.port_driver.specs.Dispositions.{HasLoanRoom, HaveLoanRoom, BookIsSound, MayAnswerAll, book_and_loans}
 
 -- a loan is kept of an issued request alone
 pub kept_issued : (outcome : Outcome) (e : PendingRequest) → keeps_loan outcome e ≡ true → e.issued ≡ true
@@ -80,8 +80,8 @@ places_left request rest kept places = let c = issued_cons request rest in omega
 
 -- the request waits again
 pub again : (named id : RequestId) (book later : List BookEntry) (table : Table) (kept : List Lending) → id ≡ named → later ≡ map (update_if_id named requeued_entry) book
-    → holding later table kept ≡ record (holding book table kept) { book = map (update_if_id id requeued_entry) book }
-again named id book later table kept same is = λ i. holding ((is ∙ ap (λ (x : RequestId). map (update_if_id x requeued_entry) book) (sym same)) i) table kept
+    → book_and_loans later table kept ≡ record (book_and_loans book table kept) { book = map (update_if_id id requeued_entry) book }
+again named id book later table kept same is = λ i. book_and_loans ((is ∙ ap (λ (x : RequestId). map (update_if_id x requeued_entry) book) (sym same)) i) table kept
 
 -- a book is shorter once one has left it
 pub shorter : (id : RequestId) (book later : List BookEntry) (taken : BookEntry) → Contains book taken → taken.entry.id ≡ id → later ≡ without_entry id book → length later < length book
@@ -94,20 +94,20 @@ module _ (request : BookEntry) (outcome : Outcome) (book later : List BookEntry)
   frames_are = ap (λ (e : BookEntry). e.frames) its
 
   pub ends_kept : (disposition : Disposition) → disposition ≡ Complete outcome → keeps_loan outcome request.entry ≡ true → more ≡ kept ++ loan ∷ [] → new ≡ old
-      → IsResolved request disposition (reply_to request outcome ∷ []) (holding book old kept) (holding later new more)
-  ends_kept disposition is keeps more_is same = subst (λ (f : Disposition). IsResolved request f (reply_to request outcome ∷ []) (holding book old kept) (holding later new more)) (sym is) (
+      → IsResolved request disposition (reply_to request outcome ∷ []) (book_and_loans book old kept) (book_and_loans later new more)
+  ends_kept disposition is keeps more_is same = subst (λ (f : Disposition). IsResolved request f (reply_to request outcome ∷ []) (book_and_loans book old kept) (book_and_loans later new more)) (sym is) (
     refl,
     rest,
-    subst (λ (b : Bool). KeepsOrEndsLoan b request (holding book old kept) (holding later new more)) (sym keeps)
+    subst (λ (b : Bool). KeepsOrEndsLoan b request (book_and_loans book old kept) (book_and_loans later new more)) (sym keeps)
         (more_is ∙ (λ i. kept ++ record { frames = frames_are i; request = whose i } ∷ []), same),
   )
 
   pub ends_back : (disposition : Disposition) → disposition ≡ Complete outcome → keeps_loan outcome request.entry ≡ false → more ≡ kept → LendsOnly old new loan.frames None
-      → IsResolved request disposition (reply_to request outcome ∷ []) (holding book old kept) (holding later new more)
-  ends_back disposition is keeps same lends = subst (λ (f : Disposition). IsResolved request f (reply_to request outcome ∷ []) (holding book old kept) (holding later new more)) (sym is) (
+      → IsResolved request disposition (reply_to request outcome ∷ []) (book_and_loans book old kept) (book_and_loans later new more)
+  ends_back disposition is keeps same lends = subst (λ (f : Disposition). IsResolved request f (reply_to request outcome ∷ []) (book_and_loans book old kept) (book_and_loans later new more)) (sym is) (
     refl,
     rest,
-    subst (λ (b : Bool). KeepsOrEndsLoan b request (holding book old kept) (holding later new more)) (sym keeps)
+    subst (λ (b : Bool). KeepsOrEndsLoan b request (book_and_loans book old kept) (book_and_loans later new more)) (sym keeps)
         (same, subst (λ frames. LendsOnly old new frames None) frames_are lends),
   )
 
@@ -152,19 +152,19 @@ pub next_place : (request : BookEntry) (rest : List BookEntry) (kept : List Lend
 next_place request rest kept places issued = let c = issued_cons request rest ∙ ap (λ (b : Bool). cond b 1 0 + count_by (λ (e : BookEntry). e.entry.issued) rest) issued in omega (arith, places, c)
 
 -- These are left of the requests; and what they come to yet, the whole comes to.
-pub record SoFar (disposition : PendingRequest → Disposition) (all : List BookEntry) (start : Holdings) (before : List Reply) (left : List BookEntry) (now : Holdings) (replies : List Reply) : Type 0 where
+pub record SoFar (disposition : PendingRequest → Disposition) (all : List BookEntry) (start : BookAndLoans) (before : List Reply) (left : List BookEntry) (now : BookAndLoans) (replies : List Reply) : Type 0 where
   pub here : (e : BookEntry) → Contains left e → Contains now.book e
   pub ordered : AllPairs IsEarlier left
-  pub rest : (later : List Reply) (end : Holdings) → AreResolved disposition left later now end → (its : List Reply) × (replies ++ later ≡ before ++ its) × AreResolved disposition all its start end
+  pub rest : (later : List Reply) (end : BookAndLoans) → AreResolved disposition left later now end → (its : List Reply) × (replies ++ later ≡ before ++ its) × AreResolved disposition all its start end
   pub may : MayAnswerAll now.table now.book replies
 
-module _ (disposition : PendingRequest → Disposition) (all : List BookEntry) (start : Holdings) (before : List Reply) where
+module _ (disposition : PendingRequest → Disposition) (all : List BookEntry) (start : BookAndLoans) (before : List Reply) where
   pub begins : ((e : BookEntry) → Contains all e → Contains start.book e) → AllPairs IsEarlier all → MayAnswerAll start.table start.book before
       → SoFar disposition all start before all start before
   begins here ordered may = record { here = here; ordered = ordered; rest = λ later end meet. (later, refl, meet); may = may }
 
   -- the next one was resolved
-  pub goes_on : (request : BookEntry) (left : List BookEntry) (now new : Holdings) (replies more its : List Reply) → SoFar disposition all start before (request ∷ left) now replies
+  pub goes_on : (request : BookEntry) (left : List BookEntry) (now new : BookAndLoans) (replies more its : List Reply) → SoFar disposition all start before (request ∷ left) now replies
       → more ≡ replies ++ its → IsResolved request (disposition request.entry) its now new → ((e : BookEntry) → Contains now.book e → e.entry.id ≢ request.entry.id → Contains new.book e)
       → MayAnswerAll new.table new.book more → SoFar disposition all start before left new more
   goes_on request left now new replies more its f same meets others may = record {
@@ -180,5 +180,5 @@ module _ (disposition : PendingRequest → Disposition) (all : List BookEntry) (
       earlier : All (IsEarlier request) left
       earlier i d small = f.ordered 0 (suc i) d (omega arith) (omega (arith, small))
 
-  pub ends : (now : Holdings) (replies : List Reply) → SoFar disposition all start before [] now replies → (its : List Reply) × (replies ≡ before ++ its) × AreResolved disposition all its start now
+  pub ends : (now : BookAndLoans) (replies : List Reply) → SoFar disposition all start before [] now replies → (its : List Reply) × (replies ≡ before ++ its) × AreResolved disposition all its start now
   ends now replies f = let whole = f.rest [] now (refl, refl) in (whole.0, sym (append-nil replies) ∙ whole.1, whole.2)

@@ -11,8 +11,8 @@ use Rattle.port_control.specs.declared.events.PortError.{PortError}
 use Rattle.port_control.specs.declared.events.PortError.TheVariants.{TaskFileError, LinkChanged}
 
 -- what is due on a port is issued: a command is stored in each of its slots, at most, and all go by one batch
-abbrev pub ISSUES_ACCESSES : ℕ
-ISSUES_ACCESSES = SLOTS * TABLE_ACCESSES + BATCH_ACCESSES
+abbrev pub ISSUE_DUE_ACCESSES : ℕ
+ISSUE_DUE_ACCESSES = SLOTS * TABLE_ACCESSES + BATCH_ACCESSES
 
 -- a port in such trouble is recovered where a command failed, and else stopped
 abbrev pub handling_accesses : PortError → ℕ
@@ -27,7 +27,7 @@ booting_accesses _ = BOOT_AGAIN_ACCESSES
 -- what is done is found out, its error is handled, it is booted, and what is due is issued
 abbrev pub port_error_accesses : PortError → ℕ
 port_error_accesses port_error =
-    DONE_ACCESSES + handling_accesses port_error + booting_accesses port_error + ISSUES_ACCESSES
+    DONE_ACCESSES + handling_accesses port_error + booting_accesses port_error + ISSUE_DUE_ACCESSES
 
 -- a port is looked at, and its trouble is a command that failed: no other turn of a port in a service has as many
 abbrev pub TURN_ACCESSES : ℕ

@@ -5,10 +5,10 @@ use Rattle.ata_types.specs.declared.request.Reply.{Reply}
 use Rattle.dma_frames.specs.Loan.{Lending}
 use Rattle.dma_frames.specs.Table.{Table}
 use Rattle.request_queue.specs.Entries.{BookEntry, IsAccepted, BookIsInOrder}
-use Rattle.request_queue.specs.Dispositions.{Holdings}
+use Rattle.request_queue.specs.Dispositions.{BookAndLoans}
 
-abbrev pub holding : List BookEntry → Table → List Lending → Holdings
-holding book table kept = record { book = book; table = table; kept = kept }
+abbrev pub book_and_loans : List BookEntry → Table → List Lending → BookAndLoans
+book_and_loans book table kept = record { book = book; table = table; kept = kept }
 
 -- a book in order, each request of which is as it was accepted, and has its frames lent to it
 pub record BookIsSound (table : Table) (book : List BookEntry) : Type 0 where

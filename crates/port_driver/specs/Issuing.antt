@@ -10,7 +10,7 @@ use Rattle.commands.specs.Costs.{BATCH_ACCESSES}
 use Rattle.request_queue.specs.Entries.{BookEntry, asks_of}
 use Rattle.server_history.specs.Served.{IssuesAll}
 use Rattle.server_history.specs.Server.{ServerState, state_of}
-use Rattle.port_driver.specs.Costs.{ISSUES_ACCESSES}
+use Rattle.port_driver.specs.Costs.{ISSUE_DUE_ACCESSES}
 use Rattle.port_driver.specs.Ports.{HasFoundPort, with_port_slots}
 use Rattle.port_driver.specs.declared.served_port.ServedPort.{ServedPort}
 
@@ -33,4 +33,4 @@ pub record IssuesWhatIsDue {A : Type 0} (device : A → Device) (accesses : A �
   pub none : due_of old.mode port (asks_of book) ≡ [] → after ≡ before
   pub each : MakesAtMost (TABLE_ACCESSES * length (due_of old.mode port (asks_of book)) + BATCH_ACCESSES)
       (accesses before) (accesses after)
-  pub cost : MakesAtMost ISSUES_ACCESSES (accesses before) (accesses after)
+  pub cost : MakesAtMost ISSUE_DUE_ACCESSES (accesses before) (accesses after)

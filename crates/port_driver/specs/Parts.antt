@@ -4,12 +4,12 @@ use Rattle.ata_types.specs.declared.Port.{Port}
 use Rattle.ata_types.specs.declared.request.Reply.{Reply}
 use Rattle.adapter.specs.Device.{Device}
 use Rattle.block_machine.specs.declared.due.QueueMode.{QueueMode}
-use Rattle.host_boot.specs.Taken.{probe_result_of, wanted_of}
+use Rattle.host_boot.specs.TakeOver.{probe_result_of, wanted_of}
 use Rattle.host_boot.specs.declared.ProbeResult.{ProbeResult}
 use Rattle.host_boot.specs.declared.ProbeResult.TheVariants.{Ready, Unready, Unserved}
 use Rattle.identify.specs.declared.wanted.Wanted.TheVariants.{Nothing}
 use Rattle.request_queue.specs.Entries.{BookEntry}
-use Rattle.server_history.specs.ErrorHandling.{AreEmptySlots}
+use Rattle.server_history.specs.ErrorHandling.{HasNoUsedSlot}
 use Rattle.server_history.specs.Server.{ServerState, SettledInvariant, quarantined_at, last_disk_of, mode_at, no_slots, plain_mode, remembered_at, slots_at}
 use Rattle.server_history.specs.Turns.{ProbesUnready, ServesPort, TicksPort}
 use Rattle.port_driver.specs.declared.served_port.ServedPort.{ServedPort}
@@ -93,7 +93,7 @@ no_port = record {
 
 -- the port was found to be this: the disk that it was last ready with is remembered, and no slot of it is used
 pub record NotesProbeResult (found : ProbeResult) (mode : QueueMode) (old new : ServedPort) : Type 0 where
-  pub unused : AreEmptySlots mode new.slots
+  pub unused : HasNoUsedSlot mode new.slots
   pub fields : new ≡ record old {
     found = found;
     remembered = last_disk_of old.found old.remembered;

@@ -10,7 +10,7 @@ use Rattle.adapter.specs.Device.{Device}
 use Rattle.refinement.specs.Slots.{IsOver}
 use Rattle.block_machine.specs.declared.due.QueueMode.{QueueMode}
 use Rattle.dma_frames.specs.Table.{Table}
-use Rattle.host_boot.specs.Taken.{probe_result_of}
+use Rattle.host_boot.specs.TakeOver.{probe_result_of}
 use Rattle.host_boot.specs.declared.ProbeResult.{ProbeResult}
 use Rattle.commands.specs.Tasks.{IsFitTransfer, IsTransfer}
 use Rattle.commands.specs.declared.ncq.Task.{Task}
@@ -71,7 +71,7 @@ pub record AnswersDoneSlots (port : Port) (done : ℕ) (before after : List Repl
 
 -- The task may be issued in the slot: a transfer has its frames; a trim names 1 to 4,194,240 sectors, each below 2^48
 -- (64 entries of 65,535 in its block); and a trim and a flush aren't queued, and go in slot 0.
-pub record MayIssueIn (task : Task) (frames : List Frame) (slot : ℕ) : Type 0 where
+pub record FitsSlot (task : Task) (frames : List Frame) (slot : ℕ) : Type 0 where
   pub transfer : IsTransfer task.op → IsFitTransfer task frames
   pub trim : task.op ≡ Trim → (1 ≤ task.range.count) × (task.range.count ≤ 4194240)
       × (task.range.first.0 + task.range.count ≤ 2 ^ 48)

@@ -3,9 +3,9 @@
 ghost use Rattle.std.specs.Prelude.{◌≡◌, ◌≢◌, ◌++◌, ◌∷◌, Contains, List, filter};
 ghost use Rattle.ata_types.specs.declared.request.Outcome.TheVariants.{Revoked};
 ghost use Rattle.ata_types.specs.declared.request.Reply.{Reply};
-ghost use Rattle.port_driver.specs.Dispositions.{HasLoanRoom, HaveLoanRoom, MayAnswerAll, holding};
+ghost use Rattle.port_driver.specs.Dispositions.{HasLoanRoom, HaveLoanRoom, MayAnswerAll, book_and_loans};
 ghost use Rattle.dma_frames.specs.Loan.{Lending};
-ghost use Rattle.request_queue.specs.Entries.{BookEntry, IsUnanswered, is_of, waits_under};
+ghost use Rattle.request_queue.specs.Entries.{BookEntry, IsUnanswered, is_of_port, waits_under};
 ghost use Rattle.request_queue.specs.Dispositions.{CompletesAllWith, AreResolved, IsResolved, disposition_of};
 ghost use Rattle.request_queue.specs.declared.disposition.Disposition.TheVariants.{Complete};
 
@@ -34,8 +34,8 @@ impl Shared {
         ensures resolves { (request : BookEntry) → Contains self.old.book request → request.entry.id ≡ id
             → (its : List Reply) × (replies.new.items ≡ replies.old.items ++ its)
             × IsResolved request (disposition_of failed.now revalidation request.entry) its
-            (holding self.old.book self.old.table.value kept.old)
-            (holding self.new.book self.new.table.value kept.new) }
+            (book_and_loans self.old.book self.old.table.value kept.old)
+            (book_and_loans self.new.book self.new.table.value kept.new) }
         ensures others { (e : BookEntry) → Contains self.old.book e → e.entry.id ≢ id → Contains self.new.book e }
         ensures places { (request : BookEntry) (rest : List BookEntry) → Contains self.old.book request
             → request.entry.id ≡ id → HaveLoanRoom (request ∷ rest) kept.old → HaveLoanRoom rest kept.new }
@@ -66,13 +66,13 @@ impl Shared {
     }
 
     /// Answers a request that waits under a grant that is revoked: it is told so, and its frames are given back.
-    fn answer_revoked(&mut self, id: RequestId, replies: &mut Replies)
+    fn cancel_revoked_request(&mut self, id: RequestId, replies: &mut Replies)
         requires may { MayAnswerAll self.old.table.value self.old.book replies.old.items }
         requires here { IsUnanswered id self.old.book }
         ensures resolves { (request : BookEntry) (kept : List Lending) → Contains self.old.book request
             → request.entry.id ≡ id → (its : List Reply) × (replies.new.items ≡ replies.old.items ++ its)
-            × IsResolved request (Complete Revoked) its (holding self.old.book self.old.table.value kept)
-            (holding self.new.book self.new.table.value kept) }
+            × IsResolved request (Complete Revoked) its (book_and_loans self.old.book self.old.table.value kept)
+            (book_and_loans self.new.book self.new.table.value kept) }
         ensures others { (e : BookEntry) → Contains self.old.book e → e.entry.id ≢ id → Contains self.new.book e }
         ensures may { MayAnswerAll self.new.table.value self.new.book replies.new.items }
     {
@@ -93,16 +93,17 @@ impl Shared {
     /// so, and its frames are given back. The replies come after those that there are. A function of its own, since
     /// its caller's frame would have room for their ids else.
     #[inline(never)]
-    pub fn answer_waiting(&mut self, client: ClientId, number: u8, replies: &mut Replies)
+    pub fn cancel_under_grant(&mut self, client: ClientId, number: u8, replies: &mut Replies)
         requires { MayAnswerAll self.old.table.value self.old.book replies.old.items }
         ensures { (kept : List Lending) → (its : List Reply) × (replies.new.items ≡ replies.old.items ++ its)
-            × CompletesAllWith (waits_under client number) Revoked its (holding self.old.book self.old.table.value kept)
-            (holding self.new.book self.new.table.value kept) }
+            × CompletesAllWith (waits_under client number) Revoked its (book_and_loans self.old.book
+            self.old.table.value kept)
+            (book_and_loans self.new.book self.new.table.value kept) }
     {
         law_answers_of_one_outcome_are_one_change();
         let waiting = self.book.waiting_of(client, number);
         for place in 0..waiting.len() {
-            self.answer_revoked(waiting[place], replies);
+            self.cancel_revoked_request(waiting[place], replies);
         }
     }
 
@@ -117,12 +118,12 @@ impl Shared {
         replies: &mut Replies,
     )
         requires may { MayAnswerAll self.old.table.value self.old.book replies.old.items }
-        requires places { HaveLoanRoom (filter (λ (e : BookEntry). is_of port e.entry) self.old.book) kept.old }
+        requires places { HaveLoanRoom (filter (λ (e : BookEntry). is_of_port port e.entry) self.old.book) kept.old }
         ensures resolves { (its : List Reply) × (replies.new.items ≡ replies.old.items ++ its)
             × AreResolved (disposition_of failed.now revalidation)
-            (filter (λ (e : BookEntry). is_of port e.entry) self.old.book) its
-            (holding self.old.book self.old.table.value kept.old)
-            (holding self.new.book self.new.table.value kept.new) }
+            (filter (λ (e : BookEntry). is_of_port port e.entry) self.old.book) its
+            (book_and_loans self.old.book self.old.table.value kept.old)
+            (book_and_loans self.new.book self.new.table.value kept.new) }
         ensures may { MayAnswerAll self.new.table.value self.new.book replies.new.items }
     {
         let ids = self.book.ids_of(port);

@@ -2,7 +2,7 @@
 ghost use Rattle.std.specs.Prelude.{◌≡◌, ◌<◌, ◌≤◌, ◌/◌, ◌%◌, [], ◌∷◌, length};
 ghost use Rattle.block_machine.specs.Due.{IsDue};
 ghost use Rattle.port_driver.specs.Issuing.{IssuesWhatIsDue, MayIssueDue};
-ghost use Rattle.port_driver.specs.Ports.{HasFoundPort, MayIssueIn, with_port_slots};
+ghost use Rattle.port_driver.specs.Ports.{HasFoundPort, FitsSlot, with_port_slots};
 ghost use Rattle.commands.specs.Issuing.{IsIssued, MayIssueTask};
 ghost use Rattle.request_queue.specs.Entries.{BookEntry, asks, asks_of, due_ids};
 ghost use Rattle.server_history.specs.Served.{IssuesTogether};
@@ -17,7 +17,7 @@ use ata_types::{Frame, Op, Port, RequestId, Slot};
 use block_machine::is_plain;
 use block_machine::laws::law_due_in_turn;
 use commands::laws::{law_batch_masks_grow, law_batches_grow};
-use commands::{Task, issue, issue_all, issue_flush, issue_trim, prepare};
+use commands::{Task, issue, issue_all, issue_flush, issue_trim, store_transfer};
 use hba_regs::with_bit;
 use host_boot::ProbeResult;
 use request_queue::laws::{
@@ -33,7 +33,7 @@ fn issue_task<A: Adapter>(adapter: &mut A, port: Port, slot: Slot, task: &Task, 
     requires may { MayIssueTask port slot.0 (A.device adapter.old) }
     requires small { slot.0 < 32 }
     requires usable { slot.0 ≤ (A.device adapter.old).cap / 256 % 32 }
-    requires fits { MayIssueIn task.now frames.now slot.0 }
+    requires fits { FitsSlot task.now frames.now slot.0 }
     ensures issued { IsIssued port slot.0 task.now frames.now (A.device adapter.old) (A.device adapter.new) }
     ensures cost { MakesAtMost ISSUE_ACCESSES (A.access_count adapter.old) (A.access_count adapter.new) }
 {
@@ -142,7 +142,7 @@ impl ServedPort {
             let Some(slot) = self.slots.take(id, true) else {
                 unreachable!()
             };
-            prepare(adapter, port, slot, &task, loan.frames());
+            store_transfer(adapter, port, slot, &task, loan.frames());
             book.issue(id);
             mask = with_bit(mask, u32::from(slot.0));
         }

@@ -117,7 +117,7 @@ impl ServedPort {
 }
 
 /// Puts the replies from that place on in the order of their ids.
-pub(crate) fn order_from(replies: &mut Replies, first: usize)
+pub(crate) fn sort_replies_from(replies: &mut Replies, first: usize)
     requires { first ≤ length replies.old.items }
     ensures { (its : List Reply) × (replies.new.items ≡ take first replies.old.items ++ its)
         × IsPermutation its (drop first replies.old.items) × AllPairs (λ (a b : Reply). a.id.0 ≤ b.id.0) its }

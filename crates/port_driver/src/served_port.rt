@@ -1,9 +1,9 @@
 // A port that a server drives, and what all its ports share.
 ghost use Rattle.std.specs.Prelude.{◌≡◌, ◌≤◌};
 ghost use Rattle.port_driver.specs.Parts.{NotesProbeResult, no_port};
-ghost use Rattle.server_history.specs.ErrorHandling.{AreEmptySlots};
+ghost use Rattle.server_history.specs.ErrorHandling.{HasNoUsedSlot};
 ghost use Rattle.server_history.specs.Server.{last_disk_of, plain_mode};
-ghost use Rattle.server_history.specs.StuckServer.{stuck_found};
+ghost use Rattle.server_history.specs.StuckServer.{found_after_stuck_reset};
 ghost use Rattle.server_history.specs.Turns.{is_ready};
 
 use crate::kept::Quarantine;
@@ -45,7 +45,7 @@ impl ServedPort {
     /// A port that isn't served yet, of which this disk is wanted. No slot of it is used, and no disk remembered.
     pub fn new(wanted: Wanted, kept: Quarantine) -> Self
         ensures fields { result ≡ record no_port { wanted = wanted; slots = result.slots; kept = kept } }
-        ensures unused { AreEmptySlots plain_mode result.slots }
+        ensures unused { HasNoUsedSlot plain_mode result.slots }
     {
         ServedPort {
             wanted,
@@ -92,7 +92,7 @@ impl ServedPort {
     /// Notes that a reset of its adapter got stuck: it is dead, if it is served, its disk is remembered, it takes
     /// plain commands, and no slot of it is used.
     pub fn note_stuck_reset(&mut self)
-        ensures { NotesProbeResult (stuck_found self.old.found) plain_mode self.old self.new }
+        ensures { NotesProbeResult (found_after_stuck_reset self.old.found) plain_mode self.old self.new }
     {
         let found = match self.found {
             ProbeResult::Unserved => ProbeResult::Unserved,

@@ -2,7 +2,7 @@
 ghost use Rattle.std.specs.Prelude.{ℕ, ◌≡◌, ◌⊎◌, ◌<◌, ◌≤◌, ◌+◌, ◌↔◌, IsTrue, List, length, true, false};
 ghost use Rattle.adapter.specs.Counted.{MakesAtMost};
 ghost use Rattle.ata_types.specs.declared.PortState.TheVariants.{Ready};
-ghost use Rattle.port_driver.specs.Costs.{ISSUES_ACCESSES, TURN_ACCESSES, port_error_accesses};
+ghost use Rattle.port_driver.specs.Costs.{ISSUE_DUE_ACCESSES, TURN_ACCESSES, port_error_accesses};
 ghost use Rattle.port_driver.specs.Parts.{IsSettledWith, TakesTurn, TurnInService, TurnInTick, with_served_port};
 ghost use Rattle.port_driver.specs.Recovery.{HandlesPortErrorOf, IsInError};
 ghost use Rattle.hba_regs.specs.Bits.{bit};
@@ -14,7 +14,7 @@ ghost use Rattle.server_history.specs.Turns.{ProbesUnready, ServesPort, is_ready
 
 use crate::answering::answer_done;
 use crate::probing::{needs_probe, probe_anew};
-use crate::recovery::{error_of, order_from, resume_or_reboot, revalidation_of};
+use crate::recovery::{error_of, resume_or_reboot, revalidation_of, sort_replies_from};
 use crate::served_port::{ServedPort, Shared};
 use adapter::Adapter;
 use ata_types::{MOST_UNANSWERED, Port, PortState, Replies};
@@ -46,7 +46,7 @@ impl ServedPort {
             → TakesTurn (AnswersDone port finished) replies.old.items replies.new.items s
             (with_served_port s (A.device adapter.new) shared.new port self.new) }
         ensures room { length replies.new.items + length shared.new.book ≤ MOST_UNANSWERED }
-        ensures cost { MakesAtMost ISSUES_ACCESSES (A.access_count adapter.old) (A.access_count adapter.new) }
+        ensures cost { MakesAtMost ISSUE_DUE_ACCESSES (A.access_count adapter.old) (A.access_count adapter.new) }
     {
         law_a_finished_port_settles();
         answer_done(
@@ -102,7 +102,7 @@ impl ServedPort {
         self.note_probe_result(found, mode);
         let revalidation = revalidation_of(port_error, &was, &found);
         shared.resolve(&mut self.kept, port, &failed, revalidation, replies);
-        order_from(replies, first);
+        sort_replies_from(replies, first);
         self.issue_where_ready(adapter, &mut shared.book, port);
     }
 

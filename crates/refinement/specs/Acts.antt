@@ -9,7 +9,7 @@ use Rattle.adapter.specs.Access.Access.{Writing}
 use Rattle.adapter.specs.Device.{Device}
 use Rattle.block_machine.specs.Events.{AllByDevice, IsByDevice}
 use Rattle.block_machine.specs.Histories.{IsReachable}
-use Rattle.block_machine.specs.Left.{after}
+use Rattle.block_machine.specs.Expected.{after}
 use Rattle.block_machine.specs.State.{Machine}
 use Rattle.block_machine.specs.Steps.{Step, Issue}
 use Rattle.refinement.specs.Driver.{DriverState, DriverRelation, DriverAdvances}

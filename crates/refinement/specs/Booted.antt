@@ -8,7 +8,7 @@ use Rattle.adapter.specs.FirstRead.{first_read_device, empty_port, reading_port}
 use Rattle.adapter.specs.Memory.{changed}
 use Rattle.adapter.specs.Rules.{MayStart, MayWrite, IsStable}
 use Rattle.refinement.specs.Relation.{port_at}
-use Rattle.refinement.specs.Facts.{RunsWell}
+use Rattle.refinement.specs.PortFacts.{RunsWell}
 
 -- Port 0 receives FISes and has a disk in, without a link as yet; an adapter with such a port.
 abbrev pub waking_port : DevicePort
@@ -22,16 +22,16 @@ waking_port = record reading_port {
   fresh = false;
 }
 
-abbrev pub waking : Device
-waking = record first_read_device { port = changed (λ _. empty_port) 0 waking_port }
+abbrev pub waking_device : Device
+waking_device = record first_read_device { port = changed (λ _. empty_port) 0 waking_port }
 
 -- There such accesses may give these values: COMRESET is sent and ended, PxSSTS is read with a device, PxSERR and PxIS
 -- are cleared, PxTFD is read idle, so that ST may be set, and is, and PxIS is read with no cause. Each write is
 -- permitted when it is made, whatever the device does first. The port runs well then.
 pub record BootWitness : Type 0 where
   pub sent : Device
-  pub may_send : IsStable (MayWrite (Px (port_at 0) Sctl) 1) waking
-  pub sends : Writes (Px (port_at 0) Sctl) 1 waking sent
+  pub may_send : IsStable (MayWrite (Px (port_at 0) Sctl) 1) waking_device
+  pub sends : Writes (Px (port_at 0) Sctl) 1 waking_device sent
   pub released : Device
   pub may_release : IsStable (MayWrite (Px (port_at 0) Sctl) 0) sent
   pub releases : Writes (Px (port_at 0) Sctl) 0 sent released

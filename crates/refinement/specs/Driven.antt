@@ -119,8 +119,8 @@ IsSimulatedAlong Tells May Fits old new = IsSimulatedAlongTo Tells May Fits (λ 
 -- ---- what they leave
 
 -- the tape has only gained
-abbrev pub Grows : Device → Device → Type 0
-Grows old new = (gained : List Entry) × (new.tape ≡ old.tape ++ gained)
+abbrev pub TapeGrows : Device → Device → Type 0
+TapeGrows old new = (gained : List Entry) × (new.tape ≡ old.tape ++ gained)
 
 -- no slot of the port has a command, neither issued nor taken
 abbrev pub HasNoCommand : DevicePort → Type 0

@@ -16,10 +16,10 @@ use Rattle.block_machine.specs.State.{Pending, Machine}
 use Rattle.block_machine.specs.declared.due.QueueMode.{QueueMode}
 use Rattle.block_machine.specs.Due.{is_plain}
 use Rattle.block_machine.specs.Steps.{Step, Issue, May}
-use Rattle.block_machine.specs.Left.{after, AllStepsFaithful}
+use Rattle.block_machine.specs.Expected.{after, AllStepsFaithful}
 use Rattle.block_machine.specs.Events.{AllMay, AllByDevice}
 use Rattle.refinement.specs.Places.{list_of, received_of, table_of, scratch_of, IsTableByte, IsScratch}
-use Rattle.refinement.specs.Slots.{Free, Armed, Own, Serves, SlotStates, put, SlotDecodesTo, Means, HasTrimBlock, IsPlaced, op_of}
+use Rattle.refinement.specs.Slots.{Free, Armed, Own, Serves, SlotStates, put, SlotDecodesTo, MeansRequest, HasTrimBlock, HasListInPlace, op_of}
 use Rattle.refinement.specs.Relation.{StateRelation, HaveSlots}
 use Rattle.refinement.specs.Tape.{TellsDeviceSteps, PutsInDisks}
 
@@ -139,11 +139,11 @@ pub record IsPrepared (uses : SlotStates) (m : Machine) (d : Device) (port slot 
   pub usable : slot < mode.usable
   pub head : is_plain mode e.request.asked.op ≡ true → slot ≡ 0
   pub started : (d.port port).st ≡ true
-  pub placed : IsPlaced (d.port port) port slot
+  pub placed : HasListInPlace (d.port port) port slot
   pub command : Meaning
   pub places : List ℕ
   pub told : SlotDecodesTo d.memory (d.port port).bases.clb port slot command places
-  pub means : Means port slot e.request command places
+  pub means : MeansRequest port slot e.request command places
   pub kind : is_queued command.operation ≡ not (is_plain mode e.request.asked.op)
   pub block : HasTrimBlock e.request.asked.op d.memory port e.request
   pub here : bit v slot ≡ true
@@ -154,7 +154,7 @@ pub record IsOwnPrepared (uses : SlotStates) (d : Device) (port : ℕ) (o : Oper
   pub own : op_of o ≡ None
   pub free : uses port 0 ≡ Free
   pub started : (d.port port).st ≡ true
-  pub placed : IsPlaced (d.port port) port 0
+  pub placed : HasListInPlace (d.port port) port 0
   pub command : Meaning
   pub operation_is : command.operation ≡ o
   pub told : SlotDecodesTo d.memory (d.port port).bases.clb port 0 command (scratch_of port ∷ [])

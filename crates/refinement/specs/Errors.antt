@@ -3,7 +3,7 @@ use Rattle.std.specs.Prelude.{ℕ, true, false, ◌≡◌, ◌≤◌, ◌++◌, 
 use Rattle.adapter.specs.Device.{DevicePort, Device}
 use Rattle.adapter.specs.declared.tape.Entry.{Entry}
 use Rattle.adapter.specs.declared.tape.Entry.TheVariants as entry
-use Rattle.refinement.specs.Facts.{IsQuiescentPort, IsFaultOf}
+use Rattle.refinement.specs.PortFacts.{IsQuiescentPort, IsFaultOf}
 use Rattle.refinement.specs.Links.{NoPlugEvents}
 
 -- each bit of PxIS that is set stays so, and so do N and X of PxSERR

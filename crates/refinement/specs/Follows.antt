@@ -5,7 +5,7 @@ use Rattle.adapter.specs.Device.{Device}
 use Rattle.adapter.specs.declared.tape.Entry.{Entry}
 use Rattle.block_machine.specs.State.{Machine}
 use Rattle.block_machine.specs.Steps.{Step}
-use Rattle.block_machine.specs.Left.{after, AllStepsFaithful}
+use Rattle.block_machine.specs.Expected.{after, AllStepsFaithful}
 use Rattle.block_machine.specs.Events.{AllMay}
 use Rattle.refinement.specs.Slots.{SlotStates}
 use Rattle.refinement.specs.Relation.{StateRelation}

@@ -11,26 +11,26 @@ use Rattle.refinement.specs.Driver.{DriverState}
 use Rattle.refinement.specs.Slots.{SlotState, Free, Armed, Own, Serves, SlotStates, IsOver}
 
 -- the request that a slot serves, if any, before these
-abbrev pub with_served : SlotState → List RequestId → List RequestId
-with_served Free ids = ids
-with_served Armed ids = ids
-with_served (Own o) ids = ids
-with_served (Serves id) ids = id ∷ ids
+abbrev pub with_request_of_slot : SlotState → List RequestId → List RequestId
+with_request_of_slot Free ids = ids
+with_request_of_slot Armed ids = ids
+with_request_of_slot (Own o) ids = ids
+with_request_of_slot (Serves id) ids = id ∷ ids
 
 -- the requests that slots of the port below n serve
-abbrev pub served_ids : SlotStates → ℕ → ℕ → List RequestId
-served_ids uses port zero = []
-served_ids uses port (suc n) = with_served (uses port n) (served_ids uses port n)
+abbrev pub ids_in_slots : SlotStates → ℕ → ℕ → List RequestId
+ids_in_slots uses port zero = []
+ids_in_slots uses port (suc n) = with_request_of_slot (uses port n) (ids_in_slots uses port n)
 
 -- Each slot of the port is over, and none is armed while ST is one.
 abbrev pub AreSlotsOver : SlotStates → DevicePort → ℕ → Type 0
 AreSlotsOver uses p port = (slot : ℕ) → IsOver p slot × (uses port slot ≡ Armed → p.st ≡ false)
 
 -- every slot of the port was given up, and the requests that they served aren't decided yet
-abbrev pub parking_all : DriverState → ℕ → DriverState
-parking_all k port = record k {
+abbrev pub with_all_parked : DriverState → ℕ → DriverState
+with_all_parked k port = record k {
   uses = changed k.uses port (λ slot. Free);
-  parked = changed k.parked port (served_ids k.uses port 32 ++ k.parked port);
+  parked = changed k.parked port (ids_in_slots k.uses port 32 ++ k.parked port);
 }
 
 -- what is in the slots then, and parked
@@ -38,7 +38,7 @@ abbrev pub given_up : ℕ → DriverSlots → DriverSlots
 given_up port s = record {
   uses = changed s.uses port (λ slot. Free);
   parked = changed s.parked port
-      (served_ids s.uses port 32 ++ s.parked port);
+      (ids_in_slots s.uses port 32 ++ s.parked port);
 }
 
 -- a request of the port that the device may move, and hasn't ended

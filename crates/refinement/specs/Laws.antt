@@ -11,10 +11,10 @@ use Rattle.adapter.specs.Rules.{MayWrite, IsStable}
 use Rattle.adapter.specs.declared.command.Operation.{Operation}
 use Rattle.adapter.specs.declared.tape.Entry.{Entry}
 use Rattle.refinement.specs.Acts.{ByDeviceAlone, Performs}
-use Rattle.refinement.specs.Driven.{Grows, IsRelated, IsSimulated, IsSimulatedTo, IsSimulatedAlong, IsSimulatedAlongTo, NoneWrites, GainsNoMove}
+use Rattle.refinement.specs.Driven.{TapeGrows, IsRelated, IsSimulated, IsSimulatedTo, IsSimulatedAlong, IsSimulatedAlongTo, NoneWrites, GainsNoMove}
 use Rattle.refinement.specs.Driver.{AllFree, IsOwnPrepared, LeavesUses, MayStore}
 use Rattle.refinement.specs.Errors.{ChangesByDisks, NoDiskComes, NoneFails, NoneFatal}
-use Rattle.refinement.specs.Facts.{IsEngineStopped, Undisturbed}
+use Rattle.refinement.specs.PortFacts.{IsEngineStopped, Undisturbed}
 use Rattle.refinement.specs.GivingUp.{given_up}
 use Rattle.refinement.specs.Links.{NoPlugEvents}
 use Rattle.refinement.specs.Links.{DoesNotWrite}
@@ -83,9 +83,9 @@ pub record FragmentLaws (Kind : Type 0) (may : Kind → Access → Type 0)
 -- what the tape tells of a part of a call, and of the whole
 pub record TapeLaws : Type 0 where
   -- it only gains
-  pub grows_none : (d : Device) → Grows d d
-  pub grows_more : (old mid new : Device) → Grows old mid → Grows mid new → Grows old new
-  pub access_grows : (access : Access) (old new : Device) → Does access old new → Grows old new
+  pub grows_none : (d : Device) → TapeGrows d d
+  pub grows_more : (old mid new : Device) → TapeGrows old mid → TapeGrows mid new → TapeGrows old new
+  pub access_grows : (access : Access) (old new : Device) → Does access old new → TapeGrows old new
   -- parts of it, and the whole: of disks that come, or that come and go, of fatal errors, of faults, and of all these
   pub comes_parts : (port : ℕ) (old mid new : Device) (early late : List Entry) → mid.tape ≡ old.tape ++ early
       → new.tape ≡ mid.tape ++ late → NoDiskComes port old new → NoDiskComes port old mid × NoDiskComes port mid new
@@ -109,7 +109,8 @@ pub record TapeLaws : Type 0 where
       → new.tape ≡ mid.tape ++ late → Undisturbed port old new → Undisturbed port old mid × Undisturbed port mid new
   -- bits of PxSERR that rise for disks alone
   pub change_none : (port : ℕ) (d : Device) → ChangesByDisks port d d
-  pub change_more : (port : ℕ) (old mid new : Device) → Grows old mid → Grows mid new → ChangesByDisks port old mid
+  pub change_more : (port : ℕ) (old mid new : Device) → TapeGrows old mid → TapeGrows mid new
+      → ChangesByDisks port old mid
       → ChangesByDisks port mid new → ChangesByDisks port old new
   pub access_change : (port : Port) (access : Access) (old new : Device) → old.hr ≡ false
       → (old.port port.0).link_due ≡ false → Does access old new → ChangesByDisks port.0 old new

@@ -6,13 +6,13 @@ pub mod Tape
 pub mod Follows
 pub mod Driver
 pub mod Witness
-pub mod Facts
+pub mod PortFacts
 pub mod Spares
 pub mod Links
 pub mod Errors
 pub mod Noted
 pub mod Started
-pub mod Served
+pub mod TwoReads
 pub mod Trimmed
 pub mod Awaits
 pub mod Below

@@ -13,7 +13,7 @@ use Rattle.block_machine.specs.Histories.{IsReachable}
 use Rattle.block_machine.specs.State.{Machine}
 use Rattle.refinement.specs.Relation.{port_at}
 use Rattle.refinement.specs.Driver.{DriverRelation, IsOwnPrepared, idle}
-use Rattle.refinement.specs.Facts.{RunsWell}
+use Rattle.refinement.specs.PortFacts.{RunsWell}
 use Rattle.refinement.specs.Slots.{Free, Own, SlotStates, put}
 use Rattle.refinement.specs.Witness.{page_bytes, ready_port, ready_with}
 use Rattle.refinement.specs.Recovering.{RunsLinked, EndsHalt, FaultLeavesIssued}
@@ -30,8 +30,8 @@ log_memory = patched (patched first_memory 0x1000 log_bytes) 0x1080 page_bytes
 abbrev pub log_port : DevicePort
 log_port = record ready_port { halt = LogOnly }
 
-abbrev pub logging : Device
-logging = record (ready_with log_memory) { port = changed (ready_with log_memory).port 0 log_port }
+abbrev pub log_device : Device
+log_device = record (ready_with log_memory) { port = changed (ready_with log_memory).port 0 log_port }
 
 abbrev pub log_uses : SlotStates
 log_uses = put (λ port slot. Free) 0 0 (Own ReadLog)
@@ -41,13 +41,13 @@ log_uses = put (λ port slot. Free) 0 0 (Own ReadLog)
 pub record LogIsEnded : Type 0 where
   pub machine : Machine
   pub reached : IsReachable machine
-  pub knows : DriverRelation machine (idle logging)
-  pub halted : (logging.port 0).halt ≡ LogOnly
-  pub runs : RunsLinked (logging.port 0)
-  pub prepared : IsOwnPrepared (idle logging).uses logging 0 ReadLog 1
-  pub permitted : IsStable (MayWrite (Px (port_at 0) Ci) 1) logging
+  pub knows : DriverRelation machine (idle log_device)
+  pub halted : (log_device.port 0).halt ≡ LogOnly
+  pub runs : RunsLinked (log_device.port 0)
+  pub prepared : IsOwnPrepared (idle log_device).uses log_device 0 ReadLog 1
+  pub permitted : IsStable (MayWrite (Px (port_at 0) Ci) 1) log_device
   pub issued : Device
-  pub writes : Writes (Px (port_at 0) Ci) 1 logging issued
+  pub writes : Writes (Px (port_at 0) Ci) 1 log_device issued
   pub ends : EndsHalt log_uses 0 issued
   pub opens : FaultLeavesIssued log_uses 0 issued
   pub over : Device

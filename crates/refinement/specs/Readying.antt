@@ -9,13 +9,13 @@ use Rattle.adapter.specs.Commands.{Meaning, is_queued}
 use Rattle.adapter.specs.Device.{Device}
 use Rattle.refinement.specs.Driver.{MissesTable}
 use Rattle.refinement.specs.Links.{DoesNotWrite}
-use Rattle.refinement.specs.Slots.{Free, Armed, SlotStates, IsPlaced, SlotDecodesTo}
+use Rattle.refinement.specs.Slots.{Free, Armed, SlotStates, HasListInPlace, SlotDecodesTo}
 use Rattle.refinement.specs.Started.{ClearsNoStart}
 
 -- The port runs, and the slot's bytes say this command.
 pub record IsStored (d : Device) (port slot : ℕ) (c : Meaning) (places : List ℕ) : Type 0 where
   pub started : (d.port port).st ≡ true
-  pub placed : IsPlaced (d.port port) port slot
+  pub placed : HasListInPlace (d.port port) port slot
   pub told : SlotDecodesTo d.memory (d.port port).bases.clb port slot c places
 
 -- So it is, and the slot is armed if the command is queued, and else free.

@@ -11,7 +11,7 @@ use Rattle.adapter.specs.Steps.{Steps}
 use Rattle.adapter.specs.declared.tape.Entry.TheVariants as entry
 use Rattle.adapter.specs.declared.tape.Fault as tape_fault
 use Rattle.refinement.specs.Relation.{port_at}
-use Rattle.refinement.specs.Facts.{IsEngineStopped, RunsWell}
+use Rattle.refinement.specs.PortFacts.{IsEngineStopped, RunsWell}
 use Rattle.refinement.specs.Recovering.{IsLinked, WorksPlainly}
 
 -- The first read may fail. Then such accesses may give these values: PxCMD is written with ST 0, and CR may fall;

@@ -4,7 +4,7 @@ use Rattle.adapter.specs.Commands.{is_queued}
 use Rattle.adapter.specs.Device.{FetchedCommand, DevicePort, Device}
 use Rattle.adapter.specs.Device.Halt.{NotHalted}
 use Rattle.adapter.specs.Steps.{halt_after_start}
-use Rattle.refinement.specs.Facts.{IsFaulted}
+use Rattle.refinement.specs.PortFacts.{IsFaulted}
 use Rattle.refinement.specs.Slots.{SlotStates, Free}
 
 -- The link is up: a disk is in, its first FIS has come, no other link is due, and COMRESET isn't being sent. A fault

@@ -8,7 +8,7 @@ use Rattle.adapter.specs.Device.{Disk, DevicePort, Device}
 use Rattle.adapter.specs.Steps.{WereHeld}
 use Rattle.adapter.specs.declared.tape.Entry.{Entry}
 use Rattle.block_machine.specs.State.{Pending, Machine}
-use Rattle.block_machine.specs.Steps.{MayStillMove, HasHeld}
+use Rattle.block_machine.specs.Steps.{MayStillMove, HoldsOrHeldSinceFlush}
 use Rattle.refinement.specs.Places.{received_of}
 use Rattle.refinement.specs.Slots.{Serves, SlotStates, RelatesSlot}
 
@@ -36,7 +36,7 @@ pub record SameSectors (m : Machine) (disk : Disk) (port : ℕ) : Type 0 where
 -- what a sector of the port's disk may come back with, the machine's disk holds there or has held
 abbrev pub HasLasting : Machine → List Entry → DevicePort → ℕ → Type 0
 HasLasting m tape p port = (k : ℕ) → k < p.disk.size → (bytes : List ℕ) → WereHeld tape p.lasting port k bytes
-    → HasHeld m (port_at port) k (slice_index bytes)
+    → HoldsOrHeldSinceFlush m (port_at port) k (slice_index bytes)
 
 -- each client frame holds what the machine's does
 abbrev pub SameMemory : Machine → (ℕ → ℕ) → Type 0

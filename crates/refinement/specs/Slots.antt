@@ -71,7 +71,7 @@ ArePlaces Trim port r places = places ≡ scratch_of port ∷ []
 ArePlaces Flush port r places = places ≡ []
 
 -- The command is the request's. Only slot 0 has a block in the scratch frame.
-pub record Means (port slot : ℕ) (r : Accepted) (c : Meaning) (places : List ℕ) : Type 0 where
+pub record MeansRequest (port slot : ℕ) (r : Accepted) (c : Meaning) (places : List ℕ) : Type 0 where
   pub op : op_of c.operation ≡ Some r.asked.op
   pub first : is_ranged c.operation ≡ true → c.first ≡ r.asked.first.0
   pub places_are : ArePlaces r.asked.op port r places
@@ -85,7 +85,7 @@ pub record SlotDecodesTo (memory : ℕ → ℕ) (list port slot : ℕ) (c : Mean
   pub few : length says.prds ≤ MOST_REQUEST_FRAMES
 
 -- the port's command list is where it belongs
-pub record IsPlaced (p : DevicePort) (port slot : ℕ) : Type 0 where
+pub record HasListInPlace (p : DevicePort) (port slot : ℕ) : Type 0 where
   pub port_below : port < 4
   pub slot_below : slot < 32
   pub list : p.bases.clb ≡ list_of port
@@ -165,11 +165,11 @@ pub record ServesRequest (m : Machine) (memory : ℕ → ℕ) (p : DevicePort) (
   pub moves : MayStillMove m pending
   pub id_is : pending.request.id ≡ id
   pub port_is : pending.request.port.0 ≡ port
-  pub placed : IsPlaced p port slot
+  pub placed : HasListInPlace p port slot
   pub command : Meaning
   pub places : List ℕ
   pub told : SlotDecodesTo memory p.bases.clb port slot command places
-  pub means : Means port slot pending.request command places
+  pub means : MeansRequest port slot pending.request command places
   pub stage : Stage memory p port slot pending command places
 
 -- ---- the driver's own commands
@@ -186,15 +186,16 @@ IsMove port o _ = ⊥
 
 -- The page that the port's last command of this operation brought stands in the scratch frame, and it came when the
 -- tape was at least so long.
-pub record Brought (memory : ℕ → ℕ) (tape : List Entry) (port : ℕ) (o : Operation) (since : ℕ) : Type 0 where
-  pub before : List Entry
-  pub after : since ≤ length before
-  pub move : tape_move.Move
-  pub later : List Entry
-  pub here : tape ≡ before ++ entry.Move move ∷ later
-  pub is_move : IsMove port o (entry.Move move)
-  pub last : All (λ e. IsMove port o e → ⊥) later
-  pub bytes : bytes_at memory (scratch_of port) 512 ≡ move.bytes.value
+pub record PageStandsInScratch (memory : ℕ → ℕ) (tape : List Entry) (port : ℕ) (o : Operation) (since : ℕ) : Type 0
+  where
+    pub before : List Entry
+    pub after : since ≤ length before
+    pub move : tape_move.Move
+    pub later : List Entry
+    pub here : tape ≡ before ++ entry.Move move ∷ later
+    pub is_move : IsMove port o (entry.Move move)
+    pub last : All (λ e. IsMove port o e → ⊥) later
+    pub bytes : bytes_at memory (scratch_of port) 512 ≡ move.bytes.value
 
 -- issued, and not taken yet
 pub record OwnWaits (p : DevicePort) (slot : ℕ) : Type 0 where
@@ -210,12 +211,13 @@ pub record OwnTaken (memory : ℕ → ℕ) (tape : List Entry) (p : DevicePort) 
   pub places_are : command.places ≡ scratch_of port ∷ []
   pub running : p.cr ≡ true
   pub issued : p.ci slot ≡ p.st
-  pub brought : (command.moved ≡ 0) ⊎ ((command.moved ≡ 1) × Brought memory tape port c.operation p.notes.st_set_at)
+  pub brought : (command.moved ≡ 0) ⊎ ((command.moved ≡ 1) × PageStandsInScratch memory tape port c.operation
+      p.notes.st_set_at)
 
 -- over: on a running port the device has brought its page since ST was set
 pub record OwnOver (memory : ℕ → ℕ) (tape : List Entry) (p : DevicePort) (port slot : ℕ) (c : Meaning) : Type 0 where
   pub over : IsOver p slot
-  pub brought : (p.st ≡ false) ⊎ Brought memory tape port c.operation p.notes.st_set_at
+  pub brought : (p.st ≡ false) ⊎ PageStandsInScratch memory tape port c.operation p.notes.st_set_at
 
 -- The slot has a command of the driver's own, which is plain and has its page in the scratch frame. Only slot 0 has
 -- one.
@@ -223,7 +225,7 @@ pub record ServesOwn (memory : ℕ → ℕ) (tape : List Entry) (p : DevicePort)
     (o : Operation) : Type 0 where
   pub own : op_of o ≡ None
   pub head : slot ≡ 0
-  pub placed : IsPlaced p port slot
+  pub placed : HasListInPlace p port slot
   pub command : Meaning
   pub operation_is : command.operation ≡ o
   pub told : SlotDecodesTo memory p.bases.clb port slot command (scratch_of port ∷ [])

@@ -11,7 +11,7 @@ use Rattle.adapter.specs.declared.tape.Entry.{Entry}
 use Rattle.adapter.specs.declared.tape.Entry.TheVariants as entry
 use Rattle.block_machine.specs.State.{DiskBytes, Pending, Machine, frame_at, sector_of}
 use Rattle.block_machine.specs.Steps.{Step, Touch, End, Unplug, Replace, MayStillMove, touch}
-use Rattle.block_machine.specs.Left.{after}
+use Rattle.block_machine.specs.Expected.{after}
 use Rattle.block_machine.specs.Events.{IsByDevice}
 use Rattle.refinement.specs.Places.{scratch_of, place_in}
 use Rattle.refinement.specs.Slots.{op_of}

@@ -18,7 +18,7 @@ use Rattle.block_machine.specs.Steps.{MayStillMove}
 use Rattle.refinement.specs.Relation.{port_at}
 use Rattle.refinement.specs.Driver.{DriverState, DriverRelation}
 use Rattle.refinement.specs.Places.{scratch_of}
-use Rattle.refinement.specs.Witness.{first_id, first_uses, page_bytes, ready_with, DoneIsKnown}
+use Rattle.refinement.specs.Witness.{first_id, first_uses, page_bytes, ready_with, DoneReadAgrees}
 
 -- DATA SET MANAGEMENT with TRIM, and its FIS: one block
 abbrev pub trim : Meaning
@@ -53,7 +53,7 @@ trim_known = record { uses = first_uses; parked = λ port. []; device = issued_t
 
 -- A machine is reached that has issued request 1, a trim. The write of PxCI is permitted; the machine agrees with the
 -- driver when the command is issued and when it is taken; and the device may do it to its end.
-pub record TrimIsKnown : Type 0 where
+pub record TrimAgrees : Type 0 where
   pub machine : Machine
   pub reached : IsReachable machine
   pub request : Pending
@@ -65,4 +65,4 @@ pub record TrimIsKnown : Type 0 where
   pub takes : Steps issued_trim taken_trim
   pub taken : (taken_trim.port 0).taken 0 ≡ Some (begun trim (scratch_of 0 ∷ []))
   pub knows : DriverRelation machine (record trim_known { device = taken_trim })
-  pub done : DoneIsKnown trim_known first_id
+  pub done : DoneReadAgrees trim_known first_id

@@ -18,7 +18,7 @@ use Rattle.block_machine.specs.State.{Pending, Machine}
 use Rattle.block_machine.specs.Steps.{Again, May, MayStillMove}
 use Rattle.refinement.specs.Relation.{port_at}
 use Rattle.refinement.specs.Driver.{DriverState, DriverRelation, IsPrepared, IsOwnPrepared, HasNoSlot, idle, parking}
-use Rattle.refinement.specs.Facts.{IsEngineStopped, FindsOwnPage}
+use Rattle.refinement.specs.PortFacts.{IsEngineStopped, FindsOwnPage}
 use Rattle.refinement.specs.Places.{scratch_of}
 use Rattle.refinement.specs.Slots.{Free, Own, Serves, SlotStates, put, IsEnded}
 
@@ -96,7 +96,7 @@ pub record ParkedReadWitness : Type 0 where
 -- A machine is reached that answered request 1 PortDead: its frames are kept. It agrees with the driver of the first
 -- read, whose slot serves the request still, and with the one who has taken it from there; so no slot serves a kept
 -- request then.
-pub record KeptIsKnown : Type 0 where
+pub record KeptReadAgrees : Type 0 where
   pub machine : Machine
   pub reached : IsReachable machine
   pub request : Pending
@@ -110,7 +110,7 @@ pub record KeptIsKnown : Type 0 where
 
 -- The device may go on to where the command in slot 0 of port 0 has ended. A machine is reached that agrees with the
 -- driver then: the slot serves this request still, which has ended and is unanswered.
-pub record DoneIsKnown (k : DriverState) (id : RequestId) : Type 0 where
+pub record DoneReadAgrees (k : DriverState) (id : RequestId) : Type 0 where
   pub device : Device
   pub steps : Steps k.device device
   pub machine : Machine
@@ -123,8 +123,8 @@ pub record DoneIsKnown (k : DriverState) (id : RequestId) : Type 0 where
   pub booked : Contains machine.book request
 
 -- so it is of the first read
-abbrev pub EndedIsKnown : Type 0
-EndedIsKnown = DoneIsKnown first_known first_id
+abbrev pub EndedReadAgrees : Type 0
+EndedReadAgrees = DoneReadAgrees first_known first_id
 
 -- ---- a command of the driver's own
 
@@ -153,7 +153,7 @@ own_known = record { uses = put (λ port slot. Free) 0 0 (Own Identify); parked 
 
 -- A machine is reached that agrees with the driver while IDENTIFY DEVICE is prepared, and once it is issued; and PxCI
 -- may be read 0 after that, with the page in the scratch frame.
-pub record OwnIsKnown : Type 0 where
+pub record OwnCommandAgrees : Type 0 where
   pub machine : Machine
   pub reached : IsReachable machine
   pub before : DriverRelation machine (idle prepared_identify)

@@ -7,7 +7,7 @@ ghost use Rattle.adapter.specs.Access.{Access, Does, DoesAll};
 ghost use Rattle.adapter.specs.declared.command.Operation.{Operation};
 ghost use Rattle.block_machine.specs.Events.{AllByDevice, IsByDevice};
 ghost use Rattle.block_machine.specs.Histories.{IsReachable, IsSimulatedBySteps};
-ghost use Rattle.block_machine.specs.Left.{after};
+ghost use Rattle.block_machine.specs.Expected.{after};
 ghost use Rattle.block_machine.specs.State.{Machine};
 ghost use Rattle.block_machine.specs.Steps.{Step, May, after_step};
 ghost use Rattle.refinement.specs.Acts.{Act, IsActDone, AreActsDone, IsOneDecision, accesses_of, act_steps};
@@ -17,12 +17,12 @@ ghost use Rattle.refinement.specs.Links.{DoesNotWrite};
 ghost use Rattle.refinement.specs.Recovering.{WorksPlainly};
 ghost use Rattle.refinement.specs.Slots.{Own, op_of};
 
-use super::lawful::law_below;
+use super::prerequisites::law_prerequisites;
 
 /// What is one act: an access that the machine follows by the device's steps, or that ends with what the driver
 /// decides; and, without an access, a step of the driver's own, or none where it knows of the same device something
 /// else.
-pub fn law_acts_are_done()
+pub fn law_accesses_and_decisions_are_acts()
     ensures access { (k later : DriverState) (m : Machine) (access : Access)
         → IsSimulatedBySteps DriverRelation k later (ByDevice k.device later.device) → IsReachable m
         → DriverRelation m k
@@ -66,5 +66,5 @@ pub fn law_acts_advance_driver()
         → All (DoesNotWrite (Px port Sact)) (accesses_of acts) → AreActsDone acts k m later
         → WorksPlainly (k.device.port port.0) → WorksPlainly (later.device.port port.0) }
 {
-    law_below();
+    law_prerequisites();
 }

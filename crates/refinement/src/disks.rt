@@ -11,9 +11,9 @@ ghost use Rattle.adapter.specs.Idle.{IsIdle};
 ghost use Rattle.adapter.specs.Steps.{Steps};
 ghost use Rattle.refinement.specs.Errors.{NoDiskComes, NoneFails};
 ghost use Rattle.refinement.specs.Links.{NoPlugEvents, ShowsDiskIfIn};
-ghost use Rattle.refinement.specs.Vacant.{IsVacant, IsFreshIfShown};
+ghost use Rattle.refinement.specs.Vacant.{IsVacant, HasFirstFisIfShown};
 
-use super::lawful::law_below;
+use super::prerequisites::law_prerequisites;
 
 /// Where the tape tells of no disk of the port that comes: a port with no disk in has none in then, and one that shows
 /// none, none then; and where a device shows, its first FIS has come, if it had where one showed before. Whatever else
@@ -29,32 +29,32 @@ pub fn law_no_disk_comes_in()
     ensures vacant_access { (port : Port) (access : Access) (old new : Device) → NoDiskComes port.0 old new
         → Does access old new → IsVacant (old.port port.0) → IsVacant (new.port port.0) }
     ensures fresh_steps { (port : ℕ) (old new : Device) → NoDiskComes port old new → Steps old new
-        → IsFreshIfShown (old.port port) → IsFreshIfShown (new.port port) }
+        → HasFirstFisIfShown (old.port port) → HasFirstFisIfShown (new.port port) }
     ensures fresh_access { (port : Port) (access : Access) (old new : Device) → NoDiskComes port.0 old new
-        → Does access old new → IsFreshIfShown (old.port port.0) → IsFreshIfShown (new.port port.0) }
+        → Does access old new → HasFirstFisIfShown (old.port port.0) → HasFirstFisIfShown (new.port port.0) }
     ensures vacant_reset { (v : ℕ) (old new : Device) → old.hr ≡ true → Reads Ghc v old new → bit v 0 ≡ false
         → (port : ℕ) → NoDiskComes port old new → (old.port port).present ≡ false → IsVacant (new.port port) }
     ensures fresh_reset { (v : ℕ) (old new : Device) → old.hr ≡ true → Reads Ghc v old new → bit v 0 ≡ false
-        → (port : ℕ) → NoDiskComes port old new → IsFreshIfShown (new.port port) }
+        → (port : ℕ) → NoDiskComes port old new → HasFirstFisIfShown (new.port port) }
     ensures fresh_comreset { (port : Port) (v : ℕ) (old new : Device) → v % 16 ≡ 1 → Writes (Px port Sctl) v old new
-        → IsFreshIfShown (new.port port.0) }
+        → HasFirstFisIfShown (new.port port.0) }
     ensures shown { (port : Port) (v : ℕ) (old new : Device) → Reads (Px port Ssts) v old new → v % 16 ≡ 3
         → ShowsDiskIfIn (new.port port.0) }
 {
-    law_below();
+    law_prerequisites();
 }
 
 /// Once HR is read 0 after a reset, the adapter is idle.
 pub fn law_reset_is_idle()
     ensures { (v : ℕ) (old new : Device) → old.hr ≡ true → Reads Ghc v old new → bit v 0 ≡ false → IsIdle new }
 {
-    law_below();
+    law_prerequisites();
 }
 
 /// What a reading of PxIS or PxSSTS tells of a port with no link due. Each bit of 27 to 30 that is set shows, PRCS
 /// shows N and PCS X. Where PxIS shows PRCS or PCS, or PxSSTS no device, N or X was set or no device showed before, or
 /// a disk has gone or come. And where it shows TFES, it was set before, or the tape tells of a fault.
-pub fn law_look_tells()
+pub fn law_looks_tell_trouble()
     ensures causes { (port : Port) (v place : ℕ) (old new : Device) → old.hr ≡ false → Reads (Px port Is) v old new
         → 27 ≤ place → place ≤ 30 → (old.port port.0).is place ≡ true → bit v place ≡ true }
     ensures errors { (port : Port) (v : ℕ) (old new : Device) → old.hr ≡ false → Reads (Px port Is) v old new
@@ -68,5 +68,5 @@ pub fn law_look_tells()
     ensures fault { (port : Port) (v : ℕ) (old new : Device) → old.hr ≡ false → Reads (Px port Is) v old new
         → bit v 30 ≡ true → ((old.port port.0).is 30 ≡ true) ⊎ (NoneFails port.0 old new → ⊥) }
 {
-    law_below();
+    law_prerequisites();
 }

@@ -13,17 +13,17 @@ ghost use Rattle.adapter.specs.Rules.{IsOn, MayWrite, IsStable};
 ghost use Rattle.adapter.specs.Steps.{Steps};
 ghost use Rattle.adapter.specs.declared.command.Operation.{Operation};
 ghost use Rattle.adapter.specs.declared.tape.Entry.{Entry};
-ghost use Rattle.refinement.specs.Driven.{AnyAccess, Grows, AnyUse, SameUses, IsRelated, IsDrivenBy, OnPortWriting, IsSimulated, IsSimulatedTo, SparesOtherPorts, LeavesPort, HasNoCommand, GainsNoMove};
+ghost use Rattle.refinement.specs.Driven.{AnyAccess, TapeGrows, AnyUse, SameUses, IsRelated, IsDrivenBy, OnPortWriting, IsSimulated, IsSimulatedTo, SparesOtherPorts, LeavesPort, HasNoCommand, GainsNoMove};
 ghost use Rattle.refinement.specs.Driver.{LeavesUses, MayStore};
-ghost use Rattle.refinement.specs.Facts.{FaultsOnRecord};
+ghost use Rattle.refinement.specs.PortFacts.{FaultsOnRecord};
 ghost use Rattle.refinement.specs.Laws.{TapeLaws};
 ghost use Rattle.refinement.specs.Links.{SameAdapter, DoesNotWrite};
 ghost use Rattle.refinement.specs.Slots.{SlotStates, Free, IsOver, Own, op_of, put};
 
-use super::facts::{
+use super::port_facts::{
     law_errors_rise_by_disks, law_tape_absence_composes, law_undisturbed_ports_tell_nothing,
 };
-use super::lawful::law_below;
+use super::prerequisites::law_prerequisites;
 
 /// Accesses that touch no register of another port, nor another port's bit of IS (`SparesOtherPorts`), leave every
 /// other port to the device, with what readings noted of it, and with the record of its faults; and where they are
@@ -52,7 +52,7 @@ pub fn law_other_ports_are_left()
     ensures tape { (old new : Device) → IsDrivenBy AnyAccess old new → (gained : List Entry)
         × (new.tape ≡ old.tape ++ gained) }
 {
-    law_below();
+    law_prerequisites();
 }
 
 /// Over accesses that are followed some machine goes on agreeing with the same uses. So it does once a command of the
@@ -69,13 +69,13 @@ pub fn law_agreeing_goes_on()
 
 /// The tape only gains: over none, over each access, and over one fragment after another.
 pub fn law_tapes_grow()
-    ensures none { (d : Device) → Grows d d }
-    ensures access { (access : Access) (old new : Device) → Does access old new → Grows old new }
-    ensures more { (old mid new : Device) → Grows old mid → Grows mid new → Grows old new }
+    ensures none { (d : Device) → TapeGrows d d }
+    ensures access { (access : Access) (old new : Device) → Does access old new → TapeGrows old new }
+    ensures more { (old mid new : Device) → TapeGrows old mid → TapeGrows mid new → TapeGrows old new }
 {}
 
 /// What laws say of the tape, for the proofs of the crates above.
-pub fn law_tapes()
+pub fn law_tape_prerequisites()
     ensures { TapeLaws }
 {
     law_tapes_grow();
@@ -93,7 +93,7 @@ pub fn law_written_notes_stay()
     ensures start { (port : Port) (v : ℕ) (old new : Device) → Writes (Px port Cmd) v old new
         → (new.port port.0).notes ≡ record (old.port port.0).notes { st_set_at = (new.port port.0).notes.st_set_at } }
 {
-    law_below();
+    law_prerequisites();
 }
 
 /// While a port's engine stands, each bit of PxIS that is clear stays so: whatever the device does, and over each
@@ -119,5 +119,5 @@ pub fn law_unused_slots_are_silent()
     ensures more { (port : ℕ) (o : Operation) (old mid new : Device) → GainsNoMove port o old mid
         → GainsNoMove port o mid new → GainsNoMove port o old new }
 {
-    law_below();
+    law_prerequisites();
 }

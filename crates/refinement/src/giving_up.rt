@@ -9,9 +9,9 @@ ghost use Rattle.block_machine.specs.State.{Pending, Machine};
 ghost use Rattle.block_machine.specs.Steps.{MayStillMove};
 ghost use Rattle.refinement.specs.Relation.{StateRelation, ServeApart};
 ghost use Rattle.refinement.specs.Driver.{DriverState, DriverRelation, AllFree, HasNoSlot};
-ghost use Rattle.refinement.specs.Facts.{IsEngineStopped, ShowsFault};
+ghost use Rattle.refinement.specs.PortFacts.{IsEngineStopped, ShowsFault};
 ghost use Rattle.refinement.specs.Slots.{SlotStates, Free, Serves, IsOver};
-ghost use Rattle.refinement.specs.GivingUp.{AreSlotsOver, served_ids, parking_all, IsOutstanding};
+ghost use Rattle.refinement.specs.GivingUp.{AreSlotsOver, ids_in_slots, with_all_parked, IsOutstanding};
 
 /// Where all slots of a port are over, and none is armed on a running one, as on a port that has halted, the driver
 /// gives them all up at once: what it knows stays known. None of them is used then, other ports' are as they were, and
@@ -20,30 +20,31 @@ ghost use Rattle.refinement.specs.GivingUp.{AreSlotsOver, served_ids, parking_al
 pub fn law_slots_are_given_up()
     ensures over { (k : DriverState) (m : Machine) (port : ℕ) → DriverRelation m k
         → AreSlotsOver k.uses (k.device.port port) port
-        → DriverRelation m (parking_all k port) }
+        → DriverRelation m (with_all_parked k port) }
     ensures halted { (k : DriverState) (m : Machine) (port : ℕ) → DriverRelation m k
         → IsEngineStopped (k.device.port port)
-        → DriverRelation m (parking_all k port) }
-    ensures free { (k : DriverState) (port : ℕ) → AllFree (parking_all k port).uses port }
+        → DriverRelation m (with_all_parked k port) }
+    ensures free { (k : DriverState) (port : ℕ) → AllFree (with_all_parked k port).uses port }
     ensures others { (k : DriverState) (port other : ℕ) → other ≢ port
-        → ((parking_all k port).uses other ≡ k.uses other) × ((parking_all k port).parked other ≡ k.parked other) }
+        → ((with_all_parked k port).uses other ≡ k.uses other)
+        × ((with_all_parked k port).parked other ≡ k.parked other) }
     ensures parks { (k : DriverState) (m : Machine) (port slot : ℕ) (id : RequestId) → StateRelation k.uses m k.device
-        → k.uses port slot ≡ Serves id → Contains ((parking_all k port).parked port) id }
+        → k.uses port slot ≡ Serves id → Contains ((with_all_parked k port).parked port) id }
     ensures keeps { (k : DriverState) (port : ℕ) (id : RequestId) → Contains (k.parked port) id
-        → Contains ((parking_all k port).parked port) id }
-    ensures served { (uses : SlotStates) (port n : ℕ) (id : RequestId) → Contains (served_ids uses port n) id
+        → Contains ((with_all_parked k port).parked port) id }
+    ensures served { (uses : SlotStates) (port n : ℕ) (id : RequestId) → Contains (ids_in_slots uses port n) id
         → (slot : ℕ) × (slot < n) × (uses port slot ≡ Serves id) }
     ensures frees { (k : DriverState) (port slot : ℕ) (id : RequestId) → ServeApart k.uses
         → k.uses port slot ≡ Serves id
-        → HasNoSlot (parking_all k port).uses id }
+        → HasNoSlot (with_all_parked k port).uses id }
     ensures leaves { (k : DriverState) (port : ℕ) (id : RequestId) → HasNoSlot k.uses id
-        → HasNoSlot (parking_all k port).uses id }
+        → HasNoSlot (with_all_parked k port).uses id }
 {}
 
 /// What is parked of the port then are the requests that its 32 slots served, and those that were parked before.
 pub fn law_given_up_requests_are_parked()
     ensures { (k : DriverState) (port : ℕ)
-        → (parking_all k port).parked port ≡ served_ids k.uses port 32 ++ k.parked port }
+        → (with_all_parked k port).parked port ≡ ids_in_slots k.uses port 32 ++ k.parked port }
 {}
 
 /// Where the machine agrees with the device, a slot in use is outstanding: so is the slot of a fault that the task file

@@ -1,5 +1,6 @@
 // Laws of fragments of accesses, whatever their kinds are, for the crates above: the clause is the theorem. A caller
-// passes `Brand`, and names its kinds in the proof of its call (`ghosts-law_fragments` in its Invariants.antt). Nothing
+// passes `Brand`, and names its kinds in the proof of its call (`ghosts-law_fragment_prerequisites` in its
+// Invariants.antt). Nothing
 // calls these functions when it runs.
 ghost use Rattle.std.specs.Prelude.{ℕ, ⊤, None, false, ◌≡◌, ◌⊎◌, ◌++◌, [], ◌∷◌, List, length};
 ghost use Rattle.ata_types.specs.declared.Port.{Port};
@@ -15,14 +16,14 @@ ghost use Rattle.adapter.specs.declared.command.Operation.{Operation};
 ghost use Rattle.refinement.specs.Acts.{ByDeviceAlone, Performs};
 ghost use Rattle.refinement.specs.Driven.{IsRelated, OnPortWriting, IsSimulated, IsSimulatedTo, SparesOtherPorts, IsSimulatedAlong, IsSimulatedAlongTo, NoneWrites, GainsNoMove};
 ghost use Rattle.refinement.specs.Driver.{AllFree, LeavesUses, IsOwnPrepared, MayStore};
-ghost use Rattle.refinement.specs.Facts.{IsEngineStopped};
+ghost use Rattle.refinement.specs.PortFacts.{IsEngineStopped};
 ghost use Rattle.refinement.specs.GivingUp.{given_up};
 ghost use Rattle.refinement.specs.Laws.{FragmentLaws};
 ghost use Rattle.refinement.specs.Links.{DoesNotWrite};
 ghost use Rattle.refinement.specs.Recovering.{WorksPlainly};
 ghost use Rattle.refinement.specs.Slots.{SlotStates, Free, Own, IsOver, op_of, put};
 
-use super::lawful::law_below;
+use super::prerequisites::law_prerequisites;
 use adapter::laws::law_accesses_compose;
 use std::marker::Brand;
 
@@ -126,7 +127,7 @@ pub fn law_fragments_are_followed<K: AccessKinds>()
 /// What a fragment that is followed gives: some machine goes on agreeing, with the uses that it leads to. And a port of
 /// which it writes neither PxCI nor PxSACT is sent no page by a command that isn't in its slot 0. One that works on
 /// plain commands alone goes on so.
-pub fn law_followed_fragments_give<K: AccessKinds>()
+pub fn law_followed_fragments_agree<K: AccessKinds>()
     ensures agreed { (kind : K.Kind) (next : SlotStates → SlotStates) (uses : SlotStates) (old new : Device)
         → K.fits kind uses
         → IsSimulatedTo (K.may kind) (K.fits kind) next old new → IsRelated uses old → IsRelated (next uses) new }
@@ -141,7 +142,7 @@ pub fn law_followed_fragments_give<K: AccessKinds>()
         new → IsRelated uses old
         → WorksPlainly (old.port port.0) → WorksPlainly (new.port port.0) }
 {
-    law_below();
+    law_prerequisites();
 }
 
 /// A fragment that is followed is a part of a call, in which the device alone makes steps. And where a port has halted
@@ -164,12 +165,12 @@ pub fn law_fragments_are_parts<K: AccessKinds>()
 }
 
 /// What these laws say of a crate's kinds, for its proofs.
-pub fn law_fragments<K: AccessKinds>()
+pub fn law_fragment_prerequisites<K: AccessKinds>()
     ensures { FragmentLaws K.Kind K.may K.fits }
 {
     law_accesses_are_followed::<K>();
     law_stores_are_followed::<K>();
     law_fragments_are_followed::<K>();
-    law_followed_fragments_give::<K>();
+    law_followed_fragments_agree::<K>();
     law_fragments_are_parts::<K>();
 }

@@ -25,7 +25,7 @@ ghost use Rattle.block_machine.specs.Due.{is_plain, issued_count};
 ghost use Rattle.adapter.specs.declared.tape.Entry.{Entry};
 ghost use Rattle.block_machine.specs.Events.{IsByDevice, AllByDevice, AllMay, changes_disk};
 ghost use Rattle.block_machine.specs.Histories.{IsReachable, IsSimulatedBySteps};
-ghost use Rattle.block_machine.specs.Left.{IsInitial, after, AllStepsFaithful};
+ghost use Rattle.block_machine.specs.Expected.{IsInitial, after, AllStepsFaithful};
 ghost use Rattle.block_machine.specs.Refusals.{MayAccessFrame};
 ghost use Rattle.block_machine.specs.State.{Accepted, Pending, Machine, unanswered};
 ghost use Rattle.block_machine.specs.Steps.{Step, Accept, Issue, Age, Again, Answer, Release, Store, Load, May, NoneQuarantined, older, after_step, stays, MayStillMove, Revoke};
@@ -37,14 +37,14 @@ ghost use Rattle.refinement.specs.Driver.{MayStore, LeavesUses, KeepsTables, Dri
 ghost use Rattle.refinement.specs.Follows.{SimulatesSteps};
 ghost use Rattle.refinement.specs.Links.{IsPlugEvent};
 ghost use Rattle.refinement.specs.Places.{list_of, scratch_of, received_of};
-ghost use Rattle.refinement.specs.Trimmed.{TrimIsKnown};
-ghost use Rattle.refinement.specs.Witness.{PreparedReadWitness, FirstReadWitness, KeptIsKnown, ParkedReadWitness, EndedIsKnown, OwnIsKnown};
-ghost use Rattle.refinement.specs.Served.{TwoReadsWitness, TwoStoredReads};
+ghost use Rattle.refinement.specs.Trimmed.{TrimAgrees};
+ghost use Rattle.refinement.specs.Witness.{PreparedReadWitness, FirstReadWitness, KeptReadAgrees, ParkedReadWitness, EndedReadAgrees, OwnCommandAgrees};
+ghost use Rattle.refinement.specs.TwoReads.{TwoReadsWitness, TwoStoredReads};
 ghost use Rattle.refinement.specs.Slots.{SlotState, Free, Armed, Own, Serves, SlotStates, put, serving_count, SlotDecodesTo, HasTrimBlock, IsOver, op_of, IsMove};
 ghost use Rattle.refinement.specs.Spares.{IsFurther, AllFurther, SparesBook, IsOfAnother};
 ghost use Rattle.refinement.specs.Tape.{OneAtMost, TellsDeviceSteps};
 
-use super::lawful::law_below;
+use super::prerequisites::law_prerequisites;
 use block_machine::laws::law_step_lists_compose;
 
 /// Whatever the device does by itself, the machine follows: what the tape gains are steps of the machine that may come,
@@ -85,7 +85,7 @@ pub fn law_client_store_is_followed()
         → Stores (FRAME_BYTES * frame.0 + offset) bytes k.device new
         → EndsInStep k m (Store client frame offset bytes) (record k { device = new }) }
 {
-    law_below();
+    law_prerequisites();
 }
 
 /// A client's load from its frame is the machine's: it is told the bytes that the machine's frame holds.
@@ -96,7 +96,7 @@ pub fn law_client_load_is_followed()
         → Loads (FRAME_BYTES * frame.0 + offset) bytes k.device new
         → EndsInStep k m (Load client frame offset bytes) (record k { device = new }) }
 {
-    law_below();
+    law_prerequisites();
 }
 
 /// A step of the driver's own needs nothing of the device.
@@ -307,7 +307,7 @@ pub fn law_pages_come_when_asked()
         → new.tape ≡ old.tape ++ gained
         → op_of o ≡ None → OneAtMost (IsMove port o) gained }
 {
-    law_below();
+    law_prerequisites();
 }
 
 /// So the bytes of a slot that say a command go on saying it, and a trim's block stays where slot 0 has no command of
@@ -403,17 +403,17 @@ pub fn law_clear_bits_stay()
         → (r ≡ Px port Sact → bit v slot ≡ false) → Writes r v old new → (old.port port.0).sact slot ≡ false
         → (new.port port.0).sact slot ≡ false }
 {
-    law_below();
+    law_prerequisites();
 }
 
 /// The page that a command of the driver's own brought may be loaded, whatever the device does first, once the command
 /// is over.
-pub fn law_pages_are_free()
+pub fn law_pages_may_be_loaded()
     ensures { (uses : SlotStates) (m : Machine) (d : Device) → IsReachable m → StateRelation uses m d → (port : ℕ)
         → port < 4
         → scratch_of port + 512 ≤ d.size → IsOver (d.port port) 0 → IsStable (IsUnowned (scratch_of port) 512) d }
 {
-    law_below();
+    law_prerequisites();
 }
 
 /// So may bytes of a client's frame that isn't lent, for its owner.
@@ -424,7 +424,7 @@ pub fn law_client_bytes_are_free()
         → MayAccessFrame m.owner m.lent client frame offset n
         → IsStable (IsUnowned (FRAME_BYTES * frame.0 + offset) n) d }
 {
-    law_below();
+    law_prerequisites();
 }
 
 /// Bytes that the driver may store are free for it, whatever the device does first.
@@ -432,7 +432,7 @@ pub fn law_bytes_to_store_are_free()
     ensures { (uses : SlotStates) (m : Machine) (d : Device) → IsReachable m → StateRelation uses m d → (at n : ℕ)
         → at + n ≤ d.size → MayStore uses at n → IsStable (IsUnowned at n) d }
 {
-    law_below();
+    law_prerequisites();
 }
 
 /// A write that may be made now, of any register but PxCI, may be made whatever the device does first; and, while no
@@ -446,7 +446,7 @@ pub fn law_writing_is_permitted()
 
 /// Where a port's engine stands its command list may be put into its place; and where it receives no FISes, the
 /// received FIS area may.
-pub fn law_placing_is_permitted()
+pub fn law_placing_areas_is_permitted()
     ensures list { (d : Device) (port : Port) → IsOn d → HasPort d port.0 → (d.port port.0).st ≡ false
         → (d.port port.0).cr ≡ false → list_of port.0 + LIST_BYTES ≤ d.size
         → IsStable (MayWrite (Px port Clb) (list_of port.0)) d }
@@ -462,7 +462,7 @@ pub fn law_placing_is_permitted()
 /// PxCMD may be written as it was last read, but for ST and FRE: with ST set where the port may start; with ST clear
 /// and FRE as it is; with FRE set and ST as it is where the port may receive; and with FRE and ST clear where its
 /// engine stands.
-pub fn law_commanding_is_permitted()
+pub fn law_writing_cmd_is_permitted()
     ensures start { (port : Port) (was v : ℕ) (d : Device) → IsOn d → HasPort d port.0 → (d.port port.0).notes.last_cmd
         ≡ was
         → MayStart (d.port port.0) → KeepsOtherCmdBits true true was v → IsStable (MayWrite (Px port Cmd) v) d }
@@ -492,7 +492,7 @@ pub fn law_own_issuing_is_permitted()
         → (port : Port) (o : Operation)
         (v : ℕ) → IsOn d → HasPort d port.0 → IsOwnPrepared uses d port.0 o v → IsStable (MayWrite (Px port Ci) v) d }
 {
-    law_below();
+    law_prerequisites();
 }
 
 /// A device that is taken over idle agrees with a machine that has nothing in it, where both have the same disks and
@@ -511,7 +511,7 @@ pub fn law_an_idle_device_agrees()
 pub fn law_a_prepared_read_agrees()
     ensures { PreparedReadWitness }
 {
-    law_below();
+    law_prerequisites();
 }
 
 /// There is an adapter with its first read issued, and a machine that is reached and agrees with what its driver knows:
@@ -519,7 +519,7 @@ pub fn law_a_prepared_read_agrees()
 pub fn law_a_first_read_agrees()
     ensures { FirstReadWitness }
 {
-    law_below();
+    law_prerequisites();
 }
 
 /// There is one whose driver has stopped the port of that read, and has taken it from its slot once the engine stood:
@@ -527,22 +527,22 @@ pub fn law_a_first_read_agrees()
 pub fn law_a_parked_read_agrees()
     ensures { ParkedReadWitness }
 {
-    law_below();
+    law_prerequisites();
 }
 
 /// There is one that keeps the read: it was answered PortDead, with its frames lent, while the slot serves it still;
 /// and once the driver has taken it from there, the frames may be given back.
 pub fn law_a_kept_read_agrees()
-    ensures { KeptIsKnown }
+    ensures { KeptReadAgrees }
 {
-    law_below();
+    law_prerequisites();
 }
 
 /// There is one whose device has done the read: its command has ended, and the request is unanswered still.
 pub fn law_an_ended_read_agrees()
-    ensures { EndedIsKnown }
+    ensures { EndedReadAgrees }
 {
-    law_below();
+    law_prerequisites();
 }
 
 /// There is an adapter with two queued reads, into frames that are apart: both are issued, each by a write that is
@@ -550,7 +550,7 @@ pub fn law_an_ended_read_agrees()
 pub fn law_two_queued_reads_agree()
     ensures { TwoReadsWitness }
 {
-    law_below();
+    law_prerequisites();
 }
 
 /// And so there is one before, on which both reads are stored and may be issued.
@@ -561,15 +561,15 @@ pub fn law_two_reads_are_stored()
 /// There is an adapter with a trim, which is issued by a write that is permitted, taken, and done to its end; and a
 /// machine agrees with it all the way.
 pub fn law_a_trim_agrees()
-    ensures { TrimIsKnown }
+    ensures { TrimAgrees }
 {
-    law_below();
+    law_prerequisites();
 }
 
 /// There is an adapter with a command of the driver's own, IDENTIFY DEVICE: prepared, issued by a write that is
 /// permitted, and over once its page has come; and a machine agrees with it all the way.
 pub fn law_an_own_command_agrees()
-    ensures { OwnIsKnown }
+    ensures { OwnCommandAgrees }
 {
-    law_below();
+    law_prerequisites();
 }

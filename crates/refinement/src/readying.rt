@@ -20,16 +20,16 @@ ghost use Rattle.refinement.specs.Relation.{StateRelation};
 ghost use Rattle.refinement.specs.Driven.{IsSoleBit};
 ghost use Rattle.refinement.specs.Driver.{IsPrepared, DriverState, DriverAdvances, DriverRelation, MissesTable, serving};
 ghost use Rattle.refinement.specs.Links.{DoesNotWrite};
-ghost use Rattle.refinement.specs.Slots.{Free, Armed, SlotStates, put, Means, HasTrimBlock};
+ghost use Rattle.refinement.specs.Slots.{Free, Armed, SlotStates, put, MeansRequest, HasTrimBlock};
 ghost use Rattle.refinement.specs.Started.{ClearsNoStart};
 ghost use Rattle.refinement.specs.Readying.{IsStored, IsReadied, IsReadyToIssue, LeavesStored};
 
-use super::lawful::law_below;
+use super::prerequisites::law_prerequisites;
 
 /// While no reset is pending, what is stored for a slot of a running port stays so, whatever the device does, and over
 /// each access that doesn't clear ST, doesn't write PxCLB and stores nothing in the slot's header or table. No machine
 /// is asked for, but one that agrees.
-pub fn law_readied_stays()
+pub fn law_stored_stays()
     ensures steps { (uses : SlotStates) (m : Machine) (port slot : ℕ) (c : Meaning) (places : List ℕ) (old new : Device)
         → IsReachable m → StateRelation uses m old → old.hr ≡ false → Steps old new → IsStored old port slot c places
         → IsStored new port slot c places }
@@ -40,7 +40,7 @@ pub fn law_readied_stays()
         → ((at : ℕ) (bytes : List ℕ) → access ≡ Storing at bytes → MissesTable port.0 slot at (length bytes))
         → Does access old new → IsStored old port.0 slot c places → IsStored new port.0 slot c places }
 {
-    law_below();
+    law_prerequisites();
 }
 
 /// Bits of PxCI of slots that are readied may be written, whatever the device does first. With a request that is due
@@ -53,7 +53,7 @@ pub fn law_readied_is_issued()
         (mode : QueueMode) (e : Pending)
         (v : ℕ) → IsReadied uses d port slot c places → May m (Issue mode e) → e.request.port.0 ≡ port
         → slot < mode.usable
-        → (is_plain mode e.request.asked.op ≡ true → slot ≡ 0) → Means port slot e.request c places
+        → (is_plain mode e.request.asked.op ≡ true → slot ≡ 0) → MeansRequest port slot e.request c places
         → is_queued c.operation ≡ not (is_plain mode e.request.asked.op)
         → HasTrimBlock e.request.asked.op d.memory port e.request → bit v slot ≡ true
         → ((k : ℕ) → k ≢ slot → bit v k ≡ false) → IsPrepared uses m d port slot mode e v }
@@ -61,10 +61,11 @@ pub fn law_readied_is_issued()
         (v : ℕ)
         → (x : IsPrepared uses m d port slot mode e v) → IsReadied uses d port slot x.command x.places }
 {
-    law_below();
+    law_prerequisites();
 }
 
-/// What one bit of a write does, with no step of the device. A bit of PxSACT arms its free slot on a running port, which
+/// What one bit of a write does, with no step of the device. A bit of PxSACT arms its free slot on a running port,
+/// which
 /// is no step of the machine; and one of PxCI is its request's issue, where the slot is prepared. A write of several
 /// bits is followed so, one bit after another.
 pub fn law_bits_are_followed_in_turn()
@@ -86,5 +87,5 @@ pub fn law_stored_stays_over_acts()
         → All (LeavesStored port slot) (accesses_of acts)
         → IsOn k.device → IsStored k.device port.0 slot c places → IsStored later.device port.0 slot c places }
 {
-    law_below();
+    law_prerequisites();
 }

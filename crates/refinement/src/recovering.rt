@@ -16,19 +16,19 @@ ghost use Rattle.refinement.specs.Relation.{StateRelation};
 ghost use Rattle.refinement.specs.Acts.{Act, AreActsDone, accesses_of};
 ghost use Rattle.refinement.specs.Driver.{IsOwnPrepared, DriverState, DriverRelation};
 ghost use Rattle.refinement.specs.Errors.{NoneFatal};
-ghost use Rattle.refinement.specs.Facts.{RunsWell, TellsNoTrouble, IsCleanToStart};
+ghost use Rattle.refinement.specs.PortFacts.{RunsWell, TellsNoTrouble, IsCleanToStart};
 ghost use Rattle.refinement.specs.Links.{DoesNotWrite, NoPlugEvents};
 ghost use Rattle.refinement.specs.Slots.{SlotState, SlotStates, Free, Own, put};
 ghost use Rattle.refinement.specs.Started.{IsUp, IsStarted, ClearsNoStart};
 ghost use Rattle.refinement.specs.Halting.{HaltIsOfTaken, HaltOfTakenIfSt};
 ghost use Rattle.refinement.specs.Recovering.{IsLinked, WorksPlainly, RunsLinked, EndsHalt, FaultLeavesIssued};
 
-use super::lawful::law_below;
+use super::prerequisites::law_prerequisites;
 
 /// While no reset is pending, a link that is up stays so where the tape tells of no disk that goes or comes, whatever
 /// else the device does, faults and fatal errors among it, and over each access but a write of PxSCTL. So it is of a
 /// port that was started, and of one whose link came up.
-pub fn law_link_is_kept()
+pub fn law_link_stays_online()
     ensures steps { (port : ℕ) (old new : Device) → old.hr ≡ false → NoPlugEvents port old new → Steps old new
         → IsLinked (old.port port) → IsLinked (new.port port) }
     ensures access { (port : Port) (access : Access) (old new : Device) → old.hr ≡ false
@@ -37,7 +37,7 @@ pub fn law_link_is_kept()
     ensures started { (p : DevicePort) → IsStarted p → p.sctl_det ≢ 1 → IsLinked p }
     ensures up { (p : DevicePort) → IsUp p → IsLinked p }
 {
-    law_below();
+    law_prerequisites();
 }
 
 /// Where the machine agrees with the device, a port that works on plain commands alone goes on so, whatever the device
@@ -61,7 +61,7 @@ pub fn law_plain_work_stays()
         → Writes (Px port Cmd) v old mid → Reads (Px port Is) causes mid new → TellsNoTrouble causes
         → RunsWell (new.port port.0) }
 {
-    law_below();
+    law_prerequisites();
 }
 
 /// While ST is one, a queued command that has halted a port is taken still, and READ LOG EXT isn't awaited: so it stays
@@ -82,7 +82,7 @@ pub fn law_halts_are_of_taken_commands()
     ensures calm { (p : DevicePort) → p.halt ≡ NotHalted → HaltIsOfTaken p }
     ensures plain { (p : DevicePort) → WorksPlainly p → HaltIsOfTaken p }
 {
-    law_below();
+    law_prerequisites();
 }
 
 /// ST is set while the engine stands and the link is up: the port runs, though a queued fault may halt it still. It
@@ -99,7 +99,7 @@ pub fn law_running_goes_on()
         → Does access old new → RunsLinked (old.port port.0) → RunsLinked (new.port port.0) }
     ensures started { (p : DevicePort) → RunsLinked p → p.halt ≡ NotHalted → IsStarted p }
 {
-    law_below();
+    law_prerequisites();
 }
 
 /// The write of PxCI issues a command of the driver's own on a port with no other: its end ends a halt. So it stays,
@@ -128,7 +128,7 @@ pub fn law_halt_is_ended()
         → Reads (Px port Ci) v old mid
         → bit v 0 ≡ false → Reads (Px port Is) causes mid new → TellsNoTrouble causes → RunsWell (new.port port.0) }
 {
-    law_below();
+    law_prerequisites();
 }
 
 /// ST is set on a quiet port with no slot in use and no bit of PxSACT: from then on, while slot 0 alone is used, by a
@@ -157,5 +157,5 @@ pub fn law_faults_show_before_the_end()
     ensures well { (p : DevicePort) → RunsLinked p → p.halt ≡ NotHalted → p.is 30 ≡ false → p.serr_n ≡ false
         → p.serr_x ≡ false → ((place : ℕ) → 27 ≤ place → place ≤ 29 → p.is place ≡ false) → RunsWell p }
 {
-    law_below();
+    law_prerequisites();
 }

@@ -11,7 +11,7 @@ use Rattle.ata_types.specs.declared.request.Reply.{Reply}
 use Rattle.ata_types.specs.declared.request.RequestId.{RequestId}
 use Rattle.dma_frames.specs.Table.{LendsOnly, Table, lent_to}
 use Rattle.request_queue.specs.Entries.{GivesBack, BookEntry, IsAccepted, IsEarlier, BookIsInOrder, HasItsFrames, has_id, without_entry}
-use Rattle.request_queue.specs.Dispositions.{CompletesAllWith, KeepsOrEndsLoan, Holdings, AreResolved, keeps_loan, reply_to}
+use Rattle.request_queue.specs.Dispositions.{CompletesAllWith, KeepsOrEndsLoan, BookAndLoans, AreResolved, keeps_loan, reply_to}
 use Rattle.request_queue.specs.declared.PendingRequest.{PendingRequest}
 use Rattle.request_queue.specs.declared.disposition.Disposition.TheVariants.{Complete}
 use Rattle.request_queue.proofs.Ending.{more_given, none_given, ordered_rest, stand_still}
@@ -78,18 +78,18 @@ module _ (o : Outcome) (back : (e : PendingRequest) → keeps_loan o e ≡ false
   replies_to es = map (λ (e : BookEntry). reply_to e o) es
 
   -- what comes of these, one after another
-  record AllMet (es : List BookEntry) (replies : List Reply) (old new : Holdings) : Type 0 where
+  record AllMet (es : List BookEntry) (replies : List Reply) (old new : BookAndLoans) : Type 0 where
     told : replies ≡ replies_to es
     left : new.book ≡ withouts es old.book
     given : GivesBack old.table new.table es
     kept : new.kept ≡ old.kept
 
-  all_met : (es : List BookEntry) (replies : List Reply) (old new : Holdings) → AllPairs IsEarlier es → All (HasItsFrames old.table) es → AreResolved (λ e. Complete o) es replies old new → AllMet es replies old new
+  all_met : (es : List BookEntry) (replies : List Reply) (old new : BookAndLoans) → AllPairs IsEarlier es → All (HasItsFrames old.table) es → AreResolved (λ e. Complete o) es replies old new → AllMet es replies old new
   all_met [] replies old new ordered stands (none, same) = record {
     told = none;
-    left = ap (λ (h : Holdings). h.book) same;
-    given = subst (λ (h : Holdings). GivesBack old.table h.table []) (sym same) (none_given old.table);
-    kept = ap (λ (h : Holdings). h.kept) same;
+    left = ap (λ (h : BookAndLoans). h.book) same;
+    given = subst (λ (h : BookAndLoans). GivesBack old.table h.table []) (sym same) (none_given old.table);
+    kept = ap (λ (h : BookAndLoans). h.kept) same;
   }
   all_met (e ∷ es) replies old new ordered stands (mid, its, later, split, meets, rest) =
       let ends : KeepsOrEndsLoan false e old mid = subst (λ (b : Bool). KeepsOrEndsLoan b e old mid) (back e.entry) meets.2 in
@@ -146,10 +146,10 @@ module _ (o : Outcome) (back : (e : PendingRequest) → keeps_loan o e ≡ false
   gives : (fs : List Frame) (t : Table) → LendsOnly t (give fs t) fs None
   gives fs t = record { owners = owners_left fs t; these = all_given fs t; others = others_left fs t }
 
-  may_come : (es : List BookEntry) (old : Holdings) → (new : Holdings) × AreResolved (λ e. Complete o) es (replies_to es) old new
+  may_come : (es : List BookEntry) (old : BookAndLoans) → (new : BookAndLoans) × AreResolved (λ e. Complete o) es (replies_to es) old new
   may_come [] old = (old, (refl, refl))
   may_come (e ∷ es) old =
-      let mid : Holdings = record { book = without_entry e.entry.id old.book; table = give e.frames old.table; kept = old.kept } in
+      let mid : BookAndLoans = record { book = without_entry e.entry.id old.book; table = give e.frames old.table; kept = old.kept } in
       let r = may_come es mid in
       (r.0, (mid, reply_to e o ∷ [], replies_to es, refl, (refl, refl, subst (λ (b : Bool). KeepsOrEndsLoan b e old mid) (sym (back e.entry)) (refl, gives e.frames old.table)), r.1))
 
@@ -191,7 +191,7 @@ same_given old one other es a b = record {
 
 -- ---- both ways
 
-module _ (passes : PendingRequest → Bool) (o : Outcome) (back : (e : PendingRequest) → keeps_loan o e ≡ false) (old : Holdings) (order : BookIsInOrder old.book) (accepted : All (IsAccepted old.table) old.book) where
+module _ (passes : PendingRequest → Bool) (o : Outcome) (back : (e : PendingRequest) → keeps_loan o e ≡ false) (old : BookAndLoans) (order : BookIsInOrder old.book) (accepted : All (IsAccepted old.table) old.book) where
   abbrev es : List BookEntry
   es = filter (λ (e : BookEntry). passes e.entry) old.book
 
@@ -201,13 +201,13 @@ module _ (passes : PendingRequest → Bool) (o : Outcome) (back : (e : PendingRe
   stand : All (HasItsFrames old.table) es
   stand = All-filter (λ (e : BookEntry). passes e.entry) (HasItsFrames old.table) old.book (λ i d small. (accepted i d small).lent)
 
-  pub at_once : (replies : List Reply) (new : Holdings) → AreResolved (λ e. Complete o) es replies old new → CompletesAllWith passes o replies old new
+  pub at_once : (replies : List Reply) (new : BookAndLoans) → AreResolved (λ e. Complete o) es replies old new → CompletesAllWith passes o replies old new
   at_once replies new meets =
       let m = all_met o back es replies old new ordered stand meets in
       record { told = m.told; left = m.left ∙ left_over passes old.book order.ordered; given = m.given; kept = m.kept }
 
-  pub one_by_one : (replies : List Reply) (new : Holdings) → CompletesAllWith passes o replies old new
-      → (now : Holdings) × AreResolved (λ e. Complete o) es replies old now × (now.book ≡ new.book) × (now.kept ≡ new.kept) × LendsOnly now.table new.table [] None
+  pub one_by_one : (replies : List Reply) (new : BookAndLoans) → CompletesAllWith passes o replies old new
+      → (now : BookAndLoans) × AreResolved (λ e. Complete o) es replies old now × (now.book ≡ new.book) × (now.kept ≡ new.kept) × LendsOnly now.table new.table [] None
   one_by_one replies new answers =
       let r = may_come o back es old in
       let m = at_once (replies_to o back es) r.0 r.1 in (

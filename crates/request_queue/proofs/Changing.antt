@@ -13,10 +13,10 @@ use Rattle.ata_types.specs.declared.request.ClientId.{ClientId}
 use Rattle.ata_types.specs.declared.request.RequestId.{RequestId}
 use Rattle.block_machine.specs.declared.due.Unanswered.{Unanswered}
 use Rattle.block_machine.specs.Due as machine
-use Rattle.request_queue.specs.Entries.{BookEntry, asks, asks_of, has_id, update_if_id, without_entry, issue, requeued_entry, older_entry, marked_under, unanswered_entries, IsEarlier, BookIsInOrder, HasFewIssues, IsNewlyAccepted}
+use Rattle.request_queue.specs.Entries.{BookEntry, asks, asks_of, has_id, update_if_id, without_entry, issue, requeued_entry, older_entry, marked_under, entry_count_of_client, IsEarlier, BookIsInOrder, HasFewIssues, IsNewlyAccepted}
 use Rattle.request_queue.specs.declared.PendingRequest.{PendingRequest}
 use Rattle.request_queue.proofs.Members.{count_cons, count_append, count_map, contains_here, contains_there, contains_cases}
-use Rattle.block_machine.specs.Rules.{is_under}
+use Rattle.block_machine.specs.Rules.{is_same_grant_name}
 
 -- ---- by place
 
@@ -144,7 +144,7 @@ changed_in_order es g leaves s = record {
       (omega (arith, c.0, p, x.0.client), omega (arith, c.1, p, x.0.client));
   few = λ client.
       let f = s.few client in
-      let same : unanswered_entries (map g es) client ≡ unanswered_entries es client =
+      let same : entry_count_of_client (map g es) client ≡ entry_count_of_client es client =
       count_map (λ (e : BookEntry). e.entry.client.0 == client) (λ (e : BookEntry). e.entry.client.0 == client) g es (λ y h. ap (λ (n : ℕ). n == client) (leaves y h).client) in
       omega (arith, f, same);
   issues = λ i d below.
@@ -189,7 +189,7 @@ waiting_in_order es id e s here named few = one_in_order es id requeued_entry (�
         (omega (arith, few, n), λ no. omega (arith, few, n))
 
 pub longer_in_order : (es : List BookEntry) (e : BookEntry) → BookIsInOrder es → All (λ x. x.entry.id.0 < e.entry.id.0) es → IsNewlyAccepted e.entry → 1 ≤ e.entry.client.0 → e.entry.client.0 ≤ 8
-    → unanswered_entries es e.entry.client.0 < 16 → BookIsInOrder (es ++ e ∷ [])
+    → entry_count_of_client es e.entry.client.0 < 16 → BookIsInOrder (es ++ e ∷ [])
 longer_in_order es e s newest fresh low high has_room = record {
   ordered = all_pairs_push IsEarlier es e s.ordered newest;
   clients = All-push (λ (x : BookEntry). (1 ≤ x.entry.client.0) × (x.entry.client.0 ≤ 8)) es e s.clients (low, high);
@@ -197,7 +197,7 @@ longer_in_order es e s newest fresh low high has_room = record {
   issues = All-push (λ (x : BookEntry). HasFewIssues x.entry) es e s.issues (let n = fresh.1 in (omega (arith, n), λ no. omega (arith, n)));
 }
   where
-    counted : (client : ℕ) → unanswered_entries (es ++ e ∷ []) client ≡ unanswered_entries es client + cond {A = ℕ} (e.entry.client.0 == client) 1 0
+    counted : (client : ℕ) → entry_count_of_client (es ++ e ∷ []) client ≡ entry_count_of_client es client + cond {A = ℕ} (e.entry.client.0 == client) 1 0
     counted client =
         let p : BookEntry → Bool = λ x. x.entry.client.0 == client in
         let a = count_append p es (e ∷ []) in
@@ -208,9 +208,9 @@ longer_in_order es e s newest fresh low high has_room = record {
     small true = omega arith
     small false = omega arith
 
-    few : (client : ℕ) → (e.entry.client.0 ≡ client) ⊎ (e.entry.client.0 ≢ client) → unanswered_entries (es ++ e ∷ []) client ≤ 16
+    few : (client : ℕ) → (e.entry.client.0 ≡ client) ⊎ (e.entry.client.0 ≢ client) → entry_count_of_client (es ++ e ∷ []) client ≤ 16
     few client (inl is) =
-        let P : ℕ → Type 0 = λ n. unanswered_entries es n < 16 in
+        let P : ℕ → Type 0 = λ n. entry_count_of_client es n < 16 in
         let here = subst P is has_room in
         omega (arith, counted client, small (e.entry.client.0 == client), here)
     few client (inr other) =
@@ -239,7 +239,7 @@ older_spares ports r = either_way (Spares r) (r.issued && ports r.port) (record 
     (record { asked = refl; client = refl; issues = refl }) (record { asked = refl; client = refl; issues = refl })
 
 pub revoked_spares : (client : ClientId) (grant : ℕ) (r : PendingRequest) → Spares r (marked_under client grant r)
-revoked_spares client grant r = either_way (Spares r) (is_under client grant r.client r.grant) (record r { revoked = true }) r
+revoked_spares client grant r = either_way (Spares r) (is_same_grant_name client grant r.client r.grant) (record r { revoked = true }) r
     (record { asked = refl; client = refl; issues = refl }) (record { asked = refl; client = refl; issues = refl })
 
 pub all_in_order : (f : PendingRequest → PendingRequest) → ((r : PendingRequest) → Spares r (f r)) → (es : List BookEntry) → BookIsInOrder es → BookIsInOrder (all_changed f es)

@@ -10,8 +10,8 @@ use Rattle.request_queue.specs.declared.flushes.Flush.{Flush}
 use Rattle.request_queue.specs.declared.ranges.BookRange.{BookRange}
 use Rattle.request_queue.specs.Conflicts.{AreConflictLists, ConflictLists}
 use Rattle.request_queue.specs.Entries.{BookEntry, asks, asks_of, update_if_id, issue, requeued_entry}
-use Rattle.request_queue.specs.Flushes.{flushes_of}
-use Rattle.request_queue.specs.Holders.{IsHolderOf, may_have_holder, may_hold}
+use Rattle.request_queue.specs.Flushes.{flushes_among}
+use Rattle.request_queue.specs.Blockers.{IsBlockerOf, may_be_blocked, may_block}
 use Rattle.request_queue.specs.Sectors.{AreIndexed}
 use Rattle.request_queue.proofs.Flushing.{issued_flushes, requeued_flushes}
 use Rattle.request_queue.proofs.Holding.{holds_earlier}
@@ -21,35 +21,35 @@ use Rattle.request_queue.proofs.Unheld.{one_found}
 
 -- ---- by whether the one request isn't listed
 
-pub when_lone : (book : List Unanswered) (lists : ConflictLists) → AreConflictLists book lists → lists.lone ≡ true
+pub when_lone : (book : List Unanswered) (lists : ConflictLists) → AreConflictLists book lists → lists.unlisted ≡ true
     → AreIndexed [] lists.sectors × (lists.flushes ≡ []) × (length book ≡ 1)
 when_lone book lists are is = (
   subst (λ (b : Bool). AreIndexed (cond b [] book) lists.sectors) is are.indexed,
-  subst (λ (b : Bool). lists.flushes ≡ flushes_of (cond b [] book)) is are.listed,
+  subst (λ (b : Bool). lists.flushes ≡ flushes_among (cond b [] book)) is are.listed,
   are.alone is,
 )
 
-pub when_listed : (book : List Unanswered) (lists : ConflictLists) → AreConflictLists book lists → lists.lone ≡ false
-    → AreIndexed book lists.sectors × (lists.flushes ≡ flushes_of book)
+pub when_listed : (book : List Unanswered) (lists : ConflictLists) → AreConflictLists book lists → lists.unlisted ≡ false
+    → AreIndexed book lists.sectors × (lists.flushes ≡ flushes_among book)
 when_listed book lists are is = (
   subst (λ (b : Bool). AreIndexed (cond b [] book) lists.sectors) is are.indexed,
-  subst (λ (b : Bool). lists.flushes ≡ flushes_of (cond b [] book)) is are.listed,
+  subst (λ (b : Bool). lists.flushes ≡ flushes_among (cond b [] book)) is are.listed,
 )
 
-pub all_listed : (book : List Unanswered) (sectors : List (List BookRange)) (flushes : List Flush) → AreIndexed book sectors → flushes ≡ flushes_of book
-    → AreConflictLists book (record { sectors = sectors; flushes = flushes; lone = false })
+pub all_listed : (book : List Unanswered) (sectors : List (List BookRange)) (flushes : List Flush) → AreIndexed book sectors → flushes ≡ flushes_among book
+    → AreConflictLists book (record { sectors = sectors; flushes = flushes; unlisted = false })
 all_listed book sectors flushes indexed listed = record { indexed = indexed; listed = listed; alone = λ is. cc }
 
-pub flag_down : (book : List Unanswered) (sectors : List (List BookRange)) (flushes : List Flush) (lone : Bool) → lone ≡ false → AreIndexed book sectors → flushes ≡ flushes_of book
-    → AreConflictLists book (record { sectors = sectors; flushes = flushes; lone = lone })
-flag_down book sectors flushes lone is indexed listed =
-    subst (λ (b : Bool). AreConflictLists book (record { sectors = sectors; flushes = flushes; lone = b })) (sym is) (all_listed book sectors flushes indexed listed)
+pub flag_down : (book : List Unanswered) (sectors : List (List BookRange)) (flushes : List Flush) (unlisted : Bool) → unlisted ≡ false → AreIndexed book sectors → flushes ≡ flushes_among book
+    → AreConflictLists book (record { sectors = sectors; flushes = flushes; unlisted = unlisted })
+flag_down book sectors flushes unlisted is indexed listed =
+    subst (λ (b : Bool). AreConflictLists book (record { sectors = sectors; flushes = flushes; unlisted = b })) (sym is) (all_listed book sectors flushes indexed listed)
 
 -- one comes into an empty book
 pub first_comes : (lists : ConflictLists) (r : Unanswered) → AreConflictLists [] lists
-    → AreConflictLists (r ∷ []) (record { sectors = lists.sectors; flushes = lists.flushes; lone = true })
+    → AreConflictLists (r ∷ []) (record { sectors = lists.sectors; flushes = lists.flushes; unlisted = true })
 first_comes lists r are =
-    let all = when_listed [] lists are (false_from_ne_true lists.lone (λ is. let one : ◌≡◌ {A = ℕ} 0 1 = are.alone is in omega (arith, one))) in
+    let all = when_listed [] lists are (false_from_ne_true lists.unlisted (λ is. let one : ◌≡◌ {A = ℕ} 0 1 = are.alone is in omega (arith, one))) in
     record { indexed = all.0; listed = all.1; alone = λ _. refl }
 
 pub in_book : (book : List Unanswered) (place : ℕ) (r : Unanswered) → slice_get book place ≡ Some r → Contains book r
@@ -64,11 +64,11 @@ nothing_left (r ∷ []) (suc place) one lt = absurd (let low : suc place < 1 = l
 nothing_left (r ∷ s ∷ book) place one lt = absurd (let two : suc (suc (length book)) ≡ 1 = one in omega (arith, two))
 
 -- it is answered
-pub lone_taken : (book : List Unanswered) (lists : ConflictLists) (place : ℕ) → AreConflictLists book lists → lists.lone ≡ true → place < length book
-    → AreConflictLists (remove book place) (record { sectors = lists.sectors; flushes = lists.flushes; lone = false })
+pub lone_taken : (book : List Unanswered) (lists : ConflictLists) (place : ℕ) → AreConflictLists book lists → lists.unlisted ≡ true → place < length book
+    → AreConflictLists (remove book place) (record { sectors = lists.sectors; flushes = lists.flushes; unlisted = false })
 lone_taken book lists place are is lt =
     let all = when_lone book lists are is in
-    subst (λ (left : List Unanswered). AreConflictLists left (record { sectors = lists.sectors; flushes = lists.flushes; lone = false })) (sym (nothing_left book place all.2 lt))
+    subst (λ (left : List Unanswered). AreConflictLists left (record { sectors = lists.sectors; flushes = lists.flushes; unlisted = false })) (sym (nothing_left book place all.2 lt))
     (all_listed [] lists.sectors lists.flushes all.0 all.1)
 
 the_same : (book : List Unanswered) (r o : Unanswered) → length book ≡ 1 → Contains book r → Contains book o → o ≡ r
@@ -80,9 +80,9 @@ the_same (x ∷ []) r o one there other = elim (contains_cases x [] r there) [
 the_same (x ∷ y ∷ book) r o one there other = absurd (let two : suc (suc (length book)) ≡ 1 = one in omega (arith, two))
 
 -- none holds it
-pub lone_is_free : (book : List Unanswered) (r : Unanswered) → length book ≡ 1 → Contains book r → IsHolderOf book r None
+pub lone_is_free : (book : List Unanswered) (r : Unanswered) → length book ≡ 1 → Contains book r → IsBlockerOf book r None
 lone_is_free book r one there = false_from_ne_true _ (λ held.
-    let o = one_found (may_hold r) book (and_parts (may_have_holder r) _ held).1 in
+    let o = one_found (may_block r) book (and_parts (may_be_blocked r) _ held).1 in
     let earlier = holds_earlier r o.0 o.2 in
     let same = ap (λ (x : Unanswered). x.id.0) (the_same book r o.0 one there o.1) in
     omega (arith, earlier, same))
@@ -91,8 +91,8 @@ none_both : (b : Bool) → (b && false) ≡ false
 none_both true = refl
 none_both false = refl
 
-pub no_others : (book : List Unanswered) (r : Unanswered) → book ≡ [] → IsHolderOf book r None
-no_others book r none = subst (λ (all : List Unanswered). IsHolderOf all r None) (sym none) (none_both (may_have_holder r))
+pub no_others : (book : List Unanswered) (r : Unanswered) → book ≡ [] → IsBlockerOf book r None
+no_others book r none = subst (λ (all : List Unanswered). IsBlockerOf all r None) (sym none) (none_both (may_be_blocked r))
 
 pub empty_is : (book : List Unanswered) → length book ≡ 0 → book ≡ []
 empty_is [] e = refl
@@ -101,14 +101,14 @@ empty_is (r ∷ book) e = absurd (let some : suc (length book) ≡ 0 = e in omeg
 -- ---- a change of requests that leaves their sectors, and which are flushes
 
 module _ (book later : List Unanswered) (indexed : (lists : List (List BookRange)) → AreIndexed book lists → AreIndexed later lists)
-    (listed : (flushes : List Flush) → flushes ≡ flushes_of book → flushes ≡ flushes_of later) (same : length later ≡ length book) where
-  by_lone : (b : Bool) (sectors : List (List BookRange)) (flushes : List Flush) → AreConflictLists book (record { sectors = sectors; flushes = flushes; lone = b })
-      → AreConflictLists later (record { sectors = sectors; flushes = flushes; lone = b })
+    (listed : (flushes : List Flush) → flushes ≡ flushes_among book → flushes ≡ flushes_among later) (same : length later ≡ length book) where
+  by_lone : (b : Bool) (sectors : List (List BookRange)) (flushes : List Flush) → AreConflictLists book (record { sectors = sectors; flushes = flushes; unlisted = b })
+      → AreConflictLists later (record { sectors = sectors; flushes = flushes; unlisted = b })
   by_lone true sectors flushes are = record { indexed = are.indexed; listed = are.listed; alone = λ is. same ∙ are.alone is }
   by_lone false sectors flushes are = record { indexed = indexed sectors are.indexed; listed = listed flushes are.listed; alone = λ is. cc }
 
   pub lists_stay : (lists : ConflictLists) → AreConflictLists book lists → AreConflictLists later lists
-  lists_stay lists are = by_lone lists.lone lists.sectors lists.flushes are
+  lists_stay lists are = by_lone lists.unlisted lists.sectors lists.flushes are
 
 as_many : (f : BookEntry → BookEntry) (es : List BookEntry) → length (asks_of (map f es)) ≡ length (asks_of es)
 as_many f es = length-map (map f es) (λ (x : BookEntry). asks x.entry) ∙ (length-map es f ∙ sym (length-map es (λ (x : BookEntry). asks x.entry)))

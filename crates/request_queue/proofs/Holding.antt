@@ -1,4 +1,4 @@
--- What the book's changes make of the holders.
+-- What the book's changes make of the blockers.
 use Rattle.std.proofs.Common.{◌≡◌, ◌≢◌, ◌↔◌, ℕ, ◌<◌, ◌≤◌, ◌+◌, Bool, true, false, not, ◌&&◌, ◌||◌, ◌==◌, ◌%◌, List, [], ◌∷◌, ◌++◌, length, get_or, set, Option, Some, None, refl, sym, ap, ◌∙◌, subst, arith, ltb-true, eqb-true, eq-eqb, ⊎_elim, inl, inr}
 use Rattle.std.specs.List.{All, Contains, list_any, remove, slice_get}
 use Rattle.std.specs.Option.{option_map}
@@ -14,9 +14,9 @@ use Rattle.block_machine.specs.Due.{IsInOrder, conflict, is_earlier_on_port, is_
 use Rattle.request_queue.specs.declared.ranges.BookRange.{BookRange}
 use Rattle.request_queue.specs.Items.{is_earlier_conflict}
 use Rattle.request_queue.specs.Entries.{BookEntry, asks, asks_of, issue, requeued_entry}
-use Rattle.request_queue.specs.Flushes.{listed_flush, flushes_of, is_earlier_flush}
+use Rattle.request_queue.specs.Flushes.{listed_flush, flushes_among, is_earlier_flush}
 use Rattle.request_queue.specs.declared.flushes.Flush.{Flush}
-use Rattle.request_queue.specs.Holders.{AreHolders, AreHoldersBut, IsHolderOf, has_holder, is_held_by, may_have_holder, may_hold}
+use Rattle.request_queue.specs.Blockers.{AreBlockers, AreBlockersBut, IsBlockerOf, has_blocker, is_blocked_by, may_be_blocked, may_block}
 use Rattle.request_queue.specs.Sectors.{AreIndexed, AreSectorsOf, item_of, index_of_port}
 use Rattle.request_queue.proofs.Flushing.{in_flushes, of_flushes}
 use Rattle.request_queue.proofs.Indexing.{asks_more, asks_newest, ids_apart, in_four, in_remove}
@@ -25,8 +25,8 @@ use Rattle.request_queue.proofs.Unheld.{found, one_found, no_flush}
 
 -- ---- found by its sectors, or among the flushes
 
-module _ (book : List Unanswered) (lists : List (List BookRange)) (is : AreIndexed book lists) (flushes : List Flush) (are_flushes : flushes ≡ flushes_of book) (r : Unanswered)
-    (may : may_have_holder r ≡ true) where
+module _ (book : List Unanswered) (lists : List (List BookRange)) (is : AreIndexed book lists) (flushes : List Flush) (are_flushes : flushes ≡ flushes_among book) (r : Unanswered)
+    (may : may_be_blocked r ≡ true) where
   abbrev items : List BookRange
   items = get_or lists (index_of_port r.port) []
 
@@ -36,9 +36,9 @@ module _ (book : List Unanswered) (lists : List (List BookRange)) (is : AreIndex
   no_flush_itself : is_flush r.op ≡ false
   no_flush_itself = no_flush r.op (and_parts (not r.issued) _ may).1
 
-  none_found : list_any (is_earlier_conflict (item_of r)) items ≡ false → list_any (is_earlier_flush r) flushes ≡ false → has_holder book r ≡ false
+  none_found : list_any (is_earlier_conflict (item_of r)) items ≡ false → list_any (is_earlier_flush r) flushes ≡ false → has_blocker book r ≡ false
   none_found none no_flushes = false_from_ne_true _ (λ held.
-      let o = one_found (may_hold r) book (and_parts (may_have_holder r) _ held).1 in
+      let o = one_found (may_block r) book (and_parts (may_be_blocked r) _ held).1 in
       let parts = and_parts (is_earlier_on_port o.0 r) _ o.2 in
       by o.0 o.1 parts.0 parts.1 (is_flush o.0.op) refl)
     where
@@ -62,7 +62,7 @@ module _ (book : List Unanswered) (lists : List (List BookRange)) (is : AreIndex
           both_ways _ none (found (is_earlier_conflict (item_of r)) items (item_of o) ((sectors (item_of o)).1 (o, there, list, other, refl))
           (and_from _ _ early.0 (and_from _ _ early.1 (by_sectors o other both.1))))
 
-  pub one_holds : (x : BookRange) → Contains items x → is_earlier_conflict (item_of r) x ≡ true → IsHolderOf book r (Some x.id)
+  pub one_holds : (x : BookRange) → Contains items x → is_earlier_conflict (item_of r) x ≡ true → IsBlockerOf book r (Some x.id)
   one_holds x there meets =
       let h = (sectors x).0 there in
       let o = h.0 in
@@ -73,7 +73,7 @@ module _ (book : List Unanswered) (lists : List (List BookRange)) (is : AreIndex
         (o, h.1, ap (λ (i : BookRange). i.id) h.4, and_from _ _ (and_from _ _ one.0 two.0) (and_from _ _ one.0 (or_right (is_flush o.op || is_flush r.op) _ two.1))),
       )
 
-  flush_holds : (f : Flush) → Contains flushes f → is_earlier_flush r f ≡ true → IsHolderOf book r (Some f.id)
+  flush_holds : (f : Flush) → Contains flushes f → is_earlier_flush r f ≡ true → IsBlockerOf book r (Some f.id)
   flush_holds f there early =
       let h = of_flushes book f (subst (λ (fs : List Flush). Contains fs f) are_flushes there) in
       let o = h.0 in
@@ -84,37 +84,37 @@ module _ (book : List Unanswered) (lists : List (List BookRange)) (is : AreIndex
 
   -- where the index has none, the flushes are looked at
   pub by_flushes : list_any (is_earlier_conflict (item_of r)) items ≡ false → (h : Option RequestId) → IfNone h (list_any (is_earlier_flush r) flushes ≡ false)
-      → IfSome h (λ id. (f : Flush) × Contains flushes f × (f.id ≡ id) × (is_earlier_flush r f ≡ true)) → IsHolderOf book r h
+      → IfSome h (λ id. (f : Flush) × Contains flushes f × (f.id ≡ id) × (is_earlier_flush r f ≡ true)) → IsBlockerOf book r h
   by_flushes none None no_flushes some = none_found none no_flushes
-  by_flushes none (Some id) no_flushes some = subst (λ (n : RequestId). IsHolderOf book r (Some n)) some.2 (flush_holds some.0 some.1 some.3)
+  by_flushes none (Some id) no_flushes some = subst (λ (n : RequestId). IsBlockerOf book r (Some n)) some.2 (flush_holds some.0 some.1 some.3)
 
 -- ---- kept by a change
 
--- a holder stays where those that may hold do
-carried : (old new : List Unanswered) (r s : Unanswered) (h : Option RequestId) → may_have_holder s ≡ may_have_holder r
-    → ((o : Unanswered) → Contains new o → may_hold s o ≡ true → (u : Unanswered) × Contains old u × (may_hold r u ≡ true))
-    → ((o : Unanswered) → Contains old o → h ≡ Some o.id → may_hold r o ≡ true → (u : Unanswered) × Contains new u × (u.id ≡ o.id) × (may_hold s u ≡ true))
-    → IsHolderOf old r h → IsHolderOf new s h
+-- a blocker stays where those that may hold do
+carried : (old new : List Unanswered) (r s : Unanswered) (h : Option RequestId) → may_be_blocked s ≡ may_be_blocked r
+    → ((o : Unanswered) → Contains new o → may_block s o ≡ true → (u : Unanswered) × Contains old u × (may_block r u ≡ true))
+    → ((o : Unanswered) → Contains old o → h ≡ Some o.id → may_block r o ≡ true → (u : Unanswered) × Contains new u × (u.id ≡ o.id) × (may_block s u ≡ true))
+    → IsBlockerOf old r h → IsBlockerOf new s h
 carried old new r s None same back forth none = false_from_ne_true _ (λ held.
-    let two = and_parts (may_have_holder s) _ held in
-    let o = one_found (may_hold s) new two.1 in
+    let two = and_parts (may_be_blocked s) _ held in
+    let o = one_found (may_block s) new two.1 in
     let u = back o.0 o.1 o.2 in
-    both_ways _ none (and_from _ _ (sym same ∙ two.0) (found (may_hold r) old u.0 u.1 u.2)))
+    both_ways _ none (and_from _ _ (sym same ∙ two.0) (found (may_block r) old u.0 u.1 u.2)))
 carried old new r s (Some id) same back forth is =
     let u = forth is.1.0 is.1.1 (ap Some (sym is.1.2)) is.1.3 in
     (same ∙ is.0, (u.0, u.1, u.2 ∙ is.1.2, u.3))
 
 -- one that may hold a request was accepted before it
-pub holds_earlier : (r o : Unanswered) → may_hold r o ≡ true → o.id.0 < r.id.0
+pub holds_earlier : (r o : Unanswered) → may_block r o ≡ true → o.id.0 < r.id.0
 holds_earlier r o is = ltb-true o.id.0 r.id.0 (and_parts (o.port.0 == r.port.0) _ (and_parts (is_earlier_on_port o r) _ is).0).1
 
 -- accepted
-module _ (book : List Unanswered) (holders : List (Option RequestId)) (r : Unanswered) (h : Option RequestId) (are : AreHolders book holders)
-    (newest : All (λ o. o.id.0 < r.id.0) book) (its : IsHolderOf book r h) where
+module _ (book : List Unanswered) (blockers : List (Option RequestId)) (r : Unanswered) (h : Option RequestId) (are : AreBlockers book blockers)
+    (newest : All (λ o. o.id.0 < r.id.0) book) (its : IsBlockerOf book r h) where
   abbrev longer : List Unanswered
   longer = book ++ r ∷ []
 
-  still : (x : Unanswered) (g : Option RequestId) → x.id.0 ≤ r.id.0 → IsHolderOf book x g → IsHolderOf longer x g
+  still : (x : Unanswered) (g : Option RequestId) → x.id.0 ≤ r.id.0 → IsBlockerOf book x g → IsBlockerOf longer x g
   still x g low is = carried book longer x x g refl
       (λ o there holds. elim (Contains-append_cases book (r ∷ []) o there) [
         | inl old ↦ (o, old, holds)
@@ -126,23 +126,23 @@ module _ (book : List Unanswered) (holders : List (Option RequestId)) (r : Unans
       (λ o there named holds. (o, Contains-append_left book (r ∷ []) o there, refl, holds))
       is
 
-  pub accepted_holders : AreHolders longer (holders ++ h ∷ [])
+  pub accepted_holders : AreBlockers longer (blockers ++ h ∷ [])
   accepted_holders = record {
-    number = let a = length_push holders h in let b = length_push book r in let n = are.number in omega (arith, a, b, n);
+    number = let a = length_push blockers h in let b = length_push book r in let n = are.number in omega (arith, a, b, n);
     each = λ k d lt. let long = length_push book r in let n = are.number in elim (cases_lt k (length book)) [
       | inl low ↦
           let x = get_or book k d in
-          subst (λ (y : Unanswered). IsHolderOf longer y (get_or (holders ++ h ∷ []) k None)) (sym (get_or_append_left book (r ∷ []) d k low))
-          (subst (λ (g : Option RequestId). IsHolderOf longer x g) (sym (get_or_append_left holders (h ∷ []) None k (omega (arith, low, n))))
-          (still x (get_or holders k None) (let up = newest k d low in omega (arith, up)) (are.each k d low)))
+          subst (λ (y : Unanswered). IsBlockerOf longer y (get_or (blockers ++ h ∷ []) k None)) (sym (get_or_append_left book (r ∷ []) d k low))
+          (subst (λ (g : Option RequestId). IsBlockerOf longer x g) (sym (get_or_append_left blockers (h ∷ []) None k (omega (arith, low, n))))
+          (still x (get_or blockers k None) (let up = newest k d low in omega (arith, up)) (are.each k d low)))
       | inr high ↦
-          subst (λ (y : Unanswered). IsHolderOf longer y (get_or (holders ++ h ∷ []) k None)) (sym (get_or_push book r d k (omega (arith, high, lt, long))))
-          (subst (λ (g : Option RequestId). IsHolderOf longer r g) (sym (get_or_push holders h None k (omega (arith, high, lt, long, n)))) (still r h (omega arith) its))
+          subst (λ (y : Unanswered). IsBlockerOf longer y (get_or (blockers ++ h ∷ []) k None)) (sym (get_or_push book r d k (omega (arith, high, lt, long))))
+          (subst (λ (g : Option RequestId). IsBlockerOf longer r g) (sym (get_or_push blockers h None k (omega (arith, high, lt, long, n)))) (still r h (omega arith) its))
     ];
   }
 
 -- issued, or waiting again
-module _ (book : List Unanswered) (holders : List (Option RequestId)) (i : ℕ) (r : Unanswered) (issued : Bool) (h : Option RequestId) (are : AreHolders book holders)
+module _ (book : List Unanswered) (blockers : List (Option RequestId)) (i : ℕ) (r : Unanswered) (issued : Bool) (h : Option RequestId) (are : AreBlockers book blockers)
     (at : slice_get book i ≡ Some r) where
   abbrev marked : Unanswered
   marked = record r { issued = issued }
@@ -153,44 +153,44 @@ module _ (book : List Unanswered) (holders : List (Option RequestId)) (i : ℕ) 
   within : i < length book
   within = slice_get_within book i r at
 
-  pub marked_holders : IsHolderOf marked_book marked h → AreHolders marked_book (set holders i h)
+  pub marked_holders : IsBlockerOf marked_book marked h → AreBlockers marked_book (set blockers i h)
   marked_holders its = record {
-    number = length-set holders i h ∙ (are.number ∙ sym (length-set book i marked));
+    number = length-set blockers i h ∙ (are.number ∙ sym (length-set book i marked));
     each = λ k d lt. let long = length-set book i marked in let n = are.number in elim (cases_eq k i) [
-      | inl e ↦ subst (λ (j : ℕ). IsHolderOf marked_book (get_or marked_book j d) (get_or (set holders i h) j None)) (sym e)
-          (subst (λ (y : Unanswered). IsHolderOf marked_book y (get_or (set holders i h) i None)) (sym (get_or-set_same book i marked d within))
-          (subst (λ (g : Option RequestId). IsHolderOf marked_book marked g) (sym (get_or-set_same holders i h None (let w = within in omega (arith, w, n)))) its))
+      | inl e ↦ subst (λ (j : ℕ). IsBlockerOf marked_book (get_or marked_book j d) (get_or (set blockers i h) j None)) (sym e)
+          (subst (λ (y : Unanswered). IsBlockerOf marked_book y (get_or (set blockers i h) i None)) (sym (get_or-set_same book i marked d within))
+          (subst (λ (g : Option RequestId). IsBlockerOf marked_book marked g) (sym (get_or-set_same blockers i h None (let w = within in omega (arith, w, n)))) its))
       | inr ne ↦
           let x = get_or book k d in
-          subst (λ (y : Unanswered). IsHolderOf marked_book y (get_or (set holders i h) k None)) (sym (get_or-set_other book i k marked d ne))
-          (subst (λ (g : Option RequestId). IsHolderOf marked_book x g) (sym (get_or-set_other holders i k h None ne))
-          (carried book marked_book x x (get_or holders k None) refl (back x) (λ o there named holds. forth x o there holds) (are.each k d (omega (arith, lt, long)))))
+          subst (λ (y : Unanswered). IsBlockerOf marked_book y (get_or (set blockers i h) k None)) (sym (get_or-set_other book i k marked d ne))
+          (subst (λ (g : Option RequestId). IsBlockerOf marked_book x g) (sym (get_or-set_other blockers i k h None ne))
+          (carried book marked_book x x (get_or blockers k None) refl (back x) (λ o there named holds. forth x o there holds) (are.each k d (omega (arith, lt, long)))))
     ];
   }
     where
-      back : (x o : Unanswered) → Contains marked_book o → may_hold x o ≡ true → (u : Unanswered) × Contains book u × (may_hold x u ≡ true)
+      back : (x o : Unanswered) → Contains marked_book o → may_block x o ≡ true → (u : Unanswered) × Contains book u × (may_block x u ≡ true)
       back x o there holds = let long = length-set book i marked in let lt = there.1 in elim (cases_eq there.0 i) [
         | inl e ↦
             let same : o ≡ marked = sym there.2 ∙ (ap (λ (j : ℕ). get_or marked_book j o) e ∙ get_or-set_same book i marked o within) in
-            (r, (i, within, get_or_from_slice_get book i r r at), ap (may_hold x) (sym same) ∙ holds)
+            (r, (i, within, get_or_from_slice_get book i r r at), ap (may_block x) (sym same) ∙ holds)
         | inr ne ↦ (o, (there.0, omega (arith, lt, long), sym (get_or-set_other book i there.0 marked o ne) ∙ there.2), holds)
       ]
 
-      forth : (x o : Unanswered) → Contains book o → may_hold x o ≡ true → (u : Unanswered) × Contains marked_book u × (u.id ≡ o.id) × (may_hold x u ≡ true)
+      forth : (x o : Unanswered) → Contains book o → may_block x o ≡ true → (u : Unanswered) × Contains marked_book u × (u.id ≡ o.id) × (may_block x u ≡ true)
       forth x o there holds = let long = length-set book i marked in let lt = there.1 in elim (cases_eq there.0 i) [
         | inl e ↦
             let same : o ≡ r = sym there.2 ∙ (ap (λ (j : ℕ). get_or book j o) e ∙ get_or_from_slice_get book i r o at) in
             let w = within in
-            (marked, (i, omega (arith, w, long), get_or-set_same book i marked marked within), ap (λ (u : Unanswered). u.id) (sym same), ap (may_hold x) (sym same) ∙ holds)
+            (marked, (i, omega (arith, w, long), get_or-set_same book i marked marked within), ap (λ (u : Unanswered). u.id) (sym same), ap (may_block x) (sym same) ∙ holds)
         | inr ne ↦ (o, (there.0, omega (arith, lt, long), get_or-set_other book i there.0 marked o ne ∙ there.2), refl, holds)
       ]
 
 -- an issued request has none
-pub issued_has_none : (book : List Unanswered) (r : Unanswered) → has_holder book (record r { issued = true }) ≡ false
+pub issued_has_none : (book : List Unanswered) (r : Unanswered) → has_blocker book (record r { issued = true }) ≡ false
 issued_has_none book r = refl
 
 -- answered
-module _ (book : List Unanswered) (holders : List (Option RequestId)) (i : ℕ) (r : Unanswered) (are : AreHolders book holders) (ordered : IsInOrder book)
+module _ (book : List Unanswered) (blockers : List (Option RequestId)) (i : ℕ) (r : Unanswered) (are : AreBlockers book blockers) (ordered : IsInOrder book)
     (at : slice_get book i ≡ Some r) where
   inside : i < length book
   inside = slice_get_within book i r at
@@ -198,13 +198,13 @@ module _ (book : List Unanswered) (holders : List (Option RequestId)) (i : ℕ) 
   left_over : (o : Unanswered) → Contains (remove book i) o ↔ (Contains book o × (o.id ≢ r.id))
   left_over o = in_remove (λ (u : Unanswered). u.id) book i r at (ids_apart book ordered) o
 
-  stays : (x : Unanswered) (g : Option RequestId) → is_held_by r.id g ≡ false → IsHolderOf book x g → IsHolderOf (remove book i) x g
+  stays : (x : Unanswered) (g : Option RequestId) → is_blocked_by r.id g ≡ false → IsBlockerOf book x g → IsBlockerOf (remove book i) x g
   stays x g other is = carried book (remove book i) x x g refl
       (λ o there holds. (o, ((left_over o).0 there).0, holds))
-      (λ o there named holds. (o, (left_over o).1 (there, λ e. both_ways _ other (ap (is_held_by r.id) named ∙ eq-eqb o.id.0 r.id.0 (ap (λ (n : RequestId). n.0) e))), refl, holds))
+      (λ o there named holds. (o, (left_over o).1 (there, λ e. both_ways _ other (ap (is_blocked_by r.id) named ∙ eq-eqb o.id.0 r.id.0 (ap (λ (n : RequestId). n.0) e))), refl, holds))
       is
 
-  not_before : (x : Unanswered) (g : Option RequestId) → x.id.0 < r.id.0 → IsHolderOf book x g → is_held_by r.id g ≡ false
+  not_before : (x : Unanswered) (g : Option RequestId) → x.id.0 < r.id.0 → IsBlockerOf book x g → is_blocked_by r.id g ≡ false
   not_before x None low is = refl
   not_before x (Some id) low is = false_from_ne_true _ (λ same.
       let n = eqb-true id.0 r.id.0 same in
@@ -212,8 +212,8 @@ module _ (book : List Unanswered) (holders : List (Option RequestId)) (i : ℕ) 
       let less = holds_earlier x is.1.0 is.1.3 in
       omega (arith, n, its, less, low))
 
-  at_left : (k : ℕ) (d : Unanswered) → k < length (remove book i) → is_held_by r.id (get_or (remove holders i) k None) ≡ false
-      → IsHolderOf (remove book i) (get_or (remove book i) k d) (get_or (remove holders i) k None)
+  at_left : (k : ℕ) (d : Unanswered) → k < length (remove book i) → is_blocked_by r.id (get_or (remove blockers i) k None) ≡ false
+      → IsBlockerOf (remove book i) (get_or (remove book i) k d) (get_or (remove blockers i) k None)
   at_left k d lt other =
       let w = inside in
       let n = are.number in
@@ -221,86 +221,86 @@ module _ (book : List Unanswered) (holders : List (Option RequestId)) (i : ℕ) 
       elim (cases_lt k i) [
         | inl low ↦
             let x = get_or-remove_below book i d k low inside in
-            let g = get_or-remove_below holders i None k low (omega (arith, w, n)) in
-            subst (λ (y : Unanswered). IsHolderOf (remove book i) y (get_or (remove holders i) k None)) (sym x)
-            (stays (get_or book k d) (get_or (remove holders i) k None) other (subst (λ (h : Option RequestId). IsHolderOf book (get_or book k d) h) (sym g) (are.each k d (omega (arith, lt, a)))))
+            let g = get_or-remove_below blockers i None k low (omega (arith, w, n)) in
+            subst (λ (y : Unanswered). IsBlockerOf (remove book i) y (get_or (remove blockers i) k None)) (sym x)
+            (stays (get_or book k d) (get_or (remove blockers i) k None) other (subst (λ (h : Option RequestId). IsBlockerOf book (get_or book k d) h) (sym g) (are.each k d (omega (arith, lt, a)))))
         | inr high ↦
             let x = get_or-remove_above book i d k high inside in
-            let g = get_or-remove_above holders i None k high (omega (arith, w, n)) in
-            subst (λ (y : Unanswered). IsHolderOf (remove book i) y (get_or (remove holders i) k None)) (sym x)
-            (stays (get_or book (k + 1) d) (get_or (remove holders i) k None) other (subst (λ (h : Option RequestId). IsHolderOf book (get_or book (k + 1) d) h) (sym g) (are.each (k + 1) d (omega (arith, lt, a)))))
+            let g = get_or-remove_above blockers i None k high (omega (arith, w, n)) in
+            subst (λ (y : Unanswered). IsBlockerOf (remove book i) y (get_or (remove blockers i) k None)) (sym x)
+            (stays (get_or book (k + 1) d) (get_or (remove blockers i) k None) other (subst (λ (h : Option RequestId). IsBlockerOf book (get_or book (k + 1) d) h) (sym g) (are.each (k + 1) d (omega (arith, lt, a)))))
       ]
 
-  pub removed_holders : AreHoldersBut r.id i (remove book i) (remove holders i)
+  pub removed_holders : AreBlockersBut r.id i (remove book i) (remove blockers i)
   removed_holders = record {
     number =
         let w = inside in
         let n = are.number in
         let a = length-remove book i inside in
-        let b = length-remove holders i (omega (arith, w, n)) in
+        let b = length-remove blockers i (omega (arith, w, n)) in
         omega (arith, a, b, n);
     before = λ k d low lt.
         let w = inside in
         let n = are.number in
         let a = length-remove book i inside in
-        let g = get_or-remove_below holders i None k low (omega (arith, w, n)) in
+        let g = get_or-remove_below blockers i None k low (omega (arith, w, n)) in
         let up = ordered k i d low inside in
         let same = ap (λ (u : Unanswered). u.id.0) (get_or_from_slice_get book i r d at) in
-        at_left k d lt (ap (is_held_by r.id) g ∙ not_before (get_or book k d) (get_or holders k None) (omega (arith, up, same)) (are.each k d (omega (arith, lt, a))));
+        at_left k d lt (ap (is_blocked_by r.id) g ∙ not_before (get_or book k d) (get_or blockers k None) (omega (arith, up, same)) (are.each k d (omega (arith, lt, a))));
     each = at_left;
   }
 
 -- one place further
-module _ (id : RequestId) (place : ℕ) (book : List Unanswered) (holders : List (Option RequestId)) (are : AreHoldersBut id place book holders) where
-  pub one_kept : is_held_by id (get_or holders place None) ≡ false → AreHoldersBut id (place + 1) book holders
+module _ (id : RequestId) (place : ℕ) (book : List Unanswered) (blockers : List (Option RequestId)) (are : AreBlockersBut id place book blockers) where
+  pub one_kept : is_blocked_by id (get_or blockers place None) ≡ false → AreBlockersBut id (place + 1) book blockers
   one_kept other = record {
     number = are.number;
     before = λ k d lt short. elim (cases_eq k place) [
-      | inl e ↦ are.each k d short (ap (λ (j : ℕ). is_held_by id (get_or holders j None)) e ∙ other)
+      | inl e ↦ are.each k d short (ap (λ (j : ℕ). is_blocked_by id (get_or blockers j None)) e ∙ other)
       | inr ne ↦ are.before k d (omega (arith, lt, ne)) short
     ];
     each = are.each;
   }
 
-  pub one_anew : (r : Unanswered) (h : Option RequestId) → slice_get book place ≡ Some r → IsHolderOf book r h → AreHoldersBut id (place + 1) book (set holders place h)
+  pub one_anew : (r : Unanswered) (h : Option RequestId) → slice_get book place ≡ Some r → IsBlockerOf book r h → AreBlockersBut id (place + 1) book (set blockers place h)
   one_anew r h at its = record {
-    number = length-set holders place h ∙ are.number;
+    number = length-set blockers place h ∙ are.number;
     before = λ k d lt short. elim (cases_eq k place) [
       | inl e ↦ here k d e
-      | inr ne ↦ subst (λ (g : Option RequestId). IsHolderOf book (get_or book k d) g) (sym (get_or-set_other holders place k h None ne)) (are.before k d (omega (arith, lt, ne)) short)
+      | inr ne ↦ subst (λ (g : Option RequestId). IsBlockerOf book (get_or book k d) g) (sym (get_or-set_other blockers place k h None ne)) (are.before k d (omega (arith, lt, ne)) short)
     ];
     each = λ k d short other. elim (cases_eq k place) [
       | inl e ↦ here k d e
       | inr ne ↦
-          let g = get_or-set_other holders place k h None ne in
-          subst (λ (g : Option RequestId). IsHolderOf book (get_or book k d) g) (sym g) (are.each k d short (ap (is_held_by id) (sym g) ∙ other))
+          let g = get_or-set_other blockers place k h None ne in
+          subst (λ (g : Option RequestId). IsBlockerOf book (get_or book k d) g) (sym g) (are.each k d short (ap (is_blocked_by id) (sym g) ∙ other))
     ];
   }
     where
-      here : (k : ℕ) (d : Unanswered) → k ≡ place → IsHolderOf book (get_or book k d) (get_or (set holders place h) k None)
+      here : (k : ℕ) (d : Unanswered) → k ≡ place → IsBlockerOf book (get_or book k d) (get_or (set blockers place h) k None)
       here k d e =
           let w = slice_get_within book place r at in
           let n = are.number in
-          subst (λ (j : ℕ). IsHolderOf book (get_or book j d) (get_or (set holders place h) j None)) (sym e)
-          (subst (λ (y : Unanswered). IsHolderOf book y (get_or (set holders place h) place None)) (sym (get_or_from_slice_get book place r d at))
-          (subst (λ (g : Option RequestId). IsHolderOf book r g) (sym (get_or-set_same holders place h None (omega (arith, w, n)))) its))
+          subst (λ (j : ℕ). IsBlockerOf book (get_or book j d) (get_or (set blockers place h) j None)) (sym e)
+          (subst (λ (y : Unanswered). IsBlockerOf book y (get_or (set blockers place h) place None)) (sym (get_or_from_slice_get book place r d at))
+          (subst (λ (g : Option RequestId). IsBlockerOf book r g) (sym (get_or-set_same blockers place h None (omega (arith, w, n)))) its))
 
-  pub all_searched : length book ≤ place → AreHolders book holders
+  pub all_searched : length book ≤ place → AreBlockers book blockers
   all_searched over = record { number = are.number; each = λ k d lt. are.before k d (omega (arith, lt, over)) lt }
 
 -- ---- read at a place
 
 module _ (book : List Unanswered) (r : Unanswered) where
-  pub no_holder : (h : Option RequestId) → h ≡ None → IsHolderOf book r h → has_holder book r ≡ false
+  pub no_holder : (h : Option RequestId) → h ≡ None → IsBlockerOf book r h → has_blocker book r ≡ false
   no_holder None e is = is
   no_holder (Some id) e is = absurd (some_none id e)
     where
       some_none : (id : RequestId) → ◌≡◌ {A = Option RequestId} (Some id) None → ⊥
       some_none id e = cc
 
-  pub a_holder : (h : Option RequestId) → (h ≡ None → ⊥) → IsHolderOf book r h → has_holder book r ≡ true
+  pub a_holder : (h : Option RequestId) → (h ≡ None → ⊥) → IsBlockerOf book r h → has_blocker book r ≡ true
   a_holder None some is = absurd (some refl)
-  a_holder (Some id) some is = and_from _ _ is.0 (found (may_hold r) book is.1.0 is.1.1 is.1.3)
+  a_holder (Some id) some is = and_from _ _ is.0 (found (may_block r) book is.1.0 is.1.1 is.1.3)
 
 -- ---- of the book's own requests
 
@@ -310,37 +310,37 @@ asks_there es i e at = slice_get-map (λ (x : BookEntry). asks x.entry) es i ∙
 asks_set : (es : List BookEntry) (i : ℕ) (e : BookEntry) → asks_of (set es i e) ≡ set (asks_of es) i (asks e.entry)
 asks_set es i e = map-set (λ (x : BookEntry). asks x.entry) es i e
 
-pub no_holders : AreHolders [] []
-no_holders = record { number = refl; each = λ k d lt. absurd (omega (arith, lt)) }
+pub no_blockers : AreBlockers [] []
+no_blockers = record { number = refl; each = λ k d lt. absurd (omega (arith, lt)) }
 
-pub longer_holders : (es : List BookEntry) (e : BookEntry) (holders : List (Option RequestId)) (r : Unanswered) (h : Option RequestId) → r ≡ asks e.entry → AreHolders (asks_of es) holders
-    → All (λ x. x.entry.id.0 < e.entry.id.0) es → IsHolderOf (asks_of es) r h → AreHolders (asks_of (es ++ e ∷ [])) (holders ++ h ∷ [])
-longer_holders es e holders r h same are newest its =
-    subst (λ (book : List Unanswered). AreHolders book (holders ++ h ∷ [])) (sym (asks_more es e))
-    (accepted_holders (asks_of es) holders (asks e.entry) h are (asks_newest es e.entry.id.0 newest) (subst (λ (x : Unanswered). IsHolderOf (asks_of es) x h) same its))
+pub longer_holders : (es : List BookEntry) (e : BookEntry) (blockers : List (Option RequestId)) (r : Unanswered) (h : Option RequestId) → r ≡ asks e.entry → AreBlockers (asks_of es) blockers
+    → All (λ x. x.entry.id.0 < e.entry.id.0) es → IsBlockerOf (asks_of es) r h → AreBlockers (asks_of (es ++ e ∷ [])) (blockers ++ h ∷ [])
+longer_holders es e blockers r h same are newest its =
+    subst (λ (book : List Unanswered). AreBlockers book (blockers ++ h ∷ [])) (sym (asks_more es e))
+    (accepted_holders (asks_of es) blockers (asks e.entry) h are (asks_newest es e.entry.id.0 newest) (subst (λ (x : Unanswered). IsBlockerOf (asks_of es) x h) same its))
 
-pub issued_holders : (es : List BookEntry) (holders : List (Option RequestId)) (i : ℕ) (e : BookEntry) → AreHolders (asks_of es) holders → slice_get es i ≡ Some e
-    → AreHolders (asks_of (set es i (record e { entry = issue e.entry }))) (set holders i None)
-issued_holders es holders i e are at =
-    subst (λ (book : List Unanswered). AreHolders book (set holders i None)) (sym (asks_set es i (record e { entry = issue e.entry })))
-    (marked_holders (asks_of es) holders i (asks e.entry) true None are (asks_there es i e at) refl)
+pub issued_holders : (es : List BookEntry) (blockers : List (Option RequestId)) (i : ℕ) (e : BookEntry) → AreBlockers (asks_of es) blockers → slice_get es i ≡ Some e
+    → AreBlockers (asks_of (set es i (record e { entry = issue e.entry }))) (set blockers i None)
+issued_holders es blockers i e are at =
+    subst (λ (book : List Unanswered). AreBlockers book (set blockers i None)) (sym (asks_set es i (record e { entry = issue e.entry })))
+    (marked_holders (asks_of es) blockers i (asks e.entry) true None are (asks_there es i e at) refl)
 
-pub requeued_holders : (es : List BookEntry) (holders : List (Option RequestId)) (i : ℕ) (e : BookEntry) (r : Unanswered) (h : Option RequestId) → AreHolders (asks_of es) holders → slice_get es i ≡ Some e
-    → slice_get (asks_of (set es i (record e { entry = requeued_entry e.entry }))) i ≡ Some r → IsHolderOf (asks_of (set es i (record e { entry = requeued_entry e.entry }))) r h
-    → AreHolders (asks_of (set es i (record e { entry = requeued_entry e.entry }))) (set holders i h)
-requeued_holders es holders i e r h are at its is =
+pub requeued_holders : (es : List BookEntry) (blockers : List (Option RequestId)) (i : ℕ) (e : BookEntry) (r : Unanswered) (h : Option RequestId) → AreBlockers (asks_of es) blockers → slice_get es i ≡ Some e
+    → slice_get (asks_of (set es i (record e { entry = requeued_entry e.entry }))) i ≡ Some r → IsBlockerOf (asks_of (set es i (record e { entry = requeued_entry e.entry }))) r h
+    → AreBlockers (asks_of (set es i (record e { entry = requeued_entry e.entry }))) (set blockers i h)
+requeued_holders es blockers i e r h are at its is =
     let there = asks_there es i e at in
     let new = asks_set es i (record e { entry = requeued_entry e.entry }) in
     let waiting : Unanswered = asks (requeued_entry e.entry) in
     let same : r ≡ waiting =
     sym (get_or_from_slice_get (set (asks_of es) i waiting) i r waiting (subst (λ (book : List Unanswered). slice_get book i ≡ Some r) new its))
     ∙ get_or-set_same (asks_of es) i waiting waiting (slice_get_within (asks_of es) i (asks e.entry) there) in
-    subst (λ (book : List Unanswered). AreHolders book (set holders i h)) (sym new)
-    (marked_holders (asks_of es) holders i (asks e.entry) false h are there
-    (subst (λ (book : List Unanswered). IsHolderOf book waiting h) new (subst (λ (x : Unanswered). IsHolderOf (asks_of (set es i (record e { entry = requeued_entry e.entry }))) x h) same is)))
+    subst (λ (book : List Unanswered). AreBlockers book (set blockers i h)) (sym new)
+    (marked_holders (asks_of es) blockers i (asks e.entry) false h are there
+    (subst (λ (book : List Unanswered). IsBlockerOf book waiting h) new (subst (λ (x : Unanswered). IsBlockerOf (asks_of (set es i (record e { entry = requeued_entry e.entry }))) x h) same is)))
 
-pub fewer_holders : (es : List BookEntry) (holders : List (Option RequestId)) (i : ℕ) (e : BookEntry) (id : RequestId) → AreHolders (asks_of es) holders → IsInOrder (asks_of es)
-    → slice_get es i ≡ Some e → e.entry.id ≡ id → AreHoldersBut id i (remove (asks_of es) i) (remove holders i)
-fewer_holders es holders i e id are ordered at named =
-    subst (λ (n : RequestId). AreHoldersBut n i (remove (asks_of es) i) (remove holders i)) named
-    (removed_holders (asks_of es) holders i (asks e.entry) are ordered (asks_there es i e at))
+pub fewer_holders : (es : List BookEntry) (blockers : List (Option RequestId)) (i : ℕ) (e : BookEntry) (id : RequestId) → AreBlockers (asks_of es) blockers → IsInOrder (asks_of es)
+    → slice_get es i ≡ Some e → e.entry.id ≡ id → AreBlockersBut id i (remove (asks_of es) i) (remove blockers i)
+fewer_holders es blockers i e id are ordered at named =
+    subst (λ (n : RequestId). AreBlockersBut n i (remove (asks_of es) i) (remove blockers i)) named
+    (removed_holders (asks_of es) blockers i (asks e.entry) are ordered (asks_there es i e at))

@@ -10,7 +10,7 @@ use Rattle.ata_types.specs.declared.Port.{Port}
 use Rattle.block_machine.specs.declared.due.QueueMode.{QueueMode}
 use Rattle.block_machine.specs.declared.due.Unanswered.{Unanswered}
 use Rattle.block_machine.specs.Due.{conflict, waits_for, is_unblocked, is_plain}
-use Rattle.request_queue.specs.Holders.{may_have_holder, may_hold}
+use Rattle.request_queue.specs.Blockers.{may_be_blocked, may_block}
 use Rattle.request_queue.specs.Walk.{TalliesIssued, IsReachedInWalk, is_issued_plain}
 use Rattle.request_queue.specs.declared.due.Issued.{Issued}
 use Rattle.request_queue.proofs.Members.{count_cons, contains_none, contains_here, contains_there, contains_cases}
@@ -99,7 +99,7 @@ module _ (mode : QueueMode) (requests : List Unanswered) (i : ℕ) (r : Unanswer
           or_right (list_any (λ (u : Unanswered). u.issued) requests) _ (lt-ltb 0 i (omega (arith, low))))
           (or_cases any.0.issued _ parts.1)
 
-  -- a queued request without a holder waits for a plain one that is issued
+  -- a queued request without a blocker waits for a plain one that is issued
   queued_held : r.issued ≡ false → is_plain mode r.op ≡ false → list_any (waits_for mode r) requests ≡ list_any (is_issued_plain mode) requests
   queued_held waits queued = same_bool (list_any (waits_for mode r) requests) (list_any (is_issued_plain mode) requests) back ahead
     where
@@ -113,9 +113,9 @@ module _ (mode : QueueMode) (requests : List Unanswered) (i : ℕ) (r : Unanswer
           found (waits_for mode r) requests any.0 any.1 (way any.0 ∙ and_from _ _ (of_one_port any.0 any.1) (or_left (is_plain mode any.0.op && any.0.issued) _ any.2))
 
       none_meets : (o : Unanswered) → Contains requests o → nat_lt o.id.0 r.id.0 ≡ true → is_plain mode o.op ≡ false → conflict o r ≡ true → ⊥
-      none_meets o there less alone meets = both_ways _ reached.unheld
-          (and_from (may_have_holder r) _ (and_from (not r.issued) _ (ap not waits) (queued_is_read_or_write mode r.op queued))
-          (found (may_hold r) requests o there (and_from _ _ (and_from _ _ (of_one_port o there) less) meets)))
+      none_meets o there less alone meets = both_ways _ reached.without_blocker
+          (and_from (may_be_blocked r) _ (and_from (not r.issued) _ (ap not waits) (queued_is_read_or_write mode r.op queued))
+          (found (may_block r) requests o there (and_from _ _ (and_from _ _ (of_one_port o there) less) meets)))
 
       back : list_any (waits_for mode r) requests ≡ true → list_any (is_issued_plain mode) requests ≡ true
       back is =

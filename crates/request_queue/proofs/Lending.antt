@@ -15,7 +15,7 @@ use Rattle.request_queue.specs.declared.PendingRequest.{PendingRequest}
 use Rattle.request_queue.proofs.Members.{map_in}
 use Rattle.request_queue.proofs.Changing.{either_way, without_in}
 use Rattle.request_queue.proofs.Finding.{without_other}
-use Rattle.block_machine.specs.Rules.{is_under}
+use Rattle.block_machine.specs.Rules.{is_same_grant_name}
 
 pub still_accepted : (old new : Table) (frames : List Frame) (to : Option RequestId) (e : BookEntry) → LendsOnly old new frames to → IsAccepted old e
     → ((f : Frame) → Contains e.frames f → Contains frames f → ⊥) → IsAccepted new e
@@ -102,7 +102,7 @@ all_aged table es ports all = all_changed table es (λ (e : BookEntry). record e
 
 pub all_revoked : (table : Table) (es : List BookEntry) (client : ClientId) (grant : ℕ) → All (IsAccepted table) es → All (IsAccepted table) (all_marked_under client grant es)
 all_revoked table es client grant all = all_changed table es (λ (e : BookEntry). record e { entry = marked_under client grant e.entry })
-    (λ e a. either_way (λ (r : PendingRequest). IsAccepted table (record e { entry = r })) (is_under client grant e.entry.client e.entry.grant) (record (e.entry) { revoked = true }) e.entry
+    (λ e a. either_way (λ (r : PendingRequest). IsAccepted table (record e { entry = r })) (is_same_grant_name client grant e.entry.client e.entry.grant) (record (e.entry) { revoked = true }) e.entry
     (further table e e.entry.issued e.entry.issues e.entry.age true a) a) all
 
 pub all_stand : (table : Table) (es : List BookEntry) → All (IsAccepted table) es → All (HasItsFrames table) es

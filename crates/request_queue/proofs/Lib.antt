@@ -4,11 +4,11 @@ pub mod Taking
 pub mod Walk
 pub mod Own
 pub mod Stepping
-pub mod Counts
+pub mod ClientCounts
 pub mod Changing
 pub mod Alone
 pub mod AllChanged
-pub mod Beside
+pub mod BookIndexes
 pub mod Ending
 pub mod Working
 pub mod Listing

@@ -14,7 +14,7 @@ use Rattle.block_machine.specs.declared.due.QueueMode.{QueueMode}
 use Rattle.block_machine.specs.declared.due.Unanswered.{Unanswered}
 use Rattle.block_machine.specs.Due.{IsInOrder, is_plain, issued_count, free_slots, due_of}
 use Rattle.request_queue.specs.Entries.{BookEntry, asks, asks_of, due_ids}
-use Rattle.request_queue.specs.Holders.{has_holder, may_have_holder, may_hold, unheld}
+use Rattle.request_queue.specs.Blockers.{has_blocker, may_be_blocked, may_block, without_blocker}
 use Rattle.request_queue.specs.Walk.{IsReachedInWalk}
 use Rattle.request_queue.specs.Store.{asks_at, blank_entry}
 use Rattle.request_queue.proofs.Members.{count_append, count_cons, taken_more}
@@ -42,10 +42,10 @@ own_issued port (x ∷ xs) own =
     let head : ◌≡◌ {A = ℕ} (cond ((x.port.0 == port.0) && x.issued) 1 0) (cond x.issued 1 0) = ap (λ (b : Bool). cond {A = ℕ} (b && x.issued) 1 0) mine in
     omega (arith, rest, head, count_cons (λ (r : Unanswered). r.issued) x xs, count_cons (λ (r : Unanswered). (r.port.0 == port.0) && r.issued) x xs)
 
--- the walk is over those of the port that have no holder
-module _ (port : Port) (all book : List Unanswered) (is : book ≡ unheld port all) where
+-- the walk is over those of the port that have no blocker
+module _ (port : Port) (all book : List Unanswered) (is : book ≡ without_blocker port all) where
   abbrev p : Unanswered → Bool
-  p r = r.port.0 == port.0 && not (has_holder all r)
+  p r = r.port.0 == port.0 && not (has_blocker all r)
 
   pub unheld_in_order : IsInOrder all → IsInOrder book
   unheld_in_order order = subst (λ (xs : List Unanswered). IsInOrder xs) (sym is) (AllPairs-filter (λ (a : Unanswered) (b : Unanswered). a.id.0 < b.id.0) p all order)
@@ -62,19 +62,19 @@ module _ (port : Port) (all book : List Unanswered) (is : book ≡ unheld port a
   of_port_of : (i : ℕ) (r : Unanswered) → slice_get book i ≡ Some r → All (λ other. other.port ≡ r.port) book
   of_port_of i r at k d lt = ap (λ (n : ℕ). record { 0 = n }) (eqb-true (get_or book k d).port.0 port.0 (own k d lt) ∙ sym (eqb-true r.port.0 port.0 (own_at i r at)))
 
-  -- none of them has a holder among them
-  unheld_at : (i : ℕ) (r : Unanswered) → slice_get book i ≡ Some r → has_holder book r ≡ false
+  -- none of them has a blocker among them
+  unheld_at : (i : ℕ) (r : Unanswered) → slice_get book i ≡ Some r → has_blocker book r ≡ false
   unheld_at i r at = false_from_ne_true _ (λ held.
-      let two = and_parts (may_have_holder r) _ held in
-      let o = one_found (may_hold r) book two.1 in
+      let two = and_parts (may_be_blocked r) _ held in
+      let o = one_found (may_block r) book two.1 in
       let in_all = (of_filter p all o.0 (subst (λ (xs : List Unanswered). Contains xs o.0) is o.1)).0 in
       let its = subst (λ (x : Unanswered). p x ≡ true) (get_or_from_slice_get book i r r at) (each_passes i r (slice_get_within book i r at)) in
-      both_ways _ (not-true _ (and_parts (r.port.0 == port.0) _ its).1) (and_from _ _ two.0 (found (may_hold r) all o.0 in_all o.2)))
+      both_ways _ (not-true _ (and_parts (r.port.0 == port.0) _ its).1) (and_from _ _ two.0 (found (may_block r) all o.0 in_all o.2)))
 
   -- the walk has come to it
   pub reached : IsInOrder all → (mode : QueueMode) (i : ℕ) (r : Unanswered) → slice_get book i ≡ Some r
       → ((k : ℕ) (d : Unanswered) → k < i → is_plain mode (get_or book k d).op ≡ false) → IsReachedInWalk mode book i r
-  reached order mode i r at queued = record { at = at; ordered = unheld_in_order order; own = of_port_of i r at; unheld = unheld_at i r at; queued = queued }
+  reached order mode i r at queued = record { at = at; ordered = unheld_in_order order; own = of_port_of i r at; without_blocker = unheld_at i r at; queued = queued }
 
   pub own_free : (mode : QueueMode) (free : ℕ) → free ≡ mode.usable - count_by (λ r. r.issued) book → free ≡ free_slots mode book port
   own_free mode free counted = counted ∙ ap (λ (n : ℕ). mode.usable - n) (own_issued port book own)

@@ -8,15 +8,15 @@ use Rattle.ata_types.specs.declared.request.RequestId.{RequestId}
 use Rattle.block_machine.specs.declared.due.QueueMode.{QueueMode}
 use Rattle.block_machine.specs.declared.due.Unanswered.{Unanswered}
 use Rattle.block_machine.specs.Due.{IsDue, due_of}
-use Rattle.block_machine.specs.State.{unanswered, waiting}
+use Rattle.block_machine.specs.State.{unanswered, newly_unanswered}
 use Rattle.block_machine.specs.State as machine
 use Rattle.block_machine.specs.Steps as steps
-use Rattle.request_queue.specs.Entries.{BookEntry, asks, asks_of, has_id, update_if_id, without_entry, issue, requeued_entry, older_entry, aged, marked_under, all_marked_under, unanswered_entries, due_ids}
+use Rattle.request_queue.specs.Entries.{BookEntry, asks, asks_of, has_id, update_if_id, without_entry, issue, requeued_entry, older_entry, aged, marked_under, all_marked_under, entry_count_of_client, due_ids}
 use Rattle.request_queue.specs.Machine.{EntryRelation, BookRelation}
 use Rattle.request_queue.specs.declared.PendingRequest.{PendingRequest}
 use Rattle.request_queue.proofs.Members.{contains_none, contains_here, contains_there, contains_cases, count_cons, map_in, into_map}
 use Rattle.request_queue.proofs.Changing.{either_way}
-use Rattle.block_machine.specs.Rules.{is_under}
+use Rattle.block_machine.specs.Rules.{is_same_grant_name}
 
 -- ---- two lists, place by place
 
@@ -125,7 +125,7 @@ at_right id g step e p s = go (p.request.id.0 == id.0) refl
     go false here = subst (λ (y : machine.Pending). EntryRelation e y) (sym (cond-false (p.request.id.0 == id.0) (g p) p here)) s
 
 one_revoked : (client : ClientId) (grant : ℕ) (e : BookEntry) (p : machine.Pending) → EntryRelation e p → EntryRelation (record e { entry = marked_under client grant e.entry }) p
-one_revoked client grant e p s = either_way (λ (r : PendingRequest). EntryRelation (record e { entry = r }) p) (is_under client grant e.entry.client e.entry.grant) (record (e.entry) { revoked = true }) e.entry
+one_revoked client grant e p s = either_way (λ (r : PendingRequest). EntryRelation (record e { entry = r }) p) (is_same_grant_name client grant e.entry.client e.entry.grant) (record (e.entry) { revoked = true }) e.entry
     (record { id = s.id; client = s.client; grant = s.grant; port = s.port; op = s.op; range = s.range; frames = s.frames; issued = s.issued; issues = s.issues; age = s.age }) s
 
 one_older : (ports : Port → Bool) (e : BookEntry) (p : machine.Pending) → EntryRelation e p → EntryRelation (record e { entry = older_entry ports e.entry }) (steps.older ports p)
@@ -207,7 +207,7 @@ due_listed exact mode port es ps p is own due =
 
 -- ---- as many of each client
 
-pub as_many : (es : List BookEntry) (ps : List machine.Pending) (client : ClientId) → BookRelation es ps → steps.unanswered_count ps client ≡ unanswered_entries es client.0
+pub as_many : (es : List BookEntry) (ps : List machine.Pending) (client : ClientId) → BookRelation es ps → steps.unanswered_count ps client ≡ entry_count_of_client es client.0
 as_many [] [] client all = refl
 as_many [] (p ∷ ps) client all = absurd all
 as_many (e ∷ es) [] client all = absurd all

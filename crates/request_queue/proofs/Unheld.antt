@@ -1,4 +1,4 @@
--- A walk over the requests without a holder finds all that are due.
+-- A walk over the requests without a blocker finds all that are due.
 use Rattle.std.proofs.Common.{◌≡◌, ℕ, zero, suc, ◌-◌, ◌<◌, ◌≤◌, Bool, true, false, not, cond, ◌&&◌, ◌||◌, ◌==◌, List, [], ◌∷◌, refl, sym, ap, ◌∙◌, subst, arith, lt-ltb, ltb-true, eqb-true, ⊎_elim}
 use Rattle.std.specs.List.{Contains, count_by, filter, list_any}
 use Rattle.std.specs.Prelude.{nat_lt}
@@ -10,7 +10,7 @@ use Rattle.ata_types.specs.declared.request.Op.TheVariants.{Read, Write, Trim, F
 use Rattle.block_machine.specs.declared.due.QueueMode.{QueueMode}
 use Rattle.block_machine.specs.declared.due.Unanswered.{Unanswered}
 use Rattle.block_machine.specs.Due.{ahead, conflict, due_of, free_slots, waits_for, is_unblocked, is_due, is_earlier_on_port, is_flush, is_plain, issued_count}
-use Rattle.request_queue.specs.Holders.{has_holder, is_read_or_write, may_have_holder, may_hold, unheld}
+use Rattle.request_queue.specs.Blockers.{has_blocker, is_read_or_write, may_be_blocked, may_block, without_blocker}
 use Rattle.request_queue.proofs.Members.{count_cons, contains_none, contains_here, contains_there, contains_cases}
 
 -- ---- tests and lists
@@ -102,26 +102,26 @@ no_flush Write is = refl
 no_flush Trim is = refl
 no_flush Flush is = absurd (both_ways _ refl is)
 
--- ---- without a holder
+-- ---- without a blocker
 
 module _ (mode : QueueMode) (port : Port) (book : List Unanswered) where
   abbrev p : Unanswered → Bool
-  p r = r.port.0 == port.0 && not (has_holder book r)
+  p r = r.port.0 == port.0 && not (has_blocker book r)
 
-  waits : (r : Unanswered) → has_holder book r ≡ true → r.issued ≡ false
-  waits r held = not-true r.issued (and_parts (not r.issued) _ (and_parts (may_have_holder r) _ held).0).0
+  waits : (r : Unanswered) → has_blocker book r ≡ true → r.issued ≡ false
+  waits r held = not-true r.issued (and_parts (not r.issued) _ (and_parts (may_be_blocked r) _ held).0).0
 
-  -- its holder was accepted before it, on its port
-  its_holder : (r : Unanswered) → has_holder book r ≡ true → (o : Unanswered) × Contains book o × ((o.port.0 == r.port.0) ≡ true) × (o.id.0 < r.id.0)
+  -- its blocker was accepted before it, on its port
+  its_holder : (r : Unanswered) → has_blocker book r ≡ true → (o : Unanswered) × Contains book o × ((o.port.0 == r.port.0) ≡ true) × (o.id.0 < r.id.0)
       × (conflict o r ≡ true)
   its_holder r held =
-      let any = one_found (may_hold r) book (and_parts (may_have_holder r) _ held).1 in
+      let any = one_found (may_block r) book (and_parts (may_be_blocked r) _ held).1 in
       let parts = and_parts (is_earlier_on_port any.0 r) _ any.2 in
       let early = and_parts (any.0.port.0 == r.port.0) _ parts.0 in
       (any.0, any.1, early.0, ltb-true any.0.id.0 r.id.0 early.1, parts.1)
 
-  -- one with a holder isn't clear
-  held_back : (r : Unanswered) → has_holder book r ≡ true → is_unblocked mode book r ≡ false
+  -- one with a blocker isn't clear
+  held_back : (r : Unanswered) → has_blocker book r ≡ true → is_unblocked mode book r ≡ false
   held_back r held = false_from_ne_true _ (λ clear.
       let o = its_holder r held in
       both_ways _ (not-true _ (and_parts (not r.issued) _ clear).1) (found (waits_for mode r) book o.0 o.1 (by o.0 o.2 (lt-ltb o.0.id.0 r.id.0 o.3) o.4 (is_plain mode r.op) refl)))
@@ -133,12 +133,12 @@ module _ (mode : QueueMode) (port : Port) (book : List Unanswered) where
 
   -- and one without is at least as early
   earliest : (bound : ℕ) (o : Unanswered) → o.id.0 < bound → Contains book o → (o.port.0 == port.0) ≡ true
-      → (f : Unanswered) × Contains (unheld port book) f × (f.id.0 ≤ o.id.0) × ((f.port.0 == port.0) ≡ true)
+      → (f : Unanswered) × Contains (without_blocker port book) f × (f.id.0 ≤ o.id.0) × ((f.port.0 == port.0) ≡ true)
   earliest zero o lt there own = absurd (omega (arith, lt))
-  earliest (suc bound) o lt there own = go (earliest bound) (has_holder book o) refl
+  earliest (suc bound) o lt there own = go (earliest bound) (has_blocker book o) refl
     where
-      go : ((u : Unanswered) → u.id.0 < bound → Contains book u → (u.port.0 == port.0) ≡ true → (f : Unanswered) × Contains (unheld port book) f × (f.id.0 ≤ u.id.0) × ((f.port.0 == port.0) ≡ true))
-          → (b : Bool) → has_holder book o ≡ b → (f : Unanswered) × Contains (unheld port book) f × (f.id.0 ≤ o.id.0) × ((f.port.0 == port.0) ≡ true)
+      go : ((u : Unanswered) → u.id.0 < bound → Contains book u → (u.port.0 == port.0) ≡ true → (f : Unanswered) × Contains (without_blocker port book) f × (f.id.0 ≤ u.id.0) × ((f.port.0 == port.0) ≡ true))
+          → (b : Bool) → has_blocker book o ≡ b → (f : Unanswered) × Contains (without_blocker port book) f × (f.id.0 ≤ o.id.0) × ((f.port.0 == port.0) ≡ true)
       go before true held =
           let u = its_holder o held in
           let less = u.3 in
@@ -148,8 +148,8 @@ module _ (mode : QueueMode) (port : Port) (book : List Unanswered) where
           (rest.0, rest.1, omega (arith, low, less), rest.3)
       go before false free = (o, in_filter p book o there (and_from _ _ own (ap not free)), omega arith, own)
 
-  -- what holds such a one back holds it back among those without a holder
-  still_back : (x : Unanswered) → p x ≡ true → x.issued ≡ false → list_any (waits_for mode x) book ≡ true → list_any (waits_for mode x) (unheld port book) ≡ true
+  -- what holds such a one back holds it back among those without a blocker
+  still_back : (x : Unanswered) → p x ≡ true → x.issued ≡ false → list_any (waits_for mode x) book ≡ true → list_any (waits_for mode x) (without_blocker port book) ≡ true
   still_back x passes free is = go (p o) refl
     where
       any : (o : Unanswered) × Contains book o × (waits_for mode x o ≡ true)
@@ -162,37 +162,37 @@ module _ (mode : QueueMode) (port : Port) (book : List Unanswered) where
           ((is_plain mode o.op && o.issued) || (nat_lt o.id.0 x.id.0 && (is_plain mode o.op || conflict o x))) ≡ true)
       parts = and_parts (o.port.0 == x.port.0) _ any.2
 
-      mine : ((x.port.0 == port.0) ≡ true) × (not (has_holder book x) ≡ true)
+      mine : ((x.port.0 == port.0) ≡ true) × (not (has_blocker book x) ≡ true)
       mine = and_parts (x.port.0 == port.0) _ passes
 
       own : (o.port.0 == port.0) ≡ true
       own = ap (λ (n : ℕ). o.port.0 == n) (sym (eqb-true x.port.0 port.0 mine.0)) ∙ parts.0
 
-      entry_with_id : p o ≡ false → has_holder book o ≡ true
-      entry_with_id out = by (has_holder book o) refl
+      entry_with_id : p o ≡ false → has_blocker book o ≡ true
+      entry_with_id out = by (has_blocker book o) refl
         where
-          by : (b : Bool) → has_holder book o ≡ b → has_holder book o ≡ true
+          by : (b : Bool) → has_blocker book o ≡ b → has_blocker book o ≡ true
           by true is = is
           by false is = absurd (both_ways _ out (and_from _ _ own (ap not is)))
 
       -- a plain one is held back by the first
-      first : nat_lt o.id.0 x.id.0 ≡ true → is_plain mode x.op ≡ true → list_any (waits_for mode x) (unheld port book) ≡ true
+      first : nat_lt o.id.0 x.id.0 ≡ true → is_plain mode x.op ≡ true → list_any (waits_for mode x) (without_blocker port book) ≡ true
       first less plain =
           let f = earliest (suc o.id.0) o (omega arith) any.1 own in
           let low = f.2 in
           let lt = ltb-true o.id.0 x.id.0 less in
           let same : (f.0.port.0 == x.port.0) ≡ true = ap (λ (n : ℕ). f.0.port.0 == n) (eqb-true x.port.0 port.0 mine.0) ∙ f.3 in
-          found (waits_for mode x) (unheld port book) f.0 f.1
+          found (waits_for mode x) (without_blocker port book) f.0 f.1
           (and_from _ _ same (cond-true (is_plain mode x.op) _ _ plain ∙ or_right f.0.issued _ (lt-ltb f.0.id.0 x.id.0 (omega (arith, low, lt)))))
 
-      -- a queued one would have a holder
-      none : has_holder book o ≡ true → nat_lt o.id.0 x.id.0 ≡ true → is_plain mode x.op ≡ false → conflict o x ≡ true → ⊥
+      -- a queued one would have a blocker
+      none : has_blocker book o ≡ true → nat_lt o.id.0 x.id.0 ≡ true → is_plain mode x.op ≡ false → conflict o x ≡ true → ⊥
       none held less queued meets =
           both_ways _ (not-true _ mine.1)
-          (and_from (may_have_holder x) _ (and_from (not x.issued) _ (ap not free) (queued_is_read_or_write mode x.op queued))
-          (found (may_hold x) book o any.1 (and_from _ _ (and_from _ _ parts.0 less) meets)))
+          (and_from (may_be_blocked x) _ (and_from (not x.issued) _ (ap not free) (queued_is_read_or_write mode x.op queued))
+          (found (may_block x) book o any.1 (and_from _ _ (and_from _ _ parts.0 less) meets)))
 
-      out_of : has_holder book o ≡ true → (b : Bool) → is_plain mode x.op ≡ b → list_any (waits_for mode x) (unheld port book) ≡ true
+      out_of : has_blocker book o ≡ true → (b : Bool) → is_plain mode x.op ≡ b → list_any (waits_for mode x) (without_blocker port book) ≡ true
       out_of held true plain = ⊎_elim
           (λ (issued : o.issued ≡ true). absurd (both_ways _ (waits o held) issued))
           (λ (less : nat_lt o.id.0 x.id.0 ≡ true). first less plain)
@@ -201,77 +201,77 @@ module _ (mode : QueueMode) (port : Port) (book : List Unanswered) where
           (λ (alone : (is_plain mode o.op && o.issued) ≡ true). absurd (both_ways _ (waits o held) (and_parts (is_plain mode o.op) _ alone).1))
           (λ (early : (nat_lt o.id.0 x.id.0 && (is_plain mode o.op || conflict o x)) ≡ true).
           let two = and_parts (nat_lt o.id.0 x.id.0) _ early in
-          let read_or_write = (and_parts (not o.issued) _ (and_parts (may_have_holder o) _ held).0).1 in
+          let read_or_write = (and_parts (not o.issued) _ (and_parts (may_be_blocked o) _ held).0).1 in
           absurd (⊎_elim
           (λ (plain : is_plain mode o.op ≡ true). both_ways _ (queued_with mode x.op o.op queued read_or_write) plain)
           (λ (meets : conflict o x ≡ true). none held two.0 queued meets)
           (or_cases (is_plain mode o.op) _ two.1)))
           (or_cases (is_plain mode o.op && o.issued) _ (sym (cond-false (is_plain mode x.op) _ _ queued) ∙ parts.1))
 
-      go : (b : Bool) → p o ≡ b → list_any (waits_for mode x) (unheld port book) ≡ true
-      go true in_it = found (waits_for mode x) (unheld port book) o (in_filter p book o any.1 in_it) any.2
+      go : (b : Bool) → p o ≡ b → list_any (waits_for mode x) (without_blocker port book) ≡ true
+      go true in_it = found (waits_for mode x) (without_blocker port book) o (in_filter p book o any.1 in_it) any.2
       go false out = out_of (entry_with_id out) (is_plain mode x.op) refl
 
   -- so it is clear among them where it is clear
-  same_clear : (x : Unanswered) → p x ≡ true → is_unblocked mode (unheld port book) x ≡ is_unblocked mode book x
+  same_clear : (x : Unanswered) → p x ≡ true → is_unblocked mode (without_blocker port book) x ≡ is_unblocked mode book x
   same_clear x passes = go x.issued refl
     where
-      fewer : list_any (waits_for mode x) (unheld port book) ≡ true → list_any (waits_for mode x) book ≡ true
-      fewer is = let any = one_found (waits_for mode x) (unheld port book) is in found (waits_for mode x) book any.0 (of_filter p book any.0 any.1).0 any.2
+      fewer : list_any (waits_for mode x) (without_blocker port book) ≡ true → list_any (waits_for mode x) book ≡ true
+      fewer is = let any = one_found (waits_for mode x) (without_blocker port book) is in found (waits_for mode x) book any.0 (of_filter p book any.0 any.1).0 any.2
 
-      go : (b : Bool) → x.issued ≡ b → is_unblocked mode (unheld port book) x ≡ is_unblocked mode book x
-      go true issued = ap (λ (b : Bool). not b && not (list_any (waits_for mode x) (unheld port book))) issued
+      go : (b : Bool) → x.issued ≡ b → is_unblocked mode (without_blocker port book) x ≡ is_unblocked mode book x
+      go true issued = ap (λ (b : Bool). not b && not (list_any (waits_for mode x) (without_blocker port book))) issued
           ∙ sym (ap (λ (b : Bool). not b && not (list_any (waits_for mode x) book)) issued)
-      go false free = ap (λ (b : Bool). not x.issued && not b) (same_bool (list_any (waits_for mode x) (unheld port book)) (list_any (waits_for mode x) book) fewer (still_back x passes free))
+      go false free = ap (λ (b : Bool). not x.issued && not b) (same_bool (list_any (waits_for mode x) (without_blocker port book)) (list_any (waits_for mode x) book) fewer (still_back x passes free))
 
   out_of_way : (x : Unanswered) → p x ≡ false → (x.port.0 == port.0) ≡ true → is_unblocked mode book x ≡ false
-  out_of_way x out own = by (has_holder book x) refl
+  out_of_way x out own = by (has_blocker book x) refl
     where
-      by : (b : Bool) → has_holder book x ≡ b → is_unblocked mode book x ≡ false
+      by : (b : Bool) → has_blocker book x ≡ b → is_unblocked mode book x ≡ false
       by true held = held_back x held
       by false free = absurd (both_ways _ out (and_from _ _ own (ap not free)))
 
-  same_ahead : (r : Unanswered) → (r.port.0 == port.0) ≡ true → ahead mode (unheld port book) r ≡ ahead mode book r
-  same_ahead r own = sym (counted_within p (λ (o : Unanswered). is_earlier_on_port o r && is_unblocked mode (unheld port book) o) (λ (o : Unanswered). is_earlier_on_port o r && is_unblocked mode book o) book (λ o there. go o (p o) refl))
+  same_ahead : (r : Unanswered) → (r.port.0 == port.0) ≡ true → ahead mode (without_blocker port book) r ≡ ahead mode book r
+  same_ahead r own = sym (counted_within p (λ (o : Unanswered). is_earlier_on_port o r && is_unblocked mode (without_blocker port book) o) (λ (o : Unanswered). is_earlier_on_port o r && is_unblocked mode book o) book (λ o there. go o (p o) refl))
     where
-      go : (o : Unanswered) (b : Bool) → p o ≡ b → (is_earlier_on_port o r && is_unblocked mode book o) ≡ (p o && (is_earlier_on_port o r && is_unblocked mode (unheld port book) o))
-      go o true passes = ap (λ (c : Bool). is_earlier_on_port o r && c) (sym (same_clear o passes)) ∙ sym (ap (λ (c : Bool). c && (is_earlier_on_port o r && is_unblocked mode (unheld port book) o)) passes)
+      go : (o : Unanswered) (b : Bool) → p o ≡ b → (is_earlier_on_port o r && is_unblocked mode book o) ≡ (p o && (is_earlier_on_port o r && is_unblocked mode (without_blocker port book) o))
+      go o true passes = ap (λ (c : Bool). is_earlier_on_port o r && c) (sym (same_clear o passes)) ∙ sym (ap (λ (c : Bool). c && (is_earlier_on_port o r && is_unblocked mode (without_blocker port book) o)) passes)
       go o false out = false_from_ne_true _ (λ both.
           let two = and_parts (is_earlier_on_port o r) _ both in
           let same = (and_parts (o.port.0 == r.port.0) _ two.0).0 in
           both_ways _ (out_of_way o out (ap (λ (n : ℕ). o.port.0 == n) (sym (eqb-true r.port.0 port.0 own)) ∙ same)) two.1)
-          ∙ sym (ap (λ (c : Bool). c && (is_earlier_on_port o r && is_unblocked mode (unheld port book) o)) out)
+          ∙ sym (ap (λ (c : Bool). c && (is_earlier_on_port o r && is_unblocked mode (without_blocker port book) o)) out)
 
-  same_issued : issued_count (unheld port book) port ≡ issued_count book port
+  same_issued : issued_count (without_blocker port book) port ≡ issued_count book port
   same_issued = sym (counted_within p (λ (o : Unanswered). o.port.0 == port.0 && o.issued) (λ (o : Unanswered). o.port.0 == port.0 && o.issued) book (λ o there. go o (p o) refl))
     where
       go : (o : Unanswered) (b : Bool) → p o ≡ b → (o.port.0 == port.0 && o.issued) ≡ (p o && (o.port.0 == port.0 && o.issued))
       go o true passes = sym (ap (λ (c : Bool). c && (o.port.0 == port.0 && o.issued)) passes)
       go o false out = false_from_ne_true _ (λ both.
           let two = and_parts (o.port.0 == port.0) _ both in
-          by o out two.0 two.1 (has_holder book o) refl)
+          by o out two.0 two.1 (has_blocker book o) refl)
           ∙ sym (ap (λ (c : Bool). c && (o.port.0 == port.0 && o.issued)) out)
         where
-          by : (o : Unanswered) → p o ≡ false → (o.port.0 == port.0) ≡ true → o.issued ≡ true → (b : Bool) → has_holder book o ≡ b → ⊥
+          by : (o : Unanswered) → p o ≡ false → (o.port.0 == port.0) ≡ true → o.issued ≡ true → (b : Bool) → has_blocker book o ≡ b → ⊥
           by o out own issued true held = both_ways _ (waits o held) issued
           by o out own issued false free = both_ways _ out (and_from _ _ own (ap not free))
 
-  same_due : (r : Unanswered) → p r ≡ true → is_due mode (unheld port book) r ≡ is_due mode book r
+  same_due : (r : Unanswered) → p r ≡ true → is_due mode (without_blocker port book) r ≡ is_due mode book r
   same_due r passes =
       let own = (and_parts (r.port.0 == port.0) _ passes).0 in
       let its : r.port ≡ port = ap (λ (n : ℕ). record { 0 = n }) (eqb-true r.port.0 port.0 own) in
-      let slots : free_slots mode (unheld port book) r.port ≡ free_slots mode book r.port =
-      subst (λ (x : Port). free_slots mode (unheld port book) x ≡ free_slots mode book x) (sym its) (ap (λ (n : ℕ). mode.usable - n) same_issued) in
-      ap (λ (b : Bool). b && (is_plain mode r.op || nat_lt (ahead mode (unheld port book) r) (free_slots mode (unheld port book) r.port))) (same_clear r passes)
-      ∙ (ap (λ (n : ℕ). is_unblocked mode book r && (is_plain mode r.op || nat_lt n (free_slots mode (unheld port book) r.port))) (same_ahead r own)
+      let slots : free_slots mode (without_blocker port book) r.port ≡ free_slots mode book r.port =
+      subst (λ (x : Port). free_slots mode (without_blocker port book) x ≡ free_slots mode book x) (sym its) (ap (λ (n : ℕ). mode.usable - n) same_issued) in
+      ap (λ (b : Bool). b && (is_plain mode r.op || nat_lt (ahead mode (without_blocker port book) r) (free_slots mode (without_blocker port book) r.port))) (same_clear r passes)
+      ∙ (ap (λ (n : ℕ). is_unblocked mode book r && (is_plain mode r.op || nat_lt n (free_slots mode (without_blocker port book) r.port))) (same_ahead r own)
       ∙ ap (λ (n : ℕ). is_unblocked mode book r && (is_plain mode r.op || nat_lt (ahead mode book r) n)) slots)
 
-  pub due_without : due_of mode port (unheld port book) ≡ due_of mode port book
-  due_without = sym (filtered_twice p (λ (r : Unanswered). r.port.0 == port.0 && is_due mode (unheld port book) r) (λ (r : Unanswered). r.port.0 == port.0 && is_due mode book r) book (λ r there. go r (p r) refl))
+  pub due_without : due_of mode port (without_blocker port book) ≡ due_of mode port book
+  due_without = sym (filtered_twice p (λ (r : Unanswered). r.port.0 == port.0 && is_due mode (without_blocker port book) r) (λ (r : Unanswered). r.port.0 == port.0 && is_due mode book r) book (λ r there. go r (p r) refl))
     where
-      go : (r : Unanswered) (b : Bool) → p r ≡ b → (r.port.0 == port.0 && is_due mode book r) ≡ (p r && (r.port.0 == port.0 && is_due mode (unheld port book) r))
-      go r true passes = ap (λ (c : Bool). r.port.0 == port.0 && c) (sym (same_due r passes)) ∙ sym (ap (λ (c : Bool). c && (r.port.0 == port.0 && is_due mode (unheld port book) r)) passes)
+      go : (r : Unanswered) (b : Bool) → p r ≡ b → (r.port.0 == port.0 && is_due mode book r) ≡ (p r && (r.port.0 == port.0 && is_due mode (without_blocker port book) r))
+      go r true passes = ap (λ (c : Bool). r.port.0 == port.0 && c) (sym (same_due r passes)) ∙ sym (ap (λ (c : Bool). c && (r.port.0 == port.0 && is_due mode (without_blocker port book) r)) passes)
       go r false out = false_from_ne_true _ (λ both.
           let two = and_parts (r.port.0 == port.0) _ both in
           both_ways _ (out_of_way r out two.0) (and_parts (is_unblocked mode book r) _ two.1).0)
-          ∙ sym (ap (λ (c : Bool). c && (r.port.0 == port.0 && is_due mode (unheld port book) r)) out)
+          ∙ sym (ap (λ (c : Bool). c && (r.port.0 == port.0 && is_due mode (without_blocker port book) r)) out)

@@ -90,8 +90,8 @@ module _ (before : StandBefore) (by_due : SlotsByDue) (mode : QueueMode) (port :
       ap (λ (x : Bool). is_unblocked mode book r && (is_plain mode r.op || x)) slots ∙ sym (ap (λ (b : Bool). b && is_due mode book r) mine)
 
   -- what stands in the way of a request isn't there where the request is clear
-  unheld : (r o : Unanswered) → is_unblocked mode book o ≡ true → Contains book r → waits_for mode o r ≡ true → ⊥
-  unheld r o clear h held =
+  without_blocker : (r o : Unanswered) → is_unblocked mode book o ≡ true → Contains book r → waits_for mode o r ≡ true → ⊥
+  without_blocker r o clear h held =
       both_ways _ (not-true _ (and_parts _ _ clear).1)
       (list_any_at (waits_for mode o) book h.0 r h.1 (ap (waits_for mode o) h.2 ∙ held))
 
@@ -105,7 +105,7 @@ module _ (before : StandBefore) (by_due : SlotsByDue) (mode : QueueMode) (port :
       let of_one_port : (r.port.0 == o.port.0) ≡ true = ap (λ (x : Port). r.port.0 == x.0) own ∙ its in
       let first : r.id.0 < o.id.0 = earlier in
       let lt : nat_lt r.id.0 o.id.0 ≡ true = lt-ltb r.id.0 o.id.0 first in
-      let held : waits_for mode o r ≡ true → ⊥ = unheld r o clear.0 (here i r at) in
+      let held : waits_for mode o r ≡ true → ⊥ = without_blocker r o clear.0 (here i r at) in
       by of_one_port lt held own clear.1 (is_plain mode o.op) refl ends)
     where
       earlier : r.id.0 < o.id.0

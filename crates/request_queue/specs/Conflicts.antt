@@ -3,21 +3,21 @@ use Rattle.std.specs.Prelude.{◌≡◌, Bool, true, if◌then◌else◌, List, 
 use Rattle.block_machine.specs.declared.due.Unanswered.{Unanswered}
 use Rattle.request_queue.specs.declared.flushes.Flush.{Flush}
 use Rattle.request_queue.specs.declared.ranges.BookRange.{BookRange}
-use Rattle.request_queue.specs.Flushes.{flushes_of}
+use Rattle.request_queue.specs.Flushes.{flushes_among}
 use Rattle.request_queue.specs.Sectors.{AreIndexed}
 
 -- the sectors, the flushes, and whether there is one request, which isn't listed
 pub record ConflictLists : Type 0 where
   pub sectors : List (List BookRange)
   pub flushes : List Flush
-  pub lone : Bool
+  pub unlisted : Bool
 
 -- the requests that are listed: all, but one that came into an empty book, and is alone since
 abbrev pub listed_requests : ConflictLists → List Unanswered → List Unanswered
-listed_requests lists book = if lists.lone then [] else book
+listed_requests lists book = if lists.unlisted then [] else book
 
 -- the lists are those of the book
 pub record AreConflictLists (book : List Unanswered) (lists : ConflictLists) : Type 0 where
   pub indexed : AreIndexed (listed_requests lists book) lists.sectors
-  pub listed : lists.flushes ≡ flushes_of (listed_requests lists book)
-  pub alone : lists.lone ≡ true → length book ≡ 1
+  pub listed : lists.flushes ≡ flushes_among (listed_requests lists book)
+  pub alone : lists.unlisted ≡ true → length book ≡ 1

@@ -39,7 +39,7 @@ keeps_loan _ e = false
 -- ---- one after another
 
 -- the unanswered requests of all ports, what is lent, and the loans that are kept of one port
-pub record Holdings : Type 0 where
+pub record BookAndLoans : Type 0 where
   pub book : List BookEntry
   pub table : Table
   pub kept : List Lending
@@ -49,14 +49,14 @@ abbrev pub reply_to : BookEntry → Outcome → Reply
 reply_to request outcome = record { id = request.entry.id; client = request.entry.client; outcome = outcome }
 
 -- its loan is kept, or its frames are given back, and no other changed hands
-abbrev pub KeepsOrEndsLoan : Bool → BookEntry → Holdings → Holdings → Type 0
+abbrev pub KeepsOrEndsLoan : Bool → BookEntry → BookAndLoans → BookAndLoans → Type 0
 KeepsOrEndsLoan true request old new =
     (new.kept ≡ old.kept ++ record { frames = request.frames; request = request.entry.id } ∷ [])
     × (new.table ≡ old.table)
 KeepsOrEndsLoan false request old new = (new.kept ≡ old.kept) × LendsOnly old.table new.table request.frames None
 
 -- The request was resolved: it waits as it did, it waits again, or it was answered and has left the book.
-abbrev pub IsResolved : BookEntry → Disposition → List Reply → Holdings → Holdings → Type 0
+abbrev pub IsResolved : BookEntry → Disposition → List Reply → BookAndLoans → BookAndLoans → Type 0
 IsResolved request Wait replies old new = (replies ≡ []) × (new ≡ old)
 IsResolved request Requeue replies old new = (replies ≡ [])
     × (new ≡ record old { book = map (update_if_id request.entry.id requeued_entry) old.book })
@@ -65,16 +65,17 @@ IsResolved request (Complete outcome) replies old new =
     × KeepsOrEndsLoan (keeps_loan outcome request.entry) request old new
 
 -- so were these requests, one after another
-abbrev pub AreResolved : (PendingRequest → Disposition) → List BookEntry → List Reply → Holdings → Holdings → Type 0
+abbrev pub AreResolved : (PendingRequest → Disposition) → List BookEntry → List Reply → BookAndLoans → BookAndLoans
+    → Type 0
 AreResolved disposition [] replies old new = (replies ≡ []) × (new ≡ old)
 AreResolved disposition (request ∷ requests) replies old new =
-    (mid : Holdings) × (its later : List Reply) × (replies ≡ its ++ later)
+    (mid : BookAndLoans) × (its later : List Reply) × (replies ≡ its ++ later)
     × IsResolved request (disposition request.entry) its old mid × AreResolved disposition requests later mid new
 
 -- The requests of the book that pass were answered, all with this outcome: the replies tell them so, oldest first, the
 -- others are left, and what was lent to those is given back.
 pub record CompletesAllWith (passes : PendingRequest → Bool) (outcome : Outcome) (replies : List Reply)
-    (old new : Holdings) : Type 0 where
+    (old new : BookAndLoans) : Type 0 where
   pub told : replies ≡ map (λ e. reply_to e outcome) (filter (λ e. passes e.entry) old.book)
   pub left : new.book ≡ filter (λ e. not (passes e.entry)) old.book
   pub given : GivesBack old.table new.table (filter (λ e. passes e.entry) old.book)

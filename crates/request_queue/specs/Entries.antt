@@ -10,7 +10,7 @@ use Rattle.ata_types.specs.declared.request.RequestId.{RequestId}
 use Rattle.block_machine.specs.declared.due.QueueMode.{QueueMode}
 use Rattle.block_machine.specs.declared.due.Unanswered.{Unanswered}
 use Rattle.block_machine.specs.Due.{due_of, is_due}
-use Rattle.block_machine.specs.Rules.{IsAllowedCount, frame_count_for, is_under}
+use Rattle.block_machine.specs.Rules.{IsAllowedCount, frame_count_for, is_same_grant_name}
 use Rattle.dma_frames.specs.Table.{Table, owner_of, lent_to}
 use Rattle.request_queue.specs.declared.PendingRequest.{PendingRequest}
 
@@ -72,7 +72,8 @@ aged ports entries = map (λ (e : BookEntry). record e { entry = older_entry por
 
 -- the request is marked, if it was accepted under this grant of the client: the grant is revoked
 abbrev pub marked_under : ClientId → ℕ → PendingRequest → PendingRequest
-marked_under client grant r = if is_under client grant r.client r.grant then record r { revoked = true } else r
+marked_under client grant r = if is_same_grant_name client grant r.client r.grant then record r { revoked = true } else
+    r
 
 -- each request marked that was accepted under this grant of the client
 abbrev pub all_marked_under : ClientId → ℕ → List BookEntry → List BookEntry
@@ -84,16 +85,16 @@ abbrev pub ids_where : (PendingRequest → Bool) → List BookEntry → List Req
 ids_where passes entries = map (λ e. e.entry.id) (filter (λ e. passes e.entry) entries)
 
 -- the request is of this port
-abbrev pub is_of : Port → PendingRequest → Bool
-is_of port r = r.port.0 == port.0
+abbrev pub is_of_port : Port → PendingRequest → Bool
+is_of_port port r = r.port.0 == port.0
 
 -- the request waits, and was accepted under this grant of the client
 abbrev pub waits_under : ClientId → ℕ → PendingRequest → Bool
-waits_under client grant r = not r.issued && is_under client grant r.client r.grant
+waits_under client grant r = not r.issued && is_same_grant_name client grant r.client r.grant
 
 -- how many of the requests are a client's
-abbrev pub unanswered_entries : List BookEntry → ℕ → ℕ
-unanswered_entries entries client = count_by (λ e. e.entry.client.0 == client) entries
+abbrev pub entry_count_of_client : List BookEntry → ℕ → ℕ
+entry_count_of_client entries client = count_by (λ e. e.entry.client.0 == client) entries
 
 -- the request was accepted before the other
 abbrev pub IsEarlier : BookEntry → BookEntry → Type 0
@@ -141,7 +142,7 @@ HasFewIssues r = (r.issues ≤ 4) × (r.issued ≡ false → r.issues < 4)
 pub record BookIsInOrder (entries : List BookEntry) : Type 0 where
   pub ordered : AllPairs IsEarlier entries
   pub clients : All (λ e. (1 ≤ e.entry.client.0) × (e.entry.client.0 ≤ 8)) entries
-  pub few : (client : ℕ) → unanswered_entries entries client ≤ 16
+  pub few : (client : ℕ) → entry_count_of_client entries client ≤ 16
   pub issues : All (λ e. HasFewIssues e.entry) entries
 
 -- An accepted request: of a client 1 to 8, of as many sectors as its operation may have, all of them below 2^48 (a

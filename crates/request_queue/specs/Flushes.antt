@@ -9,8 +9,8 @@ abbrev pub listed_flush : Unanswered → Flush
 listed_flush r = record { id = r.id; port = r.port }
 
 -- the flushes of the book, in order of acceptance
-abbrev pub flushes_of : List Unanswered → List Flush
-flushes_of book = map listed_flush (filter (λ r. is_flush r.op) book)
+abbrev pub flushes_among : List Unanswered → List Flush
+flushes_among book = map listed_flush (filter (λ r. is_flush r.op) book)
 
 -- the flush was accepted before the request, on the same port
 abbrev pub is_earlier_flush : Unanswered → Flush → Bool

@@ -1,13 +1,13 @@
 pub mod Entries
-pub mod Counts
+pub mod ClientCounts
 pub mod Store
 pub mod Machine
 pub mod Dispositions
 pub mod Sectors
 pub mod Conflicts
 pub mod Flushes
-pub mod Holders
+pub mod Blockers
 pub mod Walk
-pub mod Beside
+pub mod BookIndexes
 pub mod Items
 pub mod Index

@@ -4,7 +4,7 @@ use Rattle.std.specs.List.{list_any}
 use Rattle.block_machine.specs.Due.{IsInOrder, is_plain}
 use Rattle.block_machine.specs.declared.due.QueueMode.{QueueMode}
 use Rattle.block_machine.specs.declared.due.Unanswered.{Unanswered}
-use Rattle.request_queue.specs.Holders.{has_holder}
+use Rattle.request_queue.specs.Blockers.{has_blocker}
 use Rattle.request_queue.specs.declared.due.Issued.{Issued}
 
 -- the request is issued, and goes alone
@@ -22,11 +22,11 @@ pub record AreIssuedAhead (mode : QueueMode) (requests : List Unanswered) (leadi
   pub issued : (k : ℕ) (d : Unanswered) → k < leading → (slice_index_or requests k d).issued ≡ true
   pub queued : (k : ℕ) (d : Unanswered) → k < leading → is_plain mode (slice_index_or requests k d).op ≡ false
 
--- The request has this number among those of its port without a holder, in order of acceptance. All before it are
+-- The request has this number among those of its port without a blocker, in order of acceptance. All before it are
 -- queued, since the walk ends at a plain one.
 pub record IsReachedInWalk (mode : QueueMode) (requests : List Unanswered) (number : ℕ) (r : Unanswered) : Type 0 where
   pub at : slice_get requests number ≡ Some r
   pub ordered : IsInOrder requests
   pub own : All (λ other. other.port ≡ r.port) requests
-  pub unheld : has_holder requests r ≡ false
+  pub without_blocker : has_blocker requests r ≡ false
   pub queued : (k : ℕ) (d : Unanswered) → k < number → is_plain mode (slice_index_or requests k d).op ≡ false

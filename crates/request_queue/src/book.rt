@@ -1,18 +1,18 @@
 // The book.
 ghost use Rattle.std.specs.Prelude.{◌≡◌, ◌&&◌, ◌==◌, ◌↔◌, ◌<◌, ◌≤◌, ◌++◌, ◌∷◌, [], length, map, remove, All, AllPairs, Contains, IfOk, IfSome, IsTrue, Some, slice_get, vec_capacity};
 ghost use Rattle.block_machine.specs.Due.{is_due};
-ghost use Rattle.block_machine.specs.Rules.{HasNoFault, is_under};
+ghost use Rattle.block_machine.specs.Rules.{HasNoFault, is_same_grant_name};
 ghost use Rattle.dma_frames.specs.Table.{LendsOnly, lent_to, owner_of};
-ghost use Rattle.request_queue.specs.Beside.{IndexesMatch};
-ghost use Rattle.request_queue.specs.Holders.{AreHolders};
+ghost use Rattle.request_queue.specs.BookIndexes.{IndexesMatch};
+ghost use Rattle.request_queue.specs.Blockers.{AreBlockers};
 ghost use Rattle.request_queue.specs.Entries.{due_ids};
-ghost use Rattle.request_queue.specs.Entries.{BookEntry, GivesBack, IsEarlier, IsNewlyAccepted, BookIsInOrder, IsUnanswered, IsWaiting, MayGoAgain, HasItsFrames, IsAnyOverdue, IsOverdue, IsOverdueOn, aged, asks_of, update_if_id, ids_where, is_among, is_of, issue, lone_due, older_entry, requeued_entry, all_marked_under, marked_under, unanswered_entries, waits_under, without_entry};
+ghost use Rattle.request_queue.specs.Entries.{BookEntry, GivesBack, IsEarlier, IsNewlyAccepted, BookIsInOrder, IsUnanswered, IsWaiting, MayGoAgain, HasItsFrames, IsAnyOverdue, IsOverdue, IsOverdueOn, aged, asks_of, update_if_id, ids_where, is_among, is_of_port, issue, lone_due, older_entry, requeued_entry, all_marked_under, marked_under, entry_count_of_client, waits_under, without_entry};
 
 use crate::PendingRequest;
+use crate::blocker::Blocker;
+use crate::blockers::{no_blockers, refind_blockers};
 use crate::conflicts::Conflicts;
 use crate::due::{DueIds, list_due};
-use crate::holder::Holder;
-use crate::holders::{no_holders, refind_holders};
 use crate::store::{RequestSlab, asks_of};
 use arrayvec::ArrayVec;
 use ata_types::{ClientId, Frame, MOST_REQUEST_FRAMES, MOST_UNANSWERED, Port, RequestId};
@@ -37,8 +37,8 @@ pub struct Book {
     store: RequestSlab,
     /// Which requests conflict.
     conflicts: Conflicts,
-    /// For each waiting read or write an earlier one that conflicts with it, if there is one: its holder.
-    holders: Vec<Holder>,
+    /// For each waiting read or write an earlier one that conflicts with it, if there is one: its blocker.
+    blockers: Vec<Blocker>,
     /// How many of the requests each client has, by its number. None is of client 0.
     counts: [usize; COUNTS],
 }
@@ -46,19 +46,19 @@ pub struct Book {
 impl Model for Book {
     ghost use Rattle.std.specs.Prelude.{List, ◌≡◌, ◌≤◌, vec_capacity};
     ghost use Rattle.ata_types.specs.declared.limits.TheConstants.{MOST_UNANSWERED};
-    ghost use Rattle.request_queue.specs.Counts.{AreCounts};
+    ghost use Rattle.request_queue.specs.ClientCounts.{AreClientCounts};
     ghost use Rattle.request_queue.specs.Entries.{BookEntry, BookIsInOrder, asks_of};
-    ghost use Rattle.request_queue.specs.Beside.{IndexesMatch};
+    ghost use Rattle.request_queue.specs.BookIndexes.{IndexesMatch};
     ghost use Rattle.request_queue.specs.Conflicts.{AreConflictLists};
-    ghost use Rattle.request_queue.specs.Holders.{AreHolders};
+    ghost use Rattle.request_queue.specs.Blockers.{AreBlockers};
 
     ghost Value = { List BookEntry };
 
     ghost view = { λ b. b.store };
 
     ghost invariant = { λ b. BookIsInOrder b.store × AreConflictLists (asks_of b.store) b.conflicts
-        × AreHolders (asks_of b.store) b.holders.items × (MOST_UNANSWERED ≤ vec_capacity b.holders)
-        × AreCounts b.store b.counts };
+        × AreBlockers (asks_of b.store) b.blockers.items × (MOST_UNANSWERED ≤ vec_capacity b.blockers)
+        × AreClientCounts b.store b.counts };
 }
 
 impl Book {
@@ -70,14 +70,14 @@ impl Book {
         let Ok(conflicts) = Conflicts::new(alloc) else {
             return Err(NoMemory);
         };
-        let Ok(holders) = no_holders(alloc) else {
+        let Ok(blockers) = no_blockers(alloc) else {
             return Err(NoMemory);
         };
         match RequestSlab::new(alloc) {
             Ok(store) => Ok(Book {
                 store,
                 conflicts,
-                holders,
+                blockers,
                 counts: [0; COUNTS],
             }),
             Err(_) => Err(NoMemory),
@@ -93,7 +93,7 @@ impl Book {
 
     /// How many of the requests are the client's.
     pub fn unanswered(&self, client: ClientId) -> usize
-        ensures { result ≡ unanswered_entries self.now client.0 }
+        ensures { result ≡ entry_count_of_client self.now client.0 }
     {
         match self.counts.get(usize::from(client.0)) {
             Some(count) => *count,
@@ -106,15 +106,15 @@ impl Book {
         requires newest { All (λ e. e.entry.id.0 < request.id.0) self.old }
         requires fresh { IsNewlyAccepted request }
         requires client { (1 ≤ request.client.0) × (request.client.0 ≤ 8) }
-        requires few { unanswered_entries self.old request.client.0 < 16 }
+        requires few { entry_count_of_client self.old request.client.0 < 16 }
         requires frames { HasNoFault (owner_of table.old) (lent_to table.old) request.client frames.now
             × (length frames.now ≤ MOST_REQUEST_FRAMES) }
         ensures last { self.new ≡ self.old ++ record { entry = request; frames = frames.now } ∷ [] }
         ensures lent { LendsOnly table.old table.new frames.now (Some request.id) }
     {
         self.counts[usize::from(request.client.0)] += 1;
-        let holder = self.conflicts.add(&self.store, &asks_of(request));
-        self.holders.push_reserved(holder);
+        let blocker = self.conflicts.add(&self.store, &asks_of(request));
+        self.blockers.push_reserved(blocker);
         self.store.push(request, frames, table);
     }
 
@@ -126,7 +126,7 @@ impl Book {
         ensures { due.new.items ≡ due_ids mode port (asks_of self.now) }
     {
         due.clear();
-        list_due(&self.store, self.holders.as_slice(), mode, port, due);
+        list_due(&self.store, self.blockers.as_slice(), mode, port, due);
     }
 
     /// The id of the only request of the book, where it is due on the port. Where there are others, `issuable` tells.
@@ -164,7 +164,7 @@ impl Book {
 
     /// The ids of a port's requests, in order of acceptance.
     pub fn ids_of(&self, port: Port) -> ArrayVec<RequestId, MOST_UNANSWERED>
-        ensures { result.items ≡ ids_where (is_of port) self.now }
+        ensures { result.items ≡ ids_where (is_of_port port) self.now }
     {
         ids_of(&self.store, port)
     }
@@ -193,7 +193,7 @@ impl Book {
                 ..old
             },
         );
-        self.holders[place] = Holder::nobody();
+        self.blockers[place] = Blocker::nobody();
     }
 
     /// Notes that a request which was issued fewer than four times waits again, in its old place and with its loan.
@@ -210,8 +210,8 @@ impl Book {
                 ..old
             },
         );
-        let holder = self.conflicts.holder(&self.store.asks(place));
-        self.holders[place] = holder;
+        let blocker = self.conflicts.blocker(&self.store.asks(place));
+        self.blockers[place] = blocker;
     }
 
     /// Notes a tick: the issued requests of these ports, by number, are a tick older. An age counts to three and no
@@ -220,7 +220,7 @@ impl Book {
         ensures older_entry { self.new ≡ aged (is_among ports.now) self.old }
         ensures overdue { IsTrue result ↔ IsAnyOverdue self.new }
     {
-        age(&mut self.store, self.holders.as_slice(), ports)
+        age(&mut self.store, self.blockers.as_slice(), ports)
     }
 
     /// Notes that a client's grant was revoked: the requests that were accepted under it are marked.
@@ -254,7 +254,7 @@ impl Book {
         let place = place_of(&self.store, id);
         take_beside(
             &mut self.conflicts,
-            &mut self.holders,
+            &mut self.blockers,
             &mut self.counts,
             &self.store,
             place,
@@ -273,7 +273,7 @@ impl Book {
         let place = place_of(&self.store, id);
         take_beside(
             &mut self.conflicts,
-            &mut self.holders,
+            &mut self.blockers,
             &mut self.counts,
             &self.store,
             place,
@@ -289,7 +289,7 @@ impl Book {
         let Book {
             store,
             conflicts: _,
-            holders: _,
+            blockers: _,
             counts: _,
         } = self;
         give_back(store, table);
@@ -330,27 +330,27 @@ fn place_of(store: &RequestSlab, id: RequestId) -> usize
 /// Takes the request at a place out of what stands beside the store, before it is taken out of the store.
 fn take_beside(
     conflicts: &mut Conflicts,
-    holders: &mut Vec<Holder>,
+    blockers: &mut Vec<Blocker>,
     counts: &mut [usize; COUNTS],
     store: &RequestSlab,
     place: usize,
 )
     requires place { place < length store.now }
     requires ordered { BookIsInOrder store.now }
-    requires beside { IndexesMatch store.now conflicts.old holders.old.items counts.old }
-    ensures beside { IndexesMatch (remove store.now place) conflicts.new holders.new.items counts.new }
-    ensures holders { vec_capacity holders.new ≡ vec_capacity holders.old }
+    requires beside { IndexesMatch store.now conflicts.old blockers.old.items counts.old }
+    ensures beside { IndexesMatch (remove store.now place) conflicts.new blockers.new.items counts.new }
+    ensures blockers { vec_capacity blockers.new ≡ vec_capacity blockers.old }
 {
     let request = store.request(place);
     conflicts.take(store, place);
-    holders.remove(place);
-    refind_holders(holders, conflicts, store, place, request.id);
+    blockers.remove(place);
+    refind_blockers(blockers, conflicts, store, place, request.id);
     counts[usize::from(request.client.0)] -= 1;
 }
 
 fn ids_of(store: &RequestSlab, port: Port) -> ArrayVec<RequestId, MOST_UNANSWERED>
     requires { length store.now ≤ MOST_UNANSWERED }
-    ensures { result.items ≡ ids_where (is_of port) store.now }
+    ensures { result.items ≡ ids_where (is_of_port port) store.now }
 {
     let mut ids = ArrayVec::new();
     for place in 0..store.len() {
@@ -383,26 +383,26 @@ fn waiting_of(
 fn waits_under(request: PendingRequest, client: ClientId, grant: u8) -> bool
     ensures { result ≡ waits_under client grant request }
 {
-    !request.issued && is_under(request, client, grant)
+    !request.issued && is_same_grant_name(request, client, grant)
 }
 
 /// Whether the request was accepted under this grant of the client.
-fn is_under(request: PendingRequest, client: ClientId, grant: u8) -> bool
-    ensures { result ≡ is_under client grant request.client request.grant }
+fn is_same_grant_name(request: PendingRequest, client: ClientId, grant: u8) -> bool
+    ensures { result ≡ is_same_grant_name client grant request.client request.grant }
 {
     request.client.0 == client.0 && request.grant == grant
 }
 
 /// Makes the issued requests of these ports a tick older, and tells whether one is overdue then. Those that have a
-/// holder wait, and aren't looked at.
-fn age(store: &mut RequestSlab, holders: &[Holder], ports: &[bool]) -> bool
-    requires holders { AreHolders (asks_of store.old) holders.now }
+/// blocker wait, and aren't looked at.
+fn age(store: &mut RequestSlab, blockers: &[Blocker], ports: &[bool]) -> bool
+    requires blockers { AreBlockers (asks_of store.old) blockers.now }
     ensures older_entry { store.new ≡ aged (is_among ports.now) store.old }
     ensures overdue { IsTrue result ↔ IsAnyOverdue store.new }
 {
     let mut overdue = false;
-    for place in 0..holders.len() {
-        if holders[place].is_none() {
+    for place in 0..blockers.len() {
+        if blockers[place].is_none() {
             let request = store.request(place);
             if request.issued {
                 let grown = older_entry(request, ports);
@@ -428,7 +428,7 @@ fn mark(store: &mut RequestSlab, client: ClientId, grant: u8)
 fn revoked(request: PendingRequest, client: ClientId, grant: u8) -> PendingRequest
     ensures { result ≡ marked_under client grant request }
 {
-    if is_under(request, client, grant) {
+    if is_same_grant_name(request, client, grant) {
         PendingRequest {
             revoked: true,
             ..request

@@ -3,13 +3,13 @@ ghost use Rattle.std.specs.Prelude.{◌≡◌, ◌<◌, ◌≤◌, ◌++◌, ◌
 ghost use Rattle.block_machine.specs.declared.due.Unanswered.{Unanswered};
 ghost use Rattle.request_queue.specs.Conflicts.{AreConflictLists};
 ghost use Rattle.request_queue.specs.Entries.{BookIsInOrder, asks_of};
-ghost use Rattle.request_queue.specs.Flushes.{flushes_of};
-ghost use Rattle.request_queue.specs.Holders.{IsHolderOf};
+ghost use Rattle.request_queue.specs.Flushes.{flushes_among};
+ghost use Rattle.request_queue.specs.Blockers.{IsBlockerOf};
 ghost use Rattle.request_queue.specs.Sectors.{AreIndexed};
 
+use crate::blocker::Blocker;
+use crate::blockers::blocker_of;
 use crate::flushes::{Flush, add_flush, no_flushes, take_flush};
-use crate::holder::Holder;
-use crate::holders::holder_of;
 use crate::ranges::Ranges;
 use crate::sectors::{add_sectors, no_sectors, take_sectors};
 use crate::store::RequestSlab;
@@ -27,7 +27,7 @@ pub struct Conflicts {
     /// The flushes of all ports, in order of acceptance. A flush has no sectors, and conflicts all the same.
     flushes: Vec<Flush>,
     /// Whether there is one request, which isn't listed.
-    lone: bool,
+    unlisted: bool,
 }
 
 impl Model for Conflicts {
@@ -37,7 +37,7 @@ impl Model for Conflicts {
 
     ghost Value = { ConflictLists };
 
-    ghost view = { λ c. record { sectors = c.sectors; flushes = c.flushes.items; lone = c.lone } };
+    ghost view = { λ c. record { sectors = c.sectors; flushes = c.flushes.items; unlisted = c.unlisted } };
 
     ghost invariant = { λ c. MOST_UNANSWERED ≤ vec_capacity c.flushes };
 }
@@ -52,48 +52,48 @@ impl Conflicts {
         Ok(Conflicts {
             sectors,
             flushes,
-            lone: false,
+            unlisted: false,
         })
     }
 
-    /// The holder of a request of the book.
-    pub fn holder(&self, request: &Unanswered) -> Holder
+    /// The blocker of a request of the book.
+    pub fn blocker(&self, request: &Unanswered) -> Blocker
         ensures { (book : List Unanswered) → AreConflictLists book self.now → Contains book request.now
-            → IsHolderOf book request.now result }
+            → IsBlockerOf book request.now result }
     {
-        if self.lone {
-            return Holder::nobody();
+        if self.unlisted {
+            return Blocker::nobody();
         }
-        holder_of(&self.sectors, self.flushes.as_slice(), request)
+        blocker_of(&self.sectors, self.flushes.as_slice(), request)
     }
 
-    /// Lists a request, before it is put into the store, and tells its holder. None holds one that comes into an empty
+    /// Lists a request, before it is put into the store, and tells its blocker. None holds one that comes into an empty
     /// book, and that isn't listed yet.
-    pub fn add(&mut self, store: &RequestSlab, request: &Unanswered) -> Holder
+    pub fn add(&mut self, store: &RequestSlab, request: &Unanswered) -> Blocker
         requires lists { AreConflictLists (asks_of store.now) self.old }
         requires room { length store.now < MOST_UNANSWERED }
         requires newest { All (λ r. r.id.0 < request.now.id.0) (asks_of store.now) }
         ensures lists { AreConflictLists (asks_of store.now ++ request.now ∷ []) self.new }
-        ensures holder { IsHolderOf (asks_of store.now) request.now result }
+        ensures blocker { IsBlockerOf (asks_of store.now) request.now result }
     {
         if store.len() == 0 {
-            self.lone = true;
-            return Holder::nobody();
+            self.unlisted = true;
+            return Blocker::nobody();
         }
         self.list_first(store);
-        let holder = holder_of(&self.sectors, self.flushes.as_slice(), request);
+        let blocker = blocker_of(&self.sectors, self.flushes.as_slice(), request);
         list_last(&mut self.sectors, &mut self.flushes, request);
-        holder
+        blocker
     }
 
     /// Lists the one request that isn't listed, if there is one.
     fn list_first(&mut self, store: &RequestSlab)
         requires { AreConflictLists (asks_of store.now) self.old }
         ensures lists { AreConflictLists (asks_of store.now) self.new }
-        ensures listed { self.new.lone ≡ false }
+        ensures listed { self.new.unlisted ≡ false }
     {
-        if self.lone {
-            self.lone = false;
+        if self.unlisted {
+            self.unlisted = false;
             list_last(&mut self.sectors, &mut self.flushes, &store.asks(0));
         }
     }
@@ -105,8 +105,8 @@ impl Conflicts {
         requires place { place < length store.now }
         ensures { AreConflictLists (remove (asks_of store.now) place) self.new }
     {
-        if self.lone {
-            self.lone = false;
+        if self.unlisted {
+            self.unlisted = false;
             return;
         }
         let request = store.request(place);
@@ -117,12 +117,12 @@ impl Conflicts {
 
 /// Puts a request last into the lists.
 fn list_last(sectors: &mut [Ranges; PORTS], flushes: &mut Vec<Flush>, request: &Unanswered)
-    requires fits { (book : List Unanswered) × AreIndexed book sectors.old × (flushes.old.items ≡ flushes_of book)
+    requires fits { (book : List Unanswered) × AreIndexed book sectors.old × (flushes.old.items ≡ flushes_among book)
         × (length book < MOST_UNANSWERED) × All (λ r. r.id.0 < request.now.id.0) book }
     requires room { MOST_UNANSWERED ≤ vec_capacity flushes.old }
     ensures sectors { (book : List Unanswered) → AreIndexed book sectors.old
         → All (λ r. r.id.0 < request.now.id.0) book → AreIndexed (book ++ request.now ∷ []) sectors.new }
-    ensures flushes { flushes.new.items ≡ flushes.old.items ++ flushes_of (request.now ∷ []) }
+    ensures flushes { flushes.new.items ≡ flushes.old.items ++ flushes_among (request.now ∷ []) }
     ensures room { vec_capacity flushes.new ≡ vec_capacity flushes.old }
 {
     add_sectors(sectors, request);

@@ -3,15 +3,15 @@ ghost use Rattle.std.specs.Prelude.{◌≡◌, ◌<◌, ◌≤◌, ◌-◌, ◌&
 ghost use Rattle.block_machine.specs.Due as machine;
 ghost use Rattle.block_machine.specs.declared.due.Unanswered.{Unanswered};
 ghost use Rattle.request_queue.specs.Entries.{asks_of, due_ids};
-ghost use Rattle.request_queue.specs.Holders.{AreHolders, unheld};
+ghost use Rattle.request_queue.specs.Blockers.{AreBlockers, without_blocker};
 ghost use Rattle.request_queue.specs.Walk.{AreIssuedAhead, TalliesIssued, IsReachedInWalk, is_issued_plain};
 ghost use Rattle.request_queue.specs.Store.{asks_at};
 
-use crate::holder::Holder;
+use crate::blocker::Blocker;
 use crate::store::RequestSlab;
 use arrayvec::ArrayVec;
 use ata_types::{MOST_UNANSWERED, Port, RequestId, SLOTS};
-use block_machine::laws::{law_earlier_ones_stand_before, law_slots_by_due};
+use block_machine::laws::{law_due_ones_leave_a_slot, law_earlier_ones_stand_before};
 use block_machine::{QueueMode, Unanswered, is_plain};
 
 /// Ids of due requests: no more than a port has slots.
@@ -30,11 +30,11 @@ struct Issued {
 }
 
 /// Puts the ids of the port's due requests into the list, in order of acceptance: one pass that finds the port's
-/// requests without a holder, and one walk over these, which counts the slots that it gives away, and ends where no
+/// requests without a blocker, and one walk over these, which counts the slots that it gives away, and ends where no
 /// later request can be due. It begins behind the issued ones that lead: mostly all but the newest are issued.
 pub fn list_due(
     store: &RequestSlab,
-    holders: &[Holder],
+    blockers: &[Blocker],
     mode: QueueMode,
     port: Port,
     due: &mut DueIds,
@@ -42,14 +42,14 @@ pub fn list_due(
     requires ordered { machine.IsInOrder (asks_of store.now) }
     requires few { length store.now ≤ MOST_UNANSWERED }
     requires usable { mode.usable ≤ 32 }
-    requires holders { AreHolders (asks_of store.now) holders.now }
+    requires blockers { AreBlockers (asks_of store.now) blockers.now }
     requires empty { due.old.items ≡ [] }
     ensures { due.new.items ≡ due_ids mode port (asks_of store.now) }
 {
     law_earlier_ones_stand_before();
-    law_slots_by_due();
+    law_due_ones_leave_a_slot();
     let mut places = ArrayVec::new();
-    let issued = find_unheld(store, holders, mode, port, &mut places);
+    let issued = find_unheld(store, blockers, mode, port, &mut places);
     let free = free_slots(mode, issued.count);
     for number in issued.leading..places.len() {
         let asks = nth(store, &places, number);
@@ -63,18 +63,18 @@ pub fn list_due(
     }
 }
 
-/// Lists the places of the port's requests without a holder, and tells what of these is issued.
+/// Lists the places of the port's requests without a blocker, and tells what of these is issued.
 fn find_unheld(
     store: &RequestSlab,
-    holders: &[Holder],
+    blockers: &[Blocker],
     mode: QueueMode,
     port: Port,
     places: &mut Places,
 ) -> Issued
     requires few { length store.now ≤ MOST_UNANSWERED }
-    requires holders { AreHolders (asks_of store.now) holders.now }
+    requires blockers { AreBlockers (asks_of store.now) blockers.now }
     requires empty { places.old.items ≡ [] }
-    ensures unheld { asks_at store.now places.new.items ≡ unheld port (asks_of store.now) }
+    ensures without_blocker { asks_at store.now places.new.items ≡ without_blocker port (asks_of store.now) }
     ensures within { All (λ place. place < length store.now) places.new.items }
     ensures issued { TalliesIssued mode (asks_at store.now places.new.items) result }
     ensures leading { AreIssuedAhead mode (asks_at store.now places.new.items) result.leading }
@@ -82,8 +82,8 @@ fn find_unheld(
     let mut count = 0usize;
     let mut alone = false;
     let mut leading = 0usize;
-    for place in 0..holders.len() {
-        if holders[place].is_none() {
+    for place in 0..blockers.len() {
+        if blockers[place].is_none() {
             let asks = store.asks(place);
             if asks.port.0 == port.0 {
                 leading = leading_with(mode, &asks, leading, places.len());
@@ -160,7 +160,7 @@ fn free_slots(mode: QueueMode, issued: usize) -> usize
 }
 
 /// Whether the request waits, and nothing stands in its way. It has this number among those of its port without a
-/// holder, all before it are queued, and this is issued of them. A plain one waits for all that are issued and all
+/// blocker, all before it are queued, and this is issued of them. A plain one waits for all that are issued and all
 /// before it, a queued one for what is issued alone.
 fn is_unblocked(mode: QueueMode, asks: &Unanswered, number: usize, issued: Issued) -> bool
     ensures { (requests : List Unanswered) → IsReachedInWalk mode requests number asks.now

@@ -2,7 +2,7 @@
 ghost use Rattle.std.specs.Prelude.{◌≡◌, ◌<◌, ◌≤◌, ◌++◌, ◌∷◌, ◌==◌, [], length, filter, not, false, true, Contains, IfNone, IfOk, IfSome, vec_capacity};
 ghost use Rattle.std.specs.List.{list_any};
 ghost use Rattle.block_machine.specs.Due as machine;
-ghost use Rattle.request_queue.specs.Flushes.{flushes_of, is_earlier_flush};
+ghost use Rattle.request_queue.specs.Flushes.{flushes_among, is_earlier_flush};
 
 use ata_types::{MOST_UNANSWERED, Op, Port, RequestId};
 use block_machine::Unanswered;
@@ -26,7 +26,7 @@ pub fn no_flushes(alloc: Global) -> Result<Vec<Flush>, AllocError>
 /// Puts a request last in the list, if it is a flush.
 pub fn add_flush(flushes: &mut Vec<Flush>, request: &Unanswered)
     requires room { length flushes.old.items < vec_capacity flushes.old }
-    ensures list { flushes.new.items ≡ flushes.old.items ++ flushes_of (request.now ∷ []) }
+    ensures list { flushes.new.items ≡ flushes.old.items ++ flushes_among (request.now ∷ []) }
     ensures room { vec_capacity flushes.new ≡ vec_capacity flushes.old }
 {
     if !is_flush(request.op) {

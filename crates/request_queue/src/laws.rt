@@ -13,8 +13,8 @@ ghost use Rattle.block_machine.specs.Steps as steps;
 ghost use Rattle.block_machine.specs.declared.due.QueueMode.{QueueMode};
 ghost use Rattle.block_machine.specs.declared.due.Unanswered.{Unanswered};
 ghost use Rattle.dma_frames.specs.Table.{Table, LendsOnly, lent_to};
-ghost use Rattle.request_queue.specs.Entries.{BookEntry, IsAccepted, IsEarlier, IsNewlyAccepted, BookIsInOrder, IsUnanswered, IsWaiting, MayGoAgain, HasItsFrames, aged, asks_of, update_if_id, due_ids, entry_with_id, issue, requeued_entry, all_marked_under, unanswered_entries, without_entry};
-ghost use Rattle.request_queue.specs.Dispositions.{CompletesAllWith, Holdings, AreResolved, keeps_loan};
+ghost use Rattle.request_queue.specs.Entries.{BookEntry, IsAccepted, IsEarlier, IsNewlyAccepted, BookIsInOrder, IsUnanswered, IsWaiting, MayGoAgain, HasItsFrames, aged, asks_of, update_if_id, due_ids, entry_with_id, issue, requeued_entry, all_marked_under, entry_count_of_client, without_entry};
+ghost use Rattle.request_queue.specs.Dispositions.{CompletesAllWith, BookAndLoans, AreResolved, keeps_loan};
 ghost use Rattle.request_queue.specs.Machine.{BookRelation, EntryRelation};
 ghost use Rattle.request_queue.specs.declared.PendingRequest.{PendingRequest};
 ghost use Rattle.request_queue.specs.declared.disposition.Disposition.TheVariants.{Complete};
@@ -69,7 +69,7 @@ pub fn law_steps_change_the_book()
 pub fn law_client_counts_agree()
     ensures { (entries : List BookEntry) (pending : List machine.Pending) (client : ClientId)
         → BookRelation entries pending
-        → steps.unanswered_count pending client ≡ unanswered_entries entries client.0 }
+        → steps.unanswered_count pending client ≡ entry_count_of_client entries client.0 }
 {}
 
 /// A due request of the book waits, so that it may be issued; and what the book's operations leave of what says which
@@ -147,7 +147,7 @@ pub fn law_the_book_stays_in_order()
     ensures accepted { (entries : List BookEntry) (e : BookEntry) → BookIsInOrder entries
         → All (λ x. IsEarlier x e) entries
         → IsNewlyAccepted e.entry → 1 ≤ e.entry.client.0 → e.entry.client.0 ≤ 8
-        → unanswered_entries entries e.entry.client.0 < 16
+        → entry_count_of_client entries e.entry.client.0 < 16
         → BookIsInOrder (entries ++ e ∷ []) }
     ensures issued { (entries : List BookEntry) (id : RequestId) → BookIsInOrder entries → IsWaiting id entries
         → BookIsInOrder (map (update_if_id id issue) entries) }
@@ -196,13 +196,15 @@ pub fn law_accepted_is_preserved()
 pub fn law_answers_of_one_outcome_are_one_change()
     ensures at_once { (passes : PendingRequest → Bool) (outcome : Outcome)
         → ((e : PendingRequest) → keeps_loan outcome e ≡ false)
-        → (old : Holdings) → BookIsInOrder old.book → All (IsAccepted old.table) old.book → (replies : List Reply)
-        (new : Holdings) → AreResolved (λ e. Complete outcome) (filter (λ e. passes e.entry) old.book) replies old new
+        → (old : BookAndLoans) → BookIsInOrder old.book → All (IsAccepted old.table) old.book → (replies : List Reply)
+        (new : BookAndLoans) → AreResolved (λ e. Complete outcome) (filter (λ e. passes e.entry) old.book) replies old
+        new
         → CompletesAllWith passes outcome replies old new }
     ensures one_by_one { (passes : PendingRequest → Bool) (outcome : Outcome)
         → ((e : PendingRequest) → keeps_loan outcome e ≡ false)
-        → (old : Holdings) → BookIsInOrder old.book → All (IsAccepted old.table) old.book → (replies : List Reply)
-        (new : Holdings) → CompletesAllWith passes outcome replies old new
-        → (now : Holdings) × AreResolved (λ e. Complete outcome) (filter (λ e. passes e.entry) old.book) replies old now
+        → (old : BookAndLoans) → BookIsInOrder old.book → All (IsAccepted old.table) old.book → (replies : List Reply)
+        (new : BookAndLoans) → CompletesAllWith passes outcome replies old new
+        → (now : BookAndLoans) × AreResolved (λ e. Complete outcome) (filter (λ e. passes e.entry) old.book) replies old
+        now
         × (now.book ≡ new.book) × (now.kept ≡ new.kept) × LendsOnly now.table new.table [] None }
 {}

@@ -6,13 +6,13 @@
 //! and counts slots without their numbers. It holds loans, so `give_all_back` alone ends it.
 #![tactic(auto)]
 
+mod blocker;
+mod blockers;
 mod book;
 mod conflicts;
 mod disposition;
 mod due;
 mod flushes;
-mod holder;
-mod holders;
 pub mod laws;
 mod ranges;
 mod sectors;

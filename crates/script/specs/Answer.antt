@@ -69,15 +69,15 @@ mem_fault_word FrameLent = codes "FrameLent"
 mem_fault_word OutsideFrame = codes "OutsideFrame"
 
 -- what a move is told as; queued and plain commands alike
-abbrev pub kind_word : Operation → Word
-kind_word command.Identify = codes "identify"
-kind_word command.Read = codes "read"
-kind_word command.Write = codes "write"
-kind_word command.ReadQueued = codes "read"
-kind_word command.WriteQueued = codes "write"
-kind_word command.Flush = codes "flush"
-kind_word command.Trim = codes "block"
-kind_word command.ReadLog = codes "log"
+abbrev pub moved_word : Operation → Word
+moved_word command.Identify = codes "identify"
+moved_word command.Read = codes "read"
+moved_word command.Write = codes "write"
+moved_word command.ReadQueued = codes "read"
+moved_word command.WriteQueued = codes "write"
+moved_word command.Flush = codes "flush"
+moved_word command.Trim = codes "block"
+moved_word command.ReadLog = codes "log"
 
 abbrev pub answer_words : Answer → List Word
 answer_words (answer.Accepted id) = codes "ok" ∷ decimal id.0 ∷ []
@@ -92,7 +92,7 @@ answer_words answer.Stuck = codes "stuck" ∷ []
 answer_words (answer.State state) = codes "state" ∷ state_words state
 answer_words (answer.Stepped true) = codes "did" ∷ []
 answer_words (answer.Stepped false) = codes "no" ∷ []
-answer_words (answer.Moved m) = codes "move" ∷ decimal m.now.port.0 ∷ decimal m.now.slot.0 ∷ kind_word m.now.operation
+answer_words (answer.Moved m) = codes "move" ∷ decimal m.now.port.0 ∷ decimal m.now.slot.0 ∷ moved_word m.now.operation
     ∷ decimal m.now.sector ∷ encode_lower (to_be_bytes w32 m.now.address) ∷ []
 answer_words (answer.Cleared c) = codes "clear" ∷ decimal c.port.0 ∷ decimal c.slot.0 ∷ decimal c.first
     ∷ decimal c.count ∷ []

@@ -40,16 +40,16 @@ request_words Trim r = decimal r.client.0 ∷ decimal r.grant ∷ decimal r.firs
 request_words Flush r = decimal r.client.0 ∷ decimal r.grant ∷ []
 
 -- a port, and a slot of it
-abbrev pub place_words : Port → Slot → List Word
-place_words port slot = decimal port.0 ∷ decimal slot.0 ∷ []
+abbrev pub port_and_slot_words : Port → Slot → List Word
+port_and_slot_words port slot = decimal port.0 ∷ decimal slot.0 ∷ []
 
 -- what stands after `dev`
 abbrev pub step_words : DeviceStep → List Word
-step_words (step.Fetch port slot) = codes "fetch" ∷ place_words port slot
-step_words (step.Move port slot) = codes "move" ∷ place_words port slot
+step_words (step.Fetch port slot) = codes "fetch" ∷ port_and_slot_words port slot
+step_words (step.Move port slot) = codes "move" ∷ port_and_slot_words port slot
 step_words (step.Clear port slot count) = codes "clear" ∷ decimal port.0 ∷ decimal slot.0 ∷ decimal count ∷ []
-step_words (step.Done port slot) = codes "done" ∷ place_words port slot
-step_words (step.Finish port slot) = codes "finish" ∷ place_words port slot
+step_words (step.Done port slot) = codes "done" ∷ port_and_slot_words port slot
+step_words (step.Finish port slot) = codes "finish" ∷ port_and_slot_words port slot
 step_words (step.Fault port slot error) = codes "fault" ∷ decimal port.0 ∷ decimal slot.0 ∷ encode_lower (error ∷ [])
     ∷ []
 step_words (step.FaultBusy port slot error) =
@@ -100,16 +100,16 @@ pub record IsRequest (r : Request) : Type 0 where
   pub most : length r.frames.items ≤ MOST_REQUEST_FRAMES
 
 -- the port and slot are ones that an adapter can have
-abbrev pub IsPlace : Port → Slot → Type 0
-IsPlace port slot = (port.0 < 4) × (slot.0 < 32)
+abbrev pub IsPortAndSlot : Port → Slot → Type 0
+IsPortAndSlot port slot = (port.0 < 4) × (slot.0 < 32)
 
 -- the step's numbers are in their ranges
 abbrev pub StepInRange : DeviceStep → Type 0
-StepInRange (step.Fetch port slot) = IsPlace port slot
-StepInRange (step.Move port slot) = IsPlace port slot
+StepInRange (step.Fetch port slot) = IsPortAndSlot port slot
+StepInRange (step.Move port slot) = IsPortAndSlot port slot
 StepInRange (step.Clear port slot count) = (port.0 < 4) × (slot.0 < 32) × (count < 2 ^ 32)
-StepInRange (step.Done port slot) = IsPlace port slot
-StepInRange (step.Finish port slot) = IsPlace port slot
+StepInRange (step.Done port slot) = IsPortAndSlot port slot
+StepInRange (step.Finish port slot) = IsPortAndSlot port slot
 StepInRange (step.Fault port slot error) = (port.0 < 4) × (slot.0 < 32) × (error < 256)
 StepInRange (step.FaultBusy port slot error) = (port.0 < 4) × (slot.0 < 32) × (error < 256)
 StepInRange (step.Fatal port error) = port.0 < 4

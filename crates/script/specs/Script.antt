@@ -30,9 +30,9 @@ Asks text None = AsksNothing text
 Asks text (Some line) = HasLine line × (line_text line ≡ text)
 
 -- the line that is asked, if one is
-abbrev pub asked_of : Bool → Call DeviceStep → Option (Call DeviceStep)
-asked_of true line = Some line
-asked_of false line = None
+abbrev pub call_if_asked : Bool → Call DeviceStep → Option (Call DeviceStep)
+call_if_asked true line = Some line
+call_if_asked false line = None
 
 -- the lines' texts ask these in turn
 pub data AskInTurn : List (List ℕ) → List (Call DeviceStep) → Type 0 where

@@ -4,7 +4,7 @@ ghost use Rattle.std.specs.Io.KnownBytes.{Appends};
 ghost use Rattle.std.specs.List.{flat_map, join_with_byte};
 ghost use Rattle.hex.specs.Hex.{encode_lower};
 ghost use Rattle.block_machine.specs.Rules.{rank};
-ghost use Rattle.script.specs.Answer.{answer_line, answer_text, fault_words, kind_word, mem_fault_word, outcome_words, refusal_words, rule_words, state_words};
+ghost use Rattle.script.specs.Answer.{answer_line, answer_text, fault_words, moved_word, mem_fault_word, outcome_words, refusal_words, rule_words, state_words};
 
 use adapter::{Clear, Done, Move, Operation};
 use arrayvec::ArrayVec;
@@ -191,7 +191,7 @@ fn fault_name(fault: MemFault) -> &'static str
 
 /// The word for what a command moves.
 fn kind_name(operation: Operation) -> &'static str
-    ensures { result.now ≡ kind_word operation }
+    ensures { result.now ≡ moved_word operation }
 {
     match operation {
         Operation::Identify => "identify",

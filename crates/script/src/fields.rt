@@ -69,7 +69,7 @@ pub(crate) fn client(word: &[u8]) -> Option<ClientId>
 }
 
 /// A number of 32 bits.
-pub(crate) fn wide(word: &[u8]) -> Option<u32>
+pub(crate) fn number_of_32_bits(word: &[u8]) -> Option<u32>
     ensures spelled { IfSome result (λ n. (n < 4294967296) × (decimal n ≡ word.now)) }
     ensures only { (n : ℕ) → n < 4294967296 → decimal n ≡ word.now → result ≡ Some n }
 {

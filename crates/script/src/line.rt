@@ -57,7 +57,7 @@ fn transfer(op: Op, words: &[&[u8]], request: &mut Request) -> Option<()>
             request.grant = fields::number(grant, 255)? as u8;
             request.op = op;
             request.first = Sector(fields::number(first, u64::MAX)?);
-            request.count = fields::wide(count)?;
+            request.count = fields::number_of_32_bits(count)?;
             fields::frames(frames, &mut request.frames)?;
             Some(())
         }
@@ -84,7 +84,7 @@ fn clear(port: &[u8], slot: &[u8], count: &[u8]) -> Option<DeviceStep>
 {
     let port = fields::port(port)?;
     let slot = fields::slot(slot)?;
-    let count = fields::wide(count)?;
+    let count = fields::number_of_32_bits(count)?;
     Some(DeviceStep::Clear(port, slot, count))
 }
 
@@ -236,7 +236,7 @@ fn trim(
     let client = fields::client(client)?;
     let grant = fields::number(grant, 255)? as u8;
     let first = Sector(fields::number(first, u64::MAX)?);
-    let count = fields::wide(count)?;
+    let count = fields::number_of_32_bits(count)?;
     *call = Call::Submit(Request {
         client,
         grant,
@@ -280,7 +280,7 @@ fn store(
 {
     let client = fields::client(client)?;
     let frame = fields::frame(frame)?;
-    let offset = fields::wide(offset)?;
+    let offset = fields::number_of_32_bits(offset)?;
     let bytes = fields::bytes(bytes)?;
     *call = Call::ClientStore {
         client,
@@ -304,7 +304,7 @@ fn load(
 {
     let client = fields::client(client)?;
     let frame = fields::frame(frame)?;
-    let offset = fields::wide(offset)?;
+    let offset = fields::number_of_32_bits(offset)?;
     let count = fields::count(count)?;
     *call = Call::ClientLoad {
         client,

@@ -1,7 +1,7 @@
 // A whole script.
 ghost use Rattle.std.specs.Prelude.{◌≡◌, ◌<◌, ◌==◌, ◌↔◌, IsTrue, IfOk, IfErr, IfSome, List, OnErr, OnOk, length};
 ghost use Rattle.std.specs.List.{position};
-ghost use Rattle.script.specs.Script.{Asks, asked_of, AsksNothing, IsBad, IsFirstBad, IsFirstLine, IsScript};
+ghost use Rattle.script.specs.Script.{Asks, call_if_asked, AsksNothing, IsBad, IsFirstBad, IsFirstLine, IsScript};
 ghost use Rattle.adapter.specs.declared.access.DeviceStep.{DeviceStep};
 ghost use Rattle.ata_types.specs.declared.call.Call.{Call};
 
@@ -30,7 +30,7 @@ fn asks_nothing(text: &[u8]) -> bool
 /// line does not, nor one that begins with `#`. What stands in the place is any call then, and so it is where the line
 /// is bad.
 pub fn parse_script_line(text: &[u8], call: &mut CallBuffer) -> Result<bool, Misspelled>
-    ensures ok { IfOk result (λ some. Asks text.now (asked_of some call.new)) }
+    ensures ok { IfOk result (λ some. Asks text.now (call_if_asked some call.new)) }
     ensures bad { OnErr result (IsBad text.now) }
 {
     if asks_nothing(text) {

@@ -19,8 +19,8 @@ abbrev pub HoldSectors : List (List ℕ) → Type 0
 HoldSectors items = (k : ℕ) → k < length items → IsStoredSector (slice_index_or items k [])
 
 -- the first of so many sectors that stand at the end of a room
-abbrev pub first_left : (room : List (List ℕ)) → ℕ → List ℕ
-first_left room left = slice_index_or room (length room - left) []
+abbrev pub first_untaken_sector : (room : List (List ℕ)) → ℕ → List ℕ
+first_untaken_sector room left = slice_index_or room (length room - left) []
 
 -- One more call has failed: a write, or else a read, of this sector.
 abbrev pub FailsOn : Bool → ℕ → (was now : Option Failures) → Type 0

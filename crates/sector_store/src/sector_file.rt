@@ -1,7 +1,7 @@
 // A file as sectors, some of which are read ahead.
 ghost use Rattle.std.specs.Prelude.{◌≡◌, ◌<◌, ◌≤◌, ◌+◌, ◌-◌, ◌*◌, ◌^◌, IfOk, length, take, true, false};
 ghost use Rattle.sector_store.specs.declared.sector_file.TheConstants.{MOST_SECTORS, QUARTER_BYTES};
-ghost use Rattle.sector_store.specs.Stores.{IsStoredSector, first_left};
+ghost use Rattle.sector_store.specs.Stores.{IsStoredSector, first_untaken_sector};
 
 use std::alloc::{AllocError, Global};
 use std::fs::File;
@@ -119,7 +119,7 @@ impl SectorFile {
     #[inline(always)]
     pub fn take(&mut self, sector: u64, out: &mut [u8; 512]) -> bool
         ensures gives { result ≡ true → (sector ≡ self.old.next) × (sector < self.old.end)
-            × (out.new ≡ first_left self.old.room.items (self.old.end - sector)) }
+            × (out.new ≡ first_untaken_sector self.old.room.items (self.old.end - sector)) }
         ensures bytes { result ≡ true → IsStoredSector out.new }
         ensures kept { result ≡ false → out.new ≡ out.old }
         ensures left { result ≡ true → self.new.next ≡ sector + 1 }
@@ -143,7 +143,7 @@ impl SectorFile {
         ensures forgets { self.new.end ≤ self.new.next }
         ensures end { self.new.end ≤ sector + 1 }
         ensures gives { result ≡ true → (self.new.next ≡ sector + 1) × (self.new.end ≡ sector + 1)
-            × (out.new ≡ first_left self.new.room.items 1) }
+            × (out.new ≡ first_untaken_sector self.new.room.items 1) }
     {
         self.fill(sector, 1) && self.take(sector, out)
     }
@@ -158,7 +158,7 @@ impl SectorFile {
         ensures forgets { result ≡ false → self.new.end ≤ self.new.next }
         ensures end { self.new.end ≤ sector + ahead + 1 }
         ensures next { result ≡ true → (self.new.next ≡ sector + 1) × (self.new.next ≤ self.new.end) }
-        ensures gives { result ≡ true → out.new ≡ first_left self.new.room.items (self.new.end - sector) }
+        ensures gives { result ≡ true → out.new ≡ first_untaken_sector self.new.room.items (self.new.end - sector) }
     {
         let count = 1 + ahead.min(MOST_SECTORS as u64 - 1) as usize;
         if self.fill(sector, count) {

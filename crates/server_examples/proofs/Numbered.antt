@@ -6,12 +6,12 @@ use Rattle.std.proofs.lemmas.Bool.Decides.{eqb_tells, leb_tells}
 use Rattle.std.proofs.lemmas.List.{length-replicate}
 use Rattle.std.proofs.lemmas.List.Elements.{All-replicate}
 use Rattle.sector_store.specs.Stores.{IsStoredSector, replaced}
-use Rattle.server_examples.specs.Numbered.{numbered}
+use Rattle.server_examples.specs.Numbered.{numbered_sectors}
 
 same_bytes : (byte : ℕ) → byte < 256 → IsStoredSector (replicate 512 byte)
 same_bytes byte small = (length-replicate 512 byte, All-replicate (λ b. b < 256) 512 byte small)
 
-pub numbered_sector : (first next k : ℕ) → IsStoredSector (numbered first next k)
+pub numbered_sector : (first next k : ℕ) → IsStoredSector (numbered_sectors first next k)
 numbered_sector first next k = by (nat_le first k && nat_lt k next)
   where
     by : (b : Bool) → IsStoredSector (if b then replicate 512 0 else replicate 512 (k % 256))
@@ -38,21 +38,21 @@ same_lt k next ne =
     ]
 
 -- the sector behind those that were cleared is cleared
-pub numbered_clears : (first next : ℕ) → first ≤ next → numbered first (next + 1) ≡ replaced (numbered first next) next (replicate 512 0)
+pub numbered_clears : (first next : ℕ) → first ≤ next → numbered_sectors first (next + 1) ≡ replaced (numbered_sectors first next) next (replicate 512 0)
 numbered_clears first next le = λ i k. at k i
   where
     zeros : List ℕ
     zeros = replicate 512 0
 
-    at : (k : ℕ) → numbered first (next + 1) k ≡ replaced (numbered first next) next zeros k
+    at : (k : ℕ) → numbered_sectors first (next + 1) k ≡ replaced (numbered_sectors first next) next zeros k
     at k =
         elim (eqb_tells k next) [
           | inl same ↦
               let here : k ≡ next = same.1 in
               ap (λ (b : Bool). if b then zeros else replicate 512 (k % 256))
               (and_from (nat_le first k) (nat_lt k (next + 1)) (is_le first k (omega (arith, le, here))) (is_lt k (next + 1) (omega (arith, here))))
-              ∙ sym (ap (λ (b : Bool). if b then zeros else numbered first next k) same.0)
+              ∙ sym (ap (λ (b : Bool). if b then zeros else numbered_sectors first next k) same.0)
           | inr other ↦
               ap (λ (b : Bool). if nat_le first k && b then zeros else replicate 512 (k % 256)) (same_lt k next other.1)
-              ∙ sym (ap (λ (b : Bool). if b then zeros else numbered first next k) other.0)
+              ∙ sym (ap (λ (b : Bool). if b then zeros else numbered_sectors first next k) other.0)
         ]

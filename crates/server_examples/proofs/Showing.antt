@@ -27,14 +27,14 @@ use Rattle.adapter.specs.declared.access.DeviceStep.TheVariants.{Hold, Fatal}
 use Rattle.adapter.specs.declared.access.FatalError.TheVariants.{Interface, HostBus}
 use Rattle.block_machine.specs.Events.{CallRecord, AbstractCall, AbstractState, Submit as AskSubmit, StoreAt, Service as AskService, Reset as AskReset, State as AskState, Device as AskDevice, Submitted, Stored, Served, WasReset, Shown, Stepped, AllByDevice, EveryReadHolds, IsAnswered, IsIssuedIn, IsRun, IsStillStuck, StaysStuck, answers_of, issues_it, reply_of, abstract_after, abstract_after_all, replies_of, steps_of}
 use Rattle.block_machine.specs.Events as machine
-use Rattle.block_machine.specs.Histories.{Happening, JointState, events_of}
-use Rattle.block_machine.specs.Left.{after}
+use Rattle.block_machine.specs.Histories.{JointEvent, JointState, events_of}
+use Rattle.block_machine.specs.Expected.{after}
 use Rattle.block_machine.specs.State.{Accepted, Pending, Machine}
 use Rattle.block_machine.specs.Steps.{Step, Touch, End, Unplug, Replace, Answer, Release}
 use Rattle.driver_history.specs.Evidence.{ShowsFailure}
 use Rattle.driver_history.specs.Histories.{ExplainsAccesses, IsDriverHistory}
 use Rattle.identify.specs.declared.wanted.Wanted.{Wanted}
-use Rattle.machine_runs.specs.Told.{AsksFor, CameFrom, WasAsked, waits_again}
+use Rattle.machine_runs.specs.Told.{AsksFor, WasUnansweredBefore, WasAsked, waits_again}
 use Rattle.server_history.specs.Histories.{StartsHistory, LeadsToServer}
 use Rattle.server_history.specs.Server.{ServerState}
 use Rattle.block_server.specs.Promise.{RunsAsPromised}
@@ -59,9 +59,9 @@ has_run device old new events before after promised empty begun telling =
       past = kept.added;
       asks = kept.clients.asks;
       says = kept.clients.says;
-      leads = subst (λ (past : List (Happening Device DeviceStep)). LeadsToServer begun.0 past (server_of device new)) whole kept.driver.leads;
-      run = subst (λ (past : List (Happening Device DeviceStep)). IsRun begun.0.abstract (events_of past)) whole kept.clients.run;
-      reads = subst (λ (past : List (Happening Device DeviceStep)). EveryReadHolds begun.0.abstract (events_of past)) whole
+      leads = subst (λ (past : List (JointEvent Device DeviceStep)). LeadsToServer begun.0 past (server_of device new)) whole kept.driver.leads;
+      run = subst (λ (past : List (JointEvent Device DeviceStep)). IsRun begun.0.abstract (events_of past)) whole kept.clients.run;
+      reads = subst (λ (past : List (JointEvent Device DeviceStep)). EveryReadHolds begun.0.abstract (events_of past)) whole
           (kept.clients.reads (ap (λ (d : Device). d.telling) begun.1.stands.device_is ∙ telling));
     })
 
@@ -71,13 +71,13 @@ asks_of (event ∷ events) (one ∷ more) = (ask_of event, machine_result_of one
 asks_of _ _ = []
 
 -- a history has grown by calls that asked and said this
-abbrev Grows : List (Happening Device DeviceStep) → List (AbstractCall DeviceStep × machine.CallResult) → List (Happening Device DeviceStep) → Type 0
-Grows past [] later = later ≡ past
-Grows past (one ∷ more) later = (h : Happening Device DeviceStep) × (h.event.ask ≡ one.0) × (h.event.said ≡ one.1) × Grows (h ∷ past) more later
+abbrev TapeGrows : List (JointEvent Device DeviceStep) → List (AbstractCall DeviceStep × machine.CallResult) → List (JointEvent Device DeviceStep) → Type 0
+TapeGrows past [] later = later ≡ past
+TapeGrows past (one ∷ more) later = (h : JointEvent Device DeviceStep) × (h.event.ask ≡ one.0) × (h.event.said ≡ one.1) × TapeGrows (h ∷ past) more later
 
 -- so it has by calls that stand in their order
-grows : (calls past : List (Happening Device DeviceStep)) (events : List (Call DeviceStep)) (some : List (CallResult (ArrayVec Reply))) → map (λ h. h.event.ask) calls ≡ map ask_of events
-    → map (λ h. h.event.said) calls ≡ map machine_result_of some → Grows past (asks_of events some) (reverse calls ++ past)
+grows : (calls past : List (JointEvent Device DeviceStep)) (events : List (Call DeviceStep)) (some : List (CallResult (ArrayVec Reply))) → map (λ h. h.event.ask) calls ≡ map ask_of events
+    → map (λ h. h.event.said) calls ≡ map machine_result_of some → TapeGrows past (asks_of events some) (reverse calls ++ past)
 grows [] past [] [] asks says = refl
 grows [] past [] (one ∷ more) asks says = cc
 grows [] past (event ∷ events) some asks says = cc
@@ -88,12 +88,12 @@ grows (h ∷ calls) past (event ∷ events) (one ∷ more) asks says =
     let told : h.event.said ≡ machine_result_of one = cc in
     let asks_on : map (λ h. h.event.ask) calls ≡ map ask_of events = cc in
     let says_on : map (λ h. h.event.said) calls ≡ map machine_result_of more = cc in
-    let turned = ap (λ (l : List (Happening Device DeviceStep)). l ++ past) (reverse-append (h ∷ []) calls) ∙ append_assoc (reverse calls) (h ∷ []) past in
-    (h, asked, told, subst (Grows (h ∷ past) (asks_of events more)) (sym turned) (grows calls (h ∷ past) events more asks_on says_on))
+    let turned = ap (λ (l : List (JointEvent Device DeviceStep)). l ++ past) (reverse-append (h ∷ []) calls) ∙ append_assoc (reverse calls) (h ∷ []) past in
+    (h, asked, told, subst (TapeGrows (h ∷ past) (asks_of events more)) (sym turned) (grows calls (h ∷ past) events more asks_on says_on))
 
-grown : {A : Type 0} {device : A → Device} {old new : ServerView A} {events : List (Call DeviceStep)} {some : List (CallResult (ArrayVec Reply))} (r : HasRun device old new events some) → Grows [] (asks_of events some) r.past
+grown : {A : Type 0} {device : A → Device} {old new : ServerView A} {events : List (Call DeviceStep)} {some : List (CallResult (ArrayVec Reply))} (r : HasRun device old new events some) → TapeGrows [] (asks_of events some) r.past
 grown {A} {device} {old} {new} {events} {some} r =
-    subst (Grows [] (asks_of events some)) (append-nil (reverse (reverse r.past)) ∙ reverse-reverse r.past) (grows (reverse r.past) [] events some r.asks r.says)
+    subst (TapeGrows [] (asks_of events some)) (append-nil (reverse (reverse r.past)) ∙ reverse-reverse r.past) (grows (reverse r.past) [] events some r.asks r.says)
 
 pub has_said : {A : Type 0} {device : A → Device} {old new : ServerView A} {events : List (Call DeviceStep)} {some other : List (CallResult (ArrayVec Reply))} → HasRun device old new events some → some ≡ other → HasRun device old new events other
 has_said {A} {device} {old} {new} {events} {some} {other} r is = subst (HasRun device old new events) is r
@@ -125,7 +125,7 @@ submit_asks r event asked is asks = let e : ◌≡◌ {A = AbstractCall DeviceSt
 told_alone : (items : List Reply) (reply : Reply) → items ≡ reply ∷ [] → Contains items reply
 told_alone items reply only = subst (λ (xs : List Reply). Contains xs reply) (sym only) (in_middle [] reply [])
 
-served_last : (laws : ShownRunLaws) (old new : ServerState) (asked : Request) (first : JointState Device) → LeadsToServer first [] old → (past : List (Happening Device DeviceStep)) (last : Happening Device DeviceStep)
+served_last : (laws : ShownRunLaws) (old new : ServerState) (asked : Request) (first : JointState Device) → LeadsToServer first [] old → (past : List (JointEvent Device DeviceStep)) (last : JointEvent Device DeviceStep)
     → LeadsToServer first (last ∷ past) new → IsRun first.abstract (events_of (last ∷ past)) → EveryReadHolds first.abstract (events_of (last ∷ past)) → (items : List Reply) (reply : Reply)
     → last.event.said ≡ Served items → items ≡ reply ∷ [] → reply.outcome ≡ outcome.Ok → asked.op ≡ Read → ((r : Accepted) → WasAsked r (events_of past) → r.asked ≡ asked) → ServesRead old new asked
 served_last laws old new asked first begun past last leads run holds items reply says only ok reads asks =
@@ -152,12 +152,12 @@ shows_a_read device old new read step id did replies reply laws r only ok reads 
     let a = grown r in
     let b = a.3 in
     let c = b.3 in
-    let calls : List (Happening Device DeviceStep) = c.0 ∷ b.0 ∷ a.0 ∷ [] in
+    let calls : List (JointEvent Device DeviceStep) = c.0 ∷ b.0 ∷ a.0 ∷ [] in
     let is : r.past ≡ calls = c.3 in
     served_last laws (server_of device old) (server_of device new) read r.first r.begun (b.0 ∷ a.0 ∷ []) c.0
-    (subst (λ (p : List (Happening Device DeviceStep)). LeadsToServer r.first p (server_of device new)) is r.leads)
-    (subst (λ (p : List (Happening Device DeviceStep)). IsRun r.first.abstract (events_of p)) is r.run)
-    (subst (λ (p : List (Happening Device DeviceStep)). EveryReadHolds r.first.abstract (events_of p)) is r.reads)
+    (subst (λ (p : List (JointEvent Device DeviceStep)). LeadsToServer r.first p (server_of device new)) is r.leads)
+    (subst (λ (p : List (JointEvent Device DeviceStep)). IsRun r.first.abstract (events_of p)) is r.run)
+    (subst (λ (p : List (JointEvent Device DeviceStep)). EveryReadHolds r.first.abstract (events_of p)) is r.reads)
     replies reply c.2 only ok reads
     (λ q asked. ⊎_elim
     (λ now. absurd (device_asks_none q b.0.event step b.1 now))
@@ -237,7 +237,7 @@ record Was (m : Machine) (e : Pending) : Type 0 where
 was_then : (laws : ShownRunLaws) (first : AbstractState) (past : List (CallRecord DeviceStep)) (event : CallRecord DeviceStep) (e : Pending) → IsRun first (event ∷ past) → LetsBe (abstract_after_all first past) event
     → Contains (abstract_after_all first (event ∷ past)).machine.book e → Was (abstract_after_all first past).machine e
 was_then laws first past event e r lets h = ⊎_elim
-    (λ (c : CameFrom (abstract_after_all first past).machine event.steps e). record {
+    (λ (c : WasUnansweredBefore (abstract_after_all first past).machine event.steps e). record {
       before = c.before;
       here = c.here;
       same = c.same;
@@ -261,7 +261,7 @@ is_port_0 q few one two three = go q.0 refl
     go (suc (suc (suc (suc n)))) is = absurd (omega (arith, few, is))
 
 -- The first of these calls asks for the request, the next three tell that no port but the first is ready, then that meets a fatal error, and a service follows, and then the device goes on.
-record Restarted (wanted : List Wanted) (first : JointState Device) (asked : Request) (id : RequestId) (submit one two three fatal service finish : Happening Device DeviceStep) : Type 0 where
+record Restarted (wanted : List Wanted) (first : JointState Device) (asked : Request) (id : RequestId) (submit one two three fatal service finish : JointEvent Device DeviceStep) : Type 0 where
   run : IsRun first.abstract (events_of (finish ∷ service ∷ fatal ∷ three ∷ two ∷ one ∷ submit ∷ []))
   history : IsDriverHistory wanted first (finish ∷ service ∷ fatal ∷ three ∷ two ∷ one ∷ submit ∷ [])
   submits : (submit.event.ask ≡ AskSubmit asked) × (submit.event.said ≡ Submitted (Ok id))
@@ -285,14 +285,14 @@ shows_failure past event old new accesses is says came =
     done.1
 
 -- what was unanswered before the port failed, and is the only one
-record Lone (first : JointState Device) (submit one two three fatal : Happening Device DeviceStep) (e : Pending) : Type 0 where
+record Lone (first : JointState Device) (submit one two three fatal : JointEvent Device DeviceStep) (e : Pending) : Type 0 where
   begun : Pending
   here : Contains (abstract_after_all first.abstract (events_of (submit ∷ []))).machine.book begun
   same : begun.request ≡ e.request
   at_port_0 : e.request.port.0 ≡ 0
   ready : (abstract_after_all first.abstract (events_of (fatal ∷ three ∷ two ∷ one ∷ submit ∷ []))).ports.state e.request.port ≡ Ready
 
-lone_of : (laws : ShownRunLaws) (wanted : List Wanted) (first : JointState Device) (asked : Request) (id : RequestId) (submit one two three fatal service finish : Happening Device DeviceStep)
+lone_of : (laws : ShownRunLaws) (wanted : List Wanted) (first : JointState Device) (asked : Request) (id : RequestId) (submit one two three fatal service finish : JointEvent Device DeviceStep)
     → Restarted wanted first asked id submit one two three fatal service finish → (e : Pending)
     → Contains (abstract_after_all first.abstract (events_of (fatal ∷ three ∷ two ∷ one ∷ submit ∷ []))).machine.book e → Lone first submit one two three fatal e
 lone_of laws wanted first asked id submit one two three fatal service finish c e here =
@@ -331,14 +331,14 @@ lone_of laws wanted first asked id submit one two three fatal service finish c e
     absent_ready is = cc
 
 -- it was issued by the submit
-issued_first : (laws : ShownRunLaws) (first : JointState Device) (asked : Request) (id : RequestId) (submit : Happening Device DeviceStep) (e : Pending) → IsRun first.abstract (events_of (submit ∷ []))
+issued_first : (laws : ShownRunLaws) (first : JointState Device) (asked : Request) (id : RequestId) (submit : JointEvent Device DeviceStep) (e : Pending) → IsRun first.abstract (events_of (submit ∷ []))
     → submit.event.ask ≡ AskSubmit asked → submit.event.said ≡ Submitted (Ok id) → Contains (abstract_after_all first.abstract (events_of (submit ∷ []))).machine.book e
     → 1 ≤ count_by (issues_it e.request.id) (steps_of (events_of (submit ∷ [])))
 issued_first laws first asked id submit e r is says here =
     let run = events_of (submit ∷ []) in
     let legal = laws.legal first.abstract run r in
     let its : (x : Pending) → Contains (abstract_after_all first.abstract run).machine.book x → x.request.id ≡ id = λ x h. ⊎_elim
-    (λ (c : CameFrom first.abstract.machine submit.event.steps x). absurd (nothing c.before (subst (λ (xs : List Pending). Contains xs c.before) legal.0.book c.here)))
+    (λ (c : WasUnansweredBefore first.abstract.machine submit.event.steps x). absurd (nothing c.before (subst (λ (xs : List Pending). Contains xs c.before) legal.0.book c.here)))
     (λ asks. let e : ◌≡◌ {A = machine.CallResult} (Submitted (Ok x.request.id)) (Submitted (Ok id)) = sym asks.1 ∙ says in cc)
     (laws.came first.abstract [] submit.event x r h) in
     let ready = ⊎_elim (λ is. is) (λ (dead : ((abstract_after_all first.abstract run).ports.state e.request.port ≡ Dead) × IsStillStuck run).
@@ -352,7 +352,7 @@ issued_first laws first asked id submit e r is says here =
     nothing x h = search rules
 
 -- So what is answered Ok after these was issued twice, and made to wait again.
-went_again : (laws : ShownRunLaws) (wanted : List Wanted) (first : JointState Device) (asked : Request) (id : RequestId) (submit one two three fatal service finish : Happening Device DeviceStep)
+went_again : (laws : ShownRunLaws) (wanted : List Wanted) (first : JointState Device) (asked : Request) (id : RequestId) (submit one two three fatal service finish : JointEvent Device DeviceStep)
     → Restarted wanted first asked id submit one two three fatal service finish → (e : Pending)
     → Contains (abstract_after_all first.abstract (events_of (finish ∷ service ∷ fatal ∷ three ∷ two ∷ one ∷ submit ∷ []))).machine.book e → e.issued ≡ true
     → (2 ≤ count_by (issues_it e.request.id) (steps_of (events_of (finish ∷ service ∷ fatal ∷ three ∷ two ∷ one ∷ submit ∷ []))))
@@ -410,13 +410,13 @@ shows_a_read_anew device old new read step id before replies reply laws r only o
     let f = e.3 in
     let g = f.3 in
     let h = g.3 in
-    let past : List (Happening Device DeviceStep) = g.0 ∷ f.0 ∷ e.0 ∷ d.0 ∷ c.0 ∷ b.0 ∷ a.0 ∷ [] in
+    let past : List (JointEvent Device DeviceStep) = g.0 ∷ f.0 ∷ e.0 ∷ d.0 ∷ c.0 ∷ b.0 ∷ a.0 ∷ [] in
     let is : r.past ≡ h.0 ∷ past = h.3 in
-    let run : IsRun r.first.abstract (events_of (h.0 ∷ past)) = subst (λ (p : List (Happening Device DeviceStep)). IsRun r.first.abstract (events_of p)) is r.run in
+    let run : IsRun r.first.abstract (events_of (h.0 ∷ past)) = subst (λ (p : List (JointEvent Device DeviceStep)). IsRun r.first.abstract (events_of p)) is r.run in
     let history : IsDriverHistory new.wanted r.first (h.0 ∷ past) = subst (IsDriverHistory new.wanted r.first) is r.leads.history in
     let serves = served_last laws (server_of device old) (server_of device new) read r.first r.begun past h.0
-    (subst (λ (p : List (Happening Device DeviceStep)). LeadsToServer r.first p (server_of device new)) is r.leads) run
-    (subst (λ (p : List (Happening Device DeviceStep)). EveryReadHolds r.first.abstract (events_of p)) is r.reads)
+    (subst (λ (p : List (JointEvent Device DeviceStep)). LeadsToServer r.first p (server_of device new)) is r.leads) run
+    (subst (λ (p : List (JointEvent Device DeviceStep)). EveryReadHolds r.first.abstract (events_of p)) is r.reads)
     replies reply h.2 only ok reads
     (λ q asked. ⊎_elim (λ x. absurd (device_asks_none q g.0.event step g.1 x)) (λ asked. ⊎_elim (λ x. absurd (service_asks_none q f.0.event f.1 x))
     (λ asked. ⊎_elim (λ x. absurd (device_asks_none q e.0.event _ e.1 x)) (λ asked. ⊎_elim (λ x. absurd (state_asks_none q d.0.event _ d.1 x))
@@ -501,10 +501,10 @@ shows_a_release device old new request client frame bytes last_bytes id replies 
     let e = d.3 in
     let f = e.3 in
     let g = f.3 in
-    let before : List (Happening Device DeviceStep) = c.0 ∷ b.0 ∷ a.0 ∷ [] in
-    let past : List (Happening Device DeviceStep) = e.0 ∷ d.0 ∷ before in
+    let before : List (JointEvent Device DeviceStep) = c.0 ∷ b.0 ∷ a.0 ∷ [] in
+    let past : List (JointEvent Device DeviceStep) = e.0 ∷ d.0 ∷ before in
     let is : r.past ≡ g.0 ∷ f.0 ∷ past = g.3 in
-    let run : IsRun r.first.abstract (events_of (g.0 ∷ f.0 ∷ past)) = subst (λ (p : List (Happening Device DeviceStep)). IsRun r.first.abstract (events_of p)) is r.run in
+    let run : IsRun r.first.abstract (events_of (g.0 ∷ f.0 ∷ past)) = subst (λ (p : List (JointEvent Device DeviceStep)). IsRun r.first.abstract (events_of p)) is r.run in
     let there : Contains (replies_of d.0.event.said) reply = subst (λ (s : machine.CallResult). Contains (replies_of s) reply) (sym d.2) (told_alone replies reply only) in
     let told = laws.asked r.first.abstract (events_of before) d.0.event reply run.0.0.0 there in
     let answered : Contains d.0.event.steps (Answer told.0 outcome.PortDead) = subst (λ (o : Outcome). Contains d.0.event.steps (Answer told.0 o)) dead told.1 in
@@ -525,7 +525,7 @@ shows_a_release device old new request client frame bytes last_bytes id replies 
       past = past;
       reset = f.0;
       later = g.0 ∷ [];
-      leads = subst (λ (p : List (Happening Device DeviceStep)). LeadsToServer r.first p (server_of device new)) is r.leads;
+      leads = subst (λ (p : List (JointEvent Device DeviceStep)). LeadsToServer r.first p (server_of device new)) is r.leads;
       run = run;
       dead = told.0;
       its = ⊎_elim (λ x. submit_asks told.0.request c.0.event request c.1 x)

@@ -12,17 +12,17 @@ use Rattle.ata_types.specs.declared.request.Outcome.{Outcome}
 use Rattle.ata_types.specs.declared.request.Outcome.TheVariants.{Ok, PortDead}
 use Rattle.adapter.specs.Device.{Device}
 use Rattle.adapter.specs.declared.access.DeviceStep.{DeviceStep}
-use Rattle.block_machine.specs.Events.{CallRecord, AbstractState, Reset, Service, EveryReadHolds, IsLawful, IsRun, IsStillStuck, answers_of, issues_it, abstract_after_all, replies_of, steps_of}
+use Rattle.block_machine.specs.Events.{CallRecord, AbstractState, Reset, Service, EveryReadHolds, IsLawfulAnswer, IsRun, IsStillStuck, answers_of, issues_it, abstract_after_all, replies_of, steps_of}
 use Rattle.block_machine.specs.Confined.{HasFrame, WasAccepted}
-use Rattle.block_machine.specs.Histories.{Happening, JointState, events_of, now}
-use Rattle.block_machine.specs.Left.{IsLegal, IsInitial, after}
+use Rattle.block_machine.specs.Histories.{JointEvent, JointState, events_of, now}
+use Rattle.block_machine.specs.Expected.{IsLegal, IsInitial, after}
 use Rattle.block_machine.specs.State.{Accepted, Machine, Pending}
 use Rattle.block_machine.specs.Steps.{Step, Answer, Release}
 use Rattle.driver_history.specs.Claims.{HandlesShownFailure}
 use Rattle.driver_history.specs.Evidence.{ShowsFailure}
 use Rattle.driver_history.specs.Histories.{IsDriverHistory}
 use Rattle.identify.specs.declared.wanted.Wanted.{Wanted}
-use Rattle.machine_runs.specs.Told.{AsksFor, CameFrom, CallAnswersOk, WasAsked, waits_again}
+use Rattle.machine_runs.specs.Told.{AsksFor, WasUnansweredBefore, CallAnswersOk, WasAsked, waits_again}
 use Rattle.server_history.specs.Histories.{LeadsToServer}
 use Rattle.server_history.specs.Server.{ServerState}
 use Rattle.block_server.specs.Running.{ask_of, machine_result_of}
@@ -38,7 +38,7 @@ pub record HasRun {A : Type 0} (device : A → Device) (old new : ServerView A) 
     (said : List (CallResult (ArrayVec Reply))) : Type 0 where
   pub first : JointState Device
   pub begun : LeadsToServer first [] (server_of device old)
-  pub past : List (Happening Device DeviceStep)
+  pub past : List (JointEvent Device DeviceStep)
   pub asks : map (λ h. h.event.ask) (reverse past) ≡ map ask_of asked
   pub says : map (λ h. h.event.said) (reverse past) ≡ map machine_result_of said
   pub leads : LeadsToServer first past (server_of device new)
@@ -51,8 +51,8 @@ pub record HasRun {A : Type 0} (device : A → Device) (old new : ServerView A) 
 pub record ServesRead (old new : ServerState) (asked : Request) : Type 0 where
   pub first : JointState Device
   pub begun : LeadsToServer first [] old
-  pub past : List (Happening Device DeviceStep)
-  pub last : Happening Device DeviceStep
+  pub past : List (JointEvent Device DeviceStep)
+  pub last : JointEvent Device DeviceStep
   pub leads : LeadsToServer first (last ∷ past) new
   pub run : IsRun first.abstract (events_of (last ∷ past))
   pub read : Pending
@@ -72,9 +72,9 @@ pub record ServesReadAnew (old new : ServerState) (asked : Request) : Type 0 whe
 pub record ReleasesFrame (old new : ServerState) (asked : Request) (frame : Frame) : Type 0 where
   pub first : JointState Device
   pub begun : LeadsToServer first [] old
-  pub past : List (Happening Device DeviceStep)
-  pub reset : Happening Device DeviceStep
-  pub later : List (Happening Device DeviceStep)
+  pub past : List (JointEvent Device DeviceStep)
+  pub reset : JointEvent Device DeviceStep
+  pub later : List (JointEvent Device DeviceStep)
   pub leads : LeadsToServer first (later ++ reset ∷ past) new
   pub run : IsRun first.abstract (events_of (later ++ reset ∷ past))
   pub dead : Pending
@@ -126,11 +126,11 @@ pub record ShownRunLaws : Type 0 where
   pub lawful : (first : AbstractState) (past : List (CallRecord DeviceStep)) (event : CallRecord DeviceStep)
       (e : Pending) (o : Outcome)
       → IsRun first (event ∷ past) → Contains event.steps (Answer e o)
-      → IsLawful (abstract_after_all first past) event.evidence
+      → IsLawfulAnswer (abstract_after_all first past) event.evidence
       event.ports e o
   pub came : (first : AbstractState) (past : List (CallRecord DeviceStep)) (event : CallRecord DeviceStep) (e : Pending)
       → IsRun first (event ∷ past) → Contains (abstract_after_all first (event ∷ past)).machine.book e
-      → CameFrom (abstract_after_all first past).machine event.steps e ⊎ AsksFor e.request event
+      → WasUnansweredBefore (abstract_after_all first past).machine event.steps e ⊎ AsksFor e.request event
   pub served : (first : AbstractState) (past : List (CallRecord DeviceStep)) (event : CallRecord DeviceStep)
       (e : Pending)
       → IsRun first (event ∷ past) → EveryReadHolds first (event ∷ past) → Contains event.steps (Answer e Ok)
@@ -148,8 +148,8 @@ pub record ShownRunLaws : Type 0 where
       → Contains (abstract_after_all first run).machine.book e
       → ((abstract_after_all first run).ports.state e.request.port ≡ Ready)
       ⊎ (((abstract_after_all first run).ports.state e.request.port ≡ Dead) × IsStillStuck run)
-  pub heeded : (wanted : List Wanted) (first : JointState Device) (past : List (Happening Device DeviceStep))
-      (h : Happening Device DeviceStep) (port : Port)
+  pub heeded : (wanted : List Wanted) (first : JointState Device) (past : List (JointEvent Device DeviceStep))
+      (h : JointEvent Device DeviceStep) (port : Port)
       → IsDriverHistory wanted first (h ∷ past) → h.event.ask ≡ Service
       → (now first past).abstract.ports.state port ≡ Ready
       → ShowsFailure ((now first past).device.port port.0) → HandlesShownFailure port (now first past) h

@@ -1,5 +1,5 @@
 // What the ports of a modelled adapter are found to be when it is taken over, and what is written and read for that.
-use crate::watched::{ALL_PORTS, Access, Lie, NO_LIE, Watched, lie, model};
+use crate::watched::{ALL_PORTS, AdapterCall, Lie, NO_LIE, Watched, lie, model};
 use ata_types::{PORTS, Port, PortState};
 use hba_regs::{PortReg, Reg};
 use host_boot::{ProbeResult, take_over};
@@ -49,7 +49,7 @@ fn found(alloc: Global, sectors: u32, lies: [Lie; 4]) -> Result<(u8, bool, Probe
 }
 
 /// The page has no signature of a checksum, so that its bytes may sum to anything.
-pub const UNSIGNED: Lie = (510, 0x01);
+pub const UNSIGNED_PAGE: Lie = (510, 0x01);
 
 // Byte 510 of IDENTIFY DEVICE holds the signature of the checksum, bytes 166 and 167 word 83, bytes 212 and 213 word
 // 106, bytes 200 to 207 the number of sectors, and bytes 20 to 39 the serial number (ACS-3, 7.12.7).
@@ -58,19 +58,47 @@ fn a_disk_is_what_its_page_says(rt: HostRuntime) -> Result<(), Fail> {
     for (sectors, lies, what) in [
         (70_000, [NO_LIE; 4], ready(70_000)),
         (70_000, [(0, 0x01), NO_LIE, NO_LIE, NO_LIE], unfit(1)),
-        (70_000, [UNSIGNED, NO_LIE, NO_LIE, NO_LIE], ready(70_000)),
-        (70_000, [UNSIGNED, (167, 0x40), NO_LIE, NO_LIE], unfit(2)),
-        (70_000, [UNSIGNED, (167, 0x80), NO_LIE, NO_LIE], unfit(2)),
-        (70_000, [UNSIGNED, (167, 0x04), NO_LIE, NO_LIE], unfit(3)),
-        (70_000, [UNSIGNED, (213, 0x10), NO_LIE, NO_LIE], unfit(4)),
         (
             70_000,
-            [UNSIGNED, (213, 0x50), NO_LIE, NO_LIE],
+            [UNSIGNED_PAGE, NO_LIE, NO_LIE, NO_LIE],
             ready(70_000),
         ),
-        (70_000, [UNSIGNED, (167, 0x20), NO_LIE, NO_LIE], unfit(5)),
-        (70_000, [UNSIGNED, (206, 0x01), NO_LIE, NO_LIE], unfit(6)),
-        (70_000, [UNSIGNED, (20, 0x01), NO_LIE, NO_LIE], FOREIGN),
+        (
+            70_000,
+            [UNSIGNED_PAGE, (167, 0x40), NO_LIE, NO_LIE],
+            unfit(2),
+        ),
+        (
+            70_000,
+            [UNSIGNED_PAGE, (167, 0x80), NO_LIE, NO_LIE],
+            unfit(2),
+        ),
+        (
+            70_000,
+            [UNSIGNED_PAGE, (167, 0x04), NO_LIE, NO_LIE],
+            unfit(3),
+        ),
+        (
+            70_000,
+            [UNSIGNED_PAGE, (213, 0x10), NO_LIE, NO_LIE],
+            unfit(4),
+        ),
+        (
+            70_000,
+            [UNSIGNED_PAGE, (213, 0x50), NO_LIE, NO_LIE],
+            ready(70_000),
+        ),
+        (
+            70_000,
+            [UNSIGNED_PAGE, (167, 0x20), NO_LIE, NO_LIE],
+            unfit(5),
+        ),
+        (
+            70_000,
+            [UNSIGNED_PAGE, (206, 0x01), NO_LIE, NO_LIE],
+            unfit(6),
+        ),
+        (70_000, [UNSIGNED_PAGE, (20, 0x01), NO_LIE, NO_LIE], FOREIGN),
     ] {
         let found = found(rt.alloc(), sectors, lies)?;
         assert_eq!(rt; found, (32, true, what), "{sectors} sectors, {lies:?}");
@@ -83,22 +111,22 @@ fn the_first_fault_of_a_page_is_told(rt: HostRuntime) -> Result<(), Fail> {
     for (sectors, lies, what) in [
         (
             70_000,
-            [UNSIGNED, (206, 0x01), (167, 0x20), NO_LIE],
+            [UNSIGNED_PAGE, (206, 0x01), (167, 0x20), NO_LIE],
             unfit(5),
         ),
         (
             70_000,
-            [UNSIGNED, (206, 0x01), (167, 0x24), NO_LIE],
+            [UNSIGNED_PAGE, (206, 0x01), (167, 0x24), NO_LIE],
             unfit(3),
         ),
         (
             70_000,
-            [UNSIGNED, (206, 0x01), (167, 0x20), (213, 0x10)],
+            [UNSIGNED_PAGE, (206, 0x01), (167, 0x20), (213, 0x10)],
             unfit(4),
         ),
         (
             70_000,
-            [UNSIGNED, (206, 0x01), (167, 0x64), (213, 0x10)],
+            [UNSIGNED_PAGE, (206, 0x01), (167, 0x64), (213, 0x10)],
             unfit(2),
         ),
         (
@@ -119,17 +147,17 @@ fn sectors_are_1_to_2_to_the_48(rt: HostRuntime) -> Result<(), Fail> {
     for (sectors, lies, what) in [
         (
             256,
-            [UNSIGNED, (200, 0x80), (201, 0x01), NO_LIE],
+            [UNSIGNED_PAGE, (200, 0x80), (201, 0x01), NO_LIE],
             ready(128),
         ),
         (
             256,
-            [UNSIGNED, (201, 0x01), (206, 0x01), NO_LIE],
+            [UNSIGNED_PAGE, (201, 0x01), (206, 0x01), NO_LIE],
             ready(1 << 48),
         ),
         (
             256,
-            [UNSIGNED, (201, 0x01), (206, 0x01), (200, 0x01)],
+            [UNSIGNED_PAGE, (201, 0x01), (206, 0x01), (200, 0x01)],
             unfit(6),
         ),
         (0, [NO_LIE; 4], unfit(6)),
@@ -149,7 +177,7 @@ struct Boot<'a> {
     found: [ProbeResult; PORTS],
     read: (Port, usize),
     touched: [bool; PORTS],
-    writes: &'a [Access],
+    writes: &'a [AdapterCall],
 }
 
 const NONE: Wanted = Wanted::Nothing;
@@ -158,12 +186,12 @@ const UNSERVED: ProbeResult = ProbeResult::Unserved;
 
 const ABSENT: ProbeResult = ProbeResult::Unready(PortState::Absent);
 
-const ENABLE: Access = Access::Write(Reg::Ghc, 0x8000_0000);
+const ENABLE: AdapterCall = AdapterCall::Write(Reg::Ghc, 0x8000_0000);
 
-const ALLOW_INTERRUPTS: Access = Access::Write(Reg::Ghc, 0x8000_0002);
+const ALLOW_INTERRUPTS: AdapterCall = AdapterCall::Write(Reg::Ghc, 0x8000_0002);
 
-const fn px(port: u8, r: PortReg, value: u32) -> Access {
-    Access::Write(Reg::Px(Port(port), r), value)
+const fn px(port: u8, r: PortReg, value: u32) -> AdapterCall {
+    AdapterCall::Write(Reg::Px(Port(port), r), value)
 }
 
 /// Compares what comes of a boot.
@@ -187,7 +215,7 @@ fn check(rt: &(impl Abort + AllocGlobal), boot: &Boot) -> Result<(), Fail> {
 /// What the boot writes where port 0 has the disk that is wanted: GHC with AE; ST and FRE, which are clear already; the
 /// places; FRE; COMRESET; PxSERR and PxIS; ST, with FRE and FR as they were read; slot 0; PxIE; and GHC with AE and IE
 /// (AHCI 1.3.1, 3.1.2, 3.3 and 10.1.2).
-fn writes_of_a_ready_port() -> [Access; 16] {
+fn writes_of_a_ready_port() -> [AdapterCall; 16] {
     [
         ENABLE,
         px(0, PortReg::Cmd, 0),
@@ -209,7 +237,7 @@ fn writes_of_a_ready_port() -> [Access; 16] {
 }
 
 /// What the boot writes first where a disk is wanted in port 2, which has its frames from 26000h on.
-fn first_writes_of_port_2() -> [Access; 7] {
+fn first_writes_of_port_2() -> [AdapterCall; 7] {
     [
         ENABLE,
         px(2, PortReg::Cmd, 0),
@@ -222,7 +250,7 @@ fn first_writes_of_port_2() -> [Access; 7] {
 }
 
 /// The boot of an adapter with these ports, of which port 0 alone has a disk, where one is wanted in it.
-const fn port_0_is_ready(pi: u8, wanted: [Wanted; PORTS], writes: &[Access]) -> Boot {
+const fn port_0_is_ready(pi: u8, wanted: [Wanted; PORTS], writes: &[AdapterCall]) -> Boot {
     Boot {
         pi,
         wanted,

@@ -10,7 +10,7 @@ use std::test::Fail;
 
 /// Sectors that a request has the disk read, write or clear, one call each, and what it leaves in each byte of them.
 #[derive(Clone, Copy)]
-pub struct Calls {
+pub struct SectorCalls {
     pub request: u64,
     pub first: u64,
     pub count: u64,
@@ -27,11 +27,11 @@ pub struct Case<'a> {
     pub sectors: u32,
     pub session: &'a str,
     pub requests: u64,
-    pub calls: &'a [Calls],
+    pub calls: &'a [SectorCalls],
 }
 
 /// Eight sectors that request 1 has the disk read.
-const READS: Calls = Calls {
+const READS: SectorCalls = SectorCalls {
     request: 1,
     first: 100,
     count: 8,
@@ -40,7 +40,7 @@ const READS: Calls = Calls {
 };
 
 /// The same, which it has the disk write zeros to, or clear.
-const CLEARS: Calls = Calls {
+const CLEARS: SectorCalls = SectorCalls {
     left: Some(0),
     ..READS
 };
@@ -141,7 +141,7 @@ const CASES: [Case<'static>; 11] = [
         ),
         requests: 2,
         calls: &[
-            Calls {
+            SectorCalls {
                 request: 2,
                 first: 120,
                 ..CLEARS
@@ -158,8 +158,8 @@ const CASES: [Case<'static>; 11] = [
         ),
         requests: 2,
         calls: &[
-            Calls { count: 1, ..CLEARS },
-            Calls {
+            SectorCalls { count: 1, ..CLEARS },
+            SectorCalls {
                 request: 2,
                 count: 1,
                 ..READS
@@ -176,7 +176,7 @@ const CASES: [Case<'static>; 11] = [
         requests: 2,
         calls: &[
             CLEARS,
-            Calls {
+            SectorCalls {
                 request: 2,
                 first: 104,
                 ..READS
@@ -194,7 +194,7 @@ const CASES: [Case<'static>; 11] = [
         requests: 3,
         calls: &[
             CLEARS,
-            Calls {
+            SectorCalls {
                 request: 3,
                 first: 130,
                 count: 2,
@@ -230,7 +230,7 @@ state Ready
         requests: 2,
         calls: &[
             READS,
-            Calls {
+            SectorCalls {
                 request: 2,
                 first: 110,
                 ..CLEARS
@@ -255,7 +255,7 @@ quiet
         ),
         requests: 3,
         calls: &[
-            Calls {
+            SectorCalls {
                 failed: Some(one_of_three_fails!(
                     "no
 > service
@@ -270,7 +270,7 @@ reply 3 Ok
                 )),
                 ..READS
             },
-            Calls {
+            SectorCalls {
                 request: 3,
                 first: 116,
                 ..READS
@@ -282,12 +282,12 @@ reply 3 Ok
     Case {
         session: unplugged!("did"),
         calls: &[
-            Calls {
+            SectorCalls {
                 count: 1,
                 failed: Some(unplugged!("no")),
                 ..CLEARS
             },
-            Calls {
+            SectorCalls {
                 first: 101,
                 count: 1,
                 ..CLEARS
@@ -320,7 +320,7 @@ impl Case<'_> {
     }
 
     /// The calls among which this one is; none where there are fewer.
-    fn calls_of(&self, call: u64) -> Option<&Calls> {
+    fn calls_of(&self, call: u64) -> Option<&SectorCalls> {
         let mut before: u64 = 0;
         self.calls.iter().find(|calls| {
             before = before.saturating_add(calls.count);

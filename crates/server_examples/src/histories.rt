@@ -19,8 +19,8 @@ use block_server::{CallResults, Server};
 use driver_history::troubles::law_shown_faults_are_heeded;
 use machine_runs::laws::{
     law_a_lone_request_is_issued, law_accepted_was_asked, law_answers_are_lawful,
-    law_issues_are_counted, law_ok_was_served, law_replied_was_asked, law_unanswered_came_from,
-    law_unanswered_where_ready,
+    law_issues_are_counted, law_ok_was_served, law_replied_was_asked,
+    law_unanswered_was_there_or_asked, law_unanswered_where_ready,
 };
 use std::alloc::Global;
 
@@ -33,7 +33,7 @@ fn law_laws_of_runs()
     law_accepted_was_asked::<DeviceStep>();
     law_replied_was_asked::<DeviceStep>();
     law_answers_are_lawful::<DeviceStep>();
-    law_unanswered_came_from::<DeviceStep>();
+    law_unanswered_was_there_or_asked::<DeviceStep>();
     law_ok_was_served::<DeviceStep>();
     law_a_lone_request_is_issued::<DeviceStep>();
     law_issues_are_counted();

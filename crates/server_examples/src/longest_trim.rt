@@ -1,7 +1,7 @@
 // A disk of which one call fails, each in turn, while as many sectors are trimmed as one request may.
-use crate::failing_stores::{Calls, Case, NEVER, is_told};
+use crate::failing_stores::{Case, NEVER, SectorCalls, is_told};
 use crate::numbered_store::NumberedStore;
-use crate::servers::OF_ALL_SECTORS;
+use crate::servers::GRANT_OF_ALL_SECTORS;
 use std::alloc::Global;
 use std::process::Abort;
 use std::test::Fail;
@@ -42,19 +42,19 @@ bytes ",
 
 /// The longest trim, and what is told where a call fails.
 const LONGEST_TRIM: Case<'static> = Case {
-    text: OF_ALL_SECTORS,
+    text: GRANT_OF_ALL_SECTORS,
     sectors: 70_000,
     session: trim_and_read!("Ok", "Ok", "00e8"),
     requests: 2,
     calls: &[
-        Calls {
+        SectorCalls {
             request: 1,
             first: 1000,
             count: 65_536,
             left: Some(0),
             failed: Some(trim_and_read!("DeviceError 41 40", "Ok", "e7e8")),
         },
-        Calls {
+        SectorCalls {
             request: 2,
             first: 66_535,
             count: 2,

@@ -3,8 +3,8 @@ ghost use Rattle.std.specs.Prelude.{◌≡◌, IfOk, true};
 ghost use Rattle.block_server.specs.Made.{IsReadyFor};
 ghost use Rattle.configuration.specs.Rules.{LacksEveryFault};
 
-use crate::boots::UNSIGNED;
-use crate::watched::{Access, Lie, NO_LIE, Watched, lie};
+use crate::boots::UNSIGNED_PAGE;
+use crate::watched::{AdapterCall, Lie, NO_LIE, Watched, lie};
 use adapter::{Adapter, DeviceStep};
 use arrayvec::ArrayVec;
 use ata_types::{ClientId, Frame, MemFault, Op, Port, PortState, Refusal, Request, Rule, Sector};
@@ -57,7 +57,7 @@ pub const QUEUED: &str = text_with!(
 );
 
 /// And the client may do all with the disk.
-pub const OF_ALL_SECTORS: &str = text_with!(
+pub const GRANT_OF_ALL_SECTORS: &str = text_with!(
     "slots = 32\nncq = true\ndepth = 32\n",
     "first = 0\ncount = 70000\n"
 );
@@ -155,7 +155,7 @@ fn check(
     requests: &[Request],
     slot: u8,
     wanted: Slot,
-    accesses: &[Access],
+    accesses: &[AdapterCall],
 ) -> Result<(), Fail> {
     let (watched, before) = served(rt, text, requests)?;
     let low = watched.low.as_slice();
@@ -307,13 +307,13 @@ const FLUSH: Slot = (
 // The boot's IDENTIFY DEVICE ended with a PIO Setup FIS, which PSS of PxIS tells (AHCI 1.3.1, 3.3.5). A service writes
 // back what it read there, and then the port's bit of IS alone (3.1.3), and reads PxSSTS; and then PxCI and PxSACT,
 // where there is a request.
-const SERVICE: [Access; 6] = [
-    Access::Read(Reg::Px(Port(0), PortReg::Is)),
-    Access::Write(Reg::Px(Port(0), PortReg::Is), 2),
-    Access::Write(Reg::Is, 1),
-    Access::Read(Reg::Px(Port(0), PortReg::Ssts)),
-    Access::Read(Reg::Px(Port(0), PortReg::Ci)),
-    Access::Read(Reg::Px(Port(0), PortReg::Sact)),
+const SERVICE: [AdapterCall; 6] = [
+    AdapterCall::Read(Reg::Px(Port(0), PortReg::Is)),
+    AdapterCall::Write(Reg::Px(Port(0), PortReg::Is), 2),
+    AdapterCall::Write(Reg::Is, 1),
+    AdapterCall::Read(Reg::Px(Port(0), PortReg::Ssts)),
+    AdapterCall::Read(Reg::Px(Port(0), PortReg::Ci)),
+    AdapterCall::Read(Reg::Px(Port(0), PortReg::Sact)),
 ];
 
 #[test]
@@ -402,7 +402,7 @@ fn issues(alloc: Global, text: &str, lies: [Lie; 2]) -> Result<(usize, usize), F
             .iter()
             .skip(before)
             .filter(
-                |access| matches!(access, Access::Write(Reg::Px(Port(0), reg), _) if *reg == wanted),
+                |access| matches!(access, AdapterCall::Write(Reg::Px(Port(0), reg), _) if *reg == wanted),
             )
             .count()
     };
@@ -417,8 +417,8 @@ const TURNED: Lie = (153, 0x01);
 fn commands_are_queued_where_both_can(rt: HostRuntime) -> Result<(), Fail> {
     for (text, lies, what) in [
         (QUEUED, [NO_LIE, NO_LIE], (2, 2)),
-        (QUEUED, [UNSIGNED, TURNED], (0, 1)),
-        (UNQUEUED, [UNSIGNED, TURNED], (0, 1)),
+        (QUEUED, [UNSIGNED_PAGE, TURNED], (0, 1)),
+        (UNQUEUED, [UNSIGNED_PAGE, TURNED], (0, 1)),
         (UNQUEUED, [NO_LIE, NO_LIE], (0, 1)),
     ] {
         let issues = issues(rt.alloc(), text, lies)?;

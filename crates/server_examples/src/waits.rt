@@ -4,7 +4,7 @@ ghost use Rattle.std.specs.Prelude.{◌≤◌};
 ghost use Rattle.adapter.specs.Idle.{IsIdle};
 
 use crate::boots::IMAGE_DISK;
-use crate::watched::{ALL_PORTS, Readings, Watched, model};
+use crate::watched::{ALL_PORTS, RegisterReadings, Watched, model};
 use adapter::{Adapter, DeviceStep, DiskNumber};
 use ata_types::{DRIVER_BYTES, PORTS, Port, PortState};
 use hba_regs::{PortReg, Reg};
@@ -12,7 +12,7 @@ use host_boot::laws::law_what_was_taken_over_may_be_served;
 use host_boot::{ProbeResult, take_over};
 use port_control::{PortFault, receive, stop};
 use refinement::fragments::law_other_ports_are_left;
-use refinement::kinds::law_followed_fragments_give;
+use refinement::kinds::law_followed_fragments_agree;
 use std::alloc::Global;
 use std::marker::Brand;
 use std::process::Abort;
@@ -51,7 +51,7 @@ fn received_anew<A: Adapter>(adapter: &mut A) -> PortState
     requires idle { IsIdle (A.device adapter.old) }
     requires room { DRIVER_BYTES ≤ (A.device adapter.old).size }
 {
-    law_followed_fragments_give::<Brand>();
+    law_followed_fragments_agree::<Brand>();
     law_other_ports_are_left();
     law_what_was_taken_over_may_be_served();
     let host = take_over(adapter, &IMAGE_DISK);
@@ -78,7 +78,7 @@ fn state(found: ProbeResult) -> PortState {
 }
 
 /// What port 0 is then, the readings of one of its registers, and how many accesses were made.
-type Seen = (PortState, Readings, usize);
+type Seen = (PortState, RegisterReadings, usize);
 
 /// Drives an adapter with a disk in port 0.
 fn drive(alloc: Global, driven: Driven, times: Times, register: PortReg) -> Result<Seen, Fail> {

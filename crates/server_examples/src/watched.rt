@@ -52,7 +52,7 @@ pub fn lie(model: &mut Model<MemStore>, lie: Lie)
 
 /// A call of an adapter.
 #[derive(Clone, Copy, Debug, PartialEq, Eq)]
-pub enum Access {
+pub enum AdapterCall {
     Read(Reg),
     Write(Reg, u32),
     Load,
@@ -61,19 +61,19 @@ pub enum Access {
 
 /// The end of what a port's slots 0 to 5 need: their headers from 0 on, and their tables of 880h bytes each from 1000h
 /// on, of which the last's 128 entries end here.
-pub const LOW: usize = 0x4300;
+pub const NOTED_MEMORY_END: usize = 0x4300;
 
 /// An adapter that notes its calls, and what is stored in the first bytes of memory.
 #[derive(Drop)]
 pub struct Watched<A> {
     pub adapter: A,
-    pub accesses: Vec<Access>,
+    pub accesses: Vec<AdapterCall>,
     pub low: Vec<u8>,
 }
 
 /// The readings of a register.
 #[derive(Clone, Copy)]
-pub struct Readings {
+pub struct RegisterReadings {
     /// How many there were.
     pub all: usize,
     /// How many there were since it was last written.
@@ -92,13 +92,13 @@ impl<A: Drop> Watched<A> {
         Ok(Watched {
             adapter,
             accesses: Vec::new(alloc),
-            low: vec![in alloc; 0u8; LOW]?,
+            low: vec![in alloc; 0u8; NOTED_MEMORY_END]?,
         })
     }
 
     /// The readings of a register so far.
-    pub fn readings(&self, r: Reg) -> Readings {
-        let mut readings = Readings {
+    pub fn readings(&self, r: Reg) -> RegisterReadings {
+        let mut readings = RegisterReadings {
             all: 0,
             since_write: 0,
             first: 0,
@@ -106,7 +106,7 @@ impl<A: Drop> Watched<A> {
         };
         for (place, access) in self.accesses.iter().enumerate() {
             match access {
-                Access::Read(read) if *read == r => {
+                AdapterCall::Read(read) if *read == r => {
                     readings.last = (place as u64).saturating_add(1);
                     if readings.all == 0 {
                         readings.first = readings.last;
@@ -114,7 +114,7 @@ impl<A: Drop> Watched<A> {
                     readings.all = readings.all.saturating_add(1);
                     readings.since_write = readings.since_write.saturating_add(1);
                 }
-                Access::Write(written, _) if *written == r => readings.since_write = 0,
+                AdapterCall::Write(written, _) if *written == r => readings.since_write = 0,
                 _ => {}
             }
         }
@@ -122,10 +122,10 @@ impl<A: Drop> Watched<A> {
     }
 
     /// What was written to registers, in its order.
-    pub fn writes(&self, alloc: Global) -> Result<Vec<Access>, Fail> {
+    pub fn writes(&self, alloc: Global) -> Result<Vec<AdapterCall>, Fail> {
         let mut writes = Vec::new(alloc);
         for access in &self.accesses {
-            if let Access::Write(..) = access {
+            if let AdapterCall::Write(..) = access {
                 writes.push(*access)?;
             }
         }
@@ -136,7 +136,9 @@ impl<A: Drop> Watched<A> {
     pub fn touched(&self) -> [bool; 4] {
         let mut touched = [false; 4];
         for access in &self.accesses {
-            if let Access::Read(Reg::Px(port, _)) | Access::Write(Reg::Px(port, _), _) = access {
+            if let AdapterCall::Read(Reg::Px(port, _))
+            | AdapterCall::Write(Reg::Px(port, _), _) = access
+            {
                 if let Some(place) = touched.get_mut(usize::from(port.0)) {
                     *place = true;
                 }
@@ -152,22 +154,22 @@ impl<A: Adapter> Adapter for Watched<A> {
     ghost access_count = { λ w. A.access_count w.adapter };
 
     fn read(&mut self, r: Reg) -> u32 {
-        let _full = self.accesses.push(Access::Read(r)).is_err();
+        let _full = self.accesses.push(AdapterCall::Read(r)).is_err();
         self.adapter.read(r)
     }
 
     fn write(&mut self, r: Reg, v: u32) {
-        let _full = self.accesses.push(Access::Write(r, v)).is_err();
+        let _full = self.accesses.push(AdapterCall::Write(r, v)).is_err();
         self.adapter.write(r, v);
     }
 
     fn load(&mut self, addr: u32, out: &mut [u8]) {
-        let _full = self.accesses.push(Access::Load).is_err();
+        let _full = self.accesses.push(AdapterCall::Load).is_err();
         self.adapter.load(addr, out);
     }
 
     fn store(&mut self, addr: u32, bytes: &[u8]) {
-        let _full = self.accesses.push(Access::Store).is_err();
+        let _full = self.accesses.push(AdapterCall::Store).is_err();
         for (kept, byte) in self.low.iter_mut().skip(addr as usize).zip(bytes.iter()) {
             *kept = *byte;
         }

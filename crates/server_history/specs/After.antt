@@ -17,18 +17,18 @@ use Rattle.refinement.specs.Relation.{StateRelation, HaveSlots}
 use Rattle.refinement.specs.Driven.{IsDrivenBy, SparesOtherPorts, GainsNoMove}
 use Rattle.refinement.specs.Driver.{DriverAdvances, DriverState, DriverRelation}
 use Rattle.refinement.specs.Errors.{NoneFatal}
-use Rattle.refinement.specs.Facts.{FaultsOnRecord, Undisturbed}
+use Rattle.refinement.specs.PortFacts.{FaultsOnRecord, Undisturbed}
 use Rattle.refinement.specs.Halting.{HaltIsOfTaken, HaltOfTakenIfSt}
 use Rattle.refinement.specs.Links.{ShowsDiskIfIn, LeavesDisk, NoPlugEvents, SameAdapter, DoesNotWrite}
 use Rattle.refinement.specs.Recovering.{WorksPlainly}
 use Rattle.refinement.specs.Slots.{Serves, SlotState, SlotStates, put, serving_count}
 use Rattle.block_machine.specs.Due.{issued_count}
 use Rattle.block_machine.specs.Histories.{IsReachable}
-use Rattle.block_machine.specs.Left.{after}
+use Rattle.block_machine.specs.Expected.{after}
 use Rattle.block_machine.specs.State.{Machine, unanswered}
 use Rattle.block_machine.specs.Steps.{NoneQuarantined, Step}
-use Rattle.host_boot.specs.Again.{RebootsPort, RebootsIfPresent, IsSurveyOrBoot}
-use Rattle.host_boot.specs.Taken.{FoundBadDisk, IsServed, LeavesFound, StandsBehind, StillStandsBehind}
+use Rattle.host_boot.specs.Again.{RebootsPort, RebootsIfPresent, IsCapPiOrBootAccess}
+use Rattle.host_boot.specs.TakeOver.{FoundBadDisk, IsServed, LeavesFoundPort, BacksProbeResult, StillBacksProbeResult}
 use Rattle.host_boot.specs.declared.Booted.{Booted}
 use Rattle.host_boot.specs.declared.ProbeResult.{ProbeResult}
 use Rattle.host_boot.specs.declared.ProbeResult.TheVariants.{Unready}
@@ -61,23 +61,25 @@ pub record RecoveryLaws : Type 0 where
       → RebootsPort wanted port booted old new → IsDrivenBy (SparesOtherPorts port) old new
   pub again_stands : (wanted : Wanted) (port : Port) (booted : Booted) (old new : Device)
       → RebootsPort wanted port booted old new → IsServed wanted port.0 old
-      → StandsBehind wanted booted.found port.0 new
+      → BacksProbeResult wanted booted.found port.0 new
   pub again_shown : (wanted : Wanted) (port : Port) (booted : Booted) (state : PortState) (old new : Device) → IsOn old
       → RebootsPort wanted port booted old new → FoundBadDisk state → booted.found ≡ Unready state
       → ShowsDiskIfIn (new.port port.0)
   -- what stands behind a port still does
-  pub stands_begin : (wanted : Wanted) (found : ProbeResult) (port : ℕ) (d : Device) → StandsBehind wanted found port d
-      → StillStandsBehind wanted found port d
+  pub stands_begin : (wanted : Wanted) (found : ProbeResult) (port : ℕ) (d : Device)
+      → BacksProbeResult wanted found port d
+      → StillBacksProbeResult wanted found port d
   pub stands_on : (wanted : Wanted) (found : ProbeResult) (port : ℕ) (old new : Device) → SameAdapter old new
-      → LeavesFound found (old.port port) (new.port port) → (found ≢ Unready Dead → GainsNoMove port Identify old new)
-      → StillStandsBehind wanted found port old → StillStandsBehind wanted found port new
+      → LeavesFoundPort found (old.port port) (new.port port) → (found ≢ Unready Dead
+      → GainsNoMove port Identify old new)
+      → StillBacksProbeResult wanted found port old → StillBacksProbeResult wanted found port new
   -- and one that was booted where a device showed
-  pub start_of : (port : Port) (access : Access) → IsSurveyOrBoot port access → SparesOtherPorts port access
+  pub start_of : (port : Port) (access : Access) → IsCapPiOrBootAccess port access → SparesOtherPorts port access
   pub there_driven : (wanted : Wanted) (port : Port) (booted : Booted) (old new : Device)
       → RebootsIfPresent wanted port booted old new → IsDrivenBy (SparesOtherPorts port) old new
   pub there_stands : (wanted : Wanted) (port : Port) (booted : Booted) (old new : Device)
       → RebootsIfPresent wanted port booted old new → IsServed wanted port.0 old
-      → StandsBehind wanted booted.found port.0 new
+      → BacksProbeResult wanted booted.found port.0 new
   pub there_shown : (wanted : Wanted) (port : Port) (booted : Booted) (state : PortState) (old new : Device) → IsOn old
       → RebootsIfPresent wanted port booted old new → FoundBadDisk state → booted.found ≡ Unready state
       → ShowsDiskIfIn (new.port port.0)

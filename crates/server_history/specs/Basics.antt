@@ -28,19 +28,19 @@ use Rattle.refinement.specs.Started.{ClearsNoStart}
 use Rattle.hba_regs.specs.Bits.{bit}
 use Rattle.hba_regs.specs.declared.reg.PortReg.TheVariants.{Ci, Clb}
 use Rattle.hba_regs.specs.declared.reg.Reg.TheVariants.{Px}
-use Rattle.refinement.specs.GivingUp.{parking_all, served_ids}
+use Rattle.refinement.specs.GivingUp.{with_all_parked, ids_in_slots}
 use Rattle.refinement.specs.Slots.{Free, IsMove, IsOver, Own, Serves, SlotState, SlotStates, op_of, put}
 use Rattle.block_machine.specs.Ports.{PortsWellFormed, Ports}
 use Rattle.block_machine.specs.Rules.{Names}
 use Rattle.block_machine.specs.State.{Accepted, Machine, Pending}
 use Rattle.block_machine.specs.Steps.{Step, Accept, Age, Again, Answer, HoldsFrames, MayAccept, MayStillMove, after_step, stays, Revoke}
-use Rattle.refinement.specs.Facts.{EndedIn, IsSlotClear, ShowsFault}
+use Rattle.refinement.specs.PortFacts.{EndedIn, IsSlotClear, ShowsFault}
 use Rattle.dma_frames.specs.Table.{Table}
 use Rattle.request_queue.specs.Entries.{BookEntry, IsAccepted, BookIsInOrder, aged, asks_of}
 use Rattle.request_queue.specs.Machine.{BookRelation}
 use Rattle.block_machine.specs.Confined.{HasFrame, IsGranted, WasAccepted, WithinLimits}
-use Rattle.block_machine.specs.Left.{IsLegal, IsInitial, after}
-use Rattle.block_machine.specs.Histories.{JointState, IsReachable, IsSimulatedBySteps, Happening, now}
+use Rattle.block_machine.specs.Expected.{IsLegal, IsInitial, after}
+use Rattle.block_machine.specs.Histories.{JointState, IsReachable, IsSimulatedBySteps, JointEvent, now}
 use Rattle.block_machine.specs.Events.{AllByDevice, AllMay}
 use Rattle.refinement.specs.Spares.{AllFurther, IsFurther, SparesBook}
 use Rattle.driver_history.specs.Histories.{IsDriverHistory}
@@ -57,10 +57,10 @@ pub record BasicLaws : Type 0 where
   pub may : (m : Machine) (late early : List Step) → AllMay m early → AllMay (after m early) late
       → AllMay m (late ++ early)
   pub reached : (m : Machine) (steps : List Step) → IsReachable m → AllMay m steps → IsReachable (after m steps)
-  pub history_reached : (wanted : List Wanted) (first : JointState Device) (past : List (Happening Device DeviceStep))
+  pub history_reached : (wanted : List Wanted) (first : JointState Device) (past : List (JointEvent Device DeviceStep))
       → IsDriverHistory wanted first past → IsReachable (now first past).abstract.machine
   -- the ports
-  pub fit : (wanted : List Wanted) (first : JointState Device) (past : List (Happening Device DeviceStep))
+  pub fit : (wanted : List Wanted) (first : JointState Device) (past : List (JointEvent Device DeviceStep))
       → IsDriverHistory wanted first past → PortsWellFormed (now first past).abstract.ports
   pub ready_served : (ports : Ports) (port : Port) → PortsWellFormed ports → ports.state port ≡ Ready
       → (ports.served port ≡ true) × (port.0 < 4)
@@ -123,16 +123,16 @@ pub record SlotLaws : Type 0 where
       → new.tape ≡ old.tape ++ gained
       → op_of o ≡ None → (uses port 0 ≡ Own o → IsOver (old.port port) 0) → All (λ e. IsMove port o e → ⊥) gained
   -- slots that are given up, or put to another use, and requests that have none
-  pub given_free : (k : DriverState) (port : ℕ) → AllFree (parking_all k port).uses port
+  pub given_free : (k : DriverState) (port : ℕ) → AllFree (with_all_parked k port).uses port
   pub given_others : (k : DriverState) (port other : ℕ) → other ≢ port
-      → ((parking_all k port).uses other ≡ k.uses other) × ((parking_all k port).parked other ≡ k.parked other)
+      → ((with_all_parked k port).uses other ≡ k.uses other) × ((with_all_parked k port).parked other ≡ k.parked other)
   pub given_parked : (k : DriverState) (port : ℕ)
-      → (parking_all k port).parked port ≡ served_ids k.uses port 32 ++ k.parked port
+      → (with_all_parked k port).parked port ≡ ids_in_slots k.uses port 32 ++ k.parked port
   pub put_here : (uses : SlotStates) (port slot : ℕ) (u : SlotState) → put uses port slot u port slot ≡ u
-  pub served : (uses : SlotStates) (port n : ℕ) (id : RequestId) → Contains (served_ids uses port n) id → (slot : ℕ)
+  pub served : (uses : SlotStates) (port n : ℕ) (id : RequestId) → Contains (ids_in_slots uses port n) id → (slot : ℕ)
       × (slot < n) × (uses port slot ≡ Serves id)
   pub frees : (k : DriverState) (port slot : ℕ) (id : RequestId) → ServeApart k.uses → k.uses port slot ≡ Serves id
-      → HasNoSlot (parking_all k port).uses id
+      → HasNoSlot (with_all_parked k port).uses id
   pub put_unserved : (uses : SlotStates) (port slot : ℕ) (u : SlotState) (id : RequestId) → HasNoSlot uses id
       → ((other : RequestId) → u ≡ Serves other → other ≢ id) → HasNoSlot (put uses port slot u) id
   pub waiting : (uses : SlotStates) (m : Machine) (d : Device) → IsReachable m → StateRelation uses m d → (e : Pending)

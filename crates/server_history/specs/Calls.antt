@@ -3,7 +3,7 @@ use Rattle.std.specs.Prelude.{ℕ, true, false, ◌≡◌, ◌≢◌, ◌⊎◌,
 use Rattle.ata_types.specs.declared.Port.{Port}
 use Rattle.ata_types.specs.declared.PortState.TheVariants.{Ready}
 use Rattle.adapter.specs.Device.{Device, DevicePort}
-use Rattle.adapter.specs.Seen.{PortRegisterRead}
+use Rattle.adapter.specs.RegisterEffects.{PortRegisterRead}
 use Rattle.adapter.specs.declared.access.DeviceStep.{DeviceStep}
 use Rattle.adapter.specs.declared.command.Operation.TheVariants.{ReadLog}
 use Rattle.adapter.specs.declared.tape.Fault.{Fault}
@@ -15,10 +15,10 @@ use Rattle.hba_regs.specs.Bits.{bit}
 use Rattle.hba_regs.specs.declared.reg.PortReg.{PortReg}
 use Rattle.hba_regs.specs.declared.reg.PortReg.TheVariants.{Ci, Is, Sact, Sctl, Ssts}
 use Rattle.hba_regs.specs.declared.reg.Reg.TheVariants.{Ghc, Px}
-use Rattle.refinement.specs.Driven.{IsDrivenBy, SparesOtherPorts, LeavesPort, GainsNoMove, Grows}
+use Rattle.refinement.specs.Driven.{IsDrivenBy, SparesOtherPorts, LeavesPort, GainsNoMove, TapeGrows}
 use Rattle.refinement.specs.Errors.{NoDiskComes, IsFatalOf}
 use Rattle.refinement.specs.Laws.{FragmentLaws}
-use Rattle.refinement.specs.Facts.{IsFaulted, FaultsOnRecord, RunsWell, ShowsNoTrouble, TellsNoTrouble, Undisturbed, IsFaultOf}
+use Rattle.refinement.specs.PortFacts.{IsFaulted, FaultsOnRecord, RunsWell, ShowsNoTrouble, TellsNoTrouble, Undisturbed, IsFaultOf}
 use Rattle.block_machine.specs.Events.{AbstractCall, AbstractState, CallResult, Service}
 use Rattle.block_machine.specs.Histories.{JointState}
 use Rattle.block_machine.specs.Ports.{Evidence, IsStoppedOrStuck, Ports, SamePort}
@@ -32,7 +32,7 @@ use Rattle.port_control.specs.Looks.{LooksAt, port_event_of, IsLooking}
 use Rattle.port_control.specs.Services.{HasLoss, LeavesCauses, IsService, HidesNoPlugEvent, HidesNoFatal, HidesNoFault}
 use Rattle.port_control.specs.declared.events.PortEvent.{PortEvent}
 use Rattle.port_control.specs.declared.events.PortEvent.TheVariants.{FatalError, TaskFileError, LinkChanged, NoEvent}
-use Rattle.server_history.specs.Laws.{AccessPurpose, fits_of, may_of}
+use Rattle.server_history.specs.Laws.{AccessPurpose, slot_uses_for, accesses_for}
 
 pub record LookLaws : Type 0 where
   -- a reading of a port's register; what other accesses leave of a port
@@ -87,7 +87,7 @@ pub record LookLaws : Type 0 where
   pub looks_loss : (port : Port) (old new : Device) → IsOn old → LooksAt port LinkChanged old new
       → (old.port port.0).link_due ≡ false → HasLoss port.0 old new
   -- accesses that serve ports
-  pub fragments : FragmentLaws AccessPurpose may_of fits_of
+  pub fragments : FragmentLaws AccessPurpose accesses_for slot_uses_for
   pub looking_service : (port : Port) (access : Access) → IsLooking port access → IsService access
   pub looking_of : (port : Port) (access : Access) → IsLooking port access → SparesOtherPorts port access
   pub looks_driven : (port : Port) (result : PortEvent) (old new : Device) → LooksAt port result old new
@@ -177,11 +177,12 @@ pub record CallLaws : Type 0 where
       → All (DoesNotWrite Ghc) accesses → DoesAll accesses old new → Stops port accesses → (new.port port.0).st ≡ true
       → length old.tape ≤ (new.port port.0).notes.st_set_at
   -- what came since ST was set
-  pub fatal_in_part : (port : ℕ) (old start end new : Device) → Grows old start → Grows end new
+  pub fatal_in_part : (port : ℕ) (old start end new : Device) → TapeGrows old start → TapeGrows end new
       → (new.port port).notes.st_set_at ≡ (end.port port).notes.st_set_at
       → GainsSinceStart (IsFatalOf port) port start end
       → GainsSinceStart (IsFatalOf port) port old new
-  pub calm_since : (port : ℕ) (old mid new : Device) → Grows old mid → Grows mid new → (new.port port).notes.st_set_at
+  pub calm_since : (port : ℕ) (old mid new : Device) → TapeGrows old mid → TapeGrows mid new
+      → (new.port port).notes.st_set_at
       ≤ length mid.tape → NoPlugEvents port old new
       → (GainsSinceStart (IsFaultOf port) port old new → ⊥) → (GainsSinceStart (IsFatalOf port) port old new → ⊥)
       → Undisturbed port mid new

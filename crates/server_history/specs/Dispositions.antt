@@ -9,13 +9,13 @@ use Rattle.adapter.specs.Device.{Device}
 use Rattle.refinement.specs.Driver.{HasNoSlot, IsBacked, DriverState, DriverRelation}
 use Rattle.block_machine.specs.Events.{AllMay, RepliesMatch}
 use Rattle.block_machine.specs.Histories.{IsReachable}
-use Rattle.block_machine.specs.Left.{after}
+use Rattle.block_machine.specs.Expected.{after}
 use Rattle.block_machine.specs.State.{Machine, Pending}
 use Rattle.block_machine.specs.Steps.{Step, Again, Answer}
 use Rattle.dma_frames.specs.Loan.{Lending}
 use Rattle.dma_frames.specs.Table.{lent_to}
 use Rattle.request_queue.specs.Entries.{BookEntry, IsAccepted, IsEarlier, BookIsInOrder}
-use Rattle.request_queue.specs.Dispositions.{Holdings, keeps_loan}
+use Rattle.request_queue.specs.Dispositions.{BookAndLoans, keeps_loan}
 use Rattle.request_queue.specs.Machine.{BookRelation, EntryRelation}
 use Rattle.request_queue.specs.declared.PendingRequest.{PendingRequest}
 use Rattle.request_queue.specs.declared.disposition.Disposition.{Disposition}
@@ -45,7 +45,7 @@ loans_of (e ∷ rest) = loans_of rest ++ loan_of e ∷ []
 -- The machine has the book and the loans. These are requests of the port in the book, each with a mark that tells
 -- whether the machine has its grant; and no slot serves one of them whose loan isn't kept.
 pub record AreResolvable (port : Port) (disposition : PendingRequest
-    → Disposition) (requests : List BookEntry) (now : Holdings)
+    → Disposition) (requests : List BookEntry) (now : BookAndLoans)
     (k : DriverState)
     (m : Machine) : Type 0 where
   pub reached : IsReachable m
@@ -61,15 +61,16 @@ pub record AreResolvable (port : Port) (disposition : PendingRequest
       → HasNoSlot k.uses e.entry.id
 
 -- the request is decided on, and its loan isn't kept
-abbrev pub IsLetGo : (PendingRequest → Disposition) → BookEntry → Type 0
-IsLetGo disposition e = (disposition e.entry ≢ Wait) × (keeps_frames_lent (disposition e.entry) e.entry ≡ false)
+abbrev pub IsDecidedAndReleased : (PendingRequest → Disposition) → BookEntry → Type 0
+IsDecidedAndReleased disposition e = (disposition e.entry ≢ Wait)
+    × (keeps_frames_lent (disposition e.entry) e.entry ≡ false)
 
 -- They are resolved by steps that decide on requests of the port, after which the machine has the book and the
 -- loans that are left. Those whose loans are kept are kept in the machine beside those that were, and each has one more
 -- loan. What is parked of the port was before, and is none of those that were let go.
 pub record AreResolvedInMachine (port : Port) (disposition : PendingRequest → Disposition) (requests : List BookEntry)
     (replies : List Reply)
-    (old new : Holdings) (k : DriverState) (m : Machine) : Type 0 where
+    (old new : BookAndLoans) (k : DriverState) (m : Machine) : Type 0 where
   pub steps : List Step
   pub parked : ℕ → List RequestId
   pub may : AllMay m steps
@@ -78,7 +79,7 @@ pub record AreResolvedInMachine (port : Port) (disposition : PendingRequest → 
   pub knows : DriverRelation (after m steps) (record k { parked = parked })
   pub others : (q : ℕ) → q ≢ port.0 → parked q ≡ k.parked q
   pub still : (id : RequestId) → Contains (parked port.0) id → Contains (k.parked port.0) id
-      × ((e : BookEntry) → Contains requests e → IsLetGo disposition e → e.entry.id ≢ id)
+      × ((e : BookEntry) → Contains requests e → IsDecidedAndReleased disposition e → e.entry.id ≢ id)
   pub book : BookRelation new.book (after m steps).book
   pub lent : (frame : Frame) → (after m steps).lent frame ≡ lent_to new.table frame
   pub held : List Pending

@@ -5,7 +5,7 @@ use Rattle.std.specs.List.{Contains}
 use Rattle.adapter.specs.Device.{Device}
 use Rattle.adapter.specs.Idle.{IsIdle}
 use Rattle.refinement.specs.Driver.{ForgetsAtMostKept, HasNoSlot, DriverState, DriverRelation}
-use Rattle.refinement.specs.Facts.{FaultsOnRecord, RunsWell, Undisturbed}
+use Rattle.refinement.specs.PortFacts.{FaultsOnRecord, RunsWell, Undisturbed}
 use Rattle.refinement.specs.Links.{ShowsDiskIfIn}
 use Rattle.ata_types.specs.declared.PortState.{PortState}
 use Rattle.ata_types.specs.declared.request.Frame.{Frame}
@@ -14,13 +14,13 @@ use Rattle.block_machine.specs.Confined.{HasFrame}
 use Rattle.block_machine.specs.Histories.{IsReachable}
 use Rattle.block_machine.specs.State.{Machine, Pending}
 use Rattle.block_machine.specs.Steps.{HoldsFrames, Release, after_step}
-use Rattle.host_boot.specs.Taken.{FoundBadDisk, TakesOver, probe_result_of}
+use Rattle.host_boot.specs.TakeOver.{FoundBadDisk, TakesOver, probe_result_of}
 use Rattle.host_boot.specs.declared.ProbeResult.TheVariants.{Ready, Unready}
 use Rattle.host_boot.specs.declared.Host.{Host}
 use Rattle.identify.specs.declared.DiskInfo.{DiskInfo}
 use Rattle.identify.specs.declared.wanted.Wanted.{Wanted}
 use Rattle.port_boot.specs.States.{HasDiskIfShown}
-use Rattle.server_history.specs.Below.{LawsBelow}
+use Rattle.server_history.specs.Prerequisites.{PrerequisiteLaws}
 
 -- what a law says of an adapter that was taken over
 pub record TakeOverLaws : Type 0 where
@@ -38,7 +38,7 @@ pub record TakeOverLaws : Type 0 where
 
 -- what laws say of an adapter that is taken over again, and of the machine meanwhile
 pub record ResetLaws : Type 0 where
-  pub below : LawsBelow
+  pub below : PrerequisiteLaws
   pub taken : TakeOverLaws
   pub own_frame : (m : Machine) (frame : Frame) (e : Pending) → IsReachable m → HoldsFrames m e
       → m.lent frame ≡ Some e.request.id → HasFrame e.request frame

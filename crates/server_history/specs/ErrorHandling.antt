@@ -14,7 +14,7 @@ use Rattle.error_recovery.specs.declared.Next.{Next}
 use Rattle.error_recovery.specs.declared.Next.TheVariants as next
 use Rattle.error_recovery.specs.declared.Recovered.{Recovered}
 use Rattle.host_boot.specs.Again.{RebootsPort, RebootsIfPresent}
-use Rattle.host_boot.specs.Taken.{probe_result_of, wanted_of}
+use Rattle.host_boot.specs.TakeOver.{probe_result_of, wanted_of}
 use Rattle.host_boot.specs.declared.Booted.{Booted}
 use Rattle.host_boot.specs.declared.ProbeResult.{ProbeResult}
 use Rattle.host_boot.specs.declared.ProbeResult.TheVariants.{Ready, Unready}
@@ -24,8 +24,8 @@ use Rattle.commands.specs.Masks.{ReadsDone}
 use Rattle.port_control.specs.declared.Running as running_token
 use Rattle.port_control.specs.Looks.{LooksAt}
 use Rattle.port_control.specs.declared.events.PortEvent.TheVariants as look
-use Rattle.request_queue.specs.Entries.{BookEntry, IsEarlier, is_of}
-use Rattle.request_queue.specs.Dispositions.{Holdings, AreResolved, disposition_of}
+use Rattle.request_queue.specs.Entries.{BookEntry, IsEarlier, is_of_port}
+use Rattle.request_queue.specs.Dispositions.{BookAndLoans, AreResolved, disposition_of}
 use Rattle.request_queue.specs.declared.disposition.FailedRequest as disposition
 use Rattle.request_queue.specs.declared.disposition.Revalidation.{Revalidation}
 use Rattle.request_queue.specs.declared.disposition.Revalidation.TheVariants.{SameDisk, DiskLost, Dead}
@@ -123,20 +123,20 @@ IsFailedRequest slots (Some its) failed =
 
 -- the port's requests, in order of acceptance
 abbrev pub requests_of : Port → List BookEntry → List BookEntry
-requests_of port book = filter (λ (e : BookEntry). is_of port e.entry) book
+requests_of port book = filter (λ (e : BookEntry). is_of_port port e.entry) book
 
 -- what the server holds of all ports' requests, and keeps of the port's loans
-abbrev pub holdings_of : Port → ServerState → Holdings
-holdings_of port s = record { book = s.book; table = s.table; kept = quarantined_at s.kept port.0 }
+abbrev pub book_and_loans_of : Port → ServerState → BookAndLoans
+book_and_loans_of port s = record { book = s.book; table = s.table; kept = quarantined_at s.kept port.0 }
 
 -- no slot of the port is used, and as many are usable as its mode has
-pub record AreEmptySlots (mode : QueueMode) (slots : PortSlots) : Type 0 where
+pub record HasNoUsedSlot (mode : QueueMode) (slots : PortSlots) : Type 0 where
   pub usable : slots.usable ≡ mode.usable
   pub places : length slots.places ≡ 32
   pub free : (slot : ℕ) → use_at slots slot ≡ None
 
 -- The server, with the port found so and its last disk remembered, these slots, and these holdings.
-abbrev pub with_port_found : Port → Device → ProbeResult → DiskInfo → QueueMode → PortSlots → Holdings → ServerState
+abbrev pub with_port_found : Port → Device → ProbeResult → DiskInfo → QueueMode → PortSlots → BookAndLoans → ServerState
     → ServerState
 with_port_found port device found was mode slots now s = record s {
   device = device;
@@ -164,14 +164,14 @@ pub record HasResolved (port : Port) (later : List Reply) (old new : ServerState
   pub mode : QueueMode
   pub mode_is : mode ≡ probed_mode new.device.cap found
   pub slots : PortSlots
-  pub unused : AreEmptySlots mode slots
+  pub unused : HasNoUsedSlot mode slots
   pub failed : Option disposition.FailedRequest
   pub names : IsFailedRequest (slots_at mid.slots port.0) error_handled.result.failed failed
   pub revalidation : Revalidation
   pub expects : IsRevalidation error_handled.port_error was found revalidation
-  pub now : Holdings
+  pub now : BookAndLoans
   pub meets : AreResolved (disposition_of failed revalidation) (requests_of port mid.book) later
-      (holdings_of port mid) now
+      (book_and_loans_of port mid) now
   pub server : new ≡ with_port_found port new.device found was mode slots now mid
 
 -- ---- the whole

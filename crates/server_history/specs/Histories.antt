@@ -4,7 +4,7 @@ use Rattle.ata_types.specs.declared.refusal.MemFault.{MemFault}
 use Rattle.adapter.specs.Device.{Device}
 use Rattle.adapter.specs.declared.access.DeviceStep.{DeviceStep}
 use Rattle.block_machine.specs.Events.{AbstractCall, CallResult, Stored, Loaded}
-use Rattle.block_machine.specs.Histories.{JointState, Happening}
+use Rattle.block_machine.specs.Histories.{JointState, JointEvent}
 use Rattle.block_machine.specs.Histories as histories
 use Rattle.driver_history.specs.Histories.{IsFirstInstant, CallCorresponds}
 use Rattle.server_history.specs.Server.{ServerState, ports_of, SettledInvariant, MachineRelation}
@@ -28,16 +28,16 @@ load_said (Ok done) bytes = Loaded (Ok bytes)
 load_said (Err fault) bytes = Loaded (Err fault)
 
 -- the history leads to the server
-abbrev pub LeadsToServer : JointState Device → List (Happening Device DeviceStep) → ServerState → Type 0
-LeadsToServer first past s = histories.Leads (IsFirstInstant s.wanted)
+abbrev pub LeadsToServer : JointState Device → List (JointEvent Device DeviceStep) → ServerState → Type 0
+LeadsToServer first past s = histories.LeadsTo (IsFirstInstant s.wanted)
     (CallCorresponds s.wanted) ServerRelation first past s
 
 -- To every history that leads to the old server, a call that asked this and said that adds one event, which leads to
 -- the new one.
 abbrev pub ExtendsHistory : ServerState → ServerState → AbstractCall DeviceStep → CallResult → Type 0
-ExtendsHistory old new ask said = (first : JointState Device) (past : List (Happening Device DeviceStep))
+ExtendsHistory old new ask said = (first : JointState Device) (past : List (JointEvent Device DeviceStep))
     → LeadsToServer first past old
-    → (h : Happening Device DeviceStep) × (h.event.ask ≡ ask) × (h.event.said ≡ said)
+    → (h : JointEvent Device DeviceStep) × (h.event.ask ≡ ask) × (h.event.said ≡ said)
     × LeadsToServer first (h ∷ past) new
 
 -- So it does; and the new server's adapter is on, and each request is issued that is due.
@@ -52,13 +52,13 @@ pub record ExtendsStuck (old new : ServerState) (ask : AbstractCall DeviceStep) 
 
 -- What holds of a server between calls, by whether its last reset got stuck: its adapter is on, and each request is
 -- issued that is due; or the adapter hasn't been seen to end that reset.
-abbrev pub InvariantBy : Bool → ServerState → Type 0
-InvariantBy false s = SettledInvariant s
-InvariantBy true s = StuckInvariant s
+abbrev pub InvariantByStuck : Bool → ServerState → Type 0
+InvariantByStuck false s = SettledInvariant s
+InvariantByStuck true s = StuckInvariant s
 
 -- So it does, and it is for the new server as it was.
-abbrev pub ExtendsBy : Bool → ServerState → ServerState → AbstractCall DeviceStep → CallResult → Type 0
-ExtendsBy stuck old new ask said = InvariantBy stuck new × ExtendsHistory old new ask said
+abbrev pub ExtendsByStuck : Bool → ServerState → ServerState → AbstractCall DeviceStep → CallResult → Type 0
+ExtendsByStuck stuck old new ask said = InvariantByStuck stuck new × ExtendsHistory old new ask said
 
 -- a history without calls leads to the server
 abbrev pub StartsHistory : ServerState → Type 0

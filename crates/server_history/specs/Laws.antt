@@ -13,10 +13,10 @@ pub data AccessPurpose : Type 0 where
   Finding : Port → AccessPurpose
   Serving : AccessPurpose
 
-abbrev pub may_of : AccessPurpose → Access → Type 0
-may_of (Looking port) = IsLooking port
-may_of (Finding port) = ReadsCiOrSact port
-may_of Serving = IsService
+abbrev pub accesses_for : AccessPurpose → Access → Type 0
+accesses_for (Looking port) = IsLooking port
+accesses_for (Finding port) = ReadsCiOrSact port
+accesses_for Serving = IsService
 
-abbrev pub fits_of : AccessPurpose → SlotStates → Type 0
-fits_of kind = AnyUse
+abbrev pub slot_uses_for : AccessPurpose → SlotStates → Type 0
+slot_uses_for kind = AnyUse

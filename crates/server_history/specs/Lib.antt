@@ -11,7 +11,7 @@ pub mod Turns
 pub mod After
 pub mod Basics
 pub mod Calls
-pub mod Below
+pub mod Prerequisites
 pub mod Dispositions
 pub mod Ended
 pub mod Revoked

@@ -11,14 +11,14 @@ use Rattle.error_recovery.specs.declared.Next.{Next}
 use Rattle.error_recovery.specs.declared.Next.TheVariants as next
 use Rattle.error_recovery.specs.declared.Recovered.{Recovered}
 use Rattle.host_boot.specs.Again.{RebootsPort}
-use Rattle.host_boot.specs.Taken.{probe_result_of, wanted_of}
+use Rattle.host_boot.specs.TakeOver.{probe_result_of, wanted_of}
 use Rattle.host_boot.specs.declared.Booted.{Booted}
 use Rattle.host_boot.specs.declared.ProbeResult.{ProbeResult}
 use Rattle.host_boot.specs.declared.ProbeResult.TheVariants.{Unready}
 use Rattle.identify.specs.declared.wanted.Wanted.{Wanted}
 use Rattle.port_control.specs.Glances.{FindsChange, FindsDevice}
 use Rattle.slots.specs.Uses.{PortSlots}
-use Rattle.server_history.specs.ErrorHandling.{AreEmptySlots}
+use Rattle.server_history.specs.ErrorHandling.{HasNoUsedSlot}
 use Rattle.server_history.specs.Server.{ServerState, probed_mode}
 
 -- What a port in such a state is looked at for, and whether that was found: an absent one for a device that shows; one
@@ -51,7 +51,7 @@ pub record BootsUnreadyPort (port : Port) (old new : ServerState) : Type 0 where
   pub mode : QueueMode
   pub anew : ProbesAnew (wanted_of old.wanted port.0) port found mode old.device new.device
   pub slots : PortSlots
-  pub unused : AreEmptySlots mode slots
+  pub unused : HasNoUsedSlot mode slots
   pub server : new ≡ record old {
     device = new.device;
     ports = slice_set old.ports port.0 found;

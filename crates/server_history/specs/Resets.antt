@@ -6,17 +6,17 @@ use Rattle.ata_types.specs.declared.request.Reply.{Reply}
 use Rattle.adapter.specs.Device.{Device}
 use Rattle.refinement.specs.Relation.{port_at}
 use Rattle.host_boot.specs.Resets.{Resets}
-use Rattle.host_boot.specs.Taken.{TakesOver, probe_result_of}
+use Rattle.host_boot.specs.TakeOver.{TakesOver, probe_result_of}
 use Rattle.host_boot.specs.declared.ProbeResult.{ProbeResult}
 use Rattle.host_boot.specs.declared.ProbeResult.TheVariants.{Ready, Unready}
 use Rattle.host_boot.specs.declared.Host.{Host}
 use Rattle.identify.specs.declared.DiskInfo.{DiskInfo}
 use Rattle.request_queue.specs.Entries.{BookEntry, IsAccepted, BookIsInOrder}
-use Rattle.request_queue.specs.Dispositions.{Holdings, AreResolved, disposition_of}
+use Rattle.request_queue.specs.Dispositions.{BookAndLoans, AreResolved, disposition_of}
 use Rattle.request_queue.specs.declared.disposition.Revalidation.{Revalidation}
 use Rattle.request_queue.specs.declared.disposition.Revalidation.TheVariants.{SameDisk, DiskLost, Dead}
 use Rattle.server_history.specs.Kept.{IsKeptIn, TakesBack}
-use Rattle.server_history.specs.ErrorHandling.{IsSameDisk, holdings_of, requests_of}
+use Rattle.server_history.specs.ErrorHandling.{IsSameDisk, book_and_loans_of, requests_of}
 use Rattle.server_history.specs.Served.{IssuesAll}
 use Rattle.server_history.specs.Server.{ServerState, last_disk_in, quarantined_at, mode_at, probed_mode, remembered_at, slots_at, used_for}
 
@@ -64,8 +64,12 @@ IsResetRevalidation was found DiskLost = (found ≢ Unready DeadState)
 IsResetRevalidation was found Dead = found ≡ Unready DeadState
 
 -- the server, with these holdings of the port
-abbrev pub with_holdings : Port → Holdings → ServerState → ServerState
-with_holdings port now s = record s { table = now.table; kept = slice_set s.kept port.0 now.kept; book = now.book }
+abbrev pub with_book_and_loans : Port → BookAndLoans → ServerState → ServerState
+with_book_and_loans port now s = record s {
+  table = now.table;
+  kept = slice_set s.kept port.0 now.kept;
+  book = now.book;
+}
 
 -- The requests of a port were resolved, in order of acceptance: none is told a fault, and what becomes of each else
 -- its port's revalidation says. So it came to this server.
@@ -73,10 +77,10 @@ pub record ResolvesPort (port : Port) (replies : List Reply) (old new : ServerSt
   pub revalidation : Revalidation
   pub expects : IsResetRevalidation (remembered_at old.remembered port.0)
       (probe_result_of old.ports port.0) revalidation
-  pub now : Holdings
+  pub now : BookAndLoans
   pub meets : AreResolved (disposition_of None revalidation) (requests_of port old.book) replies
-      (holdings_of port old) now
-  pub server : new ≡ with_holdings port now old
+      (book_and_loans_of port old) now
+  pub server : new ≡ with_book_and_loans port now old
 
 -- so it was with these ports, one after another, of which the first has this number
 abbrev pub ResolvePorts : ℕ → List ProbeResult → List Reply → ServerState → ServerState → Type 0

@@ -6,7 +6,7 @@ use Rattle.ata_types.specs.declared.request.Reply.{Reply}
 use Rattle.block_machine.specs.Rules.{HasRow, without_row}
 use Rattle.request_queue.specs.Entries.{all_marked_under, waits_under}
 use Rattle.request_queue.specs.Dispositions.{CompletesAllWith}
-use Rattle.server_history.specs.ErrorHandling.{holdings_of}
+use Rattle.server_history.specs.ErrorHandling.{book_and_loans_of}
 use Rattle.server_history.specs.Server.{ServerState}
 
 -- the server without the client's grant of this number, and with each request marked that was accepted under it
@@ -21,5 +21,5 @@ with_grant_revoked client number s = record s {
 pub record RevokesGrant (client : ClientId) (number : ℕ) (replies : List Reply) (old new : ServerState) : Type 0 where
   pub has : HasRow client number old.grants
   pub answers : CompletesAllWith (waits_under client number) Revoked replies
-      (holdings_of has.0.port (with_grant_revoked client number old)) (holdings_of has.0.port new)
+      (book_and_loans_of has.0.port (with_grant_revoked client number old)) (book_and_loans_of has.0.port new)
   pub server : new ≡ record (with_grant_revoked client number old) { table = new.table; book = new.book }

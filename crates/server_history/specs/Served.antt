@@ -18,7 +18,7 @@ use Rattle.block_machine.specs.Steps.{Step, Answer, Issue, AllTouched}
 use Rattle.dma_frames.specs.Table.{Table, LendsOnly}
 use Rattle.hba_regs.specs.Bits.{bit}
 use Rattle.commands.specs.Masks.{ReadsDone}
-use Rattle.commands.specs.Batches.{AreUnused, IsBatchIssued, IsIssuingOn, IsSlotOf, SlotTask}
+use Rattle.commands.specs.Batches.{AreUnused, IsBatchIssued, IsBatchAccess, IsSlotOf, PlacedTask}
 use Rattle.commands.specs.declared.ncq.Task.{Task}
 use Rattle.request_queue.specs.Entries.{BookEntry, BookIsInOrder, IsAccepted, IsEarlier, asks, asks_of, update_if_id, due_ids, issue, without_entry}
 use Rattle.request_queue.specs.Machine.{EntryRelation}
@@ -59,7 +59,7 @@ pub record PollsSlots (port : Port) (slots : PortSlots) (mask : ℕ) (replies : 
   pub exact : (slot : ℕ) (used : SlotUse) → slot < 32 → use_at slots slot ≡ Some used → bit done slot ≡ true
       ↔ IsAnsweredIn used.id replies
   pub running : IsEmptyMask done → (replies ≡ []) × (new ≡ read)
-  pub over : IsDrivenBy (IsIssuingOn port) read new
+  pub over : IsDrivenBy (IsBatchAccess port) read new
 
 -- The slots that are used were checked. Where none is, nothing was read, nobody was answered, and that was all.
 pub record PollsUsedSlots (port : Port) (slots : PortSlots) (replies : List Reply) (old new : Device) : Type 0 where
@@ -90,7 +90,7 @@ use_for mode e = record { id = e.entry.id; queued = (task_of mode e).queued }
 
 -- A due request of the port was put in the lowest slot that was free, as this task. Book and slots say so; the device
 -- doesn't know it yet.
-pub record PutsInSlot (port : Port) (id : RequestId) (t : SlotTask) (old new : ServerState) : Type 0 where
+pub record PutsInSlot (port : Port) (id : RequestId) (t : PlacedTask) (old new : ServerState) : Type 0 where
   pub request : BookEntry
   pub here : Contains old.book request
   pub id_is : request.entry.id ≡ id
@@ -106,7 +106,7 @@ pub record PutsInSlot (port : Port) (id : RequestId) (t : SlotTask) (old new : S
   }
 
 -- these requests of the port were put in slots, as these tasks, one after another
-abbrev pub PutsInSlots : Port → List RequestId → List SlotTask → ServerState → ServerState → Type 0
+abbrev pub PutsInSlots : Port → List RequestId → List PlacedTask → ServerState → ServerState → Type 0
 PutsInSlots port [] [] old new = new ≡ old
 PutsInSlots port (id ∷ ids) (t ∷ tasks) old new =
     (mid : ServerState) × PutsInSlot port id t old mid × PutsInSlots port ids tasks mid new
@@ -115,18 +115,18 @@ PutsInSlots port _ _ old new = ⊥
 -- What holds of the lowest free slot that a due request of the port finds once these tasks were put in slots: it is
 -- usable, one of the adapter's, none of theirs, and slot 0 for a plain command; and some machine agrees with a driver
 -- that uses none of them, nor this one.
-pub record MayTakeSlot (s : ServerState) (port : Port) (tasks : List SlotTask) (request : BookEntry) (slot : ℕ)
+pub record FindsSlotFor (s : ServerState) (port : Port) (tasks : List PlacedTask) (request : BookEntry) (slot : ℕ)
     : Type 0 where
   pub usable : slot < (mode_in s port).usable
   pub small : slot < 32
   pub there : slot ≤ s.device.cap / 256 % 32
   pub head : is_plain (mode_in s port) request.entry.op ≡ true → slot ≡ 0
   pub own : IsSlotOf tasks slot → ⊥
-  pub agreed : (t : SlotTask) → t.slot ≡ slot → RelatesWith (AreUnused port.0 (tasks ++ t ∷ [])) s.device
+  pub agreed : (t : PlacedTask) → t.slot ≡ slot → RelatesWith (AreUnused port.0 (tasks ++ t ∷ [])) s.device
 
 -- What requests that are put in slots leave of a server: all but book and slots; each port has as many slots as it had,
 -- and the book is in order, with requests as they were accepted.
-pub record LeavesBookInOrder (old new : ServerState) : Type 0 where
+pub record ChangesSlotsAndBook (old new : ServerState) : Type 0 where
   pub settings : new ≡ record old { slots = new.slots; book = new.book }
   pub four : length new.slots ≡ 4
   pub slots : (port : ℕ) → port < 4 → SlotsInvariant old.ports old.modes new.slots port
@@ -136,20 +136,20 @@ pub record LeavesBookInOrder (old new : ServerState) : Type 0 where
 -- They were put in slots, and their commands were issued together: the slots' bytes say them, and a trim's block names
 -- its sectors.
 pub record IssuesTogether (port : Port) (ids : List RequestId) (old new : ServerState) : Type 0 where
-  pub tasks : List SlotTask
+  pub tasks : List PlacedTask
   pub taken : ServerState
   pub puts : PutsInSlots port ids tasks old taken
   pub issued : IsBatchIssued port tasks old.device new.device
   pub server : new ≡ record taken { device = new.device }
 
 -- these requests of the port were issued together; where there is none, nothing was done
-abbrev pub IssuesBatchOf : Port → List RequestId → ServerState → ServerState → Type 0
-IssuesBatchOf port [] old new = new ≡ old
-IssuesBatchOf port ids old new = IssuesTogether port ids old new
+abbrev pub IssuesTogetherIfAny : Port → List RequestId → ServerState → ServerState → Type 0
+IssuesTogetherIfAny port [] old new = new ≡ old
+IssuesTogetherIfAny port ids old new = IssuesTogether port ids old new
 
 -- the port's due requests were issued, in order of acceptance, together
 abbrev pub IssuesAll : Port → ServerState → ServerState → Type 0
-IssuesAll port old new = IssuesBatchOf port (due_ids (mode_in old port) port (asks_of old.book)) old new
+IssuesAll port old new = IssuesTogetherIfAny port (due_ids (mode_in old port) port (asks_of old.book)) old new
 
 -- ---- a request is accepted
 
@@ -172,8 +172,13 @@ accepted_as port r id = record {
 }
 
 -- the server, with the request last in its book, and these loans
-abbrev pub accepting : Port → Request → RequestId → Table → ServerState → ServerState
-accepting port r id table s = record s { table = table; book = s.book ++ accepted_as port r id ∷ []; last = s.last + 1 }
+abbrev pub with_accepted : Port → Request → RequestId → Table → ServerState → ServerState
+with_accepted port r id table s = record s {
+  table = table;
+  book = s.book ++ accepted_as port r id ∷ [];
+  last = s.last +
+      1;
+}
 
 -- The request goes last in the book with the next id, on the port of its row, and its frames are lent to it. Then what
 -- is due on the port is issued.
@@ -184,7 +189,7 @@ pub record Accepts (port : Port) (r : Request) (id : RequestId) (old new : Serve
   pub id_is : id.0 ≡ old.last + 1
   pub table : Table
   pub lent : LendsOnly old.table table r.frames.items (Some id)
-  pub issued : IssuesAll port (accepting port r id table old) new
+  pub issued : IssuesAll port (with_accepted port r id table old) new
 
 -- ---- a port is served
 

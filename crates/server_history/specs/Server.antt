@@ -19,7 +19,7 @@ use Rattle.refinement.specs.Readying.{IsStored}
 use Rattle.refinement.specs.Slots.{Free, Serves, SlotState, SlotStates}
 use Rattle.block_machine.specs.Due.{NoneDue, is_plain}
 use Rattle.block_machine.specs.Histories.{IsReachable}
-use Rattle.block_machine.specs.Left.{IsValidRow}
+use Rattle.block_machine.specs.Expected.{IsValidRow}
 use Rattle.block_machine.specs.Ports.{Ports}
 use Rattle.block_machine.specs.Refusals.{Situation}
 use Rattle.block_machine.specs.Rules.{DifferInName, HasRow}
@@ -27,18 +27,18 @@ use Rattle.block_machine.specs.State.{Machine, Pending}
 use Rattle.block_machine.specs.declared.due.QueueMode.{QueueMode}
 use Rattle.dma_frames.specs.Loan.{Lending}
 use Rattle.dma_frames.specs.Table.{Table, owner_of, lent_to}
-use Rattle.host_boot.specs.Taken.{FoundBadDisk, StillStandsBehind, probe_result_of, wanted_of}
+use Rattle.host_boot.specs.TakeOver.{FoundBadDisk, StillBacksProbeResult, probe_result_of, wanted_of}
 use Rattle.host_boot.specs.declared.ProbeResult.{ProbeResult}
 use Rattle.host_boot.specs.declared.ProbeResult.TheVariants.{Unserved, Ready, Unready}
 use Rattle.host_boot.specs.declared.Host.{Host}
 use Rattle.identify.specs.declared.DiskInfo.{DiskInfo}
 use Rattle.identify.specs.declared.wanted.Wanted.{Wanted}
 use Rattle.port_boot.specs.States.{HasDiskIfShown}
-use Rattle.request_queue.specs.Entries.{BookEntry, asks_of, unanswered_entries, IsAccepted, BookIsInOrder}
+use Rattle.request_queue.specs.Entries.{BookEntry, asks_of, entry_count_of_client, IsAccepted, BookIsInOrder}
 use Rattle.request_queue.specs.Machine.{BookRelation}
 use Rattle.slots.specs.Uses.{PortSlots, use_at, with_use}
 use Rattle.slots.specs.declared.SlotUse.{SlotUse}
-use Rattle.driver_history.specs.Holds.{EngineRuns, mode_of_disk}
+use Rattle.driver_history.specs.PortInvariants.{EngineRuns, mode_of_disk}
 use Rattle.request_queue.specs.declared.PendingRequest.{PendingRequest}
 
 -- The device behind the adapter; the grants; by frame its owner and the request that it is lent to; by port the disk
@@ -137,7 +137,7 @@ admission_context s = record {
   state = (ports_of s).state;
   sectors = (ports_of s).sectors;
   trims = (ports_of s).trims;
-  unanswered = λ client. unanswered_entries s.book client.0;
+  unanswered = λ client. entry_count_of_client s.book client.0;
   next = s.last + 1;
 }
 
@@ -228,23 +228,23 @@ OwnedFramesAreClients table size = (frame : Frame) (client : ClientId) → owner
 -- READ LOG EXT, and where a queued command halted it a queued one is taken; and one with a disk that isn't served shows
 -- a device, or has none in.
 pub record PortInvariant (wanted : List Wanted) (found : List ProbeResult) (port : ℕ) (d : Device) : Type 0 where
-  pub behind : StillStandsBehind (wanted_of wanted port) (probe_result_of found port) port d
+  pub behind : StillBacksProbeResult (wanted_of wanted port) (probe_result_of found port) port d
   pub runs : state_of (probe_result_of found port) ≡ ReadyState → EngineRuns port d
   pub shown : FoundBadDisk (state_of (probe_result_of found port)) → ShowsDiskIfIn (d.port port)
   pub own : state_of (probe_result_of found port) ≡ ReadyState → HasDiskIfShown (d.port port)
   pub halts : state_of (probe_result_of found port) ≡ ReadyState → HaltIsOfTaken (d.port port)
 
 -- how many slots of a port may be used: those of its mode, if it is ready
-abbrev pub usable_of : ProbeResult → QueueMode → ℕ
-usable_of (Ready info) mode = mode.usable
-usable_of _ mode = 0
+abbrev pub usable_slots_of : ProbeResult → QueueMode → ℕ
+usable_slots_of (Ready info) mode = mode.usable
+usable_slots_of _ mode = 0
 
 -- The port may use so many of its 32 slots, and uses no other.
 pub record SlotsInvariant (found : List ProbeResult) (modes : List QueueMode) (slots : List PortSlots)
     (port : ℕ) : Type 0 where
   pub places : length (slots_at slots port).places ≡ 32
   pub usable : (slots_at slots port).usable ≡ (mode_at modes port).usable
-  pub unused : (slot : ℕ) → usable_of (probe_result_of found port) (mode_at modes port) ≤ slot
+  pub unused : (slot : ℕ) → usable_slots_of (probe_result_of found port) (mode_at modes port) ≤ slot
       → used_for slots port slot ≡ None
 
 -- header and table of a slot of a port that runs say a command that is queued, or one that isn't

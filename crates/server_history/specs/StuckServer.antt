@@ -8,10 +8,10 @@ use Rattle.adapter.specs.Idle.{IsIdlePort}
 use Rattle.adapter.specs.Rules.{IsOn}
 use Rattle.refinement.specs.Relation.{port_at}
 use Rattle.block_machine.specs.Histories.{IsReachable}
-use Rattle.block_machine.specs.Left.{IsValidRow}
+use Rattle.block_machine.specs.Expected.{IsValidRow}
 use Rattle.block_machine.specs.State.{Machine}
 use Rattle.host_boot.specs.Resets.{ResetStaysPending}
-use Rattle.host_boot.specs.Taken.{IsServed, probe_result_of, wanted_of}
+use Rattle.host_boot.specs.TakeOver.{IsServed, probe_result_of, wanted_of}
 use Rattle.host_boot.specs.declared.ProbeResult.{ProbeResult}
 use Rattle.host_boot.specs.declared.ProbeResult.TheVariants.{Unserved, Unready}
 use Rattle.request_queue.specs.Entries.{BookEntry, IsAccepted, BookIsInOrder}
@@ -61,15 +61,15 @@ pub record StuckInvariant (s : ServerState) : Type 0 where
   pub dead : AreDead s.ports
 
 -- the port as it is after that: dead, if it is served
-abbrev pub stuck_found : ProbeResult → ProbeResult
-stuck_found Unserved = Unserved
-stuck_found _ = Unready Dead
+abbrev pub found_after_stuck_reset : ProbeResult → ProbeResult
+found_after_stuck_reset Unserved = Unserved
+found_after_stuck_reset _ = Unready Dead
 
 -- A reset got stuck: each served port is dead, its last disk is remembered, it takes plain commands and uses no slot.
 -- No request is answered and no frame given back.
 pub record ResetGetsStuck (old new : ServerState) : Type 0 where
   pub stays : ResetStaysPending old.device new.device
-  pub found : (port : ℕ) → probe_result_of new.ports port ≡ stuck_found (probe_result_of old.ports port)
+  pub found : (port : ℕ) → probe_result_of new.ports port ≡ found_after_stuck_reset (probe_result_of old.ports port)
   pub remembered : (port : ℕ) → remembered_at new.remembered port ≡ last_disk_in old (port_at port)
   pub four : length new.remembered ≡ 4
   pub four_modes : length new.modes ≡ 4

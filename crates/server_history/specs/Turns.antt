@@ -12,10 +12,10 @@ use Rattle.adapter.specs.declared.tape.Fault as tape_fault
 use Rattle.refinement.specs.Relation.{port_at}
 use Rattle.refinement.specs.Driven.{SparesOtherPorts, GainsNoMove}
 use Rattle.refinement.specs.Driver.{IsBacked}
-use Rattle.block_machine.specs.Events.{AbstractCall, AllLawful, AllMay, AnswersEnded, AreStepsOfCall, UnpluggedLostDisk, ShowsRealDisk, IsByDevice, IssuesLast, AbstractState, NoneKeepsIssue, Served, Service, RepliesMatch, Tick, AnswersAllUnplugged}
+use Rattle.block_machine.specs.Events.{AbstractCall, AllAnswersLawful, AllMay, AnswersEnded, AreStepsOfCall, UnpluggedLostDisk, ShownDiskWasInOrCame, IsByDevice, IssuesLast, AbstractState, NoneStaysIssued, Served, Service, RepliesMatch, Tick, AnswersAllUnplugged}
 use Rattle.block_machine.specs.Due.{of_port}
-use Rattle.block_machine.specs.Histories.{Happening, JointState, IsReachable}
-use Rattle.block_machine.specs.Left.{after}
+use Rattle.block_machine.specs.Histories.{JointEvent, JointState, IsReachable}
+use Rattle.block_machine.specs.Expected.{after}
 use Rattle.block_machine.specs.Ports.{Evidence, RequestFault, IsStoppedOrStuck, IsServiced, Ports, SameDisk, SamePort}
 use Rattle.block_machine.specs.State.{Machine, Pending}
 use Rattle.block_machine.specs.Steps.{Step, Again, Answer, Issue}
@@ -24,10 +24,10 @@ use Rattle.driver_history.specs.Evidence.{IsEvidencedOf}
 use Rattle.error_recovery.specs.Evidence.{BringsLog, HasFailed}
 use Rattle.identify.specs.Log.{TellsError}
 use Rattle.driver_history.specs.Histories.{FindsDone, IsIssuedOn, IssuesDue, LosesNoPortError, RunsWellAnew, PortCorresponds}
-use Rattle.driver_history.specs.Holds.{HasNoUnanswered}
+use Rattle.driver_history.specs.PortInvariants.{HasNoUnanswered}
 use Rattle.driver_history.specs.Trace.{IsDriversOwn, ResetsLink}
 use Rattle.driver_history.specs.Parts.{EndsNoLinkDue}
-use Rattle.host_boot.specs.Taken.{probe_result_of}
+use Rattle.host_boot.specs.TakeOver.{probe_result_of}
 use Rattle.host_boot.specs.declared.ProbeResult.{ProbeResult}
 use Rattle.host_boot.specs.declared.ProbeResult.TheVariants.{Ready, Unready, Unserved}
 use Rattle.request_queue.specs.Entries.{BookEntry, IsOverdue, aged, asks_of}
@@ -68,11 +68,11 @@ pub record NamesOnly (port : Port) (evidence : Evidence) : Type 0 where
 -- A fault of the port stood on the tape since ST was set before the turn, at a moment of it before PxCMD was written;
 -- and status and error are its own, where it is of this slot's plain command, or are what the log's last page tells of
 -- this slot's queued one.
-abbrev pub IsOfCommand : Bool → Port → List Access → Device → Device → ℕ → RequestFault → Type 0
-IsOfCommand false port accesses old new slot told =
+abbrev pub IsFaultOfCommand : Bool → Port → List Access → Device → Device → ℕ → RequestFault → Type 0
+IsFaultOfCommand false port accesses old new slot told =
     (fault : tape_fault.Fault) × HasFailed port accesses old new fault × (fault.slot.0 ≡ slot)
     × (fault.status ≡ told.status) × (fault.error ≡ told.error)
-IsOfCommand true port accesses old new slot told =
+IsFaultOfCommand true port accesses old new slot told =
     ((fault : tape_fault.Fault) × HasFailed port accesses old new fault)
     × ((page : List ℕ) × BringsLog port old new page × TellsError page slot told.status told.error)
 
@@ -84,7 +84,7 @@ pub record TellsFault (port : Port) (accesses : List Access) (old new : ServerSt
   pub used : SlotUse
   pub served : used_for old.slots port.0 slot ≡ Some used
   pub id_is : used.id ≡ told.id
-  pub its : IsOfCommand used.queued port accesses old.device new.device slot told
+  pub its : IsFaultOfCommand used.queued port accesses old.device new.device slot told
   pub lives : used.queued ≡ true → state_of (probe_result_of new.ports port.0) ≢ Dead
 
 -- ---- a turn
@@ -102,7 +102,7 @@ ask_of_turn InRestart = Tick
 ask_of_turn AtRest = Tick
 
 -- a turn, as though it were a call of its own
-abbrev pub happening_of_turn : Turn → List Reply → ServerState → Evidence → List Step → Happening Device DeviceStep
+abbrev pub happening_of_turn : Turn → List Reply → ServerState → Evidence → List Step → JointEvent Device DeviceStep
 happening_of_turn turn replies new evidence steps = record {
   event =
       record {
@@ -154,9 +154,9 @@ pub record RestartsPort (port : Port) (accesses : List Access) (old new : Server
   pub boots : (state_of (probe_result_of new.ports port.0) ≡ Dead) ⊎ ResetsLink port accesses
   pub ended : AnswersEnded m steps port
   pub interrupts : IsStoppedOrStuck evidence port
-  pub anew : NoneKeepsIssue steps (after m steps) port
+  pub anew : NoneStaysIssued steps (after m steps) port
   pub another : UnpluggedLostDisk steps (ports_of old) (ports_of new)
-  pub disk : ShowsRealDisk (abstract_state_of old m) steps (abstract_state_of new (after m steps)) port
+  pub disk : ShownDiskWasInOrCame (abstract_state_of old m) steps (abstract_state_of new (after m steps)) port
 
 -- What a turn owes besides. In a service requests wait again, are aborted, told Revoked or a fault, on ports alone that
 -- failed; of a port that isn't ready no fault is told, and no loss. A restart owes what it does, and tells no fault.
@@ -188,13 +188,13 @@ pub record SimulatesTurn (turn : Turn) (port : Port) (replies : List Reply) (acc
   pub belong : AreStepsOfCall (ask_of_turn turn) (ports_of new) steps
   pub last : IssuesLast steps
   pub names : NamesOnly port evidence
-  pub lawful : AllLawful (abstract_state_of old m) evidence (ports_of new) steps
+  pub lawful : AllAnswersLawful (abstract_state_of old m) evidence (ports_of new) steps
   pub owes : MeetsTurnDuty turn port accesses old new m evidence steps
   pub tells : RepliesMatch steps replies
   pub unplugs : AnswersAllUnplugged steps (after m steps)
   pub becomes : IsServiced (ports_of old) evidence (ports_of new) port
   pub disk : SamePort (ports_of old) (ports_of new) port
-      ⊎ ShowsRealDisk (abstract_state_of old m) steps (abstract_state_of new (after m steps)) port
+      ⊎ ShownDiskWasInOrCame (abstract_state_of old m) steps (abstract_state_of new (after m steps)) port
   pub keeps : SameDisk (ports_of old) (ports_of new) port ⊎ HasNoUnanswered (after m steps) port
   pub issues : (ports_of new).state port ≡ ReadyState → IssuesDue (mode_in new port) steps (after m steps) port
   pub evidenced : IsEvidencedOf (ask_of_turn turn) (Served replies) accesses (joint_state_of old m)

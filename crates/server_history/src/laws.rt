@@ -19,7 +19,7 @@ ghost use Rattle.adapter.specs.Rules.{HasPort, IsUnowned, IsOn, IsStable};
 ghost use Rattle.adapter.specs.Steps.{Steps};
 ghost use Rattle.adapter.specs.declared.access.DeviceStep.{DeviceStep};
 ghost use Rattle.refinement.specs.Driven.{RelatesWith, AnyUse, IsSimulated};
-ghost use Rattle.refinement.specs.Facts.{RunsWell, Undisturbed};
+ghost use Rattle.refinement.specs.PortFacts.{RunsWell, Undisturbed};
 ghost use Rattle.refinement.specs.Slots.{IsOver};
 ghost use Rattle.block_machine.specs.Due.{IsDue, is_plain};
 ghost use Rattle.block_machine.specs.Events.{Submit, StoreAt, LoadAt, RevokeOf, Service, State, Tick, Device as Told, Submitted, Served, Shown, Stepped, WasRevoked};
@@ -27,18 +27,18 @@ ghost use Rattle.block_machine.specs.Refusals.{IsAcceptable, IsFirstRefusal, May
 ghost use Rattle.block_machine.specs.Rules.{HasRow, IsNamed};
 ghost use Rattle.command_table.specs.Written.{IsUnused};
 ghost use Rattle.dma_frames.specs.Table.{Table, LendsOnly, owner_of, lent_to};
-ghost use Rattle.host_boot.specs.Taken.{probe_result_of, TakesOver};
+ghost use Rattle.host_boot.specs.TakeOver.{probe_result_of, TakesOver};
 ghost use Rattle.host_boot.specs.declared.ProbeResult.TheVariants.{Ready, Unready};
 ghost use Rattle.identify.specs.declared.DiskInfo.{DiskInfo};
 ghost use Rattle.host_boot.specs.declared.Host.{Host};
 ghost use Rattle.hba_regs.specs.Bits.{bit};
-ghost use Rattle.commands.specs.Batches.{SlotTask};
+ghost use Rattle.commands.specs.Batches.{PlacedTask};
 ghost use Rattle.commands.specs.Masks.{ReadsDone, SeesClear};
 ghost use Rattle.request_queue.specs.Entries.{BookEntry, asks, asks_of, due_ids};
-ghost use Rattle.server_history.specs.Histories.{ExtendsSettled, ExtendsBy, ExtendsHistory, StartsHistory, InvariantBy, load_said, store_said};
+ghost use Rattle.server_history.specs.Histories.{ExtendsSettled, ExtendsByStuck, ExtendsHistory, StartsHistory, InvariantByStuck, load_said, store_said};
 ghost use Rattle.server_history.specs.Kept.{LoansEndInTurn};
 ghost use Rattle.server_history.specs.Revoked.{RevokesGrant};
-ghost use Rattle.server_history.specs.Served.{Accepts, AnswersDone, AnswersOne, IsEmptyMask, IsMaskOf, IssuesAll, IssuesBatchOf, LeavesBookInOrder, MayTakeSlot, PutsInSlot, PutsInSlots, accepting};
+ghost use Rattle.server_history.specs.Served.{Accepts, AnswersDone, AnswersOne, IsEmptyMask, IsMaskOf, IssuesAll, IssuesTogetherIfAny, ChangesSlotsAndBook, FindsSlotFor, PutsInSlot, PutsInSlots, with_accepted};
 ghost use Rattle.server_history.specs.StuckServer.{ServerInvariant};
 ghost use Rattle.server_history.specs.Probing.{ProbesPort};
 ghost use Rattle.server_history.specs.Turns.{IsPortTurn, InRestart, ServePorts, ServesPort, Ticks, ProbesUnready, a_tick_older};
@@ -57,7 +57,7 @@ ghost use Rattle.port_control.specs.Ports.{IsStopped};
 ghost use Rattle.port_control.specs.declared.Stopped.{Stopped};
 ghost use Rattle.server_history.specs.ErrorHandling.{AreAllQueuedAs, IsErrorHandled, HasResolved, HandlesPortError, requests_of};
 
-use super::lawful::{law_below, law_frame_holders};
+use super::prerequisites::{law_frame_holder_prerequisites, law_history_prerequisites};
 use ata_types::MOST_READINGS;
 use host_boot::laws::law_what_was_taken_over_may_be_served;
 
@@ -76,42 +76,42 @@ pub fn law_a_new_server_has_begun()
     ensures { (s : ServerState) (host : Host) (idle : Device) → IsIdle idle → TellsDisks idle
         → TakesOver s.wanted host idle s.device → IsNewServer host s → SettledInvariant s × StartsHistory s }
 {
-    law_below();
+    law_history_prerequisites();
     law_what_was_taken_over_may_be_served();
 }
 
 /// A device that does what it is told adds an event, and so does one that can't. Where the adapter isn't on, it isn't
 /// switched on.
 pub fn law_device_steps_extend_history()
-    ensures done { (stuck : Bool) (s : ServerState) (new : Device) (step : DeviceStep) → InvariantBy stuck s
+    ensures done { (stuck : Bool) (s : ServerState) (new : Device) (step : DeviceStep) → InvariantByStuck stuck s
         → Asked step s.device new → Steps s.device new
-        → ExtendsBy stuck s (record s { device = new }) (Told step) (Stepped true) }
-    ensures refused { (stuck : Bool) (s : ServerState) (step : DeviceStep) → InvariantBy stuck s
+        → ExtendsByStuck stuck s (record s { device = new }) (Told step) (Stepped true) }
+    ensures refused { (stuck : Bool) (s : ServerState) (step : DeviceStep) → InvariantByStuck stuck s
         → ExtendsHistory s s (Told step) (Stepped false) }
 {
-    law_below();
+    law_history_prerequisites();
 }
 
 /// A call that is refused adds an event, and so does asking for a port's state, whether or not the adapter is on:
 /// nothing changes.
 pub fn law_refusals_extend_history()
-    ensures submit { (stuck : Bool) (s : ServerState) (r : Request) (refusal : Refusal) → InvariantBy stuck s
+    ensures submit { (stuck : Bool) (s : ServerState) (r : Request) (refusal : Refusal) → InvariantByStuck stuck s
         → IsFirstRefusal (admission_context s) r refusal → ExtendsHistory s s (Submit r) (Submitted (Err refusal)) }
     ensures store { (stuck : Bool) (s : ServerState) (client : ClientId) (frame : Frame) (offset : ℕ) (bytes : List ℕ)
-        (fault : MemFault) → InvariantBy stuck s
+        (fault : MemFault) → InvariantByStuck stuck s
         → IsFirstMemFault (owner_of s.table) (lent_to s.table) client frame offset (length bytes) fault
         → ExtendsHistory s s (StoreAt client frame offset bytes) (store_said (Err fault)) }
     ensures load { (stuck : Bool) (s : ServerState) (client : ClientId) (frame : Frame) (offset count : ℕ)
         (bytes : List ℕ)
-        (fault : MemFault) → InvariantBy stuck s
+        (fault : MemFault) → InvariantByStuck stuck s
         → IsFirstMemFault (owner_of s.table) (lent_to s.table) client frame offset count fault
         → ExtendsHistory s s (LoadAt client frame offset count) (load_said (Err fault) bytes) }
-    ensures revoke { (stuck : Bool) (s : ServerState) (client : ClientId) (number : ℕ) → InvariantBy stuck s
+    ensures revoke { (stuck : Bool) (s : ServerState) (client : ClientId) (number : ℕ) → InvariantByStuck stuck s
         → (HasRow client number s.grants → ⊥) → ExtendsHistory s s (RevokeOf client number) (WasRevoked None) }
-    ensures state { (stuck : Bool) (s : ServerState) (port : Port) → InvariantBy stuck s
+    ensures state { (stuck : Bool) (s : ServerState) (port : Port) → InvariantByStuck stuck s
         → ExtendsHistory s s (State port) (Shown ((ports_of s).state port)) }
 {
-    law_below();
+    law_history_prerequisites();
 }
 
 /// Bytes of an open frame may be loaded and stored, whatever the device does first, and whether or not the adapter is
@@ -121,24 +121,25 @@ pub fn law_open_frames_are_accessible()
         → MayAccessFrame (owner_of s.table) (lent_to s.table) client frame offset count
         → IsStable (IsUnowned (FRAME_BYTES * frame.0 + offset) count) s.device }
 {
-    law_below();
+    law_history_prerequisites();
 }
 
 /// Bytes of an open frame that a client stores or loads add an event, whether or not the adapter is on.
 pub fn law_client_bytes_extend_history()
     ensures store { (stuck : Bool) (s : ServerState) (new : Device) (client : ClientId) (frame : Frame) (offset : ℕ)
-        (bytes : List ℕ) → InvariantBy stuck s
+        (bytes : List ℕ) → InvariantByStuck stuck s
         → MayAccessFrame (owner_of s.table) (lent_to s.table) client frame offset (length bytes)
         → Stores (FRAME_BYTES * frame.0 + offset) bytes s.device new
-        → ExtendsBy stuck s (record s { device = new }) (StoreAt client frame offset bytes) (store_said (Ok tt)) }
+        → ExtendsByStuck stuck s (record s { device = new }) (StoreAt client frame offset bytes) (store_said (Ok tt)) }
     ensures load { (stuck : Bool) (s : ServerState) (new : Device) (client : ClientId) (frame : Frame)
         (offset count : ℕ)
-        (bytes : List ℕ) → InvariantBy stuck s → length bytes ≡ count
+        (bytes : List ℕ) → InvariantByStuck stuck s → length bytes ≡ count
         → MayAccessFrame (owner_of s.table) (lent_to s.table) client frame offset count
         → Loads (FRAME_BYTES * frame.0 + offset) bytes s.device new
-        → ExtendsBy stuck s (record s { device = new }) (LoadAt client frame offset count) (load_said (Ok tt) bytes) }
+        → ExtendsByStuck stuck s (record s { device = new }) (LoadAt client frame offset count) (load_said (Ok tt)
+        bytes) }
 {
-    law_below();
+    law_history_prerequisites();
 }
 
 /// A due request of a server finds a free slot. The lowest is usable, one of the adapter's, and slot 0 for a plain
@@ -155,33 +156,33 @@ pub fn law_a_due_request_may_issue()
         → ((slot : ℕ) → slot < (slots_at s.slots request.entry.port.0).usable
         → IsTaken (slots_at s.slots request.entry.port.0) slot) → ⊥ }
 {
-    law_below();
+    law_history_prerequisites();
 }
 
 /// Due requests of a port get slots one after another, before anything is stored for them. Each finds a free slot, and
 /// may take the lowest, which makes one more of them; several are due only where all are queued; and of the server they
 /// leave all but book and slots.
 pub fn law_due_requests_get_slots()
-    ensures lowest { (s mid : ServerState) (port : Port) (ids : List RequestId) (tasks : List SlotTask)
+    ensures lowest { (s mid : ServerState) (port : Port) (ids : List RequestId) (tasks : List PlacedTask)
         (request : BookEntry) → InCallInvariant s → PutsInSlots port ids tasks s mid → Contains mid.book request
         → request.entry.port ≡ port → IsDue (mode_in mid port) (asks_of mid.book) (asks request.entry)
-        → (slot : ℕ) → IsLowestFree (slots_at mid.slots port.0) slot → MayTakeSlot s port tasks request slot }
-    ensures full { (s mid : ServerState) (port : Port) (ids : List RequestId) (tasks : List SlotTask)
+        → (slot : ℕ) → IsLowestFree (slots_at mid.slots port.0) slot → FindsSlotFor s port tasks request slot }
+    ensures full { (s mid : ServerState) (port : Port) (ids : List RequestId) (tasks : List PlacedTask)
         (request : BookEntry) → InCallInvariant s → PutsInSlots port ids tasks s mid → Contains mid.book request
         → request.entry.port ≡ port → IsDue (mode_in mid port) (asks_of mid.book) (asks request.entry)
         → ((slot : ℕ) → slot < (slots_at mid.slots port.0).usable → IsTaken (slots_at mid.slots port.0) slot) → ⊥ }
-    ensures together { (s mid : ServerState) (port : Port) (ids : List RequestId) (tasks : List SlotTask)
+    ensures together { (s mid : ServerState) (port : Port) (ids : List RequestId) (tasks : List PlacedTask)
         (request : BookEntry) → InCallInvariant s → PutsInSlots port ids tasks s mid → Contains mid.book request
         → request.entry.port ≡ port → IsDue (mode_in mid port) (asks_of mid.book) (asks request.entry)
         → (tasks ≡ [] → ⊥) → (is_plain (mode_in s port) request.entry.op ≡ false)
         × All (λ t. t.task.queued ≡ true) tasks }
-    ensures goes_on { (s mid : ServerState) (port : Port) (ids : List RequestId) (tasks : List SlotTask)
-        → InCallInvariant s → PutsInSlots port ids tasks s mid → LeavesBookInOrder s mid }
-    ensures more { (s mid new : ServerState) (port : Port) (ids : List RequestId) (tasks : List SlotTask)
-        (id : RequestId) (t : SlotTask) → PutsInSlots port ids tasks s mid → PutsInSlot port id t mid new
+    ensures goes_on { (s mid : ServerState) (port : Port) (ids : List RequestId) (tasks : List PlacedTask)
+        → InCallInvariant s → PutsInSlots port ids tasks s mid → ChangesSlotsAndBook s mid }
+    ensures more { (s mid new : ServerState) (port : Port) (ids : List RequestId) (tasks : List PlacedTask)
+        (id : RequestId) (t : PlacedTask) → PutsInSlots port ids tasks s mid → PutsInSlot port id t mid new
         → PutsInSlots port (ids ++ id ∷ []) (tasks ++ t ∷ []) s new }
 {
-    law_below();
+    law_history_prerequisites();
 }
 
 /// A slot of a ready port that is used has an unanswered request of the port, which is issued.
@@ -194,22 +195,25 @@ pub fn law_a_used_slot_has_its_request()
         × (request.entry.issued ≡ true) }
 {}
 
-/// A server goes on while requests are accepted, answered and issued, and a grant is revoked.
+/// An acceptable request is of a ready port; and a server goes on while requests are accepted, answered and issued, and
+/// a grant is revoked.
 pub fn law_requests_preserve_invariant()
+    ensures ready { (s : ServerState) (r : Request) (row : GrantRow) → IsAcceptable (admission_context s) r
+        → IsNamed s.grants r row → state_of (probe_result_of s.ports row.port.0) ≡ ReadyState }
     ensures accepted { (s : ServerState) (port : Port) (r : Request) (row : GrantRow) (id : RequestId) (table : Table)
         → InCallInvariant s → IsAcceptable (admission_context s) r → IsNamed s.grants r row → row.port ≡ port
         → id.0 ≡ s.last + 1
-        → LendsOnly s.table table r.frames.items (Some id) → InCallInvariant (accepting port r id table s) }
+        → LendsOnly s.table table r.frames.items (Some id) → InCallInvariant (with_accepted port r id table s) }
     ensures answered { (s new : ServerState) (port : Port) (request : BookEntry) → InCallInvariant s
         → state_of (probe_result_of s.ports port.0)
         ≡ ReadyState
         → (one : AnswersOne port request s new) → IsOver (s.device.port port.0) one.slot → InCallInvariant new }
     ensures issued { (s new : ServerState) (port : Port) (ids : List RequestId) → InCallInvariant s
-        → IssuesBatchOf port ids s new → InCallInvariant new }
+        → IssuesTogetherIfAny port ids s new → InCallInvariant new }
     ensures revoked { (s new : ServerState) (client : ClientId) (number : ℕ) (replies : List Reply) → InCallInvariant s
         → RevokesGrant client number replies s new → InCallInvariant new }
 {
-    law_below();
+    law_history_prerequisites();
 }
 
 /// Once requests are answered whose commands are over, and then what is due on their port is issued, nothing is due.
@@ -219,7 +223,7 @@ pub fn law_a_finished_port_settles()
         → ((slot : ℕ) → slot < 32 → bit done slot ≡ true → IsOver (s.device.port port.0) slot)
         → AnswersDone port done replies s new → SettledInvariant new }
 {
-    law_below();
+    law_history_prerequisites();
 }
 
 /// A server goes on while its port is looked at, and while what the port has issued is looked for. The commands of
@@ -239,7 +243,7 @@ pub fn law_looks_preserve_invariant()
         → ReadsDone port mask done s.device new → bit done slot ≡ true → IsOver (new.port port.0) slot }
     ensures none { (port : Port) (device : Device) → IsSimulated (IsLooking port) AnyUse device device }
 {
-    law_below();
+    law_history_prerequisites();
 }
 
 /// How a ready port is served: it is looked at. Where the look told of an error, it is handled; where the port uses
@@ -268,7 +272,7 @@ pub fn law_a_port_is_served()
         → IsSimulated (IsLooking port) AnyUse s.device r.settled.error_handled.seen
         → ServesPort port replies s new × SettledInvariant new }
 {
-    law_below();
+    law_history_prerequisites();
 }
 
 /// How a port is restarted of which a request is hung: its error is handled, and that is its turn in a tick.
@@ -280,7 +284,7 @@ pub fn law_a_timed_out_port_is_restarted()
         → IsPortTurn InRestart port replies s new
         × SettledInvariant new }
 {
-    law_below();
+    law_history_prerequisites();
 }
 
 /// A ready port that a look tells a failure of may be recovered once its masks were read: a fault has halted it, and it
@@ -300,7 +304,7 @@ pub fn law_port_errors_may_be_handled()
         → IsMaskOf (slots_at s.slots port.0) outstanding → AreAllQueuedAs queued (slots_at s.slots port.0)
         → PlainIsSlot0 queued outstanding }
 {
-    law_below();
+    law_history_prerequisites();
 }
 
 /// What comes after a recovery. A port that has to be booted may be; how it takes commands is what it was, by what the
@@ -327,7 +331,7 @@ pub fn law_a_port_goes_on_after_its_errors()
         → ((info : DiskInfo) → probe_result_of s.ports port.0 ≡ Ready info
         → ⊥) → due_ids (mode_in s port) port (asks_of s.book) ≡ [] }
 {
-    law_below();
+    law_history_prerequisites();
 }
 
 /// A request that is accepted adds an event.
@@ -336,7 +340,7 @@ pub fn law_acceptances_extend_history()
         → IsAcceptable (admission_context s) r → Accepts port r id s new
         → ExtendsSettled s new (Submit r) (Submitted (Ok id)) }
 {
-    law_below();
+    law_history_prerequisites();
 }
 
 /// A client's grant that is revoked adds an event: the requests that waited under it are answered, and what is due on
@@ -346,7 +350,7 @@ pub fn law_revocations_extend_history()
         → (revokes : RevokesGrant client number replies s mid) → IssuesAll revokes.has.0.port mid new
         → ExtendsSettled s new (RevokeOf client number) (WasRevoked (Some replies)) }
 {
-    law_below();
+    law_history_prerequisites();
 }
 
 /// Ports that have their turns in a service one after another add an event: ready ones are served, and others probed.
@@ -354,7 +358,7 @@ pub fn law_services_extend_history()
     ensures { (s new : ServerState) (replies : List Reply) → SettledInvariant s → ServePorts 0 s.ports replies s new
         → ExtendsSettled s new Service (Served replies) }
 {
-    law_below();
+    law_history_prerequisites();
 }
 
 /// How a port that isn't ready has its turn in a service: it is looked at, and booted where it may have a disk by now.
@@ -376,14 +380,14 @@ pub fn law_an_unready_port_is_probed()
         → (probes.state ≢ Dead → IsSimulated (IsLooking port) AnyUse s.device probes.seen) → ProbesUnready port s new
         × SettledInvariant new }
 {
-    law_below();
+    law_history_prerequisites();
 }
 
 /// A server goes on while its requests get older.
 pub fn law_aging_keeps_invariant()
     ensures { (s : ServerState) → SettledInvariant s → SettledInvariant (a_tick_older s) }
 {
-    law_below();
+    law_history_prerequisites();
 }
 
 /// A tick adds an event: requests get older, and ready ports have their turns one after another.
@@ -391,7 +395,7 @@ pub fn law_ticks_extend_history()
     ensures { (s new : ServerState) (replies : List Reply) → SettledInvariant s → Ticks replies s new
         → ExtendsSettled s new Tick (Served replies) }
 {
-    law_below();
+    law_history_prerequisites();
 }
 
 /// Loans end one after another.

@@ -8,16 +8,16 @@ ghost use Rattle.server_history.specs.Resets.{IsReinitialized, IssuePorts, MayRe
 ghost use Rattle.server_history.specs.Server.{InCallInvariant, SettledInvariant, ServerState};
 ghost use Rattle.server_history.specs.StuckServer.{ServerInvariant};
 
-use super::lawful::law_below;
+use super::prerequisites::law_history_prerequisites;
 use block_machine::laws::law_lent_frame_is_its_own;
 use host_boot::laws::law_what_was_taken_over_may_be_served;
 use refinement::laws::law_releasing_agrees;
 
 /// What the laws of a reset rest on.
-fn law_resets()
+fn law_reset_prerequisites()
     ensures { ResetLaws }
 {
-    law_below();
+    law_history_prerequisites();
     law_what_was_taken_over_may_be_served();
     law_lent_frame_is_its_own();
     law_releasing_agrees();
@@ -34,7 +34,7 @@ pub fn law_a_reset_server_goes_on()
         → ResolvePorts 0 taken.ports replies taken settled → IssuePorts 0 taken.ports settled new
         → SettledInvariant new }
 {
-    law_resets();
+    law_reset_prerequisites();
 }
 
 /// A reset that ends adds an event.
@@ -42,5 +42,5 @@ pub fn law_resets_extend_history()
     ensures { (s new : ServerState) (replies : List Reply) → ServerInvariant s → ResetsServer replies s new
         → ExtendsSettled s new Reset (WasReset (Some replies)) }
 {
-    law_resets();
+    law_reset_prerequisites();
 }

@@ -15,14 +15,14 @@ ghost use Rattle.server_history.specs.Resets.{MayResolve, ResolvePorts, Resolves
 ghost use Rattle.server_history.specs.Server.{DifferInRequest, InCallInvariant, IsLentOut, ServerState, quarantined_at, admission_context};
 ghost use Rattle.server_history.specs.StuckServer.{ResetGetsStuck, ServerInvariant, StuckInvariant};
 
-use super::lawful::{law_below, law_frame_holders};
+use super::prerequisites::{law_frame_holder_prerequisites, law_history_prerequisites};
 
 /// What holds of a server at each moment of a call holds of its book, whether or not its adapter is on.
 pub fn law_server_invariant_holds()
     ensures kept { (s : ServerState) → InCallInvariant s → ServerInvariant s }
     ensures settle { (s : ServerState) → ServerInvariant s → MayResolve s }
 {
-    law_below();
+    law_history_prerequisites();
 }
 
 /// What is kept may be given back, whether or not the adapter is on: the frames of each kept loan are lent to its
@@ -38,7 +38,7 @@ pub fn law_quarantined_loans_are_lent()
     ensures answered { (s : ServerState) (port : ℕ) (loan : Lending) (e : BookEntry) → ServerInvariant s
         → Contains (quarantined_at s.kept port) loan → Contains s.book e → e.entry.id ≢ loan.request }
 {
-    law_frame_holders();
+    law_frame_holder_prerequisites();
 }
 
 /// The requests of one port are resolved, and those of the others may still.
@@ -46,7 +46,7 @@ pub fn law_may_resolve_persists()
     ensures { (s new : ServerState) (port : Port) (replies : List Reply) → port.0 < 4 → MayResolve s
         → ResolvesPort port replies s new → MayResolve new }
 {
-    law_below();
+    law_history_prerequisites();
 }
 
 /// A reset that gets stuck adds an event, whether or not the last one did.
@@ -54,21 +54,21 @@ pub fn law_stuck_resets_extend_history()
     ensures { (s new : ServerState) → ServerInvariant s → ResetGetsStuck s new
         → ExtendsStuck s new Reset (WasReset None) }
 {
-    law_below();
+    law_history_prerequisites();
 }
 
 /// No request is acceptable while no port is ready.
 pub fn law_stuck_servers_admit_none()
     ensures { (s : ServerState) (r : Request) → StuckInvariant s → IsAcceptable (admission_context s) r → ⊥ }
 {
-    law_below();
+    law_history_prerequisites();
 }
 
 /// A tick adds an event, and nothing changes: no port is ready, so no request is issued that could get older.
 pub fn law_stuck_ticks_extend_history()
     ensures { (s : ServerState) → StuckInvariant s → ExtendsStuck s s Tick (Served []) }
 {
-    law_below();
+    law_history_prerequisites();
 }
 
 /// A client's grant that is revoked adds an event: the requests that waited under it are answered, and nothing is
@@ -78,7 +78,7 @@ pub fn law_stuck_revocations_extend_history()
         → RevokesGrant client number replies s new
         → ExtendsStuck s new (RevokeOf client number) (WasRevoked (Some replies)) }
 {
-    law_below();
+    law_history_prerequisites();
 }
 
 /// A service adds an event: the requests of each dead port are told that it is dead, port by port, and nothing is
@@ -87,5 +87,5 @@ pub fn law_stuck_services_extend_history()
     ensures { (s new : ServerState) (replies : List Reply) → StuckInvariant s → ResolvePorts 0 s.ports replies s new
         → ExtendsStuck s new Service (Served replies) }
 {
-    law_below();
+    law_history_prerequisites();
 }

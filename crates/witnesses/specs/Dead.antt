@@ -13,7 +13,7 @@ use Rattle.adapter.specs.declared.access.DeviceStep.{DeviceStep}
 use Rattle.refinement.specs.Relation.{port_at}
 use Rattle.refinement.specs.Witness.{first_id}
 use Rattle.block_machine.specs.Events.{Submit, Service, Reset, Submitted, Served, WasReset}
-use Rattle.block_machine.specs.Histories.{JointState, Happening, now}
+use Rattle.block_machine.specs.Histories.{JointState, JointEvent, now}
 use Rattle.block_machine.specs.State.{Pending}
 use Rattle.identify.specs.declared.wanted.Wanted.TheVariants.{Any}
 use Rattle.driver_history.specs.Histories.{IsDriverHistory, PortCorresponds}
@@ -27,13 +27,13 @@ reset_accesses = Writing Ghc 0x80000001 ∷ Reading Ghc 0x80000001 ∷ []
 -- is done.
 pub record StuckResetIsAHistory : Type 0 where
   pub first : JointState Device
-  pub submit : Happening Device DeviceStep
+  pub submit : JointEvent Device DeviceStep
   pub asked : Request
   pub submits : (submit.event.ask ≡ Submit asked) × (submit.event.said ≡ Submitted (Ok first_id))
-  pub reset : Happening Device DeviceStep
+  pub reset : JointEvent Device DeviceStep
   pub resets : (reset.event.ask ≡ Reset) × (reset.event.said ≡ WasReset None)
   pub dead : (reset.event.ports.state (port_at 0) ≡ Dead) × (reset.event.ports.state (port_at 1) ≡ Dead)
-  pub service : Happening Device DeviceStep
+  pub service : JointEvent Device DeviceStep
   pub serves : (service.event.ask ≡ Service)
       × (service.event.said ≡ Served (record { id = first_id; client = asked.client; outcome = PortDead } ∷ []))
   pub history : IsDriverHistory (Any ∷ Any ∷ []) first (service ∷ reset ∷ submit ∷ [])

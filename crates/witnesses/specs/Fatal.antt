@@ -18,22 +18,22 @@ use Rattle.adapter.specs.declared.access.FatalError.TheVariants.{Interface}
 use Rattle.refinement.specs.Relation.{port_at}
 use Rattle.refinement.specs.Witness.{first_id}
 use Rattle.block_machine.specs.Events.{Submit, Service, Device as Told, Submitted, Served, Stepped}
-use Rattle.block_machine.specs.Histories.{JointState, Happening, now}
+use Rattle.block_machine.specs.Histories.{JointState, JointEvent, now}
 use Rattle.block_machine.specs.Ports.{Evidence}
 use Rattle.identify.specs.declared.wanted.Wanted.TheVariants.{Any}
 use Rattle.error_recovery.specs.Evidence.{ShowsFatal}
 use Rattle.driver_history.specs.Histories.{IsDriverHistory, PortCorresponds}
 use Rattle.witnesses.specs.Allowed.{AreAllowed}
-use Rattle.witnesses.specs.Restart.{restart_evidence, restarting}
+use Rattle.witnesses.specs.Restart.{restart_evidence, restart_accesses}
 
 -- PxIS shows IFS, and is cleared, and so is the port's bit of IS; PxSSTS shows a device
-abbrev pub looking : List Access
-looking =
+abbrev pub fatal_look_accesses : List Access
+fatal_look_accesses =
     Reading (Px (port_at 0) Is) 0x08000000 ∷ Writing (Px (port_at 0) Is) 0x08000000 ∷ Writing registers.Is 1
     ∷ Reading (Px (port_at 0) Ssts) 3 ∷ []
 
 abbrev pub fatal_accesses : List Access
-fatal_accesses = looking ++ restarting
+fatal_accesses = fatal_look_accesses ++ restart_accesses
 
 -- what is named: port 0 failed by a fatal error, was stopped, and has lost its disk
 abbrev pub fatal_evidence : Evidence
@@ -45,15 +45,15 @@ fatal_evidence = restart_evidence (port_at 0 ∷ [])
 -- calls is done, whether it stays healthy or not.
 pub record FatalErrorIsAHistory : Type 0 where
   pub first : JointState Device
-  pub submit : Happening Device DeviceStep
+  pub submit : JointEvent Device DeviceStep
   pub asked : Request
   pub reads : asked.op ≡ Read
   pub submits : (submit.event.ask ≡ Submit asked) × (submit.event.said ≡ Submitted (Ok first_id))
-  pub told : Happening Device DeviceStep
+  pub told : JointEvent Device DeviceStep
   pub tells : (told.event.ask ≡ Told (Fatal (port_at 0) Interface)) × (told.event.said ≡ Stepped true)
   pub shows : ShowsFatal (told.device.port 0)
   pub ready : told.event.ports.state (port_at 0) ≡ Ready
-  pub service : Happening Device DeviceStep
+  pub service : JointEvent Device DeviceStep
   pub serves : (service.event.ask ≡ Service)
       × (service.event.said ≡ Served (record { id = first_id; client = asked.client; outcome = Unplugged } ∷ []))
   pub evidence : service.event.evidence ≡ fatal_evidence

@@ -10,17 +10,17 @@ use Rattle.adapter.specs.Access.{DoesAll}
 use Rattle.adapter.specs.Device.{Device}
 use Rattle.adapter.specs.declared.access.DeviceStep.{DeviceStep}
 use Rattle.refinement.specs.Relation.{port_at}
-use Rattle.refinement.specs.Facts.{RunsWell}
+use Rattle.refinement.specs.PortFacts.{RunsWell}
 use Rattle.refinement.specs.Witness.{first_id}
 use Rattle.block_machine.specs.Events.{Submit, Tick, Submitted, Served, HasTimedOut}
-use Rattle.block_machine.specs.Histories.{JointState, Happening, now}
+use Rattle.block_machine.specs.Histories.{JointState, JointEvent, now}
 use Rattle.identify.specs.declared.wanted.Wanted.TheVariants.{Any}
 use Rattle.driver_history.specs.Histories.{IsDriverHistory, PortCorresponds}
 use Rattle.witnesses.specs.Allowed.{AreAllowed}
-use Rattle.witnesses.specs.Restart.{restart_evidence, restarting}
+use Rattle.witnesses.specs.Restart.{restart_evidence, restart_accesses}
 
 -- the tick answers nothing
-abbrev pub TellsNothing : Happening Device DeviceStep → Type 0
+abbrev pub TellsNothing : JointEvent Device DeviceStep → Type 0
 TellsNothing tick = (tick.event.ask ≡ Tick) × (tick.event.said ≡ Served [])
 
 -- A read of port 0 is accepted and issued, and the device never takes it, though the port runs well and shows no
@@ -30,29 +30,29 @@ TellsNothing tick = (tick.event.ask ≡ Tick) × (tick.event.said ≡ Served [])
 -- adapter's rules. Each port's part in the four calls is done, whether it stays healthy or not.
 pub record HungPortIsAHistory : Type 0 where
   pub first : JointState Device
-  pub submit : Happening Device DeviceStep
+  pub submit : JointEvent Device DeviceStep
   pub asked : Request
   pub reads : asked.op ≡ Read
   pub submits : (submit.event.ask ≡ Submit asked) × (submit.event.said ≡ Submitted (Ok first_id))
-  pub tick : Happening Device DeviceStep
+  pub tick : JointEvent Device DeviceStep
   pub ticks : TellsNothing tick
   pub young : (port : Port) → HasTimedOut (now first (submit ∷ [])).abstract port → ⊥
-  pub second : Happening Device DeviceStep
+  pub second : JointEvent Device DeviceStep
   pub ticks_again : TellsNothing second
   pub young_then : (port : Port) → HasTimedOut (now first (tick ∷ submit ∷ [])).abstract port → ⊥
   pub ready : second.event.ports.state (port_at 0) ≡ Ready
   pub well : RunsWell (second.device.port 0)
   pub hung : HasTimedOut (now first (second ∷ tick ∷ submit ∷ [])).abstract (port_at 0)
   pub alone : (port : Port) → HasTimedOut (now first (second ∷ tick ∷ submit ∷ [])).abstract port → port ≡ port_at 0
-  pub restart : Happening Device DeviceStep
+  pub restart : JointEvent Device DeviceStep
   pub restarts : (restart.event.ask ≡ Tick)
       × (restart.event.said ≡ Served (record { id = first_id; client = asked.client; outcome = Unplugged } ∷ []))
   pub evidence : restart.event.evidence ≡ restart_evidence []
   pub unfit : restart.event.ports.state (port_at 0) ≡ Unfit 8
-  pub does : DoesAll restarting second.device restart.device
-  pub allowed : AreAllowed restarting second.device restart.device does
+  pub does : DoesAll restart_accesses second.device restart.device
+  pub allowed : AreAllowed restart_accesses second.device restart.device does
   pub history : IsDriverHistory (Any ∷ Any ∷ []) first (restart ∷ second ∷ tick ∷ submit ∷ [])
-  pub accesses : (history.0.0.2.accesses ≡ []) × (history.0.2.accesses ≡ []) × (history.2.accesses ≡ restarting)
+  pub accesses : (history.0.0.2.accesses ≡ []) × (history.0.2.accesses ≡ []) × (history.2.accesses ≡ restart_accesses)
   pub submit_parts : (port : Port) → PortCorresponds first submit history.0.0.0.2.accesses port
   pub tick_parts : (port : Port) → PortCorresponds (now first (submit ∷ [])) tick history.0.0.2.accesses port
   pub second_parts : (port : Port) → PortCorresponds (now first (tick ∷ submit ∷ [])) second history.0.2.accesses port

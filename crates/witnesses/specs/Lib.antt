@@ -1,5 +1,5 @@
 pub mod Runs
-pub mod Scene
+pub mod RunningAdapter
 pub mod Allowed
 pub mod ReadyPort
 pub mod Recovery

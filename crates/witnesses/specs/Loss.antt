@@ -15,7 +15,7 @@ use Rattle.adapter.specs.declared.access.DeviceStep.{DeviceStep}
 use Rattle.refinement.specs.Relation.{port_at}
 use Rattle.refinement.specs.Witness.{first_id}
 use Rattle.block_machine.specs.Events.{Submit, Service, Submitted, Served}
-use Rattle.block_machine.specs.Histories.{JointState, Happening, now}
+use Rattle.block_machine.specs.Histories.{JointState, JointEvent, now}
 use Rattle.block_machine.specs.Ports.{Evidence}
 use Rattle.identify.specs.declared.wanted.Wanted.TheVariants.{Any}
 use Rattle.driver_history.specs.Histories.{IsDriverHistory, PortCorresponds}
@@ -51,11 +51,11 @@ loss_evidence = record {
 pub record LossIsAHistory : Type 0 where
   pub first : JointState Device
   pub ready : (first.abstract.ports.state (port_at 0) ≡ Ready) × (first.abstract.ports.state (port_at 1) ≡ Ready)
-  pub submit : Happening Device DeviceStep
+  pub submit : JointEvent Device DeviceStep
   pub asked : Request
   pub reads : asked.op ≡ Read
   pub submits : (submit.event.ask ≡ Submit asked) × (submit.event.said ≡ Submitted (Ok first_id))
-  pub service : Happening Device DeviceStep
+  pub service : JointEvent Device DeviceStep
   pub serves : (service.event.ask ≡ Service)
       × (service.event.said ≡ Served (record { id = first_id; client = asked.client; outcome = outcome.Ok } ∷ []))
   pub between : Device

@@ -11,42 +11,42 @@ use Rattle.adapter.specs.declared.access.DeviceStep.{DeviceStep}
 use Rattle.adapter.specs.declared.access.DeviceStep.TheVariants as asked
 use Rattle.refinement.specs.Relation.{port_at}
 use Rattle.block_machine.specs.Events.{Device as Told, Service, Stepped, Served}
-use Rattle.block_machine.specs.Histories.{JointState, Happening, now}
+use Rattle.block_machine.specs.Histories.{JointState, JointEvent, now}
 use Rattle.identify.specs.declared.wanted.Wanted.TheVariants.{Any}
 use Rattle.driver_history.specs.Histories.{IsDriverHistory, PortCorresponds}
 use Rattle.witnesses.specs.Allowed.{AreAllowed}
 
 -- A look at an unfit port shows that a disk went (PRCS), and no device; the port is given up: it is stopped already. No
 -- device shows, so it isn't booted.
-abbrev pub looking : List Access
-looking =
+abbrev pub missing_look_accesses : List Access
+missing_look_accesses =
     Reading (Px (port_at 0) Is) 0x400000 ∷ Reading (Px (port_at 0) Ssts) 0 ∷ Reading (Px (port_at 0) Cmd) 0x4010
     ∷ Writing (Px (port_at 0) Cmd) 0x4010 ∷ Reading (Px (port_at 0) Cmd) 0x4010 ∷ Writing (Px (port_at 0) Serr)
     0xffffffff
     ∷ Reading (Px (port_at 0) Ssts) 0 ∷ []
 
 -- and one of the other unfit port shows nothing new
-abbrev pub passing : List Access
-passing = Reading (Px (port_at 1) Is) 0 ∷ Reading (Px (port_at 1) Ssts) 3 ∷ []
+abbrev pub unfit_look_accesses : List Access
+unfit_look_accesses = Reading (Px (port_at 1) Is) 0 ∷ Reading (Px (port_at 1) Ssts) 3 ∷ []
 
 -- Two ports are unfit, since a reset found no ATA disk on them, and the disk of port 0 is taken out. The service that
 -- follows finds that out, and makes the port absent; it leaves the other as it is. The service's accesses keep to the
 -- adapter's rules. Each port's part in both calls is done.
 pub record MissingDiskIsAHistory : Type 0 where
   pub first : JointState Device
-  pub past : List (Happening Device DeviceStep)
+  pub past : List (JointEvent Device DeviceStep)
   pub unfit : ((now first past).abstract.ports.state (port_at 0) ≡ Unfit 8)
       × ((now first past).abstract.ports.state (port_at 1) ≡ Unfit 8)
-  pub unplug : Happening Device DeviceStep
+  pub unplug : JointEvent Device DeviceStep
   pub goes : (unplug.event.ask ≡ Told (asked.Unplug (port_at 0))) × (unplug.event.said ≡ Stepped true)
   pub unseen : unplug.event.ports.state (port_at 0) ≡ Unfit 8
-  pub service : Happening Device DeviceStep
+  pub service : JointEvent Device DeviceStep
   pub serves : (service.event.ask ≡ Service) × (service.event.said ≡ Served [])
   pub absent : service.event.ports.state (port_at 0) ≡ Absent
   pub stays : service.event.ports.state (port_at 1) ≡ Unfit 8
-  pub does : DoesAll (looking ++ passing) unplug.device service.device
-  pub allowed : AreAllowed (looking ++ passing) unplug.device service.device does
+  pub does : DoesAll (missing_look_accesses ++ unfit_look_accesses) unplug.device service.device
+  pub allowed : AreAllowed (missing_look_accesses ++ unfit_look_accesses) unplug.device service.device does
   pub history : IsDriverHistory (Any ∷ Any ∷ []) first (service ∷ unplug ∷ past)
-  pub accesses : history.2.accesses ≡ looking ++ passing
+  pub accesses : history.2.accesses ≡ missing_look_accesses ++ unfit_look_accesses
   pub unplug_parts : (port : Port) → PortCorresponds (now first past) unplug history.0.2.accesses port
   pub service_parts : (port : Port) → PortCorresponds (now first (unplug ∷ past)) service history.2.accesses port

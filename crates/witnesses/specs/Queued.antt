@@ -14,17 +14,17 @@ use Rattle.adapter.specs.Access.Access.{Reading}
 use Rattle.adapter.specs.Device.{Device}
 use Rattle.adapter.specs.declared.access.DeviceStep.{DeviceStep}
 use Rattle.refinement.specs.Relation.{port_at}
-use Rattle.refinement.specs.Facts.{RunsWell}
-use Rattle.refinement.specs.Served.{second_id}
+use Rattle.refinement.specs.PortFacts.{RunsWell}
+use Rattle.refinement.specs.TwoReads.{second_id}
 use Rattle.refinement.specs.Witness.{first_id}
 use Rattle.block_machine.specs.Events.{Submit, Service, CallResult, Submitted, Served, IsIssuedIn}
-use Rattle.block_machine.specs.Histories.{JointState, Happening, now}
+use Rattle.block_machine.specs.Histories.{JointState, JointEvent, now}
 use Rattle.block_machine.specs.State.{Pending}
 use Rattle.identify.specs.declared.wanted.Wanted.TheVariants.{Any}
 use Rattle.driver_history.specs.Evidence.{StaysHealthy}
 use Rattle.driver_history.specs.Histories.{IsDriverHistory, PortCorresponds}
 use Rattle.witnesses.specs.Allowed.{AreAllowed}
-use Rattle.witnesses.specs.Scene.{queued}
+use Rattle.witnesses.specs.RunningAdapter.{queued}
 
 -- The masks are read: PxCI has no bit, since the device has taken both commands; and PxSACT that of slot 0 alone, or
 -- none.
@@ -46,42 +46,47 @@ tells_done id asked = Served (record { id = id; client = asked.client; outcome =
 pub record ReadsEndInAnyOrder : Type 0 where
   pub first : JointState Device
   pub queues : first.abstract.ports.mode (port_at 0) ≡ queued
-  pub submit_first : Happening Device DeviceStep
+  pub submit_first : JointEvent Device DeviceStep
   pub asked_first : Request
   pub submits_first : (submit_first.event.ask ≡ Submit asked_first)
       × (submit_first.event.said ≡ Submitted (Ok first_id))
-  pub submit_second : Happening Device DeviceStep
+  pub submit_second : JointEvent Device DeviceStep
   pub asked_second : Request
   pub submits_second : (submit_second.event.ask ≡ Submit asked_second)
       × (submit_second.event.said ≡ Submitted (Ok second_id))
   pub read : (asked_first.op ≡ Read) × (asked_second.op ≡ Read)
   pub issued : IsIssuedIn first_id submit_first.event.steps × IsIssuedIn second_id submit_second.event.steps
   pub both_active : ((submit_second.device.port 0).sact 0 ≡ true) × ((submit_second.device.port 0).sact 1 ≡ true)
-  pub serve_second : Happening Device DeviceStep
-  pub serves_second : (serve_second.event.ask ≡ Service) × (serve_second.event.said ≡ tells_done second_id asked_second)
-  pub one_active : ((serve_second.device.port 0).sact 0 ≡ true) × ((serve_second.device.port 0).sact 1 ≡ false)
+  pub service_second : JointEvent Device DeviceStep
+  pub answers_second : (service_second.event.ask ≡ Service) × (service_second.event.said ≡ tells_done second_id
+      asked_second)
+  pub one_active : ((service_second.device.port 0).sact 0 ≡ true) × ((service_second.device.port 0).sact 1 ≡ false)
   pub left : (e : Pending)
-      → Contains (now first (serve_second ∷ submit_second ∷ submit_first ∷ [])).abstract.machine.book
+      → Contains (now first (service_second ∷ submit_second ∷ submit_first ∷ [])).abstract.machine.book
       e
       → (e.request.id ≡ first_id) × (e.issued ≡ true)
-  pub serve_first : Happening Device DeviceStep
-  pub serves_first : (serve_first.event.ask ≡ Service) × (serve_first.event.said ≡ tells_done first_id asked_first)
+  pub service_first : JointEvent Device DeviceStep
+  pub answers_first_only : (service_first.event.ask ≡ Service)
+      × (service_first.event.said ≡ tells_done first_id asked_first)
   pub ready : (first.abstract.ports.state (port_at 0) ≡ Ready)
       × (submit_first.event.ports.state (port_at 0) ≡ Ready) × (submit_second.event.ports.state (port_at 0) ≡ Ready)
-      × (serve_second.event.ports.state (port_at 0) ≡ Ready) × (serve_first.event.ports.state (port_at 0) ≡ Ready)
-  pub healthy : StaysHealthy 0 submit_second.device serve_second.device
-      × StaysHealthy 0 serve_second.device serve_first.device
-  pub well : RunsWell (serve_first.device.port 0)
-  pub finds_second : DoesAll second_found submit_second.device serve_second.device
-  pub finds_first : DoesAll first_found serve_second.device serve_first.device
-  pub allowed : AreAllowed second_found submit_second.device serve_second.device finds_second
-      × AreAllowed first_found serve_second.device serve_first.device finds_first
-  pub history : IsDriverHistory (Any ∷ Any ∷ []) first (serve_first ∷ serve_second ∷ submit_second ∷ submit_first ∷ [])
+      × (service_second.event.ports.state (port_at 0) ≡ Ready) × (service_first.event.ports.state (port_at 0) ≡ Ready)
+  pub healthy : StaysHealthy 0 submit_second.device service_second.device
+      × StaysHealthy 0 service_second.device service_first.device
+  pub well : RunsWell (service_first.device.port 0)
+  pub finds_second : DoesAll second_found submit_second.device service_second.device
+  pub finds_first : DoesAll first_found service_second.device service_first.device
+  pub allowed : AreAllowed second_found submit_second.device service_second.device finds_second
+      × AreAllowed first_found service_second.device service_first.device finds_first
+  pub history : IsDriverHistory (Any ∷ Any ∷ []) first (service_first ∷ service_second ∷ submit_second ∷ submit_first ∷
+      [])
   pub accesses : (history.0.2.accesses ≡ second_found) × (history.2.accesses ≡ first_found)
   pub submit_first_parts : (port : Port) → PortCorresponds first submit_first history.0.0.0.2.accesses port
   pub submit_second_parts : (port : Port) → PortCorresponds (now first (submit_first ∷ [])) submit_second
       history.0.0.2.accesses port
-  pub serve_second_parts : (port : Port) → PortCorresponds (now first (submit_second ∷ submit_first ∷ [])) serve_second
+  pub serve_second_parts : (port : Port) → PortCorresponds (now first (submit_second ∷ submit_first ∷ []))
+      service_second
       history.0.2.accesses port
-  pub serve_first_parts : (port : Port) → PortCorresponds (now first (serve_second ∷ submit_second ∷ submit_first ∷ []))
-      serve_first history.2.accesses port
+  pub serve_first_parts : (port : Port) → PortCorresponds (now first (service_second ∷ submit_second ∷ submit_first ∷
+      []))
+      service_first history.2.accesses port

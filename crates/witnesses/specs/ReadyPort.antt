@@ -6,7 +6,7 @@ use Rattle.refinement.specs.Relation.{port_at}
 use Rattle.block_machine.specs.Histories.{JointState}
 use Rattle.identify.specs.declared.wanted.Wanted.TheVariants.{Any}
 use Rattle.driver_history.specs.Histories.{IsDriverHistory}
-use Rattle.witnesses.specs.Scene.{fit_page, page_entry}
+use Rattle.witnesses.specs.RunningAdapter.{fit_page, page_entry}
 
 -- Any disk is wanted in ports 0 and 1. Both are ready, and the pages of their disks stand on the tape.
 pub record ReadyPortHasBegun : Type 0 where

@@ -1,6 +1,6 @@
 -- A history with a service that tells a plain read's fault, and leaves its port ready and running (this project's own;
 -- AHCI 1.3.1, 6.2.2).
-use Rattle.refinement.specs.Facts.{RunsWell}
+use Rattle.refinement.specs.PortFacts.{RunsWell}
 use Rattle.std.specs.Prelude.{◌≡◌, List, [], ◌∷◌, Ok}
 use Rattle.ata_types.specs.declared.Port.{Port}
 use Rattle.ata_types.specs.declared.PortState.TheVariants.{Ready}
@@ -16,7 +16,7 @@ use Rattle.adapter.specs.declared.access.DeviceStep.{DeviceStep}
 use Rattle.refinement.specs.Relation.{port_at}
 use Rattle.refinement.specs.Witness.{first_id}
 use Rattle.block_machine.specs.Events.{Submit, Service, Submitted, Served}
-use Rattle.block_machine.specs.Histories.{JointState, Happening, now}
+use Rattle.block_machine.specs.Histories.{JointState, JointEvent, now}
 use Rattle.block_machine.specs.Ports.{RequestFault, Evidence}
 use Rattle.identify.specs.declared.wanted.Wanted.TheVariants.{Any}
 use Rattle.driver_history.specs.Histories.{IsDriverHistory, PortCorresponds}
@@ -51,12 +51,12 @@ fault_evidence = record {
 -- rules. Each port's part in both calls is done, whether it stays healthy or not.
 pub record RecoveryIsAHistory : Type 0 where
   pub first : JointState Device
-  pub submit : Happening Device DeviceStep
+  pub submit : JointEvent Device DeviceStep
   pub asked : Request
   pub reads : asked.op ≡ Read
   pub submits : (submit.event.ask ≡ Submit asked) × (submit.event.said ≡ Submitted (Ok first_id))
   pub ready : submit.event.ports.state (port_at 0) ≡ Ready
-  pub service : Happening Device DeviceStep
+  pub service : JointEvent Device DeviceStep
   pub serves : (service.event.ask ≡ Service)
       × (service.event.said ≡ Served (record { id = first_id; client = asked.client; outcome = DeviceError 0x41 0x40 }
       ∷ []))

@@ -16,7 +16,7 @@ use Rattle.refinement.specs.Relation.{port_at}
 use Rattle.refinement.specs.Places.{list_of, received_of}
 use Rattle.refinement.specs.Witness.{first_id}
 use Rattle.block_machine.specs.Events.{Submit, Reset, Submitted, WasReset}
-use Rattle.block_machine.specs.Histories.{JointState, Happening, now}
+use Rattle.block_machine.specs.Histories.{JointState, JointEvent, now}
 use Rattle.identify.specs.declared.wanted.Wanted.TheVariants.{Any}
 use Rattle.driver_history.specs.Histories.{IsDriverHistory, PortCorresponds}
 use Rattle.witnesses.specs.Allowed.{AreAllowed}
@@ -27,8 +27,8 @@ adapter_reset = Writing Ghc 0x80000001 ∷ Reading Ghc 0 ∷ Writing Ghc 0x80000
 
 -- A stopped port gets its places, FRE, and COMRESET; the device shows, is idle, and has another signature than an ATA
 -- disk's.
-abbrev pub booting : ℕ → List Access
-booting port =
+abbrev pub boot_accesses : ℕ → List Access
+boot_accesses port =
     Reading (Px (port_at port) Cmd) 0 ∷ Writing (Px (port_at port) Clb) (list_of port)
     ∷ Writing (Px (port_at port) Clbu) 0
     ∷ Writing (Px (port_at port) Fb) (received_of port) ∷ Writing (Px (port_at port) Fbu) 0
@@ -39,28 +39,28 @@ booting port =
     ∷ Reading (Px (port_at port) Tfd) 0x77 ∷ Reading (Px (port_at port) Sig) 0xeb140101 ∷ []
 
 -- all of them, one after another
-abbrev pub rebooting : List Access
-rebooting = adapter_reset ++ (booting 0 ++ booting 1)
+abbrev pub reset_and_boot_accesses : List Access
+reset_and_boot_accesses = adapter_reset ++ (boot_accesses 0 ++ boot_accesses 1)
 
 -- A read of port 0 is accepted and issued, and its frame is lent. Then the adapter is reset, and the reset ends: each
 -- port is booted, and no ATA disk is found. So both are unfit, the read is answered Unplugged, and its frame is given
 -- back. The reset's accesses keep to the adapter's rules. Each port's part in both calls is done.
 pub record ResetIsAHistory : Type 0 where
   pub first : JointState Device
-  pub submit : Happening Device DeviceStep
+  pub submit : JointEvent Device DeviceStep
   pub asked : Request
   pub submits : (submit.event.ask ≡ Submit asked) × (submit.event.said ≡ Submitted (Ok first_id))
   pub frame : Frame
   pub its : asked.frames.items ≡ frame ∷ []
   pub lent : (now first (submit ∷ [])).abstract.machine.lent frame ≡ Some first_id
-  pub reset : Happening Device DeviceStep
+  pub reset : JointEvent Device DeviceStep
   pub resets : (reset.event.ask ≡ Reset)
       × (reset.event.said ≡ WasReset (Some (record { id = first_id; client = asked.client; outcome = Unplugged } ∷ [])))
   pub unfit : (reset.event.ports.state (port_at 0) ≡ Unfit 8) × (reset.event.ports.state (port_at 1) ≡ Unfit 8)
   pub freed : (now first (reset ∷ submit ∷ [])).abstract.machine.lent frame ≡ None
-  pub does : DoesAll rebooting submit.device reset.device
-  pub allowed : AreAllowed rebooting submit.device reset.device does
+  pub does : DoesAll reset_and_boot_accesses submit.device reset.device
+  pub allowed : AreAllowed reset_and_boot_accesses submit.device reset.device does
   pub history : IsDriverHistory (Any ∷ Any ∷ []) first (reset ∷ submit ∷ [])
-  pub accesses : history.2.accesses ≡ rebooting
+  pub accesses : history.2.accesses ≡ reset_and_boot_accesses
   pub submit_parts : (port : Port) → PortCorresponds first submit history.0.2.accesses port
   pub reset_parts : (port : Port) → PortCorresponds (now first (submit ∷ [])) reset history.2.accesses port

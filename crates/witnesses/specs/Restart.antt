@@ -10,32 +10,32 @@ use Rattle.refinement.specs.Relation.{port_at}
 use Rattle.block_machine.specs.Ports.{Evidence}
 
 -- the masks show the read issued still
-abbrev pub asking : List Access
-asking = Reading (Px (port_at 0) Ci) 1 ∷ Reading (Px (port_at 0) Sact) 0 ∷ []
+abbrev pub mask_accesses : List Access
+mask_accesses = Reading (Px (port_at 0) Ci) 1 ∷ Reading (Px (port_at 0) Sact) 0 ∷ []
 
 -- the port is stopped
-abbrev pub stopping : List Access
-stopping = Reading (Px (port_at 0) Cmd) 0xc011 ∷ Writing (Px (port_at 0) Cmd) 0xc010 ∷ Reading (Px (port_at 0) Cmd)
+abbrev pub stop_accesses : List Access
+stop_accesses = Reading (Px (port_at 0) Cmd) 0xc011 ∷ Writing (Px (port_at 0) Cmd) 0xc010 ∷ Reading (Px (port_at 0) Cmd)
     0x4010 ∷ []
 
 -- FRE is cleared; command list and received FIS area are put in their places; and FRE is set
-abbrev pub placing : List Access
-placing =
+abbrev pub placing_accesses : List Access
+placing_accesses =
     Reading (Px (port_at 0) Cmd) 0x4010 ∷ Writing (Px (port_at 0) Cmd) 0x4000 ∷ Reading (Px (port_at 0) Cmd) 0
     ∷ Writing (Px (port_at 0) Clb) 0 ∷ Writing (Px (port_at 0) Clbu) 0 ∷ Writing (Px (port_at 0) Fb) 0x400
     ∷ Writing (Px (port_at 0) Fbu) 0
     ∷ Reading (Px (port_at 0) Cmd) 0 ∷ Writing (Px (port_at 0) Cmd) 0x10 ∷ []
 
 -- COMRESET is sent; the device shows, is idle, and has another signature than an ATA disk's
-abbrev pub resetting : List Access
-resetting =
+abbrev pub comreset_accesses : List Access
+comreset_accesses =
     Writing (Px (port_at 0) Sctl) 1 ∷ Writing (Px (port_at 0) Sctl) 0 ∷ Reading (Px (port_at 0) Ssts) 3
     ∷ Writing (Px (port_at 0) Serr) 0xffffffff ∷ Writing (Px (port_at 0) Is) 0xffffffff
     ∷ Reading (Px (port_at 0) Tfd) 0x77 ∷ Reading (Px (port_at 0) Sig) 0xeb140101 ∷ []
 
 -- all of them, one after another
-abbrev pub restarting : List Access
-restarting = asking ++ (stopping ++ (placing ++ resetting))
+abbrev pub restart_accesses : List Access
+restart_accesses = mask_accesses ++ (stop_accesses ++ (placing_accesses ++ comreset_accesses))
 
 -- what is named: port 0 was stopped, and has lost its disk; and these ports have failed, each by a fatal error
 abbrev pub restart_evidence : List Port → Evidence

@@ -6,7 +6,7 @@ use Rattle.adapter.specs.Device.{Device}
 use Rattle.adapter.specs.declared.access.DeviceStep.{DeviceStep}
 use Rattle.refinement.specs.Witness.{first_id}
 use Rattle.block_machine.specs.Events.{RevokeOf, Submit, Submitted, WasRevoked}
-use Rattle.block_machine.specs.Histories.{JointState, Happening, now}
+use Rattle.block_machine.specs.Histories.{JointState, JointEvent, now}
 use Rattle.block_machine.specs.State.{Pending}
 use Rattle.block_machine.specs.Steps.{HasGrant}
 use Rattle.identify.specs.declared.wanted.Wanted.TheVariants.{Any}
@@ -17,10 +17,10 @@ use Rattle.driver_history.specs.Histories.{IsDriverHistory, PortCorresponds}
 -- done.
 pub record RevocationIsAHistory : Type 0 where
   pub first : JointState Device
-  pub submit : Happening Device DeviceStep
+  pub submit : JointEvent Device DeviceStep
   pub asked : Request
   pub submits : (submit.event.ask ≡ Submit asked) × (submit.event.said ≡ Submitted (Ok first_id))
-  pub revoke : Happening Device DeviceStep
+  pub revoke : JointEvent Device DeviceStep
   pub revokes : (revoke.event.ask ≡ RevokeOf asked.client asked.grant) × (revoke.event.said ≡ WasRevoked (Some []))
   pub issued : Pending
   pub book : (now first (revoke ∷ submit ∷ [])).abstract.machine.book ≡ issued ∷ []

@@ -6,8 +6,8 @@ use Rattle.adapter.specs.Commands.{is_queued}
 use Rattle.adapter.specs.Device.{FetchedCommand, DevicePort, Device}
 use Rattle.adapter.specs.Device.Halt.{HaltedQueued, NotHalted}
 use Rattle.adapter.specs.FirstRead.{no_notes, empty_port}
-use Rattle.adapter.specs.Guarded.{IsGuarded, Passing}
-use Rattle.adapter.specs.Idle.{IsIdle, IsSane}
+use Rattle.adapter.specs.Guarded.{IsGuarded, PassesTest}
+use Rattle.adapter.specs.Idle.{IsIdle, HoldsBytesAndTellsDisks}
 use Rattle.adapter.specs.Memory.{patched, bytes_at}
 use Rattle.adapter.specs.Rules.{InUse, IsUnowned, MayRead, MayWrite}
 use Rattle.adapter.specs.Steps.{DeviceTransition, Can, device_after, fault_entry}
@@ -41,9 +41,9 @@ after_event (Made access) d = after_access access d
 after_event (Came step) d = device_after step d
 
 -- what events, the first of them first, lead to, and that each of them may come where it does
-abbrev pub run : List AccessOrStep → Device → Device
-run [] d = d
-run (event ∷ events) d = run events (after_event event d)
+abbrev pub device_after_events : List AccessOrStep → Device → Device
+device_after_events [] d = d
+device_after_events (event ∷ events) d = device_after_events events (after_event event d)
 
 abbrev pub MayAllCome : List AccessOrStep → Device → Type 0
 MayAllCome [] d = Unit {0}
@@ -67,16 +67,16 @@ pub record IsReachableByRun (d : Device) : Type 0 where
   pub idle : IsIdle first
   pub off : first.ae ≡ false
   pub reset : (port : ℕ) → IsAsReset (first.port port)
-  pub sane : IsSane first
+  pub sane : HoldsBytesAndTellsDisks first
   pub events : List AccessOrStep
   pub may : MayAllCome events first
-  pub is : d ≡ run events first
+  pub is : d ≡ device_after_events events first
 
 -- Its commands stand on bytes that no step of the device changes.
-pub record IsSafe (d : Device) : Type 0 where
+pub record CommandsAreSafe (d : Device) : Type 0 where
   pub tables : ℕ → Bool
   pub kept : ℕ → Bool
-  pub guarded : IsGuarded (Passing tables) (Passing kept) d
+  pub guarded : IsGuarded (PassesTest tables) (PassesTest kept) d
 
 -- ---- the kinds of steps
 
@@ -110,7 +110,7 @@ pub record StepComes (kind : TransitionKind) : Type 0 where
 -- the same in a state in which the commands are safe
 pub record ComesSafely (kind : TransitionKind) : Type 0 where
   pub comes : StepComes kind
-  pub safe : IsSafe comes.device
+  pub safe : CommandsAreSafe comes.device
 
 -- ---- what runs come to
 
@@ -118,7 +118,7 @@ pub record ComesSafely (kind : TransitionKind) : Type 0 where
 pub record SecondEndsFirst : Type 0 where
   pub device : Device
   pub reached : IsReachableByRun device
-  pub safe : IsSafe device
+  pub safe : CommandsAreSafe device
   pub one : FetchedCommand
   pub other : FetchedCommand
   pub queued : (is_queued one.meaning.operation ≡ true) × (is_queued other.meaning.operation ≡ true)
@@ -130,7 +130,7 @@ pub record SecondEndsFirst : Type 0 where
 pub record FirstHasFailed : Type 0 where
   pub device : Device
   pub reached : IsReachableByRun device
-  pub safe : IsSafe device
+  pub safe : CommandsAreSafe device
   pub one : FetchedCommand
   pub other : FetchedCommand
   pub queued : (is_queued one.meaning.operation ≡ true) × (is_queued other.meaning.operation ≡ true)
@@ -144,7 +144,7 @@ pub record FirstHasFailed : Type 0 where
 pub record IsBeingReset : Type 0 where
   pub device : Device
   pub reached : IsReachableByRun device
-  pub safe : IsSafe device
+  pub safe : CommandsAreSafe device
   pub pending : device.hr ≡ true
   pub first_used : InUse (device.port 0) 0
   pub second_used : InUse (device.port 1) 0

@@ -3,7 +3,7 @@ ghost use Rattle.std.specs.Prelude.{◌≡◌, ◌≢◌, ◌⊎◌, ◌<◌, Bo
 ghost use Rattle.adapter.specs.Device.{Device, IsSector};
 ghost use Rattle.adapter.specs.Steps.{Can};
 ghost use Rattle.adapter.specs.Steps.DeviceTransition.{FetchFault as SenselessFetch, Plug};
-ghost use Rattle.witnesses.specs.Runs.{StepComes, ComesSafely, FirstHasFailed, IsBeingReset, IsSafe, TransitionKind, SecondEndsFirst};
+ghost use Rattle.witnesses.specs.Runs.{StepComes, ComesSafely, FirstHasFailed, IsBeingReset, CommandsAreSafe, TransitionKind, SecondEndsFirst};
 ghost use Rattle.witnesses.specs.Runs.TransitionKind.{FetchFault};
 
 use adapter::laws::{law_decoding_is_unique, law_kept_bytes_stay};
@@ -21,7 +21,7 @@ pub fn law_each_step_can_come()
 
 /// Where the commands stand on bytes that no step changes, none is taken for no command.
 pub fn law_safe_commands_make_sense()
-    ensures { (d : Device) (port slot kept_bits : ℕ) (queued : Bool) → IsSafe d
+    ensures { (d : Device) (port slot kept_bits : ℕ) (queued : Bool) → CommandsAreSafe d
         → Can (SenselessFetch port slot queued kept_bits) d → ⊥ }
 {}
 

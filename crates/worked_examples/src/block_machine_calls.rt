@@ -4,7 +4,7 @@ use ata_types::{
     ClientId, Frame, FrameFault, GrantRow, MemFault, Op, Port, PortState, Refusal, Request,
     RequestId, Rights, Rule, Sector,
 };
-use machine_rules::{PlainSituation, PortShown};
+use machine_rules::{PortShown, ReferenceSituation};
 use std::process::Abort;
 
 fn request(
@@ -60,7 +60,7 @@ fn port(rt: &impl Abort, state: PortState, sectors: u64, trims: bool) -> ArrayVe
 
 /// Client 1 has frames 76 to 115 and may do all to sectors 100 to 163; client 2 has frames 116 to 127 and may read 140
 /// to 199. Port 0 is ready, with a disk of 70,000 sectors.
-fn tables(rt: &impl Abort) -> PlainSituation {
+fn tables(rt: &impl Abort) -> ReferenceSituation {
     let mut rows = ArrayVec::new();
     assert!(rt; rows.try_push(row(1, 100, 64, true)).is_ok());
     assert!(rt; rows.try_push(row(2, 140, 60, false)).is_ok());
@@ -77,7 +77,7 @@ fn tables(rt: &impl Abort) -> PlainSituation {
         assert!(rt; owners.try_push(owner).is_ok());
         assert!(rt; lent.try_push(None).is_ok());
     }
-    PlainSituation {
+    ReferenceSituation {
         rows,
         owners,
         lent,
@@ -87,7 +87,7 @@ fn tables(rt: &impl Abort) -> PlainSituation {
     }
 }
 
-fn lend(rt: &impl Abort, tables: &mut PlainSituation, frame: usize, id: u64) {
+fn lend(rt: &impl Abort, tables: &mut ReferenceSituation, frame: usize, id: u64) {
     match tables.lent.as_mut_slice().get_mut(frame) {
         Some(place) => *place = Some(RequestId(id)),
         None => assert!(rt; false),
@@ -112,7 +112,7 @@ enum Setting {
     Granted(u64),
 }
 
-fn set(rt: &impl Abort, setting: Setting) -> PlainSituation {
+fn set(rt: &impl Abort, setting: Setting) -> ReferenceSituation {
     let mut tables = tables(rt);
     match setting {
         Setting::Usual => {}

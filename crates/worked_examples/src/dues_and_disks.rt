@@ -2,7 +2,7 @@
 use arrayvec::ArrayVec;
 use ata_types::{Op, Port, Range, RequestId, Sector};
 use block_machine::{QueueMode, Unanswered};
-use machine_rules::{DiskEvent, HistoryRequest, due_list, left};
+use machine_rules::{DiskEvent, HistoryRequest, due_list, expected_byte};
 use std::process::Abort;
 
 /// A request in a book: its id, port, operation, first sector and sectors, and whether it is issued.
@@ -94,7 +94,7 @@ const DUE: &[(&str, bool, u8, &[InBook], &[u64])] = &[
         &[],
     ),
     (
-        "conflicts that are left",
+        "conflicts that are expected_byte",
         true,
         32,
         &[ISSUED_WRITE, READ_ACROSS, WRITE_ACROSS],
@@ -472,6 +472,6 @@ const LEFT: &[(&str, &[DiskEvent], HistoryRequest, u64, u8)] = &[
 #[test]
 fn what_is_left_is_told(rt: HostRuntime) {
     for (name, history, read, sector, want) in LEFT {
-        assert_eq!(rt; left(5, history, read, *sector), *want, "{name}");
+        assert_eq!(rt; expected_byte(5, history, read, *sector), *want, "{name}");
     }
 }

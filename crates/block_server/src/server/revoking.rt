@@ -75,7 +75,7 @@ impl<A: Adapter> Server<A> {
             return Err(NoSuchGrant);
         };
         self.shared.book.revoke(client, number);
-        self.shared.answer_waiting(client, number, replies);
+        self.shared.cancel_under_grant(client, number, replies);
         if self.stuck {
             // No port is ready.
             return Ok(());

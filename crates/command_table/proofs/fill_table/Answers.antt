@@ -1,7 +1,7 @@
 use Rattle.ata_types.specs.declared.memory.TheConstants.{PRD_BYTES, TABLE_HEAD}
 use Rattle.std.proofs.Common.{◌≡◌, ℕ, ◌+◌, ◌*◌, ◌<◌, ◌≤◌, List, length, slice_index, slice_index_or, sym, subst, ap, ◌∙◌, arith, below_more}
 use Rattle.std.proofs.lemmas.List.{get_or_default}
-use Rattle.command_table.specs.Bytes.{part}
+use Rattle.command_table.specs.Bytes.{bytes_from}
 use Rattle.command_table.proofs.Parts.{part_before, part_whole}
 use Rattle.adapter.specs.Encoding.{EncodesCommand}
 use Rattle.adapter.specs.declared.command.Prd.{Prd}
@@ -11,8 +11,8 @@ use Rattle.command_table.proofs.fill_table.Goals as goal
 pub loop-i-init : goal.loop-i-init
 loop-i-init c =
     let n : length c.encode_h2d.result ≡ 20 = c.encode_h2d.ensures.size in
-    let stored : part c.store_at.new.buffer 0 20 ≡ c.encode_h2d.result =
-    ap (part c.store_at.new.buffer 0) (sym n) ∙ part_whole _ _ _ _ c.store_at.ensures (omega arith) in
+    let stored : bytes_from c.store_at.new.buffer 0 20 ≡ c.encode_h2d.result =
+    ap (bytes_from c.store_at.new.buffer 0) (sym n) ∙ part_whole _ _ _ _ c.store_at.ensures (omega arith) in
     let zero_at : (k : ℕ) → 20 ≤ k → k < TABLE_HEAD → slice_index c.store_at.new.buffer k ≡ 0 = λ k low high. c.store_at.ensures.after k (omega (arith, n)) ∙ c.requires.zeros k (omega arith) high in
     record {
       size = omega (arith, c.store_at.ensures.size);
@@ -25,12 +25,12 @@ pub loop-i-preserved : goal.loop-i-preserved
 loop-i-preserved c =
     let s = c.store_at-in-loop-i.ensures in
     let n : length c.prd_bytes.result ≡ 16 = c.prd_bytes.ensures.size in
-    let stored : part c.store_at-in-loop-i.new.buffer (TABLE_HEAD + PRD_BYTES * c.loop-i.i) 16 ≡ c.prd_bytes.result =
-    ap (part c.store_at-in-loop-i.new.buffer (TABLE_HEAD + PRD_BYTES * c.loop-i.i)) (sym n) ∙ part_whole _ _ _ _ s (omega arith) in
-    let fis_stays : part c.store_at-in-loop-i.new.buffer 0 20 ≡ part c.loop-i.bytes 0 20 = part_before _ _ _ _ s (omega arith) 0 20 (omega arith) in
-    let Here : ℕ → Type 0 = λ k. (d : Prd) → EncodesPrd (part c.store_at-in-loop-i.new.buffer (TABLE_HEAD + PRD_BYTES * k) 16) (slice_index_or c.args.prds.now k d) in
+    let stored : bytes_from c.store_at-in-loop-i.new.buffer (TABLE_HEAD + PRD_BYTES * c.loop-i.i) 16 ≡ c.prd_bytes.result =
+    ap (bytes_from c.store_at-in-loop-i.new.buffer (TABLE_HEAD + PRD_BYTES * c.loop-i.i)) (sym n) ∙ part_whole _ _ _ _ s (omega arith) in
+    let fis_stays : bytes_from c.store_at-in-loop-i.new.buffer 0 20 ≡ bytes_from c.loop-i.bytes 0 20 = part_before _ _ _ _ s (omega arith) 0 20 (omega arith) in
+    let Here : ℕ → Type 0 = λ k. (d : Prd) → EncodesPrd (bytes_from c.store_at-in-loop-i.new.buffer (TABLE_HEAD + PRD_BYTES * k) 16) (slice_index_or c.args.prds.now k d) in
     let below : (k : ℕ) → k < c.loop-i.i → Here k = λ (k : ℕ) (lt : k < c.loop-i.i) (d : Prd).
-    let stays : part c.store_at-in-loop-i.new.buffer (TABLE_HEAD + PRD_BYTES * k) 16 ≡ part c.loop-i.bytes (TABLE_HEAD + PRD_BYTES * k) 16 = part_before _ _ _ _ s (omega arith) (TABLE_HEAD + PRD_BYTES * k) 16 (omega arith) in
+    let stays : bytes_from c.store_at-in-loop-i.new.buffer (TABLE_HEAD + PRD_BYTES * k) 16 ≡ bytes_from c.loop-i.bytes (TABLE_HEAD + PRD_BYTES * k) 16 = part_before _ _ _ _ s (omega arith) (TABLE_HEAD + PRD_BYTES * k) 16 (omega arith) in
     subst (λ (b : List ℕ). EncodesPrd b (slice_index_or c.args.prds.now k d)) (sym stays) (c.loop-i.invariant.entries k d lt) in
     let here : Here c.loop-i.i = λ (d : Prd).
     let same = get_or_default c.args.prds.now c.loop-i.i (record { address = 0; bytes = 0 }) d c.loop-i-test.true in

@@ -1,7 +1,7 @@
 use Rattle.std.proofs.Common.{ℕ, ◌*◌, ◌++◌, ◌∷◌, List, [], length, sym, ap, ◌∙◌, subst, arith, append_assoc}
 use Rattle.std.proofs.lemmas.List.{append-nil, length-append, length-drop, drop_all}
 use Rattle.adapter.specs.declared.command.Prd.{Prd}
-use Rattle.command_table.specs.Runs.{PrdsCoverFrames}
+use Rattle.command_table.specs.FrameRuns.{PrdsCoverFrames}
 use Rattle.command_table.proofs.Cover.{Fits, joined_more, joined_cover, all_whole, all_allowed}
 use Rattle.command_table.proofs.prds_in.Goals as goal
 

@@ -1,6 +1,6 @@
 use Rattle.std.proofs.Common.{◌+◌, ◌-◌, ◌*◌, ◌<◌, ◌≤◌, List, ◌++◌, length, drop}
 use Rattle.adapter.specs.declared.command.Prd.{Prd}
-use Rattle.command_table.specs.Runs.{PrdsCoverFrames}
+use Rattle.command_table.specs.FrameRuns.{PrdsCoverFrames}
 use Rattle.command_table.proofs.prds_in.Given as goal
 
 abbrev pub invariant-loop-covered : goal.invariant-loop-covered

@@ -44,18 +44,18 @@ store_table-requires-clause-free g c =
     let Free : ℕ → Type 0 = λ k. IsStable (IsUnowned (table_of c.args.port.0 c.args.slot.0) k) (g.A.Adapter.device c.args.adapter.now) in
     at_places F c.from-list.result c.from.result c.args.port.0 c.args.slot.0 (sym c.from-list.ensures) (sym c.from.ensures)
     (subst Free (length-replicate {A = ℕ} (TABLE_HEAD + PRD_BYTES * n) 0)
-    (store_free c.law_base.ensures r.may.agreed.0 _ c.args.port.0 c.args.slot.0 _ _ r.may.agreed.2 r.may.room r.may.small r.fits.small r.may.agreed.1 (table_room c.args.port.0 c.args.slot.0 n r.fits.few)))
+    (store_free c.law_prerequisites.ensures r.may.agreed.0 _ c.args.port.0 c.args.slot.0 _ _ r.may.agreed.2 r.may.room r.may.small r.fits.small r.may.agreed.1 (table_room c.args.port.0 c.args.slot.0 n r.fits.few)))
 
 pub store-requires : goal.store-requires
 store-requires g c =
     let r = c.requires in
     let first = table_stored _ _ _ _ _ _ _ c.from-list.ensures c.from.ensures c.store_table.ensures.stores.stored in
     let here = table_bounds c.args.port.0 c.args.slot.0 (length c.args.prds.now) c.store_table.ensures.stores.bytes r.fits.few in
-    let size = store_size c.law_base.ensures c.args.port.0 c.args.slot.0 r.may.small r.fits.small _ _ _ _ here first in
+    let size = store_size c.law_prerequisites.ensures c.args.port.0 c.args.slot.0 r.may.small r.fits.small _ _ _ _ here first in
     let room : DRIVER_BYTES ≤ (g.A.Adapter.device c.store_table.new.adapter).size = let had = r.may.room in omega (arith, size, had) in
     let F : ℕ → ℕ → Type 0 = λ p s. IsStable (IsUnowned (PORT_BYTES * p + 32 * s) (length c.header-head.result)) (g.A.Adapter.device c.store_table.new.adapter) in
     at_places F c.from-list.result c.from-2.result c.args.port.0 c.args.slot.0 (sym c.from-list.ensures) (sym c.from-2.ensures)
-    (store_free c.law_base.ensures r.may.agreed.0 _ c.args.port.0 c.args.slot.0 _ _ (store_agrees c.law_base.ensures c.args.port.0 c.args.slot.0 r.may.small r.fits.small _ _ _ _ here first r.may.on r.may.agreed.0 r.may.agreed.1 r.may.agreed.2) room r.may.small r.fits.small r.may.agreed.1
+    (store_free c.law_prerequisites.ensures r.may.agreed.0 _ c.args.port.0 c.args.slot.0 _ _ (store_agrees c.law_prerequisites.ensures c.args.port.0 c.args.slot.0 r.may.small r.fits.small _ _ _ _ here first r.may.on r.may.agreed.0 r.may.agreed.1 r.may.agreed.2) room r.may.small r.fits.small r.may.agreed.1
     (header_bounds c.args.port.0 c.args.slot.0 c.header-head.result c.header-head.ensures.says.size c.header-head.ensures.none_moved))
 
 pub returns-clause-on : goal.returns-clause-on
@@ -65,7 +65,7 @@ returns-clause-on g c =
     let second = header_stored _ _ _ _ _ _ _ c.from-list.ensures c.from-2.ensures c.store.ensures.does in
     let here = table_bounds c.args.port.0 c.args.slot.0 (length c.args.prds.now) c.store_table.ensures.stores.bytes r.fits.few in
     let there = header_bounds c.args.port.0 c.args.slot.0 c.header-head.result c.header-head.ensures.says.size c.header-head.ensures.none_moved in
-    store_on c.law_base.ensures c.args.port.0 c.args.slot.0 r.may.small r.fits.small _ _ _ _ there second (store_on c.law_base.ensures c.args.port.0 c.args.slot.0 r.may.small r.fits.small _ _ _ _ here first r.may.on)
+    store_on c.law_prerequisites.ensures c.args.port.0 c.args.slot.0 r.may.small r.fits.small _ _ _ _ there second (store_on c.law_prerequisites.ensures c.args.port.0 c.args.slot.0 r.may.small r.fits.small _ _ _ _ here first r.may.on)
 
 pub returns-clause-followed : goal.returns-clause-followed
 returns-clause-followed g c =
@@ -74,9 +74,9 @@ returns-clause-followed g c =
     let second = header_stored _ _ _ _ _ _ _ c.from-list.ensures c.from-2.ensures c.store.ensures.does in
     let here = table_bounds c.args.port.0 c.args.slot.0 (length c.args.prds.now) c.store_table.ensures.stores.bytes r.fits.few in
     let there = header_bounds c.args.port.0 c.args.slot.0 c.header-head.result c.header-head.ensures.says.size c.header-head.ensures.none_moved in
-    (c.law_base.ensures.fragments.both (Tables c.args.port.0 c.args.slot.0) (Tables c.args.port.0 c.args.slot.0) (λ uses. uses) (λ uses. uses) (λ access is. is) (λ uses free. free) _ _ _
-    (store_followed c.law_base.ensures c.args.port.0 c.args.slot.0 r.may.small r.fits.small _ _ _ _ here first)
-    (store_followed c.law_base.ensures c.args.port.0 c.args.slot.0 r.may.small r.fits.small _ _ _ _ there second)).followed
+    (c.law_prerequisites.ensures.fragments.both (Tables c.args.port.0 c.args.slot.0) (Tables c.args.port.0 c.args.slot.0) (λ uses. uses) (λ uses. uses) (λ access is. is) (λ uses free. free) _ _ _
+    (store_followed c.law_prerequisites.ensures c.args.port.0 c.args.slot.0 r.may.small r.fits.small _ _ _ _ here first)
+    (store_followed c.law_prerequisites.ensures c.args.port.0 c.args.slot.0 r.may.small r.fits.small _ _ _ _ there second)).followed
 
 pub returns-clause-says : goal.returns-clause-says
 returns-clause-says g c =
@@ -89,7 +89,7 @@ returns-clause-says g c =
     let H : ℕ → ℕ → Type 0 = λ p s. EncodesHeader c.header-head.result c.is_write.result (length c.args.prds.now) (PORT_BYTES * p + TABLES_OFFSET + TABLE_BYTES * s) in
     let heads : EncodesHeader c.header-head.result c.is_write.result (length c.args.prds.now) (table_of c.args.port.0 c.args.slot.0) =
     at_places H c.args.port.0 c.args.slot.0 _ _ c.from-list.ensures c.from.ensures c.header-head.ensures.says in
-    stored_says c.law_base.ensures c.args.port.0 c.args.slot.0 r.may.small r.fits.small r.may.agreed.0 r.may.agreed.1 _ _ _ r.may.on r.may.agreed.2 c.args.prds.now c.store_table.ensures.stores.bytes c.header-head.result few size
+    stored_says c.law_prerequisites.ensures c.args.port.0 c.args.slot.0 r.may.small r.fits.small r.may.agreed.0 r.may.agreed.1 _ _ _ r.may.on r.may.agreed.2 c.args.prds.now c.store_table.ensures.stores.bytes c.header-head.result few size
     (omega (arith, cut, size, few)) first second c.is_write.result c.args.command.now c.is_write.ensures c.store_table.ensures.stores.table.fis c.store_table.ensures.stores.table.entries heads c.header-head.ensures.none_moved
 
 pub returns-clause-none_moved : goal.returns-clause-none_moved
@@ -100,5 +100,5 @@ returns-clause-none_moved g c =
     let there = header_bounds c.args.port.0 c.args.slot.0 c.header-head.result heads.says.size heads.none_moved in
     let at : ℕ = list_of c.args.port.0 + 32 * c.args.slot.0 in
     let P : ℕ → Type 0 = λ n. bytes_at (g.A.Adapter.device c.store.new.self).memory at n ≡ c.header-head.result in
-    let same = subst P heads.says.size (store_there c.law_base.ensures c.args.port.0 c.args.slot.0 r.may.small r.fits.small _ _ _ _ there second) in
+    let same = subst P heads.says.size (store_there c.law_prerequisites.ensures c.args.port.0 c.args.slot.0 r.may.small r.fits.small _ _ _ _ there second) in
     ap (little_from 4 4) same ∙ heads.none_moved

@@ -16,17 +16,17 @@ store-requires g c =
     let had = r.may.room in
     let size = table_size c.law_other_ports_are_left.ensures.adapter c.args.port.0 _ _ c.write_table.ensures.followed in
     let room : DRIVER_BYTES ≤ (g.A.Adapter.device c.write_table.new.adapter).size = omega (arith, size, had) in
-    block_free c.law_base.ensures r.may.agreed.0 _ c.args.port.0 _ c.args.block.now (table_agrees c.law_base.ensures c.args.port.0 r.may.agreed.0 _ _ r.may.agreed.1 c.write_table.ensures.followed r.may.agreed.2) room r.may.small
+    block_free c.law_prerequisites.ensures r.may.agreed.0 _ c.args.port.0 _ c.args.block.now (table_agrees c.law_prerequisites.ensures c.args.port.0 r.may.agreed.0 _ _ r.may.agreed.1 c.write_table.ensures.followed r.may.agreed.2) room r.may.small
     (at_scratch c.args.port.0 _ _ c.from.ensures c.from-2.ensures) c.told-block r.may.agreed.1
 
 pub returns-clause-on : goal.returns-clause-on
 returns-clause-on g c =
-    block_on c.law_base.ensures c.args.port.0 _ c.requires.may.small (at_scratch c.args.port.0 _ _ c.from.ensures c.from-2.ensures) c.args.block.now c.told-block _ _ c.store.ensures.does c.write_table.ensures.on
+    block_on c.law_prerequisites.ensures c.args.port.0 _ c.requires.may.small (at_scratch c.args.port.0 _ _ c.from.ensures c.from-2.ensures) c.args.block.now c.told-block _ _ c.store.ensures.does c.write_table.ensures.on
 
 pub returns-clause-followed : goal.returns-clause-followed
 returns-clause-followed g c =
-    with_block c.law_base.ensures c.args.port.0 _ _ _ c.write_table.ensures.followed
-    (block_followed c.law_base.ensures c.args.port.0 _ c.requires.may.small (at_scratch c.args.port.0 _ _ c.from.ensures c.from-2.ensures) c.args.block.now c.told-block _ _ c.store.ensures.does)
+    with_block c.law_prerequisites.ensures c.args.port.0 _ _ _ c.write_table.ensures.followed
+    (block_followed c.law_prerequisites.ensures c.args.port.0 _ c.requires.may.small (at_scratch c.args.port.0 _ _ c.from.ensures c.from-2.ensures) c.args.block.now c.told-block _ _ c.store.ensures.does)
 
 pub returns-clause-says : goal.returns-clause-says
 returns-clause-says g c = λ m meaning fields one.
@@ -35,13 +35,13 @@ returns-clause-says g c = λ m meaning fields one.
     let table : IsTableFor 0 c.args.command.now c.prds-prds.result.items m (scratch_of c.args.port.0 ∷ []) =
     table_for_block m c.args.command.now c.prds-prds.result.items c.args.port.0 _ (let port = c.from.ensures in omega (arith, port)) meaning fields one (prds.whole refl) (prds.places refl) in
     let P : List Prd → Type 0 = λ es. IsTableFor 0 c.args.command.now es m (scratch_of c.args.port.0 ∷ []) in
-    block_told c.law_base.ensures c.args.port.0 _ r.may.small (at_scratch c.args.port.0 _ _ c.from.ensures c.from-2.ensures) c.args.block.now c.told-block _ _ c.store.ensures.does r.may.agreed.0
-    (table_agrees c.law_base.ensures c.args.port.0 r.may.agreed.0 _ _ r.may.agreed.1 c.write_table.ensures.followed r.may.agreed.2) c.write_table.ensures.on m (scratch_of c.args.port.0 ∷ [])
+    block_told c.law_prerequisites.ensures c.args.port.0 _ r.may.small (at_scratch c.args.port.0 _ _ c.from.ensures c.from-2.ensures) c.args.block.now c.told-block _ _ c.store.ensures.does r.may.agreed.0
+    (table_agrees c.law_prerequisites.ensures c.args.port.0 r.may.agreed.0 _ _ r.may.agreed.1 c.write_table.ensures.followed r.may.agreed.2) c.write_table.ensures.on m (scratch_of c.args.port.0 ∷ [])
     (c.write_table.ensures.says m (scratch_of c.args.port.0 ∷ []) (subst P (sym c.as_slice.ensures.value) table))
 
 pub returns-clause-block : goal.returns-clause-block
 returns-clause-block g c =
-    block_there c.law_base.ensures c.args.port.0 _ c.requires.may.small (at_scratch c.args.port.0 _ _ c.from.ensures c.from-2.ensures) c.args.block.now c.told-block _ _ c.store.ensures.does
+    block_there c.law_prerequisites.ensures c.args.port.0 _ c.requires.may.small (at_scratch c.args.port.0 _ _ c.from.ensures c.from-2.ensures) c.args.block.now c.told-block _ _ c.store.ensures.does
 
 pub prds-prds-requires : goal.prds-prds-requires
 prds-prds-requires g c = record {

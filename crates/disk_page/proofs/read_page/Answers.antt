@@ -16,7 +16,7 @@ load-requires g c =
     let waiting = c.wait.ensures.waiting _ _ _ _ asked in
     let clear = c.wait.ensures.over c.if-not-wait.false _ _ _ _ asked in
     let F : ℕ → Type 0 = λ place. IsStable (IsUnowned place 512) (g.A.Adapter.device c.wait.new.adapter) in
-    subst F (sym at) (page_free c.law_base.ensures c.args.port _ _ _ _ _ r.there.0 waiting clear)
+    subst F (sym at) (page_free c.law_prerequisites.ensures c.args.port _ _ _ _ _ r.there.0 waiting clear)
 
 pub returns-clause-on : goal.returns-clause-on
 returns-clause-on g c =
@@ -28,14 +28,14 @@ returns-clause-on g c =
     let L : ℕ → Type 0 = λ place. Loads place c.load.new.out (g.A.Adapter.device c.wait.new.adapter) (g.A.Adapter.device c.load.new.self) in
     let load : Loads (scratch_of c.args.port.0) c.load.new.out (g.A.Adapter.device c.wait.new.adapter) (g.A.Adapter.device c.load.new.self) = subst L at c.load.ensures.does in
     let size = c.load.auto.out in
-    load_on c.law_base.ensures c.args.port _ _ _ _ _ r.there.0 waiting clear _ _ load size
+    load_on c.law_prerequisites.ensures c.args.port _ _ _ _ _ r.there.0 waiting clear _ _ load size
 
 pub returns-then-not-wait-clause-gets : goal.returns-then-not-wait-clause-gets
 returns-then-not-wait-clause-gets g c =
     let r = c.requires.may in
-    let told = asked_in_vain c.law_base.ensures c.args.port (λ uses. put uses c.args.port.0 0 (Own (page_operation c.args.page))) _ _ _ c.ask.ensures.asks.followed (c.wait.ensures.vain c.if-not-wait.true).1 in
+    let told = asked_in_vain c.law_prerequisites.ensures c.args.port (λ uses. put uses c.args.port.0 0 (Own (page_operation c.args.page))) _ _ _ c.ask.ensures.asks.followed (c.wait.ensures.vain c.if-not-wait.true).1 in
     record {
-      leaves = asking_leaves_running c.law_base.ensures c.args.port _ _ r.on told.followed.driven;
+      leaves = asking_leaves_running c.law_prerequisites.ensures c.args.port _ _ r.on told.followed.driven;
       agrees = λ uses free agreed. (c.wait.ensures.waiting _ _ _ _ (c.ask.ensures.asks.waiting uses free agreed)).agreed;
       reads = ((c.wait.ensures.vain c.if-not-wait.true).0, told);
       running = tt;
@@ -53,25 +53,25 @@ returns-clause-gets g c =
     let load : Loads (scratch_of c.args.port.0) c.load.new.out (g.A.Adapter.device c.wait.new.adapter) (g.A.Adapter.device c.load.new.self) = subst L at c.load.ensures.does in
     let size = c.load.auto.out in
     let followed =
-    asked_then c.law_base.ensures c.args.port (λ uses. put uses c.args.port.0 0 (Own (page_operation c.args.page))) _ _ _
-    (asked_then c.law_base.ensures c.args.port (λ uses. put uses c.args.port.0 0 (Own (page_operation c.args.page))) _ _ _ c.ask.ensures.asks.followed c.wait.ensures.followed)
-    (load_followed c.law_base.ensures c.args.port _ _ _ _ _ r.there.0 waiting clear _ _ load size) in
-    let back = asked_back c.law_base.ensures c.args.port (page_operation c.args.page) _ _ (load_clear c.law_base.ensures c.args.port _ _ _ _ _ r.there.0 waiting clear _ _ load size).over followed in
+    asked_then c.law_prerequisites.ensures c.args.port (λ uses. put uses c.args.port.0 0 (Own (page_operation c.args.page))) _ _ _
+    (asked_then c.law_prerequisites.ensures c.args.port (λ uses. put uses c.args.port.0 0 (Own (page_operation c.args.page))) _ _ _ c.ask.ensures.asks.followed c.wait.ensures.followed)
+    (load_followed c.law_prerequisites.ensures c.args.port _ _ _ _ _ r.there.0 waiting clear _ _ load size) in
+    let back = asked_back c.law_prerequisites.ensures c.args.port (page_operation c.args.page) _ _ (load_clear c.law_prerequisites.ensures c.args.port _ _ _ _ _ r.there.0 waiting clear _ _ load size).over followed in
     record {
-      leaves = asking_leaves_running c.law_base.ensures c.args.port _ _ r.on back.driven;
+      leaves = asking_leaves_running c.law_prerequisites.ensures c.args.port _ _ r.on back.driven;
       agrees = λ uses free agreed.
           let asked = c.ask.ensures.asks.waiting uses free agreed in
           let waiting = c.wait.ensures.waiting _ _ _ _ asked in
           let clear = c.wait.ensures.over c.if-not-wait.false _ _ _ _ asked in
-          c.law_base.ensures.agrees_released uses c.args.port.0 (page_operation c.args.page) _ free (load_clear c.law_base.ensures c.args.port _ _ _ _ _ r.there.0 waiting clear _ _ load size).over
-          (load_agrees c.law_base.ensures c.args.port _ _ _ _ _ r.there.0 waiting clear _ _ load size);
-      reads = (load_brings c.law_base.ensures c.args.port _ _ _ _ _ r.there.0 waiting clear _ _ load size _ c.ask.ensures.asks.later, back);
+          c.law_prerequisites.ensures.agrees_released uses c.args.port.0 (page_operation c.args.page) _ free (load_clear c.law_prerequisites.ensures c.args.port _ _ _ _ _ r.there.0 waiting clear _ _ load size).over
+          (load_agrees c.law_prerequisites.ensures c.args.port _ _ _ _ _ r.there.0 waiting clear _ _ load size);
+      reads = (load_brings c.law_prerequisites.ensures c.args.port _ _ _ _ _ r.there.0 waiting clear _ _ load size _ c.ask.ensures.asks.later, back);
       running = λ (uses, free, agreed).
           let asked = c.ask.ensures.asks.waiting uses (free 0) agreed in
           let waiting = c.wait.ensures.waiting _ _ _ _ asked in
           let clear = c.wait.ensures.over c.if-not-wait.false _ _ _ _ asked in
-          load_running c.law_base.ensures c.args.port _ _ _ _ _ r.there.0 waiting clear _ _ load c.load.auto.out
-          (λ slot other. c.law_base.ensures.put_others uses c.args.port.0 0 (Own (page_operation c.args.page)) c.args.port.0 slot (λ same here. other here) ∙ free slot);
+          load_running c.law_prerequisites.ensures c.args.port _ _ _ _ _ r.there.0 waiting clear _ _ load c.load.auto.out
+          (λ slot other. c.law_prerequisites.ensures.put_others uses c.args.port.0 0 (Own (page_operation c.args.page)) c.args.port.0 slot (λ same here. other here) ∙ free slot);
       silent = λ o page differs.
-          load_silent c.law_base.ensures c.args.port _ _ _ _ _ r.there.0 waiting clear _ _ load c.load.auto.out o page differs;
+          load_silent c.law_prerequisites.ensures c.args.port _ _ _ _ _ r.there.0 waiting clear _ _ load c.load.auto.out o page differs;
     }

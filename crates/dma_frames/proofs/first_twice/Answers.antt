@@ -25,9 +25,9 @@ loop-place-preserved c =
     let here = slice_get-get_or frames place first c.loop-place-test.true in
     let within = c.requires place first c.loop-place-test.true in
     record {
-      words = c.set_bit.auto.words ∙ v.words;
-      seen = seen_more _ frames place _ here within v.seen _ c.set_bit.ensures.this c.set_bit.ensures.others;
-      once = below_more _ _ v.once (once_here _ frames place _ here within v.seen (iff_false c.is_set.ensures c.if-is_set.false));
+      words = c.set_frame_bit.auto.words ∙ v.words;
+      seen = seen_more _ frames place _ here within v.seen _ c.set_frame_bit.ensures.this c.set_frame_bit.ensures.others;
+      once = below_more _ _ v.once (once_here _ frames place _ here within v.seen (iff_false c.is_frame_bit_set.ensures c.if-is_frame_bit_set.false));
     }
 
 pub returns : goal.returns

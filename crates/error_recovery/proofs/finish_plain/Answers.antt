@@ -6,7 +6,7 @@ use Rattle.error_recovery.proofs.finish_plain.Goals as goal
 
 pub returns-then-is_bsy_or_drq-clause-recovers : goal.returns-then-is_bsy_or_drq-clause-recovers
 returns-then-is_bsy_or_drq-clause-recovers g c = λ old r.
-    let laws = c.law_base.ensures in
+    let laws = c.law_prerequisites.ensures in
     let port = c.args.quieted.stopped.port in
     let t = told laws port c.args.outstanding false _ _ old _ r (λ uses. uses) _ (quieted laws port c.args.outstanding false _ _ old _ r) in
     is_busy laws port c.args.outstanding false _ _ old _ r c.fault_of-failed.result c.others-again.result c.args.quieted.stopped refl (sym c.is_bsy_or_drq.ensures ∙ c.if-is_bsy_or_drq.true) c.others-again.ensures
@@ -20,7 +20,7 @@ go_on-requires g c =
 
 pub returns-clause-recovers : goal.returns-clause-recovers
 returns-clause-recovers g c = λ old r.
-    let laws = c.law_base.ensures in
+    let laws = c.law_prerequisites.ensures in
     let port = c.args.quieted.stopped.port in
     let s = c.go_on.ensures.goes in
     let t = goes_again_told laws port c.args.outstanding false _ _ old _ r _ s in

@@ -18,7 +18,7 @@ returns-then-is_bsy_or_drq-clause-recovers g c = λ old r.
     let port = c.args.quieted.stopped.port in
     let R : recovered.Recovered → Type 0 = λ result. Recovers port c.args.outstanding true result old (g.A.Adapter.device c.args.adapter.now) in
     subst R (sym c.unnamed.ensures)
-    (is_busy c.law_base.ensures port c.args.outstanding true _ _ old _ r None c.args.outstanding c.args.quieted.stopped refl (sym c.is_bsy_or_drq.ensures ∙ c.if-is_bsy_or_drq.true) (all_go_again c.args.outstanding) tt
+    (is_busy c.law_prerequisites.ensures port c.args.outstanding true _ _ old _ r None c.args.outstanding c.args.quieted.stopped refl (sym c.is_bsy_or_drq.ensures ∙ c.if-is_bsy_or_drq.true) (all_go_again c.args.outstanding) tt
     (λ off. absurd cc) (λ on. refl))
 
 pub go_on-running-requires : goal.go_on-running-requires
@@ -41,7 +41,7 @@ returns-in-Some-clause-recovers g c = λ old r.
     let P : Port → Type 0 = λ p. LeavesRunning p.0 start log × GainsNoMove p.0 Identify start log × ((log.port p.0).halt ≡ NotHalted) × ReadsLog p c.args.outstanding (Some c.in-Some.failed) start log in
     let e = c.in-Some.ensures in
     let x = subst P same (e.asks.leaves, e.asks.silent, e.asks.running, e.asks.reads) in
-    names_one c.law_base.ensures port c.args.outstanding true _ _ old _ r _ c.go_on-running.ensures.goes _ refl x.0 x.1 c.in-Some.failed c.others-again.result c.go_on-running.result c.go_on-running.ensures.names
+    names_one c.law_prerequisites.ensures port c.args.outstanding true _ _ old _ r _ c.go_on-running.ensures.goes _ refl x.0 x.1 c.in-Some.failed c.others-again.result c.go_on-running.result c.go_on-running.ensures.names
     x.2 x.3 c.others-again.ensures
 
 pub stop-requires : goal.stop-requires
@@ -50,7 +50,7 @@ stop-requires g c =
     let R : Port → Type 0 = λ p. ReadsLog p c.args.outstanding None (g.A.Adapter.device c.go_on-running.new.adapter) (g.A.Adapter.device c.read_log.new.adapter) in
     let H : Port → Type 0 = λ p. HasPort (g.A.Adapter.device c.read_log.new.adapter) p.0 in
     let e = c.in_default.ensures in
-    record { usable = record { on = e.on; there = subst H (sym same) (log_room c.law_base.ensures c.args.quieted.stopped.port c.args.outstanding _ _ e.on (subst R same e.asks.reads) c.go_on-running.ensures.goes.room).there; agreed = e.agreed } }
+    record { usable = record { on = e.on; there = subst H (sym same) (log_room c.law_prerequisites.ensures c.args.quieted.stopped.port c.args.outstanding _ _ e.on (subst R same e.asks.reads) c.go_on-running.ensures.goes.room).there; agreed = e.agreed } }
 
 pub returns-in-Ok-clause-recovers : goal.returns-in-Ok-clause-recovers
 returns-in-Ok-clause-recovers g c = λ old r.
@@ -64,7 +64,7 @@ returns-in-Ok-clause-recovers g c = λ old r.
     let x = subst P same (e.asks.leaves, e.asks.silent, e.asks.reads, c.in-Ok.ensures.halts, c.stop.ensures.has) in
     let R : recovered.Recovered → Type 0 = λ result. Recovers port c.args.outstanding true result old new in
     subst R (sym c.unnamed-in-Ok.ensures)
-    (restarts c.law_base.ensures port c.args.outstanding true _ _ old _ r _ c.go_on-running.ensures.goes _ refl x.0 x.1 _ c.in-Ok.stopped (c.in-Ok.ensures.names ∙ same) x.4 x.3 x.2)
+    (restarts c.law_prerequisites.ensures port c.args.outstanding true _ _ old _ r _ c.go_on-running.ensures.goes _ refl x.0 x.1 _ c.in-Ok.stopped (c.in-Ok.ensures.names ∙ same) x.4 x.3 x.2)
 
 pub returns-in-Err-clause-recovers : goal.returns-in-Err-clause-recovers
 returns-in-Err-clause-recovers g c = λ old r.
@@ -78,4 +78,4 @@ returns-in-Err-clause-recovers g c = λ old r.
     let x = subst P same (e.asks.leaves, e.asks.silent, e.asks.reads, c.in-Err.ensures.fails.1, c.stop.ensures.has) in
     let R : recovered.Recovered → Type 0 = λ result. Recovers port c.args.outstanding true result old new in
     subst R (sym c.unnamed-in-Err.ensures)
-    (gets_stuck c.law_base.ensures port c.args.outstanding true _ _ old _ r _ c.go_on-running.ensures.goes _ refl x.0 x.1 _ x.4 x.3 x.2)
+    (gets_stuck c.law_prerequisites.ensures port c.args.outstanding true _ _ old _ r _ c.go_on-running.ensures.goes _ refl x.0 x.1 _ x.4 x.3 x.2)

@@ -15,4 +15,4 @@ returns-clause-goes g c =
     let S : Port → Type 0 = λ p. IsSimulated (OnPortWriting IsCommandRegister p) (λ uses. AllFree uses p.0) (g.A.Adapter.device c.args.adapter.now) (g.A.Adapter.device c.start.new.adapter)
     × Starts p (g.A.Adapter.device c.args.adapter.now) (g.A.Adapter.device c.start.new.adapter) in
     let started = subst S same (s.followed, s.starts) in
-    goes_on c.law_base.ensures c.args.stopped.port _ _ may started.0 s.on started.1
+    goes_on c.law_prerequisites.ensures c.args.stopped.port _ _ may started.0 s.on started.1

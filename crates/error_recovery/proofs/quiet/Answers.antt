@@ -4,30 +4,30 @@ use Rattle.error_recovery.proofs.quiet.Goals as goal
 pub stop-requires : goal.stop-requires
 stop-requires g c = record {
   usable = record {
-    on = (read_room c.law_base.ensures c.args.port _ _ _ c.requires.room c.requires.may c.requires.agreed c.read.ensures.does).on;
-    there = (read_room c.law_base.ensures c.args.port _ _ _ c.requires.room c.requires.may c.requires.agreed c.read.ensures.does).there;
-    agreed = read_agreed c.law_base.ensures c.args.port _ _ _ c.requires.room c.requires.may c.requires.agreed c.read.ensures.does;
+    on = (read_room c.law_prerequisites.ensures c.args.port _ _ _ c.requires.room c.requires.may c.requires.agreed c.read.ensures.does).on;
+    there = (read_room c.law_prerequisites.ensures c.args.port _ _ _ c.requires.room c.requires.may c.requires.agreed c.read.ensures.does).there;
+    agreed = read_agreed c.law_prerequisites.ensures c.args.port _ _ _ c.requires.room c.requires.may c.requires.agreed c.read.ensures.does;
   };
 }
 
 pub returns-in_default-clause-sticks : goal.returns-in_default-clause-sticks
-returns-in_default-clause-sticks g c = read_stuck c.law_base.ensures c.args.port _ _ _ c.requires.room c.requires.may c.requires.agreed c.read.ensures.does _ c.stop.ensures.has c.in_default.ensures.fails.1
+returns-in_default-clause-sticks g c = read_stuck c.law_prerequisites.ensures c.args.port _ _ _ c.requires.room c.requires.may c.requires.agreed c.read.ensures.does _ c.stop.ensures.has c.in_default.ensures.fails.1
 
 pub clear_error_state-shown-requires : goal.clear_error_state-shown-requires
 clear_error_state-shown-requires g c = record {
   may = record {
     on = c.stop.ensures.on;
-    there = (stopped_room c.law_base.ensures c.args.port _ _ _ c.requires.room c.requires.may c.requires.agreed c.read.ensures.does _ c.stop.ensures.has c.in-Ok.ensures.halts).there;
-    agreed = stopped_agreed c.law_base.ensures c.args.port _ _ _ c.requires.room c.requires.may c.requires.agreed c.read.ensures.does _ c.stop.ensures.has c.in-Ok.ensures.halts;
-    receives = stopped_receives c.law_base.ensures c.args.port _ _ _ c.requires.room c.requires.may c.requires.agreed c.read.ensures.does _ c.stop.ensures.has c.in-Ok.ensures.halts;
-    undue = stopped_undue c.law_base.ensures c.args.port _ _ _ c.requires.room c.requires.may c.requires.agreed c.read.ensures.does _ c.stop.ensures.has c.in-Ok.ensures.halts;
-    det = stopped_det c.law_base.ensures c.args.port _ _ _ c.requires.room c.requires.may c.requires.agreed c.read.ensures.does _ c.stop.ensures.has c.in-Ok.ensures.halts;
+    there = (stopped_room c.law_prerequisites.ensures c.args.port _ _ _ c.requires.room c.requires.may c.requires.agreed c.read.ensures.does _ c.stop.ensures.has c.in-Ok.ensures.halts).there;
+    agreed = stopped_agreed c.law_prerequisites.ensures c.args.port _ _ _ c.requires.room c.requires.may c.requires.agreed c.read.ensures.does _ c.stop.ensures.has c.in-Ok.ensures.halts;
+    receives = stopped_receives c.law_prerequisites.ensures c.args.port _ _ _ c.requires.room c.requires.may c.requires.agreed c.read.ensures.does _ c.stop.ensures.has c.in-Ok.ensures.halts;
+    undue = stopped_undue c.law_prerequisites.ensures c.args.port _ _ _ c.requires.room c.requires.may c.requires.agreed c.read.ensures.does _ c.stop.ensures.has c.in-Ok.ensures.halts;
+    det = stopped_det c.law_prerequisites.ensures c.args.port _ _ _ c.requires.room c.requires.may c.requires.agreed c.read.ensures.does _ c.stop.ensures.has c.in-Ok.ensures.halts;
   };
 }
 
 pub returns-clause-quiets : goal.returns-clause-quiets
 returns-clause-quiets g c = (
   c.in-Ok.ensures.names,
-  quiets c.law_base.ensures c.args.port _ _ _ c.requires.room c.requires.may c.requires.agreed c.read.ensures.does _ c.stop.ensures.has c.in-Ok.ensures.halts _ _
+  quiets c.law_prerequisites.ensures c.args.port _ _ _ c.requires.room c.requires.may c.requires.agreed c.read.ensures.does _ c.stop.ensures.has c.in-Ok.ensures.halts _ _
       c.clear_error_state-shown.ensures.followed c.clear_error_state-shown.ensures.forgets,
 )

@@ -7,7 +7,7 @@ use Rattle.error_recovery.proofs.recover.Goals as goal
 pub returns-in_default-clause-recovers : goal.returns-in_default-clause-recovers
 returns-in_default-clause-recovers g c =
     let R : recovered.Recovered → Type 0 = λ result. Recovers c.args.port c.args.outstanding c.args.queued result (g.A.Adapter.device c.args.adapter.now) (g.A.Adapter.device c.quiet.new.adapter) in
-    subst R (sym c.unnamed.ensures) (is_stuck c.law_base.ensures c.args.port c.args.outstanding c.args.queued _ _ c.requires.ready.on c.requires.may c.in_default.ensures.sticks)
+    subst R (sym c.unnamed.ensures) (is_stuck c.law_prerequisites.ensures c.args.port c.args.outstanding c.args.queued _ _ c.requires.ready.on c.requires.may c.in_default.ensures.sticks)
 
 pub finish_queued-requires : goal.finish_queued-requires
 finish_queued-requires g c =

@@ -17,17 +17,17 @@ returns-in_default-clause-finds g c =
     let there : bit (g.A.Adapter.device c.args.adapter.now).pi c.args.port.0 ≡ true = search (c.if-not-is_set.ensures, c.from.ensures, c.requires.may.there, rules) in
     let wants : c.args.wanted.now ≢ Nothing = search (c.eq.ensures, c.if-eq.false, rules) in
     record {
-      stands = ((wants, (still_there c.args.port _ _ (boots_same c.law_base.ensures c.args.port _ _ (Unready Dead) (inl (stuck_boots c.law_base.ensures c.args.port _ _ c.in_default.ensures.fails.1.told))) (c.requires.may.small, there)).1), (c.stop.ensures.has.st, c.in_default.ensures.fails.1.stuck));
+      stands = ((wants, (still_there c.args.port _ _ (boots_same c.law_prerequisites.ensures c.args.port _ _ (Unready Dead) (inl (stuck_boots c.law_prerequisites.ensures c.args.port _ _ c.in_default.ensures.fails.1.told))) (c.requires.may.small, there)).1), (c.stop.ensures.has.st, c.in_default.ensures.fails.1.stuck));
       reset = tt;
       halts = λ info is. let z : Unready Dead ≡ Ready info = is in absurd cc;
-      boots = inl (stuck_boots c.law_base.ensures c.args.port _ _ c.in_default.ensures.fails.1.told);
+      boots = inl (stuck_boots c.law_prerequisites.ensures c.args.port _ _ c.in_default.ensures.fails.1.told);
       way = (
         g.A.Adapter.device c.stop.new.adapter,
         c.in_default.ensures.fails.1.told.followed.driven,
         by_none (IsOfBoot c.args.port) _,
         λ none. absurd none,
         λ none. absurd none,
-        λ dead. let b = stuck_boots c.law_base.ensures c.args.port _ _ c.in_default.ensures.fails.1.told in record { driven = b.followed.driven; sticks = b.tells },
+        λ dead. let b = stuck_boots c.law_prerequisites.ensures c.args.port _ _ c.in_default.ensures.fails.1.told in record { driven = b.followed.driven; sticks = b.tells },
       );
     }
 
@@ -35,7 +35,7 @@ pub boot_stopped-requires-clause-bootable : goal.boot_stopped-requires-clause-bo
 boot_stopped-requires-clause-bootable g c =
     let there : bit (g.A.Adapter.device c.args.adapter.now).pi c.args.port.0 ≡ true = search (c.if-not-is_set.ensures, c.from.ensures, c.requires.may.there, rules) in
     let P : Port → Type 0 = λ p. IsBootable p (g.A.Adapter.device c.stop.new.adapter) in
-    subst P (sym c.in-Ok.ensures.names) (bootable c.law_base.ensures c.args.port _ _ c.in-Ok.ensures.halts.told (c.requires.may.small, there) c.requires.may.room c.requires.may.agreed c.stop.ensures.on)
+    subst P (sym c.in-Ok.ensures.names) (bootable c.law_prerequisites.ensures c.args.port _ _ c.in-Ok.ensures.halts.told (c.requires.may.small, there) c.requires.may.room c.requires.may.agreed c.stop.ensures.on)
 
 pub returns-clause-finds : goal.returns-clause-finds
 returns-clause-finds g c =
@@ -43,9 +43,9 @@ returns-clause-finds g c =
     let wants : c.args.wanted.now ≢ Nothing = search (c.eq.ensures, c.if-eq.false, rules) in
     let B : Port → Type 0 = λ p. BootsStopped c.args.wanted.now p c.boot_stopped.result (g.A.Adapter.device c.stop.new.adapter) (g.A.Adapter.device c.boot_stopped.new.adapter) in
     record {
-      stands = found_stands c.law_base.ensures c.args.port _ _ c.in-Ok.ensures.halts.told _ _ c.boot_stopped.result (subst B c.in-Ok.ensures.names c.boot_stopped.ensures.boots) wants (c.requires.may.small, there);
-      reset = found_reset c.law_base.ensures c.args.port _ _ c.in-Ok.ensures.halts.told _ _ c.boot_stopped.result (subst B c.in-Ok.ensures.names c.boot_stopped.ensures.boots);
+      stands = found_stands c.law_prerequisites.ensures c.args.port _ _ c.in-Ok.ensures.halts.told _ _ c.boot_stopped.result (subst B c.in-Ok.ensures.names c.boot_stopped.ensures.boots) wants (c.requires.may.small, there);
+      reset = found_reset c.law_prerequisites.ensures c.args.port _ _ c.in-Ok.ensures.halts.told _ _ c.boot_stopped.result (subst B c.in-Ok.ensures.names c.boot_stopped.ensures.boots);
       halts = found_halts c.args.wanted.now c.args.port _ _ c.boot_stopped.result (subst B c.in-Ok.ensures.names c.boot_stopped.ensures.boots);
-      boots = found_boots c.law_base.ensures c.args.port _ _ c.in-Ok.ensures.halts.told _ _ c.boot_stopped.result (subst B c.in-Ok.ensures.names c.boot_stopped.ensures.boots);
-      way = found_way c.law_base.ensures c.args.port _ _ c.in-Ok.ensures.halts.told _ _ c.boot_stopped.result (subst B c.in-Ok.ensures.names c.boot_stopped.ensures.boots);
+      boots = found_boots c.law_prerequisites.ensures c.args.port _ _ c.in-Ok.ensures.halts.told _ _ c.boot_stopped.result (subst B c.in-Ok.ensures.names c.boot_stopped.ensures.boots);
+      way = found_way c.law_prerequisites.ensures c.args.port _ _ c.in-Ok.ensures.halts.told _ _ c.boot_stopped.result (subst B c.in-Ok.ensures.names c.boot_stopped.ensures.boots);
     }

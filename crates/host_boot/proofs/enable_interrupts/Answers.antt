@@ -4,10 +4,10 @@ use Rattle.host_boot.proofs.Leaving.{ghc_leaves}
 use Rattle.host_boot.proofs.enable_interrupts.Goals as goal
 
 pub returns-clause-on : goal.returns-clause-on
-returns-clause-on g c = c.law_base.ensures.switches_on 0x80000002 _ _ c.requires.on.no_reset refl refl c.write.ensures.does
+returns-clause-on g c = c.law_prerequisites.ensures.switches_on 0x80000002 _ _ c.requires.on.no_reset refl refl c.write.ensures.does
 
 pub returns-clause-leaves : goal.returns-clause-leaves
-returns-clause-leaves g c = λ port. ghc_leaves c.law_base.ensures _ c.requires.on.no_reset port 0x80000002 _ c.write.ensures.does
+returns-clause-leaves g c = λ port. ghc_leaves c.law_prerequisites.ensures _ c.requires.on.no_reset port 0x80000002 _ c.write.ensures.does
 
 pub returns-clause-followed : goal.returns-clause-followed
-returns-clause-followed g c = ghc_followed c.law_base.ensures 0x80000002 _ _ (inr refl) c.write.ensures.does
+returns-clause-followed g c = ghc_followed c.law_prerequisites.ensures 0x80000002 _ _ (inr refl) c.write.ensures.does

@@ -3,7 +3,7 @@ use Rattle.ata_types.specs.declared.Port.{Port}
 use Rattle.ata_types.specs.declared.limits.TheConstants.{MOST_READINGS}
 use Rattle.adapter.specs.Device.{Notes}
 use Rattle.refinement.specs.Driven.{AnyUse, OnPortWriting, IsSimulated}
-use Rattle.port_control.specs.Ports.{IsErrorRegister, IsStopped, IsUsable, BacksFault}
+use Rattle.port_control.specs.Ports.{IsErrorRegister, IsStopped, IsOnAndAgrees, BacksFault}
 use Rattle.port_control.specs.declared.PortFault.TheVariants.{NoDevice}
 use Rattle.host_boot.specs.Again.{BootsStopped}
 use Rattle.host_boot.specs.declared.ProbeResult.{ProbeResult}
@@ -14,20 +14,20 @@ use Rattle.host_boot.proofs.reboot_if_present.Goals.{then-clear_serr_and_detect,
 
 pub clear_serr_and_detect-requires : goal.clear_serr_and_detect-requires
 clear_serr_and_detect-requires g c =
-    let b = asked_bootable c.law_base.ensures _ _ _ c.read.ensures.does c.args.stopped.port c.requires.bootable in
-    let U : Port → Type 0 = λ p. IsUsable AnyUse p (g.A.Adapter.device c.read.new.self) in
+    let b = asked_bootable c.law_prerequisites.ensures _ _ _ c.read.ensures.does c.args.stopped.port c.requires.bootable in
+    let U : Port → Type 0 = λ p. IsOnAndAgrees AnyUse p (g.A.Adapter.device c.read.new.self) in
     record { usable = subst U (sym c.port.ensures) (record { on = b.on; there = b.there; agreed = (b.agreed.0, tt, b.agreed.2) }) }
 
 pub boot_stopped-found-requires-clause-bootable : goal.boot_stopped-found-requires-clause-bootable
 boot_stopped-found-requires-clause-bootable g c =
-    let laws = c.law_base.ensures in
+    let laws = c.law_prerequisites.ensures in
     let asked = asked_bootable laws _ _ _ c.read.ensures.does c.args.stopped.port c.requires.bootable in
     let looks = subst (λ (p : Port). IsSimulated (OnPortWriting IsErrorRegister p) AnyUse (g.A.Adapter.device c.read.new.self) (g.A.Adapter.device c.clear_serr_and_detect.new.adapter)) c.port.ensures c.clear_serr_and_detect.ensures.followed in
     seen_bootable laws _ _ _ c.read.ensures.does c.args.stopped.port _ looks c.clear_serr_and_detect.ensures.on asked
 
 pub boot_stopped-found-requires-clause-stopped : goal.boot_stopped-found-requires-clause-stopped
 boot_stopped-found-requires-clause-stopped g c =
-    let laws = c.law_base.ensures in
+    let laws = c.law_prerequisites.ensures in
     let port = c.args.stopped.port in
     let asked = g.A.Adapter.device c.read.new.self in
     let seen = g.A.Adapter.device c.clear_serr_and_detect.new.adapter in
@@ -36,7 +36,7 @@ boot_stopped-found-requires-clause-stopped g c =
 
 pub returns-clause-boots : goal.returns-clause-boots
 returns-clause-boots g c =
-    let laws = c.law_base.ensures in
+    let laws = c.law_prerequisites.ensures in
     let port = c.args.stopped.port in
     let wanted = c.args.wanted.now in
     let device = g.A.Adapter.device in

@@ -3,7 +3,7 @@ use Rattle.hba_regs.specs.Bits.{bit, field}
 use Rattle.ata_types.specs.declared.Port.{Port}
 use Rattle.adapter.specs.Device.{Device}
 use Rattle.refinement.specs.Links.{SameAdapter}
-use Rattle.host_boot.specs.Taken.{IsOfHost}
+use Rattle.host_boot.specs.TakeOver.{IsOfHost}
 use Rattle.host_boot.proofs.Taking.{IsUnderway, begins, boots_same, ends, next}
 use Rattle.host_boot.proofs.Ways.{IsOnWay, way_more, way_over}
 use Rattle.host_boot.proofs.take_over.Goals as goal
@@ -15,9 +15,9 @@ loop-number-init g c =
     let old : Device = g.A.Adapter.device c.args.adapter.now in
     let told = g.met.A.Adapter.tells c.args.adapter.now in
     record {
-      underway = begins c.law_base.ensures c.args.wanted.now old _ _ refl c.requires.idle (c.law_base.ensures.idle_agrees old c.requires.idle told) c.survey-implemented.ensures.on
-          (λ port. c.law_base.ensures.leaves_more _ _ _ (c.power_on.ensures.leaves port) (c.survey-implemented.ensures.leaves port))
-          (hosted_then c.law_base.ensures _ _ _ c.power_on.ensures.followed c.survey-implemented.ensures.followed);
+      underway = begins c.law_prerequisites.ensures c.args.wanted.now old _ _ refl c.requires.idle (c.law_prerequisites.ensures.idle_agrees old c.requires.idle told) c.survey-implemented.ensures.on
+          (λ port. c.law_prerequisites.ensures.leaves_more _ _ _ (c.power_on.ensures.leaves port) (c.survey-implemented.ensures.leaves port))
+          (hosted_then c.law_prerequisites.ensures _ _ _ c.power_on.ensures.followed c.survey-implemented.ensures.followed);
       way = record {
         switched = g.A.Adapter.device c.power_on.new.adapter;
         switches = c.power_on.ensures.switches;
@@ -48,9 +48,9 @@ pub loop-number-preserved : goal.loop-number-preserved
 loop-number-preserved g c =
     let port : Port = record { 0 = c.loop-number.number } in
     let same : SameAdapter (g.A.Adapter.device c.loop-number.adapter) (g.A.Adapter.device c.boot_port.new.adapter) =
-    boots_same c.law_base.ensures port _ _ c.boot_port.result c.boot_port.ensures.finds.boots in
+    boots_same c.law_prerequisites.ensures port _ _ c.boot_port.result c.boot_port.ensures.finds.boots in
     record {
-      underway = next c.law_base.ensures c.args.wanted.now c.loop-number.ports port c.loop-number-test.true _ _ _ c.boot_port.result c.loop-number.invariant.underway
+      underway = next c.law_prerequisites.ensures c.args.wanted.now c.loop-number.ports port c.loop-number-test.true _ _ _ c.boot_port.result c.loop-number.invariant.underway
           c.boot_port.ensures.on c.boot_port.ensures.finds.stands c.boot_port.ensures.finds.reset c.boot_port.ensures.finds.halts c.boot_port.ensures.finds.boots;
       way = way_more c.loop-number.ports c.loop-number.number c.boot_port.result _ _ _ c.loop-number.invariant.underway.long c.loop-number-test.true c.loop-number.invariant.way
           c.boot_port.ensures.finds.way;
@@ -67,10 +67,10 @@ returns g c =
     let d : Device = g.A.Adapter.device c.loop-number.adapter in
     let new : Device = g.A.Adapter.device c.enable_interrupts.new.adapter in
     let four : c.loop-number.number ≡ 4 = omega (arith, c.loop-number-test.false, c.loop-number.auto.number-end) in
-    let same : SameAdapter d new = same_over c.law_base.ensures IsOfHost d new c.enable_interrupts.ensures.followed.driven in
+    let same : SameAdapter d new = same_over c.law_prerequisites.ensures IsOfHost d new c.enable_interrupts.ensures.followed.driven in
     let cap : c.survey-implemented.result.0.0 ≡ new.cap = c.loop-number.invariant.capable ∙ sym same.cap in
     record {
-      taken = ends c.law_base.ensures c.args.wanted.now (g.A.Adapter.device c.args.adapter.now) c.loop-number.ports d new
+      taken = ends c.law_prerequisites.ensures c.args.wanted.now (g.A.Adapter.device c.args.adapter.now) c.loop-number.ports d new
           (subst (λ (n : ℕ). IsUnderway c.args.wanted.now c.loop-number.ports n (g.A.Adapter.device c.args.adapter.now) d) four c.loop-number.invariant.underway)
           c.enable_interrupts.ensures.leaves c.enable_interrupts.ensures.followed _ refl
           (ap (λ (n : ℕ). n + 1) (c.last_slot.ensures ∙ ap (λ (v : ℕ). field v 8 5) cap))

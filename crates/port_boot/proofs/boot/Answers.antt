@@ -11,7 +11,7 @@ returns-clause-ready g c =
     let P : Port → Type 0 = λ p. IfOk c.identify_disk.result (λ info. Identifies c.args.wanted.now p info (g.A.Adapter.device c.bring_up.new.adapter) (g.A.Adapter.device c.identify_disk.new.adapter))
     × (((g.A.Adapter.device c.identify_disk.new.adapter).port p.0).notes.sctl_written_at ≡ ((g.A.Adapter.device c.bring_up.new.adapter).port p.0).notes.sctl_written_at) in
     let then = subst P (c.port.ensures ∙ risen.names) (c.identify_disk.ensures.identifies, c.identify_disk.ensures.written) in
-    whole_identified c.law_base.ensures c.args.stopped.port _ _ _ risen.rises c.args.wanted.now then.1 c.identify_disk.result then.0
+    whole_identified c.law_prerequisites.ensures c.args.stopped.port _ _ _ risen.rises c.args.wanted.now then.1 c.identify_disk.result then.0
 
 pub returns-clause-unready : goal.returns-clause-unready
 returns-clause-unready g c =
@@ -19,7 +19,7 @@ returns-clause-unready g c =
     let P : Port → Type 0 = λ p. IfErr c.identify_disk.result (λ state. FailsToIdentify c.args.wanted.now p state (g.A.Adapter.device c.bring_up.new.adapter) (g.A.Adapter.device c.identify_disk.new.adapter))
     × (((g.A.Adapter.device c.identify_disk.new.adapter).port p.0).notes.sctl_written_at ≡ ((g.A.Adapter.device c.bring_up.new.adapter).port p.0).notes.sctl_written_at) in
     let then = subst P (c.port.ensures ∙ risen.names) (c.identify_disk.ensures.fails, c.identify_disk.ensures.written) in
-    whole_stopped c.law_base.ensures c.args.stopped.port _ _ _ risen.rises c.args.wanted.now then.1 c.identify_disk.result then.0
+    whole_stopped c.law_prerequisites.ensures c.args.stopped.port _ _ _ risen.rises c.args.wanted.now then.1 c.identify_disk.result then.0
 
 pub returns-in_err-running-clause-unready : goal.returns-in_err-running-clause-unready
 returns-in_err-running-clause-unready g c =

@@ -8,18 +8,18 @@ clear_errors-requires-clause-usable g c = record { on = c.requires.may.on; there
 
 pub read-requires : goal.read-requires
 read-requires g c =
-    let u = usable_after c.law_base.ensures Clearing c.args.port _ _ (record { on = c.requires.may.on; there = c.requires.may.there; agreed = c.requires.may.agreed }) c.clear_errors.ensures.followed in
+    let u = usable_after c.law_prerequisites.ensures Clearing c.args.port _ _ (record { on = c.requires.may.on; there = c.requires.may.there; agreed = c.requires.may.agreed }) c.clear_errors.ensures.followed in
     (u.on, u.there)
 
 pub returns-clause-followed : goal.returns-clause-followed
 returns-clause-followed g c =
-    forgets_followed c.law_base.ensures c.args.port _ _ _ _ (record { on = c.requires.may.on; there = c.requires.may.there; agreed = c.requires.may.agreed }) c.requires.may.receives c.requires.may.undue c.requires.may.det c.clear_errors.ensures.followed c.clear_errors.ensures.clears.clears c.read.ensures.does
+    forgets_followed c.law_prerequisites.ensures c.args.port _ _ _ _ (record { on = c.requires.may.on; there = c.requires.may.there; agreed = c.requires.may.agreed }) c.requires.may.receives c.requires.may.undue c.requires.may.det c.clear_errors.ensures.followed c.clear_errors.ensures.clears.clears c.read.ensures.does
 
 pub returns-clause-on : goal.returns-clause-on
 returns-clause-on g c =
-    forgets_on c.law_base.ensures c.args.port _ _ _ _ (record { on = c.requires.may.on; there = c.requires.may.there; agreed = c.requires.may.agreed }) c.requires.may.receives c.requires.may.undue c.requires.may.det c.clear_errors.ensures.followed c.clear_errors.ensures.clears.clears c.read.ensures.does
+    forgets_on c.law_prerequisites.ensures c.args.port _ _ _ _ (record { on = c.requires.may.on; there = c.requires.may.there; agreed = c.requires.may.agreed }) c.requires.may.receives c.requires.may.undue c.requires.may.det c.clear_errors.ensures.followed c.clear_errors.ensures.clears.clears c.read.ensures.does
 
 pub returns-clause-forgets : goal.returns-clause-forgets
 returns-clause-forgets g c =
-    forgets c.law_base.ensures c.args.port _ _ _ _ (record { on = c.requires.may.on; there = c.requires.may.there; agreed = c.requires.may.agreed }) c.requires.may.receives c.requires.may.undue c.requires.may.det c.clear_errors.ensures.followed c.clear_errors.ensures.clears.clears c.read.ensures.does
+    forgets c.law_prerequisites.ensures c.args.port _ _ _ _ (record { on = c.requires.may.on; there = c.requires.may.there; agreed = c.requires.may.agreed }) c.requires.may.receives c.requires.may.undue c.requires.may.det c.clear_errors.ensures.followed c.clear_errors.ensures.clears.clears c.read.ensures.does
     c.clear_errors.ensures.clears.calm (c.clear_errors.ensures.clears.clear c.requires.may.undue)

@@ -5,23 +5,23 @@ use Rattle.port_control.proofs.Seeing.{seen_clear, seen_followed, seen_none, see
 use Rattle.port_control.proofs.clear_serr_and_detect.Goals as goal
 
 pub write-requires : goal.write-requires
-write-requires g c = serr_may c.law_base.ensures c.args.port 0xffffffff _ c.requires.usable
+write-requires g c = serr_may c.law_prerequisites.ensures c.args.port 0xffffffff _ c.requires.usable
 
 pub read-requires : goal.read-requires
 read-requires g c =
-    let u = clearing c.law_base.ensures c.args.port _ _ (g.A.Adapter.device c.args.adapter.now) c.requires.usable c.write.ensures.does in
+    let u = clearing c.law_prerequisites.ensures c.args.port _ _ (g.A.Adapter.device c.args.adapter.now) c.requires.usable c.write.ensures.does in
     (u.on, u.there)
 
 pub returns-clause-on : goal.returns-clause-on
-returns-clause-on g c = seen_on c.law_base.ensures c.args.port _ _ _ _ c.requires.usable c.write.ensures.does c.read.ensures.does
+returns-clause-on g c = seen_on c.law_prerequisites.ensures c.args.port _ _ _ _ c.requires.usable c.write.ensures.does c.read.ensures.does
 
 pub returns-clause-followed : goal.returns-clause-followed
-returns-clause-followed g c = seen_followed c.law_base.ensures c.args.port _ _ _ _ c.requires.usable c.write.ensures.does c.read.ensures.does
+returns-clause-followed g c = seen_followed c.law_prerequisites.ensures c.args.port _ _ _ _ c.requires.usable c.write.ensures.does c.read.ensures.does
 
 pub returns-clause-asks : goal.returns-clause-asks
 returns-clause-asks g c = record {
-  stopped = seen_stopped c.law_base.ensures c.args.port _ _ _ _ c.requires.usable c.write.ensures.does c.read.ensures.does;
-  clear = seen_clear c.law_base.ensures c.args.port _ _ _ _ c.requires.usable c.write.ensures.does c.read.ensures.does;
-  there = λ is. let device = eqb-true _ _ is in let shown = c.detection.ensures in seen_there c.law_base.ensures c.args.port _ _ _ _ c.requires.usable c.write.ensures.does c.read.ensures.does (omega (arith, device, shown));
-  none = λ is. let shown = c.detection.ensures in seen_none c.law_base.ensures c.args.port _ _ _ _ c.requires.usable c.write.ensures.does c.read.ensures.does (λ three. absurd (true≢false (sym (eq-eqb _ 3 (omega (arith, three, shown))) ∙ is)));
+  stopped = seen_stopped c.law_prerequisites.ensures c.args.port _ _ _ _ c.requires.usable c.write.ensures.does c.read.ensures.does;
+  clear = seen_clear c.law_prerequisites.ensures c.args.port _ _ _ _ c.requires.usable c.write.ensures.does c.read.ensures.does;
+  there = λ is. let device = eqb-true _ _ is in let shown = c.detection.ensures in seen_there c.law_prerequisites.ensures c.args.port _ _ _ _ c.requires.usable c.write.ensures.does c.read.ensures.does (omega (arith, device, shown));
+  none = λ is. let shown = c.detection.ensures in seen_none c.law_prerequisites.ensures c.args.port _ _ _ _ c.requires.usable c.write.ensures.does c.read.ensures.does (λ three. absurd (true≢false (sym (eq-eqb _ 3 (omega (arith, three, shown))) ∙ is)));
 }

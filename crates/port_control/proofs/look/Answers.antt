@@ -13,25 +13,25 @@ use Rattle.port_control.proofs.Stretching.{followed_then}
 
 pub clear_errors-requires-clause-usable : goal.clear_errors-requires-clause-usable
 clear_errors-requires-clause-usable g c =
-    let first = usable_after c.law_base.ensures Clearing c.args.port _ _ c.requires.usable c.wait_for_device.ensures.followed in
+    let first = usable_after c.law_prerequisites.ensures Clearing c.args.port _ _ c.requires.usable c.wait_for_device.ensures.followed in
     first
 
 pub clear_errors-requires-clause-receives : goal.clear_errors-requires-clause-receives
 clear_errors-requires-clause-receives g c =
-    let seen = settles c.law_base.ensures c.args.port _ _ c.requires.usable.on c.wait_for_device.ensures.followed.driven in
+    let seen = settles c.law_prerequisites.ensures c.args.port _ _ c.requires.usable.on c.wait_for_device.ensures.followed.driven in
     seen.receiving c.requires.receives
 
 pub wait_until_idle-requires-clause-usable : goal.wait_until_idle-requires-clause-usable
 wait_until_idle-requires-clause-usable g c =
-    let first = usable_after c.law_base.ensures Clearing c.args.port _ _ c.requires.usable c.wait_for_device.ensures.followed in
-    let second = usable_after c.law_base.ensures Clearing c.args.port _ _ first c.clear_errors.ensures.followed in
+    let first = usable_after c.law_prerequisites.ensures Clearing c.args.port _ _ c.requires.usable c.wait_for_device.ensures.followed in
+    let second = usable_after c.law_prerequisites.ensures Clearing c.args.port _ _ first c.clear_errors.ensures.followed in
     second
 
 pub wait_until_idle-requires-clause-det : goal.wait_until_idle-requires-clause-det
 wait_until_idle-requires-clause-det g c =
-    let first = usable_after c.law_base.ensures Clearing c.args.port _ _ c.requires.usable c.wait_for_device.ensures.followed in
-    let seen = settles c.law_base.ensures c.args.port _ _ c.requires.usable.on c.wait_for_device.ensures.followed.driven in
-    let cleared = settles c.law_base.ensures c.args.port _ _ first.on c.clear_errors.ensures.followed.driven in
+    let first = usable_after c.law_prerequisites.ensures Clearing c.args.port _ _ c.requires.usable c.wait_for_device.ensures.followed in
+    let seen = settles c.law_prerequisites.ensures c.args.port _ _ c.requires.usable.on c.wait_for_device.ensures.followed.driven in
+    let cleared = settles c.law_prerequisites.ensures c.args.port _ _ first.on c.clear_errors.ensures.followed.driven in
     cleared.det ∙ seen.det ∙ c.requires.det
 
 pub wait_until_idle-requires-clause-saw : goal.wait_until_idle-requires-clause-saw
@@ -40,9 +40,9 @@ wait_until_idle-requires-clause-saw g c =
 
 pub read-signature-requires : goal.read-signature-requires
 read-signature-requires g c =
-    let first = usable_after c.law_base.ensures Clearing c.args.port _ _ c.requires.usable c.wait_for_device.ensures.followed in
-    let second = usable_after c.law_base.ensures Clearing c.args.port _ _ first c.clear_errors.ensures.followed in
-    let third = usable_after c.law_base.ensures Clearing c.args.port _ _ second c.wait_until_idle.ensures.followed in
+    let first = usable_after c.law_prerequisites.ensures Clearing c.args.port _ _ c.requires.usable c.wait_for_device.ensures.followed in
+    let second = usable_after c.law_prerequisites.ensures Clearing c.args.port _ _ first c.clear_errors.ensures.followed in
+    let third = usable_after c.law_prerequisites.ensures Clearing c.args.port _ _ second c.wait_until_idle.ensures.followed in
     (third.on, third.there)
 
 pub returns-then-not-wait_for_device-clause-fault : goal.returns-then-not-wait_for_device-clause-fault
@@ -56,15 +56,15 @@ returns-then-not-wait_for_device-clause-fault g c =
     }
 
 pub returns-then-not-wait_until_idle-clause-followed : goal.returns-then-not-wait_until_idle-clause-followed
-returns-then-not-wait_until_idle-clause-followed g c = followed_then c.law_base.ensures (Controlling Clearing c.args.port) _ _ _ (followed_then c.law_base.ensures (Controlling Clearing c.args.port) _ _ _ c.wait_for_device.ensures.followed c.clear_errors.ensures.followed) c.wait_until_idle.ensures.followed
+returns-then-not-wait_until_idle-clause-followed g c = followed_then c.law_prerequisites.ensures (Controlling Clearing c.args.port) _ _ _ (followed_then c.law_prerequisites.ensures (Controlling Clearing c.args.port) _ _ _ c.wait_for_device.ensures.followed c.clear_errors.ensures.followed) c.wait_until_idle.ensures.followed
 
 pub returns-then-not-wait_until_idle-clause-fault : goal.returns-then-not-wait_until_idle-clause-fault
 returns-then-not-wait_until_idle-clause-fault g c =
-    let first = usable_after c.law_base.ensures Clearing c.args.port _ _ c.requires.usable c.wait_for_device.ensures.followed in
-    let seen = settles c.law_base.ensures c.args.port _ _ c.requires.usable.on c.wait_for_device.ensures.followed.driven in
-    let second = usable_after c.law_base.ensures Clearing c.args.port _ _ first c.clear_errors.ensures.followed in
-    let cleared = settles c.law_base.ensures c.args.port _ _ first.on c.clear_errors.ensures.followed.driven in
-    let waited = settles c.law_base.ensures c.args.port _ _ second.on c.wait_until_idle.ensures.followed.driven in
+    let first = usable_after c.law_prerequisites.ensures Clearing c.args.port _ _ c.requires.usable c.wait_for_device.ensures.followed in
+    let seen = settles c.law_prerequisites.ensures c.args.port _ _ c.requires.usable.on c.wait_for_device.ensures.followed.driven in
+    let second = usable_after c.law_prerequisites.ensures Clearing c.args.port _ _ first c.clear_errors.ensures.followed in
+    let cleared = settles c.law_prerequisites.ensures c.args.port _ _ first.on c.clear_errors.ensures.followed.driven in
+    let waited = settles c.law_prerequisites.ensures c.args.port _ _ second.on c.wait_until_idle.ensures.followed.driven in
     let found = c.wait_for_device.ensures.finds c.if-not-wait_for_device.false in
     let errors = c.clear_errors.ensures.clears in
     let awaits = c.wait_until_idle.ensures.awaits in
@@ -73,21 +73,21 @@ returns-then-not-wait_until_idle-clause-fault g c =
     record {
       looks = finds_busy c.args.port link busy.1;
       fault = (busy.0, λ (e : Busy ≡ EngineStuck). absurd (cc));
-      found = λ _. has_device c.law_base.ensures c.args.port _ _ _ _ c.requires.receives seen cleared waited found.up errors.calm errors.clear awaits.quiet;
+      found = λ _. has_device c.law_prerequisites.ensures c.args.port _ _ _ _ c.requires.receives seen cleared waited found.up errors.calm errors.clear awaits.quiet;
       signature = λ signature (e : Busy ≡ NotAta signature). absurd (cc);
     }
 
 pub returns-then-signature-ne-ATA_SIGNATURE-clause-followed : goal.returns-then-signature-ne-ATA_SIGNATURE-clause-followed
-returns-then-signature-ne-ATA_SIGNATURE-clause-followed g c = followed_then c.law_base.ensures (Controlling Clearing c.args.port) _ _ _ (followed_then c.law_base.ensures (Controlling Clearing c.args.port) _ _ _ (followed_then c.law_base.ensures (Controlling Clearing c.args.port) _ _ _ c.wait_for_device.ensures.followed c.clear_errors.ensures.followed) c.wait_until_idle.ensures.followed) (looks c.law_base.ensures c.args.port Sig _ _ _ c.read-signature.ensures.does)
+returns-then-signature-ne-ATA_SIGNATURE-clause-followed g c = followed_then c.law_prerequisites.ensures (Controlling Clearing c.args.port) _ _ _ (followed_then c.law_prerequisites.ensures (Controlling Clearing c.args.port) _ _ _ (followed_then c.law_prerequisites.ensures (Controlling Clearing c.args.port) _ _ _ c.wait_for_device.ensures.followed c.clear_errors.ensures.followed) c.wait_until_idle.ensures.followed) (looks c.law_prerequisites.ensures c.args.port Sig _ _ _ c.read-signature.ensures.does)
 
 pub returns-then-signature-ne-ATA_SIGNATURE-clause-fault : goal.returns-then-signature-ne-ATA_SIGNATURE-clause-fault
 returns-then-signature-ne-ATA_SIGNATURE-clause-fault g c =
-    let first = usable_after c.law_base.ensures Clearing c.args.port _ _ c.requires.usable c.wait_for_device.ensures.followed in
-    let seen = settles c.law_base.ensures c.args.port _ _ c.requires.usable.on c.wait_for_device.ensures.followed.driven in
-    let second = usable_after c.law_base.ensures Clearing c.args.port _ _ first c.clear_errors.ensures.followed in
-    let cleared = settles c.law_base.ensures c.args.port _ _ first.on c.clear_errors.ensures.followed.driven in
-    let third = usable_after c.law_base.ensures Clearing c.args.port _ _ second c.wait_until_idle.ensures.followed in
-    let signed = settles c.law_base.ensures c.args.port _ _ second.on (followed_then c.law_base.ensures (Controlling Clearing c.args.port) _ _ _ c.wait_until_idle.ensures.followed (looks c.law_base.ensures c.args.port Sig _ _ _ c.read-signature.ensures.does)).driven in
+    let first = usable_after c.law_prerequisites.ensures Clearing c.args.port _ _ c.requires.usable c.wait_for_device.ensures.followed in
+    let seen = settles c.law_prerequisites.ensures c.args.port _ _ c.requires.usable.on c.wait_for_device.ensures.followed.driven in
+    let second = usable_after c.law_prerequisites.ensures Clearing c.args.port _ _ first c.clear_errors.ensures.followed in
+    let cleared = settles c.law_prerequisites.ensures c.args.port _ _ first.on c.clear_errors.ensures.followed.driven in
+    let third = usable_after c.law_prerequisites.ensures Clearing c.args.port _ _ second c.wait_until_idle.ensures.followed in
+    let signed = settles c.law_prerequisites.ensures c.args.port _ _ second.on (followed_then c.law_prerequisites.ensures (Controlling Clearing c.args.port) _ _ _ c.wait_until_idle.ensures.followed (looks c.law_prerequisites.ensures c.args.port Sig _ _ _ c.read-signature.ensures.does)).driven in
     let found = c.wait_for_device.ensures.finds c.if-not-wait_for_device.false in
     let errors = c.clear_errors.ensures.clears in
     let awaits = c.wait_until_idle.ensures.awaits in
@@ -96,24 +96,24 @@ returns-then-signature-ne-ATA_SIGNATURE-clause-fault g c =
     record {
       looks = finds_signature c.args.port _ link idle.1 c.read-signature.ensures.does;
       fault = (
-        (sig_saw c.law_base.ensures c.args.port _ _ _ third c.read-signature.ensures.does awaits.saw, sig_idle c.law_base.ensures c.args.port _ _ _ third c.read-signature.ensures.does idle.0, sig_last c.law_base.ensures c.args.port _ _ _ third c.read-signature.ensures.does, λ ata. absurd (omega arith)),
+        (sig_saw c.law_prerequisites.ensures c.args.port _ _ _ third c.read-signature.ensures.does awaits.saw, sig_idle c.law_prerequisites.ensures c.args.port _ _ _ third c.read-signature.ensures.does idle.0, sig_last c.law_prerequisites.ensures c.args.port _ _ _ third c.read-signature.ensures.does, λ ata. absurd (omega arith)),
         λ (e : NotAta c.read-signature.result ≡ EngineStuck). absurd (cc),
       );
-      found = λ _. has_device c.law_base.ensures c.args.port _ _ _ _ c.requires.receives seen cleared signed found.up errors.calm errors.clear (λ awaited unflagged. sig_quiet c.law_base.ensures c.args.port _ _ _ third c.read-signature.ensures.does (awaits.quiet awaited unflagged));
-      signature = λ signature is. sig_shown c.law_base.ensures c.args.port _ _ _ third c.read-signature.ensures.does;
+      found = λ _. has_device c.law_prerequisites.ensures c.args.port _ _ _ _ c.requires.receives seen cleared signed found.up errors.calm errors.clear (λ awaited unflagged. sig_quiet c.law_prerequisites.ensures c.args.port _ _ _ third c.read-signature.ensures.does (awaits.quiet awaited unflagged));
+      signature = λ signature is. sig_shown c.law_prerequisites.ensures c.args.port _ _ _ third c.read-signature.ensures.does;
     }
 
 pub returns-clause-followed : goal.returns-clause-followed
-returns-clause-followed g c = followed_then c.law_base.ensures (Controlling Clearing c.args.port) _ _ _ (followed_then c.law_base.ensures (Controlling Clearing c.args.port) _ _ _ (followed_then c.law_base.ensures (Controlling Clearing c.args.port) _ _ _ c.wait_for_device.ensures.followed c.clear_errors.ensures.followed) c.wait_until_idle.ensures.followed) (looks c.law_base.ensures c.args.port Sig _ _ _ c.read-signature.ensures.does)
+returns-clause-followed g c = followed_then c.law_prerequisites.ensures (Controlling Clearing c.args.port) _ _ _ (followed_then c.law_prerequisites.ensures (Controlling Clearing c.args.port) _ _ _ (followed_then c.law_prerequisites.ensures (Controlling Clearing c.args.port) _ _ _ c.wait_for_device.ensures.followed c.clear_errors.ensures.followed) c.wait_until_idle.ensures.followed) (looks c.law_prerequisites.ensures c.args.port Sig _ _ _ c.read-signature.ensures.does)
 
 pub returns-clause-sees : goal.returns-clause-sees
 returns-clause-sees g c =
-    let first = usable_after c.law_base.ensures Clearing c.args.port _ _ c.requires.usable c.wait_for_device.ensures.followed in
-    let seen = settles c.law_base.ensures c.args.port _ _ c.requires.usable.on c.wait_for_device.ensures.followed.driven in
-    let second = usable_after c.law_base.ensures Clearing c.args.port _ _ first c.clear_errors.ensures.followed in
-    let cleared = settles c.law_base.ensures c.args.port _ _ first.on c.clear_errors.ensures.followed.driven in
-    let third = usable_after c.law_base.ensures Clearing c.args.port _ _ second c.wait_until_idle.ensures.followed in
-    let signed = settles c.law_base.ensures c.args.port _ _ second.on (followed_then c.law_base.ensures (Controlling Clearing c.args.port) _ _ _ c.wait_until_idle.ensures.followed (looks c.law_base.ensures c.args.port Sig _ _ _ c.read-signature.ensures.does)).driven in
+    let first = usable_after c.law_prerequisites.ensures Clearing c.args.port _ _ c.requires.usable c.wait_for_device.ensures.followed in
+    let seen = settles c.law_prerequisites.ensures c.args.port _ _ c.requires.usable.on c.wait_for_device.ensures.followed.driven in
+    let second = usable_after c.law_prerequisites.ensures Clearing c.args.port _ _ first c.clear_errors.ensures.followed in
+    let cleared = settles c.law_prerequisites.ensures c.args.port _ _ first.on c.clear_errors.ensures.followed.driven in
+    let third = usable_after c.law_prerequisites.ensures Clearing c.args.port _ _ second c.wait_until_idle.ensures.followed in
+    let signed = settles c.law_prerequisites.ensures c.args.port _ _ second.on (followed_then c.law_prerequisites.ensures (Controlling Clearing c.args.port) _ _ _ c.wait_until_idle.ensures.followed (looks c.law_prerequisites.ensures c.args.port Sig _ _ _ c.read-signature.ensures.does)).driven in
     let found = c.wait_for_device.ensures.finds c.if-not-wait_for_device.false in
     let errors = c.clear_errors.ensures.clears in
     let awaits = c.wait_until_idle.ensures.awaits in
@@ -123,7 +123,7 @@ returns-clause-sees g c =
     let F : ℕ → Type 0 = λ n. FindsSignature c.args.port n (g.A.Adapter.device c.args.adapter.now) (g.A.Adapter.device c.read-signature.new.self) in
     record {
       looks = subst F ata (finds_signature c.args.port _ link idle.1 c.read-signature.ensures.does);
-      ready = (sig_saw c.law_base.ensures c.args.port _ _ _ third c.read-signature.ensures.does awaits.saw, sig_idle c.law_base.ensures c.args.port _ _ _ third c.read-signature.ensures.does idle.0, sig_last c.law_base.ensures c.args.port _ _ _ third c.read-signature.ensures.does ∙ ata);
-      found = has_device c.law_base.ensures c.args.port _ _ _ _ c.requires.receives seen cleared signed found.up errors.calm errors.clear (λ awaited unflagged. sig_quiet c.law_base.ensures c.args.port _ _ _ third c.read-signature.ensures.does (awaits.quiet awaited unflagged));
-      signature = sig_shown c.law_base.ensures c.args.port _ _ _ third c.read-signature.ensures.does;
+      ready = (sig_saw c.law_prerequisites.ensures c.args.port _ _ _ third c.read-signature.ensures.does awaits.saw, sig_idle c.law_prerequisites.ensures c.args.port _ _ _ third c.read-signature.ensures.does idle.0, sig_last c.law_prerequisites.ensures c.args.port _ _ _ third c.read-signature.ensures.does ∙ ata);
+      found = has_device c.law_prerequisites.ensures c.args.port _ _ _ _ c.requires.receives seen cleared signed found.up errors.calm errors.clear (λ awaited unflagged. sig_quiet c.law_prerequisites.ensures c.args.port _ _ _ third c.read-signature.ensures.does (awaits.quiet awaited unflagged));
+      signature = sig_shown c.law_prerequisites.ensures c.args.port _ _ _ third c.read-signature.ensures.does;
     }

@@ -10,7 +10,7 @@ use Rattle.adapter.specs.Access.{Access, Does, Reads, Writes}
 use Rattle.adapter.specs.Access.Access.{Reading, Writing}
 use Rattle.adapter.specs.Device.{Device}
 use Rattle.adapter.specs.Rules.{IsOn}
-use Rattle.refinement.specs.Facts.{IsFaulted, FaultsOnRecord}
+use Rattle.refinement.specs.PortFacts.{IsFaulted, FaultsOnRecord}
 use Rattle.refinement.specs.Links.{DoesNotWrite}
 use Rattle.port_control.specs.EventLaws.{Laws}
 use Rattle.port_control.specs.Looks.{LooksAt}

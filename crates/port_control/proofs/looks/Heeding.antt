@@ -13,9 +13,9 @@ use Rattle.adapter.specs.Access.Access.{Reading, Writing}
 use Rattle.adapter.specs.Device.{DevicePort, Device}
 use Rattle.adapter.specs.Rules.{IsOn}
 use Rattle.adapter.specs.Steps.{Steps}
-use Rattle.refinement.specs.Driven.{Grows, IsDrivenBy}
+use Rattle.refinement.specs.Driven.{TapeGrows, IsDrivenBy}
 use Rattle.refinement.specs.Errors.{IsFatalOf, NoneFails, NoneFatal}
-use Rattle.refinement.specs.Facts.{IsFaultOf}
+use Rattle.refinement.specs.PortFacts.{IsFaultOf}
 use Rattle.refinement.specs.Links.{LeavesLink, NoPlugEvents, DoesNotWrite}
 use Rattle.port_control.specs.EventLaws.{Laws}
 use Rattle.port_control.specs.Looks.{LooksAt}
@@ -35,7 +35,7 @@ shows_still p new (inr up) det = up.det
 -- where no link is due and a device shows, so it is still, unless a disk goes or comes
 abbrev StaysLinked : ℕ → Device → Device → Type 0
 StaysLinked port old new =
-    Grows old new
+    TapeGrows old new
     × (NoPlugEvents port old new → (old.port port).link_due ≡ false → (old.port port).ssts_det ≡ 3 → ((new.port port).link_due ≡ false) × ((new.port port).ssts_det ≡ 3))
 
 -- ---- what isn't shown hasn't come
@@ -171,13 +171,13 @@ module _ (laws : Laws) where
         (λ more. ⊎_elim (λ n. by_change (inl n)) by_link more)
         (answered_lost l.causes l.status (sym l.tells ∙ is))
       where
-        reading : Grows old l.seen
+        reading : TapeGrows old l.seen
         reading = laws.tape.access_grows (Reading (Px port Is) l.causes) old l.seen l.reads
 
-        showing : Grows l.acknowledged new
+        showing : TapeGrows l.acknowledged new
         showing = laws.tape.access_grows (Reading (Px port Ssts) l.status) l.acknowledged new l.shows
 
-        later : Grows l.seen new
+        later : TapeGrows l.seen new
         later =
             laws.tape.grows_more l.seen l.cleared new (laws.tape.access_grows (Writing (Px port Is) l.causes) l.seen l.cleared l.clears)
             (laws.tape.grows_more l.cleared l.acknowledged new (laws.tape.access_grows (Writing reg.Is l.own) l.cleared l.acknowledged l.acknowledges) showing)

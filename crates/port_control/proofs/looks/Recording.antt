@@ -4,7 +4,7 @@ use Rattle.hba_regs.specs.declared.reg.PortReg.TheVariants.{Cmd, Sctl}
 use Rattle.adapter.specs.Device.{Device}
 use Rattle.refinement.specs.Relation.{port_at}
 use Rattle.refinement.specs.Driven.{IsDrivenBy}
-use Rattle.refinement.specs.Facts.{FaultsOnRecord}
+use Rattle.refinement.specs.PortFacts.{FaultsOnRecord}
 use Rattle.port_control.specs.EventLaws.{Laws}
 use Rattle.port_control.specs.Services.{IsService}
 use Rattle.port_control.proofs.looks.Serving.{spares_port}

@@ -10,10 +10,10 @@ use Rattle.adapter.specs.Access.{Access, Does, Writes}
 use Rattle.adapter.specs.Access.Access.{Reading, Writing}
 use Rattle.adapter.specs.Device.{DevicePort, Device}
 use Rattle.adapter.specs.Rules.{IsOn}
-use Rattle.adapter.specs.Seen.{PortRegisterWritten}
-use Rattle.refinement.specs.Driven.{Grows, IsDrivenBy}
+use Rattle.adapter.specs.RegisterEffects.{PortRegisterWritten}
+use Rattle.refinement.specs.Driven.{TapeGrows, IsDrivenBy}
 use Rattle.refinement.specs.Errors.{KeepsErrors, NoDiskComes}
-use Rattle.refinement.specs.Facts.{RunsWell, ShowsNoTrouble, Undisturbed}
+use Rattle.refinement.specs.PortFacts.{RunsWell, ShowsNoTrouble, Undisturbed}
 use Rattle.port_control.specs.EventLaws.{Laws}
 use Rattle.port_control.specs.Looks.{IsLooking, LooksAt}
 use Rattle.port_control.specs.Services.{IsService, LeavesCauses, KeepsSerrNX}
@@ -26,7 +26,7 @@ use Rattle.port_control.proofs.looks.Telling.{answered_undisturbed, told_lost, t
 -- no link is due then either, and a device shows only where one did
 abbrev Unlinks : ℕ → Device → Device → Type 0
 Unlinks port old new =
-    Grows old new
+    TapeGrows old new
     × ((old.port port).link_due ≡ false → ((new.port port).link_due ≡ false) × (NoDiskComes port old new → (new.port port).ssts_det ≡ 3 → (old.port port).ssts_det ≡ 3))
 
 module _ (port : Port) (result : PortEvent) (old new : Device) (l : LooksAt port result old new) where
@@ -89,7 +89,7 @@ module _ (laws : Laws) where
   pub left_set : (port : Port) (v place : ℕ) (old new : Device) → old.hr ≡ false → (w : Writes (Px port Is) v old new) → (w.mid.port port.0).is place ≡ true → bit v place ≡ false → (new.port port.0).is place ≡ true
   left_set port v place old new off w set unread =
       let again : Writes (Px port Is) v w.mid new = record { mid = w.mid; steps = laws.steps_none w.mid; effect = w.effect } in
-      let p : PortRegisterWritten port.0 Is v w.mid new = laws.put port Is v w.mid new again ((laws.law_steps_guarantee old w.mid w.steps).on off).no_reset in
+      let p : PortRegisterWritten port.0 Is v w.mid new = laws.put port Is v w.mid new again ((laws.law_step_lists_keep_what_steps_keep old w.mid w.steps).on off).no_reset in
       let still : (p.mid.port port.0).is place ≡ true = (p.keeps.on.controls port.0).is place set in
       ap (λ (q : DevicePort). q.is place) p.here ∙ (ap (λ (b : Bool). b && not (bit v place)) still ∙ ap (λ (b : Bool). not b) unread)
 
@@ -132,8 +132,8 @@ module _ (laws : Laws) where
 
     pub seen_well : RunsWell (old.port port.0) → Undisturbed port.0 old new → (result ≡ look.NoEvent) × RunsWell (new.port port.0)
     seen_well well calm =
-        let early : Grows old l.seen = laws.tape.access_grows (Reading (Px port Is) l.causes) old l.seen l.reads in
-        let late : Grows l.seen new =
+        let early : TapeGrows old l.seen = laws.tape.access_grows (Reading (Px port Is) l.causes) old l.seen l.reads in
+        let late : TapeGrows l.seen new =
         laws.tape.grows_more l.seen l.cleared new (laws.tape.access_grows (Writing (Px port Is) l.causes) l.seen l.cleared l.clears)
         (laws.tape.grows_more l.cleared l.acknowledged new (laws.tape.access_grows (Writing reg.Is l.own) l.cleared l.acknowledged l.acknowledges)
         (laws.tape.access_grows (Reading (Px port Ssts) l.status) l.acknowledged new l.shows)) in

@@ -11,9 +11,9 @@ use Rattle.adapter.specs.Access.Access.{Reading, Writing, Loading, Storing}
 use Rattle.adapter.specs.Device.{DevicePort, Device}
 use Rattle.adapter.specs.Rules.{IsOn}
 use Rattle.refinement.specs.Relation.{port_at}
-use Rattle.refinement.specs.Driven.{AnyAccess, Grows, SameUses, IsRelated, IsDrivenBy, IsSimulated}
+use Rattle.refinement.specs.Driven.{AnyAccess, TapeGrows, SameUses, IsRelated, IsDrivenBy, IsSimulated}
 use Rattle.refinement.specs.Errors.{KeepsErrors}
-use Rattle.refinement.specs.Facts.{RunsWell, Undisturbed}
+use Rattle.refinement.specs.PortFacts.{RunsWell, Undisturbed}
 use Rattle.refinement.specs.Links.{DoesNotWrite, SameAdapter, LeavesControls}
 use Rattle.refinement.specs.Slots.{SlotStates}
 use Rattle.port_control.specs.EventLaws.{Laws}
@@ -70,7 +70,7 @@ LeavesNoted old new =
 
 -- a port that runs well does so still, where nothing goes wrong
 abbrev StaysWell : ℕ → Device → Device → Type 0
-StaysWell port old new = Grows old new × (Undisturbed port old new → RunsWell (old.port port) → RunsWell (new.port port))
+StaysWell port old new = TapeGrows old new × (Undisturbed port old new → RunsWell (old.port port) → RunsWell (new.port port))
 
 module _ (laws : Laws) where
   -- over accesses of which each keeps so much of an adapter that is on
@@ -117,7 +117,7 @@ module _ (laws : Laws) where
   -- ---- a port that runs well
 
   -- where nothing goes wrong in the whole, nothing does in the parts
-  pub calm_parts : (port : ℕ) (a b c : Device) → Grows a b → Grows b c → Undisturbed port a c → Undisturbed port a b × Undisturbed port b c
+  pub calm_parts : (port : ℕ) (a b c : Device) → TapeGrows a b → TapeGrows b c → Undisturbed port a c → Undisturbed port a b × Undisturbed port b c
   calm_parts port a b c p q u = laws.tape.calm_parts port a b c p.0 q.0 p.1 q.1 u
 
   service_well : (port : Port) (access : Access) (old new : Device) → IsOn old → IsService access → Does access old new → Undisturbed port.0 old new → RunsWell (old.port port.0) → RunsWell (new.port port.0)

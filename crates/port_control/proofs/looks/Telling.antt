@@ -2,7 +2,7 @@
 use Rattle.std.proofs.Common.{ℕ, ◌≡◌, ◌≢◌, ◌≤◌, ◌⊎◌, ◌%◌, ◌||◌, ◌==◌, not, Bool, true, false, inl, inr, refl, sym, ◌∙◌, ap, subst, arith, if◌then◌else◌}
 use Rattle.std.proofs.lemmas.Bool.{cases_eq, eqb-true, eq-eqb, ne_eqb}
 use Rattle.hba_regs.specs.Bits.{bit}
-use Rattle.refinement.specs.Facts.{TellsNoTrouble}
+use Rattle.refinement.specs.PortFacts.{TellsNoTrouble}
 use Rattle.port_control.specs.Looks.{port_event_of}
 use Rattle.port_control.specs.declared.events.PortEvent.{PortEvent}
 use Rattle.port_control.specs.declared.events.PortEvent.TheVariants.{LinkChanged, FatalError, TaskFileError, NoEvent}

@@ -6,14 +6,14 @@ use Rattle.port_control.proofs.stop.Goals as goal
 use Rattle.port_control.specs.Laws.RegisterSet.{Commanding}
 
 pub write-requires : goal.write-requires
-write-requires g c = stop_may c.law_base.ensures _ _ _ _ _ c.requires.usable c.read.ensures.does c.without_start.ensures.cleared c.without_start.ensures.others
+write-requires g c = stop_may c.law_prerequisites.ensures _ _ _ _ _ c.requires.usable c.read.ensures.does c.without_start.ensures.cleared c.without_start.ensures.others
 
 pub loop-reading-init : goal.loop-reading-init
 loop-reading-init g c = record {
   known = record {
-    told = stop_told c.law_base.ensures _ _ _ _ _ c.requires.usable c.read.ensures.does c.without_start.ensures.cleared c.without_start.ensures.others _ c.write.ensures.does;
-    usable = usable_after c.law_base.ensures Commanding c.args.port _ _ c.requires.usable (stop_told c.law_base.ensures _ _ _ _ _ c.requires.usable c.read.ensures.does c.without_start.ensures.cleared c.without_start.ensures.others _ c.write.ensures.does).followed;
-    has = stop_has c.law_base.ensures _ _ _ _ _ c.requires.usable c.read.ensures.does c.without_start.ensures.cleared c.without_start.ensures.others _ c.write.ensures.does;
+    told = stop_told c.law_prerequisites.ensures _ _ _ _ _ c.requires.usable c.read.ensures.does c.without_start.ensures.cleared c.without_start.ensures.others _ c.write.ensures.does;
+    usable = usable_after c.law_prerequisites.ensures Commanding c.args.port _ _ c.requires.usable (stop_told c.law_prerequisites.ensures _ _ _ _ _ c.requires.usable c.read.ensures.does c.without_start.ensures.cleared c.without_start.ensures.others _ c.write.ensures.does).followed;
+    has = stop_has c.law_prerequisites.ensures _ _ _ _ _ c.requires.usable c.read.ensures.does c.without_start.ensures.cleared c.without_start.ensures.others _ c.write.ensures.does;
     low = omega arith;
     high = λ h. absurd (omega (arith, h));
   };
@@ -21,22 +21,22 @@ loop-reading-init g c = record {
 }
 
 pub returns-then-not-list_running-clause-on : goal.returns-then-not-list_running-clause-on
-returns-then-not-list_running-clause-on g c = (falling_on c.law_base.ensures _ _ _ _ _ _ c.loop-reading.invariant.known c.read-in-loop-reading.ensures.does).on
+returns-then-not-list_running-clause-on g c = (falling_on c.law_prerequisites.ensures _ _ _ _ _ _ c.loop-reading.invariant.known c.read-in-loop-reading.ensures.does).on
 
 pub returns-then-not-list_running-clause-has : goal.returns-then-not-list_running-clause-has
-returns-then-not-list_running-clause-has g c = has_still c.law_base.ensures _ _ _ _ _ _ c.loop-reading.invariant.known c.read-in-loop-reading.ensures.does
+returns-then-not-list_running-clause-has g c = has_still c.law_prerequisites.ensures _ _ _ _ _ _ c.loop-reading.invariant.known c.read-in-loop-reading.ensures.does
 
 pub returns-then-not-list_running-clause-halts : goal.returns-then-not-list_running-clause-halts
 returns-then-not-list_running-clause-halts g c =
     let clear = sym c.list_running.ensures ∙ c.if-not-list_running.true in
     record {
-      told = falls c.law_base.ensures _ _ _ _ _ _ c.loop-reading.invariant.known c.read-in-loop-reading.ensures.does clear;
-      stopped = fallen c.law_base.ensures _ _ _ _ _ _ c.loop-reading.invariant.known c.read-in-loop-reading.ensures.does clear;
+      told = falls c.law_prerequisites.ensures _ _ _ _ _ _ c.loop-reading.invariant.known c.read-in-loop-reading.ensures.does clear;
+      stopped = fallen c.law_prerequisites.ensures _ _ _ _ _ _ c.loop-reading.invariant.known c.read-in-loop-reading.ensures.does clear;
     }
 
 pub loop-reading-preserved : goal.loop-reading-preserved
 loop-reading-preserved g c = record {
-  known = falls_still c.law_base.ensures _ _ _ _ _ _ c.loop-reading.invariant.known c.read-in-loop-reading.ensures.does (omega arith) (sym c.list_running.ensures ∙ c.if-not-list_running.false);
+  known = falls_still c.law_prerequisites.ensures _ _ _ _ _ _ c.loop-reading.invariant.known c.read-in-loop-reading.ensures.does (omega arith) (sym c.list_running.ensures ∙ c.if-not-list_running.false);
   cost = omega arith;
 }
 
@@ -46,4 +46,4 @@ returns-clause-fails g c =
     let all : c.loop-reading._reading ≡ MOST_READINGS = omega arith in
     let low = w.low in
     let high = w.high (omega (arith, all)) in
-    (refl, record { told = told_awaits c.law_base.ensures 0 15 c.args.port _ all _ _ w.told; stuck = omega (arith, all, low, high) })
+    (refl, record { told = told_awaits c.law_prerequisites.ensures 0 15 c.args.port _ all _ _ w.told; stuck = omega (arith, all, low, high) })

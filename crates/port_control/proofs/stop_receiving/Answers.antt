@@ -6,15 +6,15 @@ use Rattle.port_control.proofs.stop_receiving.Goals as goal
 use Rattle.port_control.specs.Laws.RegisterSet.{Commanding}
 
 pub write-requires : goal.write-requires
-write-requires g c = empty_may c.law_base.ensures _ _ _ _ _ c.requires.usable c.read.ensures.does c.requires.stopped c.without_receive.ensures.cleared c.without_receive.ensures.others
+write-requires g c = empty_may c.law_prerequisites.ensures _ _ _ _ _ c.requires.usable c.read.ensures.does c.requires.stopped c.without_receive.ensures.cleared c.without_receive.ensures.others
 
 pub loop-reading-init : goal.loop-reading-init
 loop-reading-init g c = record {
-  known = let b = empty_begins c.law_base.ensures _ _ _ _ _ c.requires.usable c.read.ensures.does c.requires.stopped c.without_receive.ensures.cleared c.without_receive.ensures.others _ c.write.ensures.does in
+  known = let b = empty_begins c.law_prerequisites.ensures _ _ _ _ _ c.requires.usable c.read.ensures.does c.requires.stopped c.without_receive.ensures.cleared c.without_receive.ensures.others _ c.write.ensures.does in
       record {
         told = b.0;
         has = record {
-          usable = usable_after c.law_base.ensures Commanding c.args.port _ _ c.requires.usable b.0.followed;
+          usable = usable_after c.law_prerequisites.ensures Commanding c.args.port _ _ c.requires.usable b.0.followed;
           stopped = b.1;
           fre = b.2;
           bases = b.3;
@@ -27,26 +27,26 @@ loop-reading-init g c = record {
 }
 
 pub returns-then-not-receive_running-clause-stops : goal.returns-then-not-receive_running-clause-stops
-returns-then-not-receive_running-clause-stops g c = λ _. empties_told c.law_base.ensures _ _ _ _ _ _ c.loop-reading.invariant.known c.read-in-loop-reading.ensures.does (sym c.receive_running.ensures ∙ c.if-not-receive_running.true)
+returns-then-not-receive_running-clause-stops g c = λ _. empties_told c.law_prerequisites.ensures _ _ _ _ _ _ c.loop-reading.invariant.known c.read-in-loop-reading.ensures.does (sym c.receive_running.ensures ∙ c.if-not-receive_running.true)
 
 pub returns-then-not-receive_running-clause-clears : goal.returns-then-not-receive_running-clause-clears
 returns-then-not-receive_running-clause-clears g c =
-    let has = empties c.law_base.ensures _ _ _ _ _ _ c.loop-reading.invariant.known c.read-in-loop-reading.ensures.does in
+    let has = empties c.law_prerequisites.ensures _ _ _ _ _ _ c.loop-reading.invariant.known c.read-in-loop-reading.ensures.does in
     record { stopped = has.stopped; fre = has.fre; bases = has.bases; same = has.same }
 
 pub returns-then-not-receive_running-clause-fallen : goal.returns-then-not-receive_running-clause-fallen
-returns-then-not-receive_running-clause-fallen g c = λ _. emptied c.law_base.ensures _ _ _ _ _ _ c.loop-reading.invariant.known c.read-in-loop-reading.ensures.does (sym c.receive_running.ensures ∙ c.if-not-receive_running.true)
+returns-then-not-receive_running-clause-fallen g c = λ _. emptied c.law_prerequisites.ensures _ _ _ _ _ _ c.loop-reading.invariant.known c.read-in-loop-reading.ensures.does (sym c.receive_running.ensures ∙ c.if-not-receive_running.true)
 
 pub loop-reading-preserved : goal.loop-reading-preserved
 loop-reading-preserved g c = record {
-  known = empties_still c.law_base.ensures _ _ _ _ _ _ c.loop-reading.invariant.known c.read-in-loop-reading.ensures.does (omega arith) (sym c.receive_running.ensures ∙ c.if-not-receive_running.false);
+  known = empties_still c.law_prerequisites.ensures _ _ _ _ _ _ c.loop-reading.invariant.known c.read-in-loop-reading.ensures.does (omega arith) (sym c.receive_running.ensures ∙ c.if-not-receive_running.false);
   cost = omega arith;
 }
 
 pub returns-clause-sticks : goal.returns-clause-sticks
 returns-clause-sticks g c = λ _.
     let all : c.loop-reading._reading ≡ MOST_READINGS = omega arith in
-    (told_awaits c.law_base.ensures 4 14 c.args.port _ all _ _ c.loop-reading.invariant.known.told, search rules)
+    (told_awaits c.law_prerequisites.ensures 4 14 c.args.port _ all _ _ c.loop-reading.invariant.known.told, search rules)
 
 pub returns-clause-clears : goal.returns-clause-clears
 returns-clause-clears g c =

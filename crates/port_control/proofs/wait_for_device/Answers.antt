@@ -10,31 +10,31 @@ use Rattle.port_control.specs.Laws.AccessPurpose.{Controlling}
 pub loop-reading-init : goal.loop-reading-init
 loop-reading-init g c = record {
   known = record {
-    followed = (c.law_base.ensures.fragments.none (Controlling Clearing c.args.port) _).followed;
+    followed = (c.law_prerequisites.ensures.fragments.none (Controlling Clearing c.args.port) _).followed;
     usable = c.requires.usable;
     on = c.requires.usable;
     det = c.requires.det;
     low = omega arith;
     high = λ h. absurd (omega (arith, h));
     far = λ h. absurd (omega (arith, h));
-    misses = without_none c.law_base.ensures c.args.port Ssts HasLink _;
+    misses = without_none c.law_prerequisites.ensures c.args.port Ssts HasLink _;
   };
   cost = omega arith;
 }
 
 pub returns-then-detection-eq-DEVICE_WITH_LINK-clause-followed : goal.returns-then-detection-eq-DEVICE_WITH_LINK-clause-followed
-returns-then-detection-eq-DEVICE_WITH_LINK-clause-followed g c = missing_followed c.law_base.ensures _ _ _ _ _ _ c.loop-reading.invariant.known c.read.ensures.does
+returns-then-detection-eq-DEVICE_WITH_LINK-clause-followed g c = missing_followed c.law_prerequisites.ensures _ _ _ _ _ _ c.loop-reading.invariant.known c.read.ensures.does
 
 pub returns-then-detection-eq-DEVICE_WITH_LINK-clause-finds : goal.returns-then-detection-eq-DEVICE_WITH_LINK-clause-finds
 returns-then-detection-eq-DEVICE_WITH_LINK-clause-finds g c = λ _. record {
-  sees = sees_device c.law_base.ensures _ _ _ _ _ _ c.loop-reading.invariant.known c.read.ensures.does (omega arith) (omega arith);
-  saw = device_seen c.law_base.ensures _ _ _ _ _ _ c.loop-reading.invariant.known c.read.ensures.does (omega arith);
-  up = device_up c.law_base.ensures _ _ _ _ _ _ c.loop-reading.invariant.known c.read.ensures.does (omega arith);
+  sees = sees_device c.law_prerequisites.ensures _ _ _ _ _ _ c.loop-reading.invariant.known c.read.ensures.does (omega arith) (omega arith);
+  saw = device_seen c.law_prerequisites.ensures _ _ _ _ _ _ c.loop-reading.invariant.known c.read.ensures.does (omega arith);
+  up = device_up c.law_prerequisites.ensures _ _ _ _ _ _ c.loop-reading.invariant.known c.read.ensures.does (omega arith);
 }
 
 pub loop-reading-preserved : goal.loop-reading-preserved
 loop-reading-preserved g c = record {
-  known = missing_still c.law_base.ensures _ _ _ _ _ _ c.loop-reading.invariant.known c.read.ensures.does (omega arith) (λ three. absurd (omega arith));
+  known = missing_still c.law_prerequisites.ensures _ _ _ _ _ _ c.loop-reading.invariant.known c.read.ensures.does (omega arith) (λ three. absurd (omega arith));
   cost = omega arith;
 }
 

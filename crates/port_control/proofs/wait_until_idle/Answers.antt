@@ -10,13 +10,13 @@ use Rattle.port_control.specs.Laws.AccessPurpose.{Controlling}
 pub loop-reading-init : goal.loop-reading-init
 loop-reading-init g c = record {
   known = record {
-    followed = (c.law_base.ensures.fragments.none (Controlling Clearing c.args.port) _).followed;
+    followed = (c.law_prerequisites.ensures.fragments.none (Controlling Clearing c.args.port) _).followed;
     usable = c.requires.usable;
     det = c.requires.det;
     saw = c.requires.saw;
     low = omega arith;
     high = λ h. absurd (omega (arith, h));
-    stays = without_none c.law_base.ensures c.args.port Tfd ShowsIdle _;
+    stays = without_none c.law_prerequisites.ensures c.args.port Tfd ShowsIdle _;
     awaits = λ h. h;
     quiet = λ h. absurd (omega (arith, h));
   };
@@ -24,25 +24,25 @@ loop-reading-init g c = record {
 }
 
 pub returns-then-not-is_bsy_or_drq-clause-followed : goal.returns-then-not-is_bsy_or_drq-clause-followed
-returns-then-not-is_bsy_or_drq-clause-followed g c = busy_followed c.law_base.ensures _ _ _ _ _ _ c.loop-reading.invariant.known c.read.ensures.does
+returns-then-not-is_bsy_or_drq-clause-followed g c = busy_followed c.law_prerequisites.ensures _ _ _ _ _ _ c.loop-reading.invariant.known c.read.ensures.does
 
 pub returns-then-not-is_bsy_or_drq-clause-awaits : goal.returns-then-not-is_bsy_or_drq-clause-awaits
 returns-then-not-is_bsy_or_drq-clause-awaits g c =
     let known = c.loop-reading.invariant.known in
     let clear = sym c.is_bsy_or_drq.ensures ∙ c.if-not-is_bsy_or_drq.true in
     record {
-      saw = busy_saw c.law_base.ensures _ _ _ _ _ _ known c.read.ensures.does;
+      saw = busy_saw c.law_prerequisites.ensures _ _ _ _ _ _ known c.read.ensures.does;
       idle = λ _. (
-        idle_seen c.law_base.ensures _ _ _ _ _ _ known c.read.ensures.does clear,
-        busy_waits c.law_base.ensures _ _ _ _ _ _ known c.read.ensures.does (omega arith) clear,
+        idle_seen c.law_prerequisites.ensures _ _ _ _ _ _ known c.read.ensures.does clear,
+        busy_waits c.law_prerequisites.ensures _ _ _ _ _ _ known c.read.ensures.does (omega arith) clear,
       );
       busy = λ is. absurd (cc);
-      quiet = λ awaited unflagged. busy_quiet c.law_base.ensures _ _ _ _ _ _ known c.read.ensures.does (awaited, unflagged);
+      quiet = λ awaited unflagged. busy_quiet c.law_prerequisites.ensures _ _ _ _ _ _ known c.read.ensures.does (awaited, unflagged);
     }
 
 pub loop-reading-preserved : goal.loop-reading-preserved
 loop-reading-preserved g c = record {
-  known = busy_still c.law_base.ensures _ _ _ _ _ _ c.loop-reading.invariant.known c.read.ensures.does (omega arith) (sym c.is_bsy_or_drq.ensures ∙ c.if-not-is_bsy_or_drq.false);
+  known = busy_still c.law_prerequisites.ensures _ _ _ _ _ _ c.loop-reading.invariant.known c.read.ensures.does (omega arith) (sym c.is_bsy_or_drq.ensures ∙ c.if-not-is_bsy_or_drq.false);
   cost = omega arith;
 }
 

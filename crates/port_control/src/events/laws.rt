@@ -10,7 +10,7 @@ ghost use Rattle.adapter.specs.Device.{Device};
 ghost use Rattle.adapter.specs.Rules.{IsOn};
 ghost use Rattle.refinement.specs.Driven.{SameUses, IsRelated, IsDrivenBy, IsSimulated, SparesOtherPorts};
 ghost use Rattle.refinement.specs.Errors.{KeepsErrors, NoDiskComes};
-ghost use Rattle.refinement.specs.Facts.{IsFaulted, FaultsOnRecord, RunsWell, ShowsNoTrouble, TellsNoTrouble, Undisturbed};
+ghost use Rattle.refinement.specs.PortFacts.{IsFaulted, FaultsOnRecord, RunsWell, ShowsNoTrouble, TellsNoTrouble, Undisturbed};
 ghost use Rattle.refinement.specs.Links.{SameAdapter, DoesNotWrite};
 ghost use Rattle.refinement.specs.Slots.{SlotStates};
 ghost use Rattle.port_control.specs.Looks.{port_event_of, IsLooking, LooksAt};
@@ -18,7 +18,7 @@ ghost use Rattle.port_control.specs.Services.{HasLoss, IsService, LeavesCauses, 
 ghost use Rattle.port_control.specs.declared.events.PortEvent.{PortEvent};
 ghost use Rattle.port_control.specs.declared.events.PortEvent.TheVariants as look;
 
-use super::lawful::law_base;
+use super::prerequisites::law_prerequisites;
 
 /// The accesses of a look serve ports, and are ordinary for each other port.
 pub fn law_looks_are_services()
@@ -39,7 +39,7 @@ pub fn law_looks_are_of_one_port()
 /// PxSCTL, its PxIE, and when PxSCTL was written and ST set; each port that runs well, where nothing goes wrong on it;
 /// the record of each port's faults; and bits of PxSACT that are clear. So a machine that agrees goes on, too, where
 /// the fragment is followed.
-pub fn law_services_leave()
+pub fn law_services_keep_ports_running()
     ensures on { (old new : Device) → IsOn old → IsDrivenBy IsService old new → IsOn new }
     ensures adapter { (old new : Device) → IsDrivenBy IsService old new → SameAdapter old new }
     ensures port { (port : Port) (old new : Device) → IsOn old → IsDrivenBy IsService old new
@@ -58,7 +58,7 @@ pub fn law_services_leave()
         → IsRelated uses old
         → IsRelated uses new }
 {
-    law_base();
+    law_prerequisites();
 }
 
 /// Accesses that serve ports write of each port PxIS, PxCI and PxSACT alone, and not GHC.
@@ -100,7 +100,7 @@ pub fn law_errors_are_seen()
         → RunsWell (old.port port.0) → Undisturbed port.0 old new → (result ≡ look.NoEvent)
         × RunsWell (new.port port.0) }
 {
-    law_base();
+    law_prerequisites();
 }
 
 /// What tells of trouble isn't hidden. Ordinary accesses leave each bit of the port's PxIS, and N and X of its PxSERR,
@@ -116,7 +116,7 @@ pub fn law_errors_stay_told()
         → (place : ℕ) → (l.clears.mid.port port.0).is place ≡ true → bit l.causes place ≡ false
         → (new.port port.0).is place ≡ true }
 {
-    law_base();
+    law_prerequisites();
 }
 
 /// A look that tells of a command that failed finds a fault that has halted the port, and a device with a link. Other
@@ -131,7 +131,7 @@ pub fn law_failures_are_found()
         → IsFaulted (old.port port.0).halt → IsFaulted (new.port port.0).halt
         × ((new.port port.0).notes.last_ssts ≡ (old.port port.0).notes.last_ssts) }
 {
-    law_base();
+    law_prerequisites();
 }
 
 /// Trouble is heeded. What isn't shown after a look, of errors that the look hasn't read, wasn't shown before it and
@@ -153,5 +153,5 @@ pub fn law_errors_are_heeded()
     ensures loss { (port : Port) (old new : Device) → IsOn old → LooksAt port look.LinkChanged old new
         → (old.port port.0).link_due ≡ false → HasLoss port.0 old new }
 {
-    law_base();
+    law_prerequisites();
 }

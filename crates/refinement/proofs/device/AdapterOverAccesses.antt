@@ -9,12 +9,12 @@ use Rattle.adapter.specs.Device.{Device}
 use Rattle.adapter.specs.Kept.{Keeps}
 use Rattle.adapter.specs.Rules.{IsOn}
 use Rattle.adapter.specs.Steps.{Steps}
-use Rattle.adapter.proofs.KeptLemmas.{law_steps_guarantee}
+use Rattle.adapter.proofs.KeptLemmas.{law_step_lists_keep_what_steps_keep}
 use Rattle.refinement.specs.Links.{SameAdapter}
 use Rattle.refinement.proofs.steps.RegisterWrites.{or_false}
 
 steps_same : (old new : Device) → Steps old new → SameAdapter old new
-steps_same old new s = let k : Keeps old new = law_steps_guarantee s in record { telling = k.telling; size = k.size; cap = k.cap; pi = k.pi }
+steps_same old new s = let k : Keeps old new = law_step_lists_keep_what_steps_keep s in record { telling = k.telling; size = k.size; cap = k.cap; pi = k.pi }
 
 pub same_more : (old mid new : Device) → SameAdapter old mid → SameAdapter mid new → SameAdapter old new
 same_more old mid new a b = record { telling = b.telling ∙ a.telling; size = b.size ∙ a.size; cap = b.cap ∙ a.cap; pi = b.pi ∙ a.pi }
@@ -53,7 +53,7 @@ access_same (Storing at bytes) old new x =
 -- ---- it stays switched on
 
 steps_on : (old new : Device) → Steps old new → IsOn old → IsOn new
-steps_on old new s on = let k = (law_steps_guarantee s).on on.no_reset in record { ae = k.ae ∙ on.ae; no_reset = k.no_reset }
+steps_on old new s on = let k = (law_step_lists_keep_what_steps_keep s).on on.no_reset in record { ae = k.ae ∙ on.ae; no_reset = k.no_reset }
 
 noted_switched_on : (r : Reg) (v : ℕ) (d : Device) → IsOn d → IsOn (noted r v d)
 noted_switched_on (Px p r) v d on = record { ae = on.ae; no_reset = on.no_reset }

@@ -13,7 +13,7 @@ use Rattle.adapter.specs.Steps.{DeviceTransition, Can, device_after, Steps}
 use Rattle.adapter.specs.Steps.DeviceTransition.{Fetch, FetchFault, Move, Clear, Done, Fault, Fatal, Fall, FrFall, LinkUp, Unplug, Plug, ResetEnds, Scribble}
 use Rattle.refinement.specs.Below.{StepLaws}
 use Rattle.refinement.specs.Errors.{IsLeftByReset, ShowsResetState}
-use Rattle.refinement.specs.Facts.{ShowsDrqTillLink}
+use Rattle.refinement.specs.PortFacts.{ShowsDrqTillLink}
 use Rattle.refinement.proofs.device.AwaitedLink.{leads_keep, steps_awaited}
 use Rattle.refinement.proofs.device.HaltedPort.{reset_left, reset_read}
 use Rattle.refinement.proofs.device.HealthyPort.{at_port}

@@ -14,9 +14,9 @@ use Rattle.adapter.specs.Device.{Bases, Notes, DevicePort, Device}
 use Rattle.adapter.specs.Kept.{Keeps, KeepsOutsideReset, KeepsPort, KeepsControls}
 use Rattle.adapter.specs.Rules.{IsOn, HasPort, MayStart, MaySetFre, MayStopReceiving, MayWriteCmd, MayWritePort, MayWrite, IsStable}
 use Rattle.adapter.proofs.Calls.{PortRegisterWritten, put, on_after, on_stays}
-use Rattle.adapter.proofs.KeptLemmas.{law_steps_guarantee}
+use Rattle.adapter.proofs.KeptLemmas.{law_step_lists_keep_what_steps_keep}
 use Rattle.refinement.specs.Driver.{LeavesUses, AllFree, KeepsOtherCmdBits}
-use Rattle.refinement.specs.Facts.{KeepsRecord, IsCleanToStart}
+use Rattle.refinement.specs.PortFacts.{KeepsFaultRecord, IsCleanToStart}
 use Rattle.refinement.specs.Places.{list_of, received_of}
 use Rattle.refinement.specs.Slots.{SlotStates}
 use Rattle.refinement.proofs.device.StartConditions.{steps_quiet}
@@ -84,10 +84,10 @@ pub write_stays : (r : Reg) (v : ℕ) (d : Device) → ((port : Port) → r ≢ 
 write_stays Ghc v d other x mid s = x
 write_stays adapter.Is v d other x mid s = (
   on_stays x.0 s,
-  λ port small set. ap (λ (n : Notes). n.acknowledged) ((law_steps_guarantee s).notes port) ∙ x.1 port small set,
+  λ port small set. ap (λ (n : Notes). n.acknowledged) ((law_step_lists_keep_what_steps_keep s).notes port) ∙ x.1 port small set,
 )
 write_stays (Px port r) v d other x mid s =
-    let k : Keeps d mid = law_steps_guarantee s in
+    let k : Keeps d mid = law_step_lists_keep_what_steps_keep s in
     let c : KeepsOutsideReset d mid = k.on x.0.no_reset in (
       on_after x.0 c,
       (x.1.0, ap (λ (n : ℕ). bit n port.0) k.pi ∙ x.1.1),
@@ -103,7 +103,7 @@ write_stays Bohc v d other x mid s = x
 
 pub uses_stay : (uses : SlotStates) (r : Reg) (v : ℕ) (d : Device) → d.hr ≡ false → LeavesUses uses r v d → IsStable (LeavesUses uses r v) d
 uses_stay uses (Px port Cmd) v d off x mid s =
-    let k : Keeps d mid = law_steps_guarantee s in
+    let k : Keeps d mid = law_step_lists_keep_what_steps_keep s in
     let c : KeepsOutsideReset d mid = k.on off in
     record {
       start = λ b. ⊎_elim (λ (on : (d.port port.0).st ≡ true). inl ((c.controls port.0).st ∙ on)) (λ (free : AllFree uses port.0). inr free) (x.start b);
@@ -130,11 +130,11 @@ uses_stay uses Vs v d off x mid s = x
 uses_stay uses Cap2 v d off x mid s = x
 uses_stay uses Bohc v d off x mid s = x
 
-pub record_stays : (r : Reg) (v : ℕ) (d : Device) → d.hr ≡ false → KeepsRecord r v d → IsStable (KeepsRecord r v) d
+pub record_stays : (r : Reg) (v : ℕ) (d : Device) → d.hr ≡ false → KeepsFaultRecord r v d → IsStable (KeepsFaultRecord r v) d
 record_stays (Px port Cmd) v d off x mid s =
-    let c : KeepsOutsideReset d mid = (law_steps_guarantee s).on off in
+    let c : KeepsOutsideReset d mid = (law_step_lists_keep_what_steps_keep s).on off in
     λ b. ⊎_elim (λ (on : (d.port port.0).st ≡ true). inl ((c.controls port.0).st ∙ on)) (λ (quiet : IsCleanToStart (d.port port.0)). inr (steps_quiet port.0 d mid s quiet)) (x b)
-record_stays (Px port Sctl) v d off x mid s = ((law_steps_guarantee s).port port.0).cr x
+record_stays (Px port Sctl) v d off x mid s = ((law_step_lists_keep_what_steps_keep s).port port.0).cr x
 record_stays (Px port Clb) v d off x mid s = x
 record_stays (Px port Clbu) v d off x mid s = x
 record_stays (Px port Fb) v d off x mid s = x

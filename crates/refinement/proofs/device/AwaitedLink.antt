@@ -8,22 +8,22 @@ use Rattle.hba_regs.specs.declared.reg.Reg.{Reg}
 use Rattle.hba_regs.specs.declared.reg.Reg.TheVariants.{Cap, Ghc, Pi, Vs, Cap2, Bohc, Px}
 use Rattle.hba_regs.specs.declared.reg.Reg.TheVariants as adapter
 use Rattle.hba_regs.specs.declared.reg.PortReg.TheVariants.{Clb, Clbu, Fb, Fbu, Is, Ie, Cmd, Tfd, Sig, Ssts, Sctl, Serr, Sact, Ci}
-use Rattle.adapter.specs.Access.{Reads, Writes, noted, written, port_written, with_st, with_fre, with_det, with_is_cleared}
+use Rattle.adapter.specs.Access.{Reads, Writes, noted, written, port_written, with_st, with_fre, with_det, with_is_bit_cleared}
 use Rattle.adapter.specs.Device.{DevicePort, Device}
 use Rattle.adapter.specs.Kept.{KeepsPort}
 use Rattle.adapter.specs.Rules.{MayWrite, IsStable}
-use Rattle.adapter.specs.Steps.{DeviceTransition, Can, device_after, StepLeads, Steps}
+use Rattle.adapter.specs.Steps.{DeviceTransition, Can, device_after, TransitionsLead, Steps}
 use Rattle.adapter.specs.Steps.DeviceTransition.{Fetch, FetchFault, Move, Clear, Done, Fault, Fatal, Fall, FrFall, LinkUp, Unplug, Plug, ResetEnds, Scribble}
 use Rattle.adapter.proofs.Changed.{changed_same}
 use Rattle.refinement.specs.Below.{StepLaws}
-use Rattle.refinement.specs.Facts.{ShowsDrqTillLink, StoppedTfesClear, IsCleanToStart, KeepsRecord}
+use Rattle.refinement.specs.PortFacts.{ShowsDrqTillLink, StoppedTfesClear, IsCleanToStart, KeepsFaultRecord}
 use Rattle.refinement.proofs.device.HealthyPort.{at_port}
 
 -- ---- predicates of a port that no step, or no reading, spoils
 
 -- what each step keeps of a port, lists of steps keep
 pub leads_keep : (P : DevicePort → Type 0) → ((d : Device) (port : ℕ) (step : DeviceTransition) → Can step d → P (d.port port) → P ((device_after step d).port port)) →
-    (port : ℕ) (steps : List DeviceTransition) (old new : Device) → StepLeads steps old new → P (old.port port) → P (new.port port)
+    (port : ℕ) (steps : List DeviceTransition) (old new : Device) → TransitionsLead steps old new → P (old.port port) → P (new.port port)
 leads_keep P keep port [] old new e h = subst (λ (d : Device). P (d.port port)) (sym e) h
 leads_keep P keep port (step ∷ steps) old new (can, lead) h = leads_keep P keep port steps (device_after step old) new lead (keep old port step can h)
 
@@ -95,11 +95,11 @@ module _ (p : DevicePort) (v tape : ℕ) where
           (λ (q : IsCleanToStart p) (due : (p.link_due ≡ true) ⊎ (p.sctl_det ≡ 1)). ⊎_elim (λ (l : p.link_due ≡ true). absurd (both_ways _ q.linked l)) (λ (o : p.sctl_det ≡ 1). absurd (q.no_comreset o)) due)
           (may e))
 
-written_awaited : (port : ℕ) (d : Device) (r : Reg) (v : ℕ) → MayWrite r v d → KeepsRecord r v d → ShowsDrqTillLink (d.port port) → ShowsDrqTillLink ((written r v d).port port)
+written_awaited : (port : ℕ) (d : Device) (r : Reg) (v : ℕ) → MayWrite r v d → KeepsFaultRecord r v d → ShowsDrqTillLink (d.port port) → ShowsDrqTillLink ((written r v d).port port)
 written_awaited port d Ghc v may x h = h
 written_awaited port d adapter.Is v may x h = by (bit v port)
   where
-    by : (b : Bool) → ShowsDrqTillLink (if b then with_is_cleared (d.port port) else d.port port)
+    by : (b : Bool) → ShowsDrqTillLink (if b then with_is_bit_cleared (d.port port) else d.port port)
     by true = h
     by false = h
 written_awaited port d (Px p Clb) v may x h = at_port ShowsDrqTillLink ShowsDrqTillLink d p.0 port _ h (λ e y. y) (λ ne y. y)
@@ -127,7 +127,7 @@ written_awaited port d Vs v may x h = absurd may
 written_awaited port d Cap2 v may x h = absurd may
 written_awaited port d Bohc v may x h = absurd may
 
-pub writes_awaited : (port : ℕ) (r : Reg) (v : ℕ) (old new : Device) → IsStable (MayWrite r v) old → IsStable (KeepsRecord r v) old → Writes r v old new → ShowsDrqTillLink (old.port port) → ShowsDrqTillLink (new.port port)
+pub writes_awaited : (port : ℕ) (r : Reg) (v : ℕ) (old new : Device) → IsStable (MayWrite r v) old → IsStable (KeepsFaultRecord r v) old → Writes r v old new → ShowsDrqTillLink (old.port port) → ShowsDrqTillLink (new.port port)
 writes_awaited port r v old new may keeps call h =
     subst (λ (d : Device). ShowsDrqTillLink (d.port port)) (sym call.effect)
     (written_awaited port call.mid r v (may call.mid call.steps) (keeps call.mid call.steps) (steps_awaited port old call.mid call.steps h))

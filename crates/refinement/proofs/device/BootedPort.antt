@@ -11,7 +11,7 @@ use Rattle.adapter.specs.Device.{DevicePort, Device}
 use Rattle.adapter.specs.Kept.{Keeps}
 use Rattle.adapter.proofs.Changed.{changed_same}
 use Rattle.refinement.specs.Below.{StepLaws}
-use Rattle.refinement.specs.Facts.{RunsWell, Undisturbed, ShowsNoTrouble, TellsNoTrouble, ClearsNoTrouble}
+use Rattle.refinement.specs.PortFacts.{RunsWell, Undisturbed, ShowsNoTrouble, TellsNoTrouble, ClearsNoTrouble}
 use Rattle.refinement.specs.Links.{NoPlugEvents}
 use Rattle.refinement.specs.Started.{IsUp, IsStarted}
 use Rattle.refinement.proofs.device.RisingLink.{steps_up}

@@ -7,11 +7,11 @@ use Rattle.hba_regs.specs.Bits.{bit}
 use Rattle.hba_regs.specs.declared.reg.Reg.TheVariants.{Ghc, Px}
 use Rattle.hba_regs.specs.declared.reg.PortReg.{PortReg}
 use Rattle.hba_regs.specs.declared.reg.PortReg.TheVariants.{Cmd, Sctl, Ssts}
-use Rattle.adapter.specs.Access.{Access, Does, Reads, Writes, note, with_is_cleared, port_written, with_st, with_fre, with_det}
+use Rattle.adapter.specs.Access.{Access, Does, Reads, Writes, note, with_is_bit_cleared, port_written, with_st, with_fre, with_det}
 use Rattle.adapter.specs.Device.{DevicePort, Device}
 use Rattle.adapter.specs.Idle.{IsIdle}
 use Rattle.adapter.specs.Kept.{Keeps}
-use Rattle.adapter.specs.Steps.{DeviceTransition, Can, device_after, StepLeads, Steps}
+use Rattle.adapter.specs.Steps.{DeviceTransition, Can, device_after, TransitionsLead, Steps}
 use Rattle.adapter.specs.Steps.DeviceTransition.{Fetch, FetchFault, Move, Clear, Done, Fault, Fatal, Fall, FrFall, LinkUp, Unplug, Plug, ResetEnds, Scribble}
 use Rattle.adapter.specs.declared.tape.Entry.{Entry}
 use Rattle.adapter.proofs.Changed.{changed_same}
@@ -24,14 +24,14 @@ use Rattle.refinement.proofs.device.TapeGains.{NoneOf, gained_none}
 use Rattle.refinement.proofs.device.HaltedPort.{reset_read, law_reset_is_found, reset_idle}
 use Rattle.refinement.proofs.device.HealthyPort.{at_port}
 use Rattle.refinement.proofs.device.AdapterReset.{ghc_told}
-use Rattle.refinement.specs.Vacant.{IsVacant, IsFreshIfShown}
+use Rattle.refinement.specs.Vacant.{IsVacant, HasFirstFisIfShown}
 
 -- ---- facts of a port that its steps keep while no disk comes
 
 -- what each step keeps that is no disk's coming, lists of them keep
 leads_without : StepLaws → (port : ℕ) (P : DevicePort → Type 0) →
     ((d : Device) (gained : List Entry) → NoneOf (IsDiskComing port) gained → (step : DeviceTransition) → Can step d → (device_after step d).tape ≡ d.tape ++ gained → P (d.port port) → P ((device_after step d).port port)) →
-    (steps : List DeviceTransition) (old new : Device) → StepLeads steps old new → NoDiskComes port old new → P (old.port port) → P (new.port port)
+    (steps : List DeviceTransition) (old new : Device) → TransitionsLead steps old new → NoDiskComes port old new → P (old.port port) → P (new.port port)
 leads_without laws port P keep [] old new e none h = subst (λ (d : Device). P (d.port port)) (sym e) h
 leads_without laws port P keep (step ∷ steps) old new (can, lead) none h =
     let k : Keeps old (device_after step old) = laws.step step _ can in
@@ -42,7 +42,7 @@ leads_without laws port P keep (step ∷ steps) old new (can, lead) none h =
 -- and so do accesses, where their writes keep it
 access_without : StepLaws → (port : Port) (P : DevicePort → Type 0) →
     ((d : Device) (gained : List Entry) → NoneOf (IsDiskComing port.0) gained → (step : DeviceTransition) → Can step d → (device_after step d).tape ≡ d.tape ++ gained → P (d.port port.0) → P ((device_after step d).port port.0)) →
-    ((p : DevicePort) (r : PortReg) (v : ℕ) → P p → P (record p { notes = note r v p })) → ((p : DevicePort) → P p → P (with_is_cleared p)) →
+    ((p : DevicePort) (r : PortReg) (v : ℕ) → P p → P (record p { notes = note r v p })) → ((p : DevicePort) → P p → P (with_is_bit_cleared p)) →
     ((r : PortReg) (v tape : ℕ) (p : DevicePort) → P p → P (port_written r v tape p)) →
     (access : Access) (old new : Device) → NoDiskComes port.0 old new → Does access old new → P (old.port port.0) → P (new.port port.0)
 access_without laws port P keep noting acknowledging writing access old new none x h =
@@ -130,19 +130,19 @@ vacant_access laws port access old new none x h =
 -- ---- a disk that shows has sent its first FIS
 
 module _ (port : ℕ) (d : Device) (gained : List Entry) (none : NoneOf (IsDiskComing port) gained) where
-  step_fresh : (step : DeviceTransition) → Can step d → (device_after step d).tape ≡ d.tape ++ gained → IsFreshIfShown (d.port port) → IsFreshIfShown ((device_after step d).port port)
-  step_fresh (Fetch p slot c places) can is h = at_port IsFreshIfShown IsFreshIfShown d p port _ h (λ e x. x) (λ ne x. x)
-  step_fresh (FetchFault p slot queued kept_bits) can is h = at_port IsFreshIfShown IsFreshIfShown d p port _ h (λ e x. x) (λ ne x. x)
-  step_fresh (Move p slot t bytes) can is h = at_port IsFreshIfShown IsFreshIfShown d p port _ h (λ e x. x) (λ ne x. x)
-  step_fresh (Clear p slot t first count) can is h = at_port IsFreshIfShown IsFreshIfShown d p port _ h (λ e x. x) (λ ne x. x)
-  step_fresh (Done p slot flag t) can is h = at_port IsFreshIfShown IsFreshIfShown d p port _ h (λ e x. x) (λ ne x. x)
-  step_fresh (Fault p slot error kept_bits t) can is h = at_port IsFreshIfShown IsFreshIfShown d p port _ h (λ e x. x) (λ ne x. x)
-  step_fresh (Fatal p place) can is h = at_port IsFreshIfShown IsFreshIfShown d p port _ h (λ e x. x) (λ ne x. x)
-  step_fresh (Fall p) can is h = at_port IsFreshIfShown IsFreshIfShown d p port _ h (λ e x. x) (λ ne x. x)
-  step_fresh (FrFall p) can is h = at_port IsFreshIfShown IsFreshIfShown d p port _ h (λ e x. x) (λ ne x. x)
-  step_fresh (LinkUp p sig n) can is h = at_port IsFreshIfShown IsFreshIfShown d p port _ h (λ e x _. refl) (λ ne x. x)
-  step_fresh (Unplug p) can is h = at_port IsFreshIfShown IsFreshIfShown d p port _ h (λ e x z. not_three z) (λ ne x. x)
-  step_fresh (Plug p disk) can is h = at_port IsFreshIfShown IsFreshIfShown d p port _ h (λ e x. absurd (gained_none (IsDiskComing port) d.tape _ gained is none e)) (λ ne x. x)
+  step_fresh : (step : DeviceTransition) → Can step d → (device_after step d).tape ≡ d.tape ++ gained → HasFirstFisIfShown (d.port port) → HasFirstFisIfShown ((device_after step d).port port)
+  step_fresh (Fetch p slot c places) can is h = at_port HasFirstFisIfShown HasFirstFisIfShown d p port _ h (λ e x. x) (λ ne x. x)
+  step_fresh (FetchFault p slot queued kept_bits) can is h = at_port HasFirstFisIfShown HasFirstFisIfShown d p port _ h (λ e x. x) (λ ne x. x)
+  step_fresh (Move p slot t bytes) can is h = at_port HasFirstFisIfShown HasFirstFisIfShown d p port _ h (λ e x. x) (λ ne x. x)
+  step_fresh (Clear p slot t first count) can is h = at_port HasFirstFisIfShown HasFirstFisIfShown d p port _ h (λ e x. x) (λ ne x. x)
+  step_fresh (Done p slot flag t) can is h = at_port HasFirstFisIfShown HasFirstFisIfShown d p port _ h (λ e x. x) (λ ne x. x)
+  step_fresh (Fault p slot error kept_bits t) can is h = at_port HasFirstFisIfShown HasFirstFisIfShown d p port _ h (λ e x. x) (λ ne x. x)
+  step_fresh (Fatal p place) can is h = at_port HasFirstFisIfShown HasFirstFisIfShown d p port _ h (λ e x. x) (λ ne x. x)
+  step_fresh (Fall p) can is h = at_port HasFirstFisIfShown HasFirstFisIfShown d p port _ h (λ e x. x) (λ ne x. x)
+  step_fresh (FrFall p) can is h = at_port HasFirstFisIfShown HasFirstFisIfShown d p port _ h (λ e x. x) (λ ne x. x)
+  step_fresh (LinkUp p sig n) can is h = at_port HasFirstFisIfShown HasFirstFisIfShown d p port _ h (λ e x _. refl) (λ ne x. x)
+  step_fresh (Unplug p) can is h = at_port HasFirstFisIfShown HasFirstFisIfShown d p port _ h (λ e x z. not_three z) (λ ne x. x)
+  step_fresh (Plug p disk) can is h = at_port HasFirstFisIfShown HasFirstFisIfShown d p port _ h (λ e x. absurd (gained_none (IsDiskComing port) d.tape _ gained is none e)) (λ ne x. x)
   step_fresh ResetEnds can is h = λ z. not_three z
   step_fresh (Scribble p slot at bytes) can is h = h
 
@@ -155,16 +155,16 @@ command_fresh v tape p = by (bit v 0) p.st refl
     by true true is = ap (λ (x : DevicePort). x.fresh) (cond-true p.st p _ is)
     by true false is = ap (λ (x : DevicePort). x.fresh) (cond-false p.st p _ is)
 
-written_fresh : (r : PortReg) (v tape : ℕ) (p : DevicePort) → IsFreshIfShown p → IsFreshIfShown (port_written r v tape p)
+written_fresh : (r : PortReg) (v tape : ℕ) (p : DevicePort) → HasFirstFisIfShown p → HasFirstFisIfShown (port_written r v tape p)
 written_fresh Cmd v tape p h = λ up. command_fresh v tape p ∙ h (sym (command_beside v tape p).3 ∙ up)
 written_fresh Sctl v tape p h = λ up. h (det_was (nat_eq (v % 16) 1) p.ssts_det up)
 written_fresh _ v tape p h = h
 
-pub fresh_steps : StepLaws → (port : ℕ) (old new : Device) → NoDiskComes port old new → Steps old new → IsFreshIfShown (old.port port) → IsFreshIfShown (new.port port)
-fresh_steps laws port old new none s h = leads_without laws port IsFreshIfShown (step_fresh port) s.steps old new s.lead none h
+pub fresh_steps : StepLaws → (port : ℕ) (old new : Device) → NoDiskComes port old new → Steps old new → HasFirstFisIfShown (old.port port) → HasFirstFisIfShown (new.port port)
+fresh_steps laws port old new none s h = leads_without laws port HasFirstFisIfShown (step_fresh port) s.steps old new s.lead none h
 
-pub fresh_access : StepLaws → (port : Port) (access : Access) (old new : Device) → NoDiskComes port.0 old new → Does access old new → IsFreshIfShown (old.port port.0) → IsFreshIfShown (new.port port.0)
-fresh_access laws port access old new none x h = access_without laws port IsFreshIfShown (step_fresh port.0) (λ p r v y. y) (λ p y. y) written_fresh access old new none x h
+pub fresh_access : StepLaws → (port : Port) (access : Access) (old new : Device) → NoDiskComes port.0 old new → Does access old new → HasFirstFisIfShown (old.port port.0) → HasFirstFisIfShown (new.port port.0)
+fresh_access laws port access old new none x h = access_without laws port HasFirstFisIfShown (step_fresh port.0) (λ p r v y. y) (λ p y. y) written_fresh access old new none x h
 
 -- ---- where it begins
 
@@ -177,7 +177,7 @@ module _ (laws : StepLaws) (v : ℕ) (old new : Device) (on : old.hr ≡ true) (
       let parts = comes_parts port old (device_after ResetEnds s.0) new a.gained b.gained a.tape b.tape none in
       (vacant_steps laws) port (device_after ResetEnds s.0) new parts.1 s.1 (is_vacant _ (out_steps laws port old (device_after ResetEnds s.0) parts.0 s.2 out, λ z. not_three z))
 
-  pub fresh_reset : IsFreshIfShown (new.port port)
+  pub fresh_reset : HasFirstFisIfShown (new.port port)
   fresh_reset =
       let s = reset_read v old new on call clear in
       let a : Keeps old (device_after ResetEnds s.0) = laws.keeps _ _ s.2 in
@@ -185,10 +185,10 @@ module _ (laws : StepLaws) (v : ℕ) (old new : Device) (on : old.hr ≡ true) (
       let parts = comes_parts port old (device_after ResetEnds s.0) new a.gained b.gained a.tape b.tape none in
       (fresh_steps laws) port (device_after ResetEnds s.0) new parts.1 s.1 (λ z. not_three z)
 
-pub fresh_comreset : (port : Port) (v : ℕ) (old new : Device) → v % 16 ≡ 1 → Writes (Px port Sctl) v old new → IsFreshIfShown (new.port port.0)
+pub fresh_comreset : (port : Port) (v : ℕ) (old new : Device) → v % 16 ≡ 1 → Writes (Px port Sctl) v old new → HasFirstFisIfShown (new.port port.0)
 fresh_comreset port v old new one call =
-    subst IsFreshIfShown (sym (ap (λ (d : Device). d.port port.0) call.effect ∙ changed_same call.mid.port port.0 _))
-    (subst (λ (n : ℕ). IsFreshIfShown (with_det n (length call.mid.tape) (call.mid.port port.0))) (sym one) (λ z. not_three z))
+    subst HasFirstFisIfShown (sym (ap (λ (d : Device). d.port port.0) call.effect ∙ changed_same call.mid.port port.0 _))
+    (subst (λ (n : ℕ). HasFirstFisIfShown (with_det n (length call.mid.tape) (call.mid.port port.0))) (sym one) (λ z. not_three z))
 
 pub device_shown : (port : Port) (v : ℕ) (old new : Device) → Reads (Px port Ssts) v old new → v % 16 ≡ 3 → ShowsDiskIfIn (new.port port.0)
 device_shown port v old new call three =

@@ -12,13 +12,13 @@ use Rattle.adapter.specs.Access.{Access, Does, port_written, with_st, with_fre}
 use Rattle.adapter.specs.Device.{DevicePort, Device}
 use Rattle.adapter.specs.Kept.{Keeps, KeepsControls}
 use Rattle.adapter.specs.Memory.{changed}
-use Rattle.adapter.specs.Steps.{DeviceTransition, Can, device_after, StepLeads, Steps}
+use Rattle.adapter.specs.Steps.{DeviceTransition, Can, device_after, TransitionsLead, Steps}
 use Rattle.adapter.specs.Steps.DeviceTransition.{Fetch, FetchFault, Move, Clear, Done, Fault, Fatal, Fall, FrFall, LinkUp, Unplug, Plug, ResetEnds, Scribble}
 use Rattle.adapter.specs.declared.tape.Entry.{Entry}
 use Rattle.adapter.specs.declared.tape.Entry.TheVariants as entry
 use Rattle.adapter.proofs.Changed.{changed_same, changed_other}
 use Rattle.refinement.specs.Below.{StepLaws}
-use Rattle.refinement.specs.Driven.{Grows}
+use Rattle.refinement.specs.Driven.{TapeGrows}
 use Rattle.refinement.specs.Errors.{KeepsErrors, IsDiskComing, NoDiskComes, ChangesByDisks}
 use Rattle.refinement.specs.Links.{DoesNotWrite, IsPlugEvent, NoPlugEvents}
 use Rattle.refinement.proofs.device.FactsOverAccesses.{access_steps, effect_keeps}
@@ -58,7 +58,7 @@ plugs_come port old new p = record { gained = p.gained; tape = p.tape; none = no
 pub change_none : (port : ℕ) (d : Device) → ChangesByDisks port d d
 change_none port d = record { serr_n = λ none h. h; serr_x = λ none h. h; det = λ none up. (up, plugs_nothing port d) }
 
-pub change_more : (port : ℕ) (old mid new : Device) → Grows old mid → Grows mid new → ChangesByDisks port old mid → ChangesByDisks port mid new → ChangesByDisks port old new
+pub change_more : (port : ℕ) (old mid new : Device) → TapeGrows old mid → TapeGrows mid new → ChangesByDisks port old mid → ChangesByDisks port mid new → ChangesByDisks port old new
 change_more port old mid new early late a b = record {
   serr_n = λ none h. let parts = plugs_parts port old mid new early.0 late.0 early.1 late.1 none in b.serr_n parts.1 (a.serr_n parts.0 h);
   serr_x = λ none h. let parts = comes_parts port old mid new early.0 late.0 early.1 late.1 none in b.serr_x parts.1 (a.serr_x parts.0 h);
@@ -147,7 +147,7 @@ module _ (port : ℕ) (d : Device) (off : d.hr ≡ false) (undue : (d.port port)
   step_turns ResetEnds can = absurd (both_ways _ off can)
   step_turns (Scribble p slot at bytes) can = calm _ (refl, refl, refl, refl) (no_plugs port d _ refl)
 
-leads_turn : StepLaws → (port : ℕ) (steps : List DeviceTransition) (old new : Device) → old.hr ≡ false → (old.port port).link_due ≡ false → StepLeads steps old new → Turns port old new
+leads_turn : StepLaws → (port : ℕ) (steps : List DeviceTransition) (old new : Device) → old.hr ≡ false → (old.port port).link_due ≡ false → TransitionsLead steps old new → Turns port old new
 leads_turn laws port [] old new off undue e = subst (Turns port old) (sym e) (calm port old off undue old (refl, refl, refl, refl) (plugs_nothing port old))
 leads_turn laws port (step ∷ steps) old new off undue (can, lead) =
     let k : Keeps old (device_after step old) = laws.step step _ can in

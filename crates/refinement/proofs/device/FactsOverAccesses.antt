@@ -7,7 +7,7 @@ use Rattle.hba_regs.specs.Bits.{bit}
 use Rattle.hba_regs.specs.declared.reg.Reg.{Reg}
 use Rattle.hba_regs.specs.declared.reg.Reg.TheVariants.{Cap, Ghc, Is, Pi, Vs, Cap2, Bohc, Px}
 use Rattle.hba_regs.specs.declared.reg.PortReg.{PortReg}
-use Rattle.adapter.specs.Access.{Access, Does, note, noted, written, port_written, with_is_cleared}
+use Rattle.adapter.specs.Access.{Access, Does, note, noted, written, port_written, with_is_bit_cleared}
 use Rattle.adapter.specs.Access.Access.{Reading, Writing, Loading, Storing}
 use Rattle.adapter.specs.Device.{DevicePort, Device}
 use Rattle.adapter.specs.Steps.{Steps}
@@ -35,7 +35,7 @@ module _ (P : DevicePort → Type 0) (port : Port) (noting : (p : DevicePort) (r
   noted_on Cap2 v d h = h
   noted_on Bohc v d h = h
 
-  module _ (acknowledging : (p : DevicePort) → P p → P (with_is_cleared p)) where
+  module _ (acknowledging : (p : DevicePort) → P p → P (with_is_bit_cleared p)) where
     pub written_on : (r : Reg) (v : ℕ) (d : Device) → ((q : PortReg) → r ≡ Px port q → P (d.port port.0) → P (port_written q v (length d.tape) (d.port port.0))) → P (d.port port.0) → P ((written r v d).port port.0)
     written_on (Px p r) v d writing h = at_port P P d p.0 port.0 _ h
         (λ e x.
@@ -44,7 +44,7 @@ module _ (P : DevicePort → Type 0) (port : Port) (noting : (p : DevicePort) (r
         (λ ne x. x)
     written_on Is v d writing h = by (bit v port.0)
       where
-        by : (b : Bool) → P (if b then with_is_cleared (d.port port.0) else d.port port.0)
+        by : (b : Bool) → P (if b then with_is_bit_cleared (d.port port.0) else d.port port.0)
         by true = acknowledging (d.port port.0) h
         by false = h
     written_on Cap v d writing h = h
@@ -85,7 +85,7 @@ module _ (port : Port) (q : ℕ) (other : q ≢ port.0) where
   written_beside (Px p r) v d is = changed_other d.port p.0 _ q (beside p is)
   written_beside Cap v d is = absurd is
   written_beside Ghc v d is = absurd is
-  written_beside Is v d is = cond-false (bit v q) (with_is_cleared (d.port q)) (d.port q) (is.alone q other)
+  written_beside Is v d is = cond-false (bit v q) (with_is_bit_cleared (d.port q)) (d.port q) (is.alone q other)
   written_beside Pi v d is = absurd is
   written_beside Vs v d is = absurd is
   written_beside Cap2 v d is = absurd is

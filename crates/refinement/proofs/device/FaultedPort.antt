@@ -9,19 +9,19 @@ use Rattle.hba_regs.specs.declared.reg.Reg.TheVariants.{Cap, Ghc, Pi, Vs, Cap2, 
 use Rattle.hba_regs.specs.declared.reg.Reg.TheVariants as adapter
 use Rattle.hba_regs.specs.declared.reg.PortReg.{PortReg}
 use Rattle.hba_regs.specs.declared.reg.PortReg.TheVariants.{Clb, Clbu, Fb, Fbu, Is, Ie, Cmd, Tfd, Sig, Ssts, Sctl, Serr, Sact, Ci}
-use Rattle.adapter.specs.Access.{Reads, Writes, noted, written, port_written, with_st, with_fre, with_is_cleared}
+use Rattle.adapter.specs.Access.{Reads, Writes, noted, written, port_written, with_st, with_fre, with_is_bit_cleared}
 use Rattle.adapter.specs.Device.{DevicePort, Device}
 use Rattle.adapter.specs.Kept.{Keeps, KeepsOutsideReset}
 use Rattle.adapter.specs.Steps.{DeviceTransition, Can, device_after, Steps}
 use Rattle.adapter.specs.Steps.DeviceTransition.{Fetch, FetchFault, Move, Clear, Done, Fault, Fatal, Fall, FrFall, LinkUp, Unplug, Plug, ResetEnds, Scribble}
-use Rattle.adapter.specs.Seen.{PortRegisterRead}
+use Rattle.adapter.specs.RegisterEffects.{PortRegisterRead}
 use Rattle.adapter.specs.declared.tape.Entry.{Entry}
 use Rattle.block_machine.specs.State.{Machine}
 use Rattle.refinement.specs.Below.{StepLaws}
 use Rattle.refinement.specs.Relation.{StateRelation}
 use Rattle.refinement.specs.Slots.{SlotState, Free, SlotStates, RelatesSlot, IsEmptySlot}
 use Rattle.refinement.proofs.steps.StillFrames.{over_unused}
-use Rattle.refinement.specs.Facts.{IsFaulted, ShowsFault, RecordsFaults, FaultsOnRecord}
+use Rattle.refinement.specs.PortFacts.{IsFaulted, ShowsFault, RecordsFaults, FaultsOnRecord}
 use Rattle.refinement.proofs.device.AwaitedLink.{leads_keep}
 use Rattle.refinement.proofs.device.HealthyPort.{at_port}
 use Rattle.refinement.proofs.device.RecordedFaults.{faulted_admits, fault_halts}
@@ -96,7 +96,7 @@ written_halt port (Px p r) v d st = at_port (λ x. x.st ≡ true) (λ x. x.halt 
     (λ e x. port_halt r v (length d.tape) (d.port p.0) x ∙ ap (λ (k : ℕ). (d.port k).halt) e) (λ ne x. refl)
 written_halt port adapter.Is v d st = by (bit v port)
   where
-    by : (b : Bool) → (if b then with_is_cleared (d.port port) else d.port port).halt ≡ (d.port port).halt
+    by : (b : Bool) → (if b then with_is_bit_cleared (d.port port) else d.port port).halt ≡ (d.port port).halt
     by true = refl
     by false = refl
 written_halt port Cap v d st = refl

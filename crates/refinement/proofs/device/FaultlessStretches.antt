@@ -4,7 +4,7 @@ use Rattle.adapter.specs.Device.{Device}
 use Rattle.adapter.specs.declared.tape.Entry.{Entry}
 use Rattle.adapter.specs.declared.tape.Entry.TheVariants as entry
 use Rattle.refinement.specs.Errors.{IsFatalOf, NoneFatal, NoneFails}
-use Rattle.refinement.specs.Facts.{IsDisturbance, IsFaultOf, Undisturbed}
+use Rattle.refinement.specs.PortFacts.{IsDisturbance, IsFaultOf, Undisturbed}
 use Rattle.refinement.proofs.device.TapeGains.{GainsNone, gains_nothing, gains_more, gains_parts, none_narrower}
 
 -- ---- fatal errors

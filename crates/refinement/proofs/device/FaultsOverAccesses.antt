@@ -8,13 +8,13 @@ use Rattle.hba_regs.specs.declared.reg.Reg.{Reg}
 use Rattle.hba_regs.specs.declared.reg.Reg.TheVariants.{Cap, Ghc, Pi, Vs, Cap2, Bohc, Px}
 use Rattle.hba_regs.specs.declared.reg.Reg.TheVariants as adapter
 use Rattle.hba_regs.specs.declared.reg.PortReg.TheVariants.{Clb, Clbu, Fb, Fbu, Is, Ie, Cmd, Tfd, Sig, Ssts, Sctl, Serr, Sact, Ci}
-use Rattle.adapter.specs.Access.{Reads, Writes, noted, written, port_written, with_st, with_fre, with_is_cleared}
+use Rattle.adapter.specs.Access.{Reads, Writes, noted, written, port_written, with_st, with_fre, with_is_bit_cleared}
 use Rattle.adapter.specs.Device.{DevicePort, Device}
 use Rattle.adapter.specs.Memory.{changed}
 use Rattle.adapter.specs.Rules.{MayWrite, IsStable}
 use Rattle.adapter.specs.Steps.{halt_after_start}
 use Rattle.adapter.specs.declared.tape.Entry.{Entry}
-use Rattle.refinement.specs.Facts.{FaultsOnRecord, IsCleanToStart, KeepsRecord}
+use Rattle.refinement.specs.PortFacts.{FaultsOnRecord, IsCleanToStart, KeepsFaultRecord}
 use Rattle.refinement.proofs.steps.AdapterCalls.{noted_tape, note_times}
 use Rattle.refinement.proofs.device.HealthyPort.{at_port}
 use Rattle.refinement.proofs.device.RecordedFaults.{SameRecord, same_with, recorded_on, restarted_faulted, steps_recorded, stopped_recorded}
@@ -63,10 +63,10 @@ module _ (tape : List Entry) (p : DevicePort) (port v : ℕ) (h : FaultsOnRecord
       by true e false is = subst (λ (x : DevicePort). FaultsOnRecord tape x port) (sym (cond-false p.st p _ is))
           (⊎_elim (λ (on : p.st ≡ true). absurd (both_ways _ is on)) (λ (q : IsCleanToStart p). started_recorded q) (may e))
 
-  acknowledged_recorded : FaultsOnRecord tape (if bit v port then with_is_cleared p else p) port
+  acknowledged_recorded : FaultsOnRecord tape (if bit v port then with_is_bit_cleared p else p) port
   acknowledged_recorded = by (bit v port)
     where
-      by : (b : Bool) → FaultsOnRecord tape (if b then with_is_cleared p else p) port
+      by : (b : Bool) → FaultsOnRecord tape (if b then with_is_bit_cleared p else p) port
       by true = recorded_on tape p _ port (record { st = refl; set_at = refl; linked = refl; flag = λ f. f; halt = refl; tfd = refl; used = λ slot u. u }) h
       by false = h
 
@@ -86,7 +86,7 @@ module _ (port : ℕ) (d : Device) (h : FaultsOnRecord d.tape (d.port port) port
     used = λ slot u. ⊎_elim (λ (set : (d.port p.0).ci slot ≡ true). inl (or_left _ _ set)) (λ t. inr t) u;
   })
 
-  written_recorded : (r : Reg) (v : ℕ) → MayWrite r v d → KeepsRecord r v d → FaultsOnRecord (written r v d).tape ((written r v d).port port) port
+  written_recorded : (r : Reg) (v : ℕ) → MayWrite r v d → KeepsFaultRecord r v d → FaultsOnRecord (written r v d).tape ((written r v d).port port) port
   written_recorded Ghc v may x = h
   written_recorded adapter.Is v may x = acknowledged_recorded d.tape (d.port port) port v h
   written_recorded (Px p Clb) v may x = same_recorded p.0 _ (same_with (d.port p.0) _ _ _ _ _ _ _ _ _ _ _ _ _ _ _)
@@ -109,7 +109,7 @@ module _ (port : ℕ) (d : Device) (h : FaultsOnRecord d.tape (d.port port) port
   written_recorded Cap2 v may x = absurd may
   written_recorded Bohc v may x = absurd may
 
-pub writes_recorded : (port : ℕ) (r : Reg) (v : ℕ) (old new : Device) → IsStable (MayWrite r v) old → IsStable (KeepsRecord r v) old → Writes r v old new →
+pub writes_recorded : (port : ℕ) (r : Reg) (v : ℕ) (old new : Device) → IsStable (MayWrite r v) old → IsStable (KeepsFaultRecord r v) old → Writes r v old new →
     FaultsOnRecord old.tape (old.port port) port → FaultsOnRecord new.tape (new.port port) port
 writes_recorded port r v old new may keeps call h =
     subst (λ (d : Device). FaultsOnRecord d.tape (d.port port) port) (sym call.effect)

@@ -8,20 +8,20 @@ use Rattle.hba_regs.specs.declared.reg.Reg.TheVariants.{Ghc, Px}
 use Rattle.hba_regs.specs.declared.reg.PortReg.{PortReg}
 use Rattle.hba_regs.specs.declared.reg.PortReg.TheVariants as px
 use Rattle.hba_regs.specs.declared.reg.PortReg.TheVariants.{Cmd}
-use Rattle.adapter.specs.Access.{Reads, Writes, note, port_written, with_st, with_fre, with_is_cleared}
+use Rattle.adapter.specs.Access.{Reads, Writes, note, port_written, with_st, with_fre, with_is_bit_cleared}
 use Rattle.adapter.specs.Device.{FetchedCommand, DevicePort, Device}
 use Rattle.adapter.specs.Idle.{IsIdlePort}
 use Rattle.adapter.specs.Kept.{KeepsPort}
 use Rattle.adapter.specs.Rules.{MayWrite, MayWritePort, IsStable}
-use Rattle.adapter.specs.Steps.{DeviceTransition, Can, device_after, StepLeads, Steps}
+use Rattle.adapter.specs.Steps.{DeviceTransition, Can, device_after, TransitionsLead, Steps}
 use Rattle.adapter.specs.Steps.DeviceTransition.{Fetch, FetchFault, Move, Clear, Done, Fault, Fatal, Fall, FrFall, LinkUp, Unplug, Plug, ResetEnds, Scribble}
 use Rattle.adapter.proofs.Changed.{changed_same}
 use Rattle.block_machine.specs.State.{Machine}
 use Rattle.block_machine.specs.Histories.{IsReachable}
-use Rattle.block_machine.specs.Left as left
+use Rattle.block_machine.specs.Expected as left
 use Rattle.refinement.specs.Below.{StepLaws}
 use Rattle.refinement.specs.Relation.{StateRelation, port_at}
-use Rattle.refinement.specs.Facts.{IsEngineStopped, IsQuiescentPort}
+use Rattle.refinement.specs.PortFacts.{IsEngineStopped, IsQuiescentPort}
 use Rattle.refinement.specs.Follows.{SimulatesSteps}
 use Rattle.refinement.specs.Slots.{SlotState, Free, Own, Serves, SlotStates, Stage, OwnWaits, OwnTaken, OwnOver, IsOver, RelatesSlot, Armed}
 use Rattle.refinement.proofs.device.FactsOverAccesses.{noted_on, written_on}
@@ -71,10 +71,10 @@ noted_halted p r v h = same_halted p _ refl refl refl refl h
 noted_reset : (p : DevicePort) (r : PortReg) (v : ℕ) → IsQuiescentPort p → IsQuiescentPort (record p { notes = note r v p })
 noted_reset p r v h = same_reset p _ refl refl refl h (noted_halted p r v h.halted)
 
-unacknowledged_halted : (p : DevicePort) → IsEngineStopped p → IsEngineStopped (with_is_cleared p)
+unacknowledged_halted : (p : DevicePort) → IsEngineStopped p → IsEngineStopped (with_is_bit_cleared p)
 unacknowledged_halted p h = same_halted p _ refl refl refl refl h
 
-unacknowledged_reset : (p : DevicePort) → IsQuiescentPort p → IsQuiescentPort (with_is_cleared p)
+unacknowledged_reset : (p : DevicePort) → IsQuiescentPort p → IsQuiescentPort (with_is_bit_cleared p)
 unacknowledged_reset p h = same_reset p _ refl refl refl h (unacknowledged_halted p h.halted)
 
 -- ST stays 0
@@ -197,7 +197,7 @@ Ends old new = (mid : Device) × Steps (device_after ResetEnds mid) new × Steps
 later : (step : DeviceTransition) (old new : Device) → Can step old → Ends (device_after step old) new → Ends old new
 later step old new can s = (s.0, s.1, step_first step old (device_after ResetEnds s.0) can s.2)
 
-reset_ends : (steps : List DeviceTransition) (old new : Device) → old.hr ≡ true → new.hr ≡ false → StepLeads steps old new → Ends old new
+reset_ends : (steps : List DeviceTransition) (old new : Device) → old.hr ≡ true → new.hr ≡ false → TransitionsLead steps old new → Ends old new
 reset_ends [] old new on off e = absurd (both_ways _ (sym (ap (λ (d : Device). d.hr) e) ∙ off) on)
 reset_ends (ResetEnds ∷ steps) old new on off (can, lead) = (old, record { steps = steps; lead = lead }, record { steps = ResetEnds ∷ []; lead = (can, refl) })
 reset_ends (Fetch p slot c places ∷ steps) old new on off (can, lead) = later (Fetch p slot c places) old new can (reset_ends steps (device_after (Fetch p slot c places) old) new on off lead)

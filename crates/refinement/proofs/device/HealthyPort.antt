@@ -9,7 +9,7 @@ use Rattle.adapter.specs.FirstRead.{first_read_device, reading_port, empty_port}
 use Rattle.adapter.specs.Memory.{changed}
 use Rattle.adapter.specs.declared.tape.Entry.{Entry}
 use Rattle.adapter.proofs.Changed.{changed_same}
-use Rattle.refinement.specs.Facts.{RunsWell, IsDisturbance, Undisturbed}
+use Rattle.refinement.specs.PortFacts.{RunsWell, IsDisturbance, Undisturbed}
 use Rattle.refinement.proofs.relation.OneSlot.{changed_at}
 use Rattle.refinement.proofs.device.TapeGains.{gains_nothing, gains_more, gains_parts}
 

@@ -11,7 +11,7 @@ use Rattle.adapter.specs.Access.Access.{Writing}
 use Rattle.adapter.specs.Device.{DevicePort, Device}
 use Rattle.adapter.specs.Device.Halt.{NotHalted}
 use Rattle.adapter.specs.Kept.{Keeps}
-use Rattle.adapter.specs.Steps.{DeviceTransition, Can, device_after, StepLeads, Steps}
+use Rattle.adapter.specs.Steps.{DeviceTransition, Can, device_after, TransitionsLead, Steps}
 use Rattle.adapter.specs.Steps.DeviceTransition.{Fetch, FetchFault, Move, Clear, Done, Fault, Fatal, Fall, FrFall, LinkUp, Unplug, Plug, ResetEnds, Scribble}
 use Rattle.adapter.specs.declared.tape.Entry.{Entry}
 use Rattle.adapter.proofs.Changed.{changed_same}
@@ -84,7 +84,7 @@ module _ (port : ℕ) (d : Device) (gained others : List Entry) (none : NoneOf (
   step_runs ResetEnds off can is too h = absurd (both_ways _ off can)
   step_runs (Scribble p slot at bytes) off can is too h = h
 
-leads_run : StepLaws → (port : ℕ) (steps : List DeviceTransition) (old new : Device) → old.hr ≡ false → NoPlugEvents port old new → NoneFatal port old new → StepLeads steps old new → Runs (old.port port) → Runs (new.port port)
+leads_run : StepLaws → (port : ℕ) (steps : List DeviceTransition) (old new : Device) → old.hr ≡ false → NoPlugEvents port old new → NoneFatal port old new → TransitionsLead steps old new → Runs (old.port port) → Runs (new.port port)
 leads_run laws port [] old new off none calm e h = subst (λ (d : Device). Runs (d.port port)) (sym e) h
 leads_run laws port (step ∷ steps) old new off none calm (can, lead) h =
     let k : Keeps old (device_after step old) = laws.step step _ can in

@@ -9,7 +9,7 @@ use Rattle.adapter.specs.Access.{Reads}
 use Rattle.adapter.specs.Access.Access.{Reading}
 use Rattle.adapter.specs.Device.{Device}
 use Rattle.adapter.specs.Kept.{KeepsControls}
-use Rattle.adapter.specs.Seen.{PortRegisterRead}
+use Rattle.adapter.specs.RegisterEffects.{PortRegisterRead}
 use Rattle.refinement.specs.Below.{StepLaws}
 use Rattle.refinement.specs.Errors.{ChangesByDisks, NoneFails}
 use Rattle.refinement.specs.Links.{NoPlugEvents, LeavesLink, SameLink, ComesUp}

@@ -9,7 +9,7 @@ use Rattle.hba_regs.specs.declared.reg.PortReg.TheVariants.{Clb, Clbu, Fb, Fbu, 
 use Rattle.adapter.specs.Access.{Access, Does, port_written}
 use Rattle.adapter.specs.Device.{DevicePort, Device}
 use Rattle.adapter.specs.declared.tape.Entry.{Entry}
-use Rattle.refinement.specs.Facts.{ShowsDrqTillLink, FaultsOnRecord}
+use Rattle.refinement.specs.PortFacts.{ShowsDrqTillLink, FaultsOnRecord}
 use Rattle.refinement.specs.Links.{DoesNotWrite}
 use Rattle.refinement.proofs.steps.AdapterCalls.{note_times}
 use Rattle.refinement.proofs.device.AwaitedLink.{steps_awaited}

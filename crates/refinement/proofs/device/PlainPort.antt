@@ -12,15 +12,15 @@ use Rattle.adapter.specs.Commands.{Meaning, is_queued}
 use Rattle.adapter.specs.Device.{Halt, FetchedCommand, DevicePort, Device}
 use Rattle.adapter.specs.Device.Halt.{NotHalted, HaltedPlain, HaltedQueued, LogOnly}
 use Rattle.adapter.specs.Memory.{changed}
-use Rattle.adapter.specs.Steps.{DeviceTransition, Can, device_after, StepLeads, Steps, halted, halt_after_start, begun, MayFetch}
+use Rattle.adapter.specs.Steps.{DeviceTransition, Can, device_after, TransitionsLead, Steps, halted, halt_after_start, begun, MayFetch}
 use Rattle.adapter.specs.Steps.DeviceTransition.{Fetch, FetchFault, Move, Clear, Done, Fault, Fatal, Fall, FrFall, LinkUp, Unplug, Plug, ResetEnds, Scribble}
 use Rattle.adapter.proofs.SaysLemmas.{says_meaning}
 use Rattle.block_machine.specs.Histories.{IsReachable}
-use Rattle.block_machine.specs.Left as left
+use Rattle.block_machine.specs.Expected as left
 use Rattle.block_machine.specs.State.{Machine}
 use Rattle.refinement.specs.Below.{StepLaws}
 use Rattle.refinement.specs.Relation.{StateRelation}
-use Rattle.refinement.specs.Facts.{RunsWell, TellsNoTrouble}
+use Rattle.refinement.specs.PortFacts.{RunsWell, TellsNoTrouble}
 use Rattle.refinement.specs.Follows.{SimulatesSteps}
 use Rattle.refinement.specs.Links.{DoesNotWrite}
 use Rattle.refinement.specs.Places.{scratch_of}
@@ -153,7 +153,7 @@ module _ (uses : SlotStates) (m : Machine) (d : Device) (a : StateRelation uses 
   step_plain ResetEnds can = (h.0, λ slot. refl, λ slot t none. absurd (none-some _ none))
   step_plain (Scribble p slot at bytes) can = h
 
-leads_plain : StepLaws → (uses : SlotStates) (m : Machine) (port : ℕ) (steps : List DeviceTransition) (old new : Device) → IsReachable m → StateRelation uses m old → StepLeads steps old new → Plain (old.port port) → Plain (new.port port)
+leads_plain : StepLaws → (uses : SlotStates) (m : Machine) (port : ℕ) (steps : List DeviceTransition) (old new : Device) → IsReachable m → StateRelation uses m old → TransitionsLead steps old new → Plain (old.port port) → Plain (new.port port)
 leads_plain laws uses m port [] old new r a e h = subst (λ (d : Device). Plain (d.port port)) (sym e) h
 leads_plain laws uses m port (step ∷ steps) old new r a (can, lead) h =
     let f : SimulatesSteps uses m old (device_after step old) = step_follows uses m old step r a can in

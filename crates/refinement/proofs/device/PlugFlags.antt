@@ -13,7 +13,7 @@ use Rattle.adapter.specs.Access.Access.{Reading}
 use Rattle.adapter.specs.Device.{DevicePort, Device}
 use Rattle.adapter.specs.Kept.{Keeps}
 use Rattle.adapter.specs.Memory.{changed}
-use Rattle.adapter.specs.Steps.{DeviceTransition, Can, device_after, StepLeads, Steps}
+use Rattle.adapter.specs.Steps.{DeviceTransition, Can, device_after, TransitionsLead, Steps}
 use Rattle.adapter.specs.Steps.DeviceTransition.{Fetch, FetchFault, Move, Clear, Done, Fault, Fatal, Fall, FrFall, LinkUp, Unplug, Plug, ResetEnds, Scribble}
 use Rattle.adapter.specs.declared.tape.Entry.{Entry}
 use Rattle.adapter.proofs.Changed.{changed_same}
@@ -70,7 +70,7 @@ step_raises port d step can gained is = by step can is
 -- ---- lists of steps
 
 -- The flag stays raised while no reset is pending: what it doesn't tell hasn't come.
-leads_untold : StepLaws → (port : ℕ) (steps : List DeviceTransition) (old new : Device) → old.hr ≡ false → StepLeads steps old new → (IsNoted (new.port port) → ⊥) → (gained : List Entry) → new.tape ≡ old.tape ++ gained → NoneOf (IsPlugEvent port) gained
+leads_untold : StepLaws → (port : ℕ) (steps : List DeviceTransition) (old new : Device) → old.hr ≡ false → TransitionsLead steps old new → (IsNoted (new.port port) → ⊥) → (gained : List Entry) → new.tape ≡ old.tape ++ gained → NoneOf (IsPlugEvent port) gained
 leads_untold laws port [] old new off e untold gained is =
     subst (NoneOf (IsPlugEvent port)) (append_cancel_left old.tape [] gained (append-nil old.tape ∙ ap (λ (d : Device). d.tape) (sym e) ∙ is)) (All-nil (λ e. IsPlugEvent port e → ⊥))
 leads_untold laws port (step ∷ steps) old new off (can, lead) untold gained is =

@@ -10,7 +10,7 @@ use Rattle.adapter.specs.Access.{Access, Does, note, port_written, with_st, with
 use Rattle.adapter.specs.Access.Access.{Writing}
 use Rattle.adapter.specs.Device.{Bases, Disk, Notes, DevicePort, Device}
 use Rattle.adapter.specs.Kept.{Keeps, KeepsControls}
-use Rattle.adapter.specs.Steps.{DeviceTransition, Can, device_after, StepLeads, Steps, disk_after}
+use Rattle.adapter.specs.Steps.{DeviceTransition, Can, device_after, TransitionsLead, Steps, disk_after}
 use Rattle.adapter.specs.Steps.DeviceTransition.{Fetch, FetchFault, Move, Clear, Done, Fault, Fatal, Fall, FrFall, LinkUp, Unplug, Plug, ResetEnds, Scribble}
 use Rattle.adapter.specs.declared.command.Operation.{Operation}
 use Rattle.adapter.specs.declared.command.Operation.TheVariants as operation
@@ -18,7 +18,7 @@ use Rattle.adapter.specs.declared.tape.Entry.{Entry}
 use Rattle.adapter.specs.declared.tape.Entry.TheVariants as entry
 use Rattle.refinement.specs.Below.{StepLaws}
 use Rattle.refinement.specs.Relation.{port_at}
-use Rattle.refinement.specs.Facts.{IsDisturbance, Undisturbed}
+use Rattle.refinement.specs.PortFacts.{IsDisturbance, Undisturbed}
 use Rattle.refinement.specs.Links.{DoesNotWrite, LeavesControls, IsPlugEvent, NoPlugEvents, LeavesDisk, SameLink, ComesUp, LeavesLink}
 use Rattle.refinement.proofs.steps.AdapterCalls.{note_times}
 use Rattle.refinement.proofs.device.FactsOverAccesses.{access_steps, effect_keeps}
@@ -92,7 +92,7 @@ module _ (first : DevicePort) (port : ℕ) (d : Device) (gained : List Entry) (n
   step_disk ResetEnds is h = disk_on first (d.port port) _ refl refl refl refl h
   step_disk (Scribble p slot at bytes) is h = h
 
-leads_disk : StepLaws → (first : DevicePort) (port : ℕ) (steps : List DeviceTransition) (old new : Device) → StepLeads steps old new → NoPlugEvents port old new → LeavesDisk first (old.port port) → LeavesDisk first (new.port port)
+leads_disk : StepLaws → (first : DevicePort) (port : ℕ) (steps : List DeviceTransition) (old new : Device) → TransitionsLead steps old new → NoPlugEvents port old new → LeavesDisk first (old.port port) → LeavesDisk first (new.port port)
 leads_disk laws first port [] old new e plugs h = subst (λ (d : Device). LeavesDisk first (d.port port)) (sym e) h
 leads_disk laws first port (step ∷ steps) old new (can, lead) plugs h =
     let k : Keeps old (device_after step old) = laws.step step _ can in
@@ -171,7 +171,7 @@ module _ (first : DevicePort) (port : ℕ) (d : Device) (gained : List Entry) (n
   step_link ResetEnds off can is h = absurd (both_ways _ off can)
   step_link (Scribble p slot at bytes) off can is h = h
 
-leads_link : StepLaws → (first : DevicePort) (port : ℕ) (steps : List DeviceTransition) (old new : Device) → old.hr ≡ false → StepLeads steps old new → NoPlugEvents port old new → LeavesLink first (old.port port) → LeavesLink first (new.port port)
+leads_link : StepLaws → (first : DevicePort) (port : ℕ) (steps : List DeviceTransition) (old new : Device) → old.hr ≡ false → TransitionsLead steps old new → NoPlugEvents port old new → LeavesLink first (old.port port) → LeavesLink first (new.port port)
 leads_link laws first port [] old new off e plugs h = subst (λ (d : Device). LeavesLink first (d.port port)) (sym e) h
 leads_link laws first port (step ∷ steps) old new off (can, lead) plugs h =
     let k : Keeps old (device_after step old) = laws.step step _ can in

@@ -9,7 +9,7 @@ use Rattle.hba_regs.specs.declared.reg.Reg.TheVariants.{Cap, Ghc, Pi, Vs, Cap2, 
 use Rattle.hba_regs.specs.declared.reg.Reg.TheVariants as adapter
 use Rattle.hba_regs.specs.declared.reg.PortReg.{PortReg}
 use Rattle.hba_regs.specs.declared.reg.PortReg.TheVariants.{Is, Cmd, Tfd, Sig, Ssts, Sctl, Sact, Ci}
-use Rattle.adapter.specs.Access.{Access, Does, Reads, PortShows, note, noted, written, port_written, with_st, with_fre, with_is_cleared}
+use Rattle.adapter.specs.Access.{Access, Does, Reads, PortShows, note, noted, written, port_written, with_st, with_fre, with_is_bit_cleared}
 use Rattle.adapter.specs.Access.Access.{Reading, Writing, Loading, Storing}
 use Rattle.adapter.specs.Device.{Notes, DevicePort, Device}
 use Rattle.adapter.specs.Kept.{KeepsControls}
@@ -138,7 +138,7 @@ writing_leaves port first (Px p r) v d h = at_port (Leaves (Writing (Px p r) v) 
     (λ ne x. x)
 writing_leaves port first adapter.Is v d h = by (bit v port.0)
   where
-    by : (b : Bool) → Leaves (Writing adapter.Is v) port first (if b then with_is_cleared (d.port port.0) else d.port port.0)
+    by : (b : Bool) → Leaves (Writing adapter.Is v) port first (if b then with_is_bit_cleared (d.port port.0) else d.port port.0)
     by true = h
     by false = h
 writing_leaves port first Cap v d h = h

@@ -8,7 +8,7 @@ use Rattle.hba_regs.specs.declared.reg.PortReg.TheVariants.{Is, Cmd}
 use Rattle.adapter.specs.Access.{Access, Does, port_written}
 use Rattle.adapter.specs.Device.{DevicePort, Device}
 use Rattle.adapter.specs.Kept.{Keeps}
-use Rattle.adapter.specs.Steps.{DeviceTransition, Can, device_after, StepLeads, Steps}
+use Rattle.adapter.specs.Steps.{DeviceTransition, Can, device_after, TransitionsLead, Steps}
 use Rattle.adapter.specs.Steps.DeviceTransition.{Fetch, FetchFault, Move, Clear, Done, Fault, Fatal, Fall, FrFall, LinkUp, Unplug, Plug, ResetEnds, Scribble}
 use Rattle.adapter.specs.declared.tape.Fault as tape_fault
 use Rattle.adapter.specs.declared.tape.Entry.{Entry}
@@ -17,7 +17,7 @@ use Rattle.adapter.proofs.Changed.{changed_other}
 use Rattle.refinement.specs.Below.{StepLaws}
 use Rattle.refinement.specs.Relation.{port_at}
 use Rattle.refinement.specs.Errors.{IsFatalOf, ChangesByErrors}
-use Rattle.refinement.specs.Facts.{IsFaultOf}
+use Rattle.refinement.specs.PortFacts.{IsFaultOf}
 use Rattle.refinement.proofs.device.FactsOverAccesses.{access_steps, effect_keeps}
 use Rattle.refinement.proofs.device.ErrorBits.{command_beside}
 use Rattle.refinement.proofs.device.FaultlessStretches.{fatal_gains, fails_gains}
@@ -73,7 +73,7 @@ module _ (laws : StepLaws) (IsKind : Entry → Type 0) (port place : ℕ) (high 
     step_unset ResetEnds can is h = refl
     step_unset (Scribble p slot at bytes) can is h = h
 
-  leads_unset : (steps : List DeviceTransition) (old new : Device) → StepLeads steps old new → GainsNone IsKind old new → Unset (old.port port) → Unset (new.port port)
+  leads_unset : (steps : List DeviceTransition) (old new : Device) → TransitionsLead steps old new → GainsNone IsKind old new → Unset (old.port port) → Unset (new.port port)
   leads_unset [] old new e none h = subst (λ (d : Device). Unset (d.port port)) (sym e) h
   leads_unset (step ∷ steps) old new (can, lead) none h =
       let k : Keeps old (device_after step old) = laws.step step _ can in

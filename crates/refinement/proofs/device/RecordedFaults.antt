@@ -9,13 +9,13 @@ use Rattle.adapter.specs.Device.{Bases, Disk, Lasting, Halt, DevicePort, Device}
 use Rattle.adapter.specs.Device.Halt.{NotHalted, HaltedPlain, HaltedQueued, LogOnly}
 use Rattle.adapter.specs.Memory.{changed}
 use Rattle.adapter.specs.Rules.{InUse}
-use Rattle.adapter.specs.Steps.{DeviceTransition, Can, device_after, StepLeads, Steps, AreBsyDrqBits, admits, halted, halt_after_start, fault_entry}
+use Rattle.adapter.specs.Steps.{DeviceTransition, Can, device_after, TransitionsLead, Steps, AreBsyDrqBits, admits, halted, halt_after_start, fault_entry}
 use Rattle.adapter.specs.Steps.DeviceTransition.{Fetch, FetchFault, Move, Clear, Done, Fault, Fatal, Fall, FrFall, LinkUp, Unplug, Plug, ResetEnds, Scribble}
 use Rattle.adapter.specs.declared.command.Operation.{Operation}
 use Rattle.adapter.specs.declared.tape.Entry.{Entry}
 use Rattle.adapter.specs.declared.tape.Entry.TheVariants as entry
 use Rattle.adapter.proofs.Changed.{changed_other}
-use Rattle.refinement.specs.Facts.{IsFaulted, IsFaultOf, ShowsFault, RecordsFaults, FaultsOnRecord}
+use Rattle.refinement.specs.PortFacts.{IsFaulted, IsFaultOf, ShowsFault, RecordsFaults, FaultsOnRecord}
 use Rattle.refinement.proofs.device.HealthyPort.{at_port}
 
 -- ---- halts
@@ -245,7 +245,7 @@ module _ (port : ℕ) (d : Device) (h : FaultsOnRecord d.tape (d.port port) port
   step_recorded ResetEnds can = stopped_recorded d.tape _ port refl
   step_recorded (Scribble p slot at bytes) can = h
 
-leads_recorded : (port : ℕ) (steps : List DeviceTransition) (old new : Device) → StepLeads steps old new → FaultsOnRecord old.tape (old.port port) port → FaultsOnRecord new.tape (new.port port) port
+leads_recorded : (port : ℕ) (steps : List DeviceTransition) (old new : Device) → TransitionsLead steps old new → FaultsOnRecord old.tape (old.port port) port → FaultsOnRecord new.tape (new.port port) port
 leads_recorded port [] old new e h = subst (λ (d : Device). FaultsOnRecord d.tape (d.port port) port) (sym e) h
 leads_recorded port (step ∷ steps) old new (can, lead) h = leads_recorded port steps (device_after step old) new lead (step_recorded port old h step can)
 

@@ -13,7 +13,7 @@ use Rattle.adapter.specs.Steps.{DeviceTransition, Can, device_after, Steps, halt
 use Rattle.adapter.specs.Steps.DeviceTransition.{Fetch, FetchFault, Move, Clear, Done, Fault, Fatal, Fall, FrFall, LinkUp, Unplug, Plug, ResetEnds, Scribble}
 use Rattle.adapter.specs.declared.tape.Entry.{Entry}
 use Rattle.refinement.specs.Below.{StepLaws}
-use Rattle.refinement.specs.Facts.{IsDisturbance, Undisturbed}
+use Rattle.refinement.specs.PortFacts.{IsDisturbance, Undisturbed}
 use Rattle.refinement.specs.Links.{DoesNotWrite}
 use Rattle.refinement.specs.Started.{IsUp, IsStarted}
 use Rattle.refinement.proofs.device.RisingLink.{Up, up_of, is_up}

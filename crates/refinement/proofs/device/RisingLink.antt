@@ -12,7 +12,7 @@ use Rattle.adapter.specs.Access.Access.{Reading, Writing}
 use Rattle.adapter.specs.Device.{DevicePort, Device}
 use Rattle.adapter.specs.Device.Halt.{NotHalted}
 use Rattle.adapter.specs.Kept.{Keeps, KeepsPort}
-use Rattle.adapter.specs.Steps.{DeviceTransition, Can, device_after, StepLeads, Steps, halt_after_start}
+use Rattle.adapter.specs.Steps.{DeviceTransition, Can, device_after, TransitionsLead, Steps, halt_after_start}
 use Rattle.adapter.specs.Steps.DeviceTransition.{Fetch, FetchFault, Move, Clear, Done, Fault, Fatal, Fall, FrFall, LinkUp, Unplug, Plug, ResetEnds, Scribble}
 use Rattle.adapter.specs.declared.tape.Entry.{Entry}
 use Rattle.adapter.proofs.Changed.{changed_same}
@@ -80,7 +80,7 @@ module _ (port : ℕ) (d : Device) (gained : List Entry) (none : NoneOf (IsDiskC
   step_coming ResetEnds can is = (refl, λ det. not_three det)
   step_coming (Scribble p slot at bytes) can is = h
 
-leads_coming : StepLaws → (port : ℕ) (steps : List DeviceTransition) (old new : Device) → StepLeads steps old new → NoDiskComes port old new → Coming (old.port port) → Coming (new.port port)
+leads_coming : StepLaws → (port : ℕ) (steps : List DeviceTransition) (old new : Device) → TransitionsLead steps old new → NoDiskComes port old new → Coming (old.port port) → Coming (new.port port)
 leads_coming laws port [] old new e none h = subst (λ (d : Device). Coming (d.port port)) (sym e) h
 leads_coming laws port (step ∷ steps) old new (can, lead) none h =
     let k : Keeps old (device_after step old) = laws.step step _ can in

@@ -12,13 +12,13 @@ use Rattle.adapter.specs.Access.Access.{Reading, Writing}
 use Rattle.adapter.specs.Device.{DevicePort, Device}
 use Rattle.adapter.specs.Device.Halt.{NotHalted}
 use Rattle.adapter.specs.Kept.{Keeps}
-use Rattle.adapter.specs.Steps.{DeviceTransition, Can, device_after, StepLeads, Steps}
+use Rattle.adapter.specs.Steps.{DeviceTransition, Can, device_after, TransitionsLead, Steps}
 use Rattle.adapter.specs.Steps.DeviceTransition.{Fetch, FetchFault, Move, Clear, Done, Fault, Fatal, Fall, FrFall, LinkUp, Unplug, Plug, ResetEnds, Scribble}
 use Rattle.adapter.specs.declared.tape.Entry.{Entry}
 use Rattle.refinement.specs.Below.{StepLaws}
 use Rattle.refinement.specs.Relation.{port_at}
 use Rattle.refinement.specs.Errors.{ChangesByDisks, StaysClear}
-use Rattle.refinement.specs.Facts.{RunsWell, IsDisturbance, Undisturbed, ShowsNoTrouble}
+use Rattle.refinement.specs.PortFacts.{RunsWell, IsDisturbance, Undisturbed, ShowsNoTrouble}
 use Rattle.refinement.specs.Links.{DoesNotWrite}
 use Rattle.refinement.specs.Started.{IsStarted, ClearsNoStart}
 use Rattle.refinement.proofs.device.FactsOverAccesses.{access_steps, effect_keeps}
@@ -37,7 +37,7 @@ calm_before port old mid new same u = record { gained = u.gained; tape = sym sam
 -- what each step keeps that is no disturbance, lists of them keep
 pub leads_calmly : StepLaws → (port : ℕ) (P : Device → Type 0) →
     ((d : Device) (gained : List Entry) → NoneOf (IsDisturbance port) gained → (step : DeviceTransition) → Can step d → (device_after step d).tape ≡ d.tape ++ gained → P d → P (device_after step d)) →
-    (steps : List DeviceTransition) (old new : Device) → StepLeads steps old new → Undisturbed port old new → P old → P new
+    (steps : List DeviceTransition) (old new : Device) → TransitionsLead steps old new → Undisturbed port old new → P old → P new
 leads_calmly laws port P keep [] old new e u h = subst P (sym e) h
 leads_calmly laws port P keep (step ∷ steps) old new (can, lead) u h =
     let k : Keeps old (device_after step old) = laws.step step _ can in

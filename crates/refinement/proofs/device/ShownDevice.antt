@@ -7,7 +7,7 @@ use Rattle.hba_regs.specs.declared.reg.PortReg.{PortReg}
 use Rattle.hba_regs.specs.declared.reg.PortReg.TheVariants.{Cmd, Sctl}
 use Rattle.adapter.specs.Access.{Access, Does, port_written}
 use Rattle.adapter.specs.Device.{DevicePort, Device}
-use Rattle.adapter.specs.Steps.{DeviceTransition, Can, device_after, StepLeads, Steps}
+use Rattle.adapter.specs.Steps.{DeviceTransition, Can, device_after, TransitionsLead, Steps}
 use Rattle.adapter.specs.Steps.DeviceTransition.{Fetch, FetchFault, Move, Clear, Done, Fault, Fatal, Fall, FrFall, LinkUp, Unplug, Plug, ResetEnds, Scribble}
 use Rattle.refinement.specs.Below.{StepLaws}
 use Rattle.refinement.specs.Links.{DoesNotWrite, ShowsDiskIfIn}
@@ -35,7 +35,7 @@ step_shown port d (Plug p disk) off can h = at_port Shown Shown d p port _ h (λ
 step_shown port d ResetEnds off can h = absurd (both_ways _ off can)
 step_shown port d (Scribble p slot at bytes) off can h = h
 
-leads_shown : StepLaws → (port : ℕ) (steps : List DeviceTransition) (old new : Device) → old.hr ≡ false → StepLeads steps old new → Shown (old.port port) → Shown (new.port port)
+leads_shown : StepLaws → (port : ℕ) (steps : List DeviceTransition) (old new : Device) → old.hr ≡ false → TransitionsLead steps old new → Shown (old.port port) → Shown (new.port port)
 leads_shown laws port [] old new off e h = subst (λ (d : Device). Shown (d.port port)) (sym e) h
 leads_shown laws port (step ∷ steps) old new off (can, lead) h =
     leads_shown laws port steps (device_after step old) new ((laws.step step _ can).on off).no_reset lead (step_shown port old step off can h)

@@ -10,12 +10,12 @@ use Rattle.adapter.specs.Access.{Access, Does, port_written}
 use Rattle.adapter.specs.Device.{DevicePort, Device}
 use Rattle.adapter.specs.Kept.{Keeps, KeepsControls}
 use Rattle.adapter.specs.Memory.{changed}
-use Rattle.adapter.specs.Steps.{DeviceTransition, Can, device_after, StepLeads, Steps}
+use Rattle.adapter.specs.Steps.{DeviceTransition, Can, device_after, TransitionsLead, Steps}
 use Rattle.adapter.specs.Steps.DeviceTransition.{Fetch, FetchFault, Move, Clear, Done, Fault, Fatal, Fall, FrFall, LinkUp, Unplug, Plug, ResetEnds, Scribble}
 use Rattle.adapter.specs.declared.tape.Entry.{Entry}
 use Rattle.adapter.specs.declared.tape.Entry.TheVariants as entry
 use Rattle.refinement.specs.Errors.{IsFatalOf, NoneFatal, NoneFails}
-use Rattle.refinement.specs.Facts.{IsFaultOf}
+use Rattle.refinement.specs.PortFacts.{IsFaultOf}
 use Rattle.refinement.specs.Links.{DoesNotWrite}
 use Rattle.refinement.proofs.relation.OneSlot.{changed_at}
 use Rattle.refinement.proofs.device.FactsOverAccesses.{access_steps, effect_keeps}
@@ -86,7 +86,7 @@ module _ (keeps : (old new : Device) → Steps old new → Keeps old new) (low h
     step_untold ResetEnds can h = ([], no_entry, All-nil (λ e. IsKind e → ⊥))
     step_untold (Scribble p slot at bytes) can h = ([], no_entry, All-nil (λ e. IsKind e → ⊥))
 
-  leads_untold : (steps : List DeviceTransition) (old new : Device) → old.hr ≡ false → StepLeads steps old new → Untold (new.port port) → GainsNone IsKind old new
+  leads_untold : (steps : List DeviceTransition) (old new : Device) → old.hr ≡ false → TransitionsLead steps old new → Untold (new.port port) → GainsNone IsKind old new
   leads_untold [] old new off e h = subst (GainsNone IsKind old) (sym e) (gains_nothing IsKind old)
   leads_untold (step ∷ steps) old new off (can, lead) h =
       let k : Keeps old (device_after step old) = keeps old (device_after step old) (record { steps = step ∷ []; lead = (can, refl) }) in

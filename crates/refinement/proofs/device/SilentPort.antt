@@ -8,7 +8,7 @@ use Rattle.hba_regs.specs.declared.reg.PortReg.TheVariants.{Cmd}
 use Rattle.adapter.specs.Access.{Access, Does, port_written}
 use Rattle.adapter.specs.Device.{Disk, DevicePort, Device}
 use Rattle.adapter.specs.Kept.{Keeps}
-use Rattle.adapter.specs.Steps.{DeviceTransition, Can, device_after, StepLeads, Steps}
+use Rattle.adapter.specs.Steps.{DeviceTransition, Can, device_after, TransitionsLead, Steps}
 use Rattle.adapter.specs.Steps.DeviceTransition.{Fetch, FetchFault, Move, Clear, Done, Fault, Fatal, Fall, FrFall, LinkUp, Unplug, Plug, ResetEnds, Scribble}
 use Rattle.adapter.specs.declared.tape.Entry.{Entry}
 use Rattle.refinement.specs.Below.{StepLaws}
@@ -48,7 +48,7 @@ module _ (port : ℕ) (d : Device) (cr : (d.port port).cr ≡ false) where
   step_silent ResetEnds can = ([], no_entry, All-nil (λ e. IsWork port e → ⊥))
   step_silent (Scribble p slot at bytes) can = ([], no_entry, All-nil (λ e. IsWork port e → ⊥))
 
-leads_silent : StepLaws → (port : ℕ) (steps : List DeviceTransition) (old new : Device) → (old.port port).cr ≡ false → StepLeads steps old new → GainsNone (IsWork port) old new
+leads_silent : StepLaws → (port : ℕ) (steps : List DeviceTransition) (old new : Device) → (old.port port).cr ≡ false → TransitionsLead steps old new → GainsNone (IsWork port) old new
 leads_silent laws port [] old new cr e = subst (GainsNone (IsWork port) old) (sym e) (gains_nothing (IsWork port) old)
 leads_silent laws port (step ∷ steps) old new cr (can, lead) =
     let k : Keeps old (device_after step old) = laws.step step _ can in
@@ -85,7 +85,7 @@ module _ (laws : StepLaws) (disk : Disk) where
   step_rests port d gained none ResetEnds can is h = (refl, h.1)
   step_rests port d gained none (Scribble p slot at bytes) can is h = h
 
-  leads_rest : (port : ℕ) (steps : List DeviceTransition) (old new : Device) → StepLeads steps old new → NoDiskComes port old new → Rests (old.port port) → Rests (new.port port)
+  leads_rest : (port : ℕ) (steps : List DeviceTransition) (old new : Device) → TransitionsLead steps old new → NoDiskComes port old new → Rests (old.port port) → Rests (new.port port)
   leads_rest port [] old new e comes h = subst (λ (d : Device). Rests (d.port port)) (sym e) h
   leads_rest port (step ∷ steps) old new (can, lead) comes h =
       let k : Keeps old (device_after step old) = laws.step step _ can in

@@ -18,7 +18,7 @@ use Rattle.adapter.specs.Steps.DeviceTransition.{Fetch, FetchFault, Move, Clear,
 use Rattle.adapter.proofs.Changed.{changed_same}
 use Rattle.refinement.specs.Below.{StepLaws}
 use Rattle.refinement.specs.Relation.{port_at}
-use Rattle.refinement.specs.Facts.{ShowsDrqTillLink, StoppedTfesClear, IsCleanToStart}
+use Rattle.refinement.specs.PortFacts.{ShowsDrqTillLink, StoppedTfesClear, IsCleanToStart}
 use Rattle.refinement.proofs.device.FactsOverAccesses.{noted_on, written_on}
 use Rattle.refinement.proofs.device.AwaitedLink.{leads_keep, steps_awaited, steps_unflagged}
 use Rattle.refinement.proofs.device.HealthyPort.{at_port}

@@ -10,18 +10,18 @@ use Rattle.hba_regs.specs.declared.reg.Reg.TheVariants.{Cap, Ghc, Pi, Vs, Cap2, 
 use Rattle.hba_regs.specs.declared.reg.Reg.TheVariants as adapter
 use Rattle.hba_regs.specs.declared.reg.PortReg.{PortReg}
 use Rattle.hba_regs.specs.declared.reg.PortReg.TheVariants.{Clb, Clbu, Fb, Fbu, Is, Ie, Cmd, Tfd, Sig, Ssts, Sctl, Serr, Sact, Ci}
-use Rattle.adapter.specs.Access.{PortShows, Reads, Writes, Stores, noted, written, port_written, with_fre, with_is_cleared}
+use Rattle.adapter.specs.Access.{PortShows, Reads, Writes, Stores, noted, written, port_written, with_fre, with_is_bit_cleared}
 use Rattle.adapter.specs.Device.{DevicePort, Device}
 use Rattle.adapter.specs.Kept.{Keeps, KeepsOutsideReset, KeepsControls}
 use Rattle.adapter.specs.Memory.{changed}
-use Rattle.adapter.specs.Steps.{DeviceTransition, Can, device_after, StepLeads, Steps}
+use Rattle.adapter.specs.Steps.{DeviceTransition, Can, device_after, TransitionsLead, Steps}
 use Rattle.adapter.specs.Steps.DeviceTransition.{Fetch, FetchFault, Move, Clear, Done, Fault, Fatal, Fall, FrFall, LinkUp, Unplug, Plug, ResetEnds, Scribble}
 use Rattle.adapter.specs.declared.tape.Entry.{Entry}
-use Rattle.adapter.specs.Seen.{PortRegisterRead}
+use Rattle.adapter.specs.RegisterEffects.{PortRegisterRead}
 use Rattle.adapter.proofs.Changed.{changed_same}
 use Rattle.refinement.specs.Below.{StepLaws}
 use Rattle.refinement.specs.Relation.{port_at}
-use Rattle.refinement.specs.Facts.{RunsWell, IsDisturbance, Undisturbed, ShowsNoTrouble, TellsNoTrouble, ClearsNoTrouble}
+use Rattle.refinement.specs.PortFacts.{RunsWell, IsDisturbance, Undisturbed, ShowsNoTrouble, TellsNoTrouble, ClearsNoTrouble}
 use Rattle.refinement.proofs.steps.AdapterCalls.{noted_tape}
 use Rattle.refinement.proofs.relation.OneSlot.{changed_at}
 use Rattle.refinement.proofs.device.HealthyPort.{undisturbed_none, undisturbed_more, written_tape}
@@ -109,7 +109,7 @@ module _ (port : ℕ) (d : Device) where
   step_calm ResetEnds off can h = still refl
   step_calm (Scribble p slot at bytes) off can h = still refl
 
-leads_calm : StepLaws → (port : ℕ) (steps : List DeviceTransition) (old new : Device) → old.hr ≡ false → StepLeads steps old new → ShowsNoTrouble (new.port port) → Undisturbed port old new
+leads_calm : StepLaws → (port : ℕ) (steps : List DeviceTransition) (old new : Device) → old.hr ≡ false → TransitionsLead steps old new → ShowsNoTrouble (new.port port) → Undisturbed port old new
 leads_calm laws port [] old new off e h = subst (Undisturbed port old) (sym e) (undisturbed_none port old)
 leads_calm laws port (step ∷ steps) old new off (can, lead) h =
     let k : Keeps old (device_after step old) = laws.step step _ can in
@@ -191,7 +191,7 @@ written_before port (Px p r) v d keep =
     (λ e. port_before p r v (length d.tape) (d.port p.0) (subst (λ (q : Port). ClearsNoTrouble q (Px p r) v) (sym (ap port_at e)) keep))
     (λ k _ _ h. h) port.0 refl
 written_before port adapter.Is v d keep =
-    either ShowsNoTrouble (bit v port.0) (with_is_cleared (d.port port.0)) (d.port port.0) (shows_alike (d.port port.0) _ refl refl (λ place. refl)) (λ h. h)
+    either ShowsNoTrouble (bit v port.0) (with_is_bit_cleared (d.port port.0)) (d.port port.0) (shows_alike (d.port port.0) _ refl refl (λ place. refl)) (λ h. h)
 written_before port Cap v d keep = λ h. h
 written_before port Ghc v d keep = λ h. h
 written_before port Pi v d keep = λ h. h

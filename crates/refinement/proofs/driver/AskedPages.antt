@@ -10,7 +10,7 @@ use Rattle.adapter.specs.Commands.{Meaning, is_queued}
 use Rattle.adapter.specs.Device.{FetchedCommand, DevicePort, Device}
 use Rattle.adapter.specs.Kept.{Keeps, KeepsPort}
 use Rattle.adapter.specs.Memory.{changed}
-use Rattle.adapter.specs.Steps.{Can, device_after, StepLeads, Steps, MayMove, block_after, move_of}
+use Rattle.adapter.specs.Steps.{Can, device_after, TransitionsLead, Steps, MayMove, block_after, move_of}
 use Rattle.adapter.specs.Steps as steps
 use Rattle.adapter.specs.Steps.DeviceTransition.{Fetch, FetchFault, Move, Clear, Done, Fault, Fatal, Fall, FrFall, LinkUp, Unplug, Plug, ResetEnds, Scribble}
 use Rattle.adapter.specs.declared.command.Operation.{Operation}
@@ -18,7 +18,7 @@ use Rattle.adapter.specs.declared.tape.Entry.{Entry}
 use Rattle.adapter.specs.declared.tape.Entry.TheVariants as entry
 use Rattle.adapter.proofs.Changed.{changed_same, changed_other}
 use Rattle.block_machine.specs.Histories.{IsReachable}
-use Rattle.block_machine.specs.Left as left
+use Rattle.block_machine.specs.Expected as left
 use Rattle.block_machine.specs.State.{Machine}
 use Rattle.refinement.specs.Below.{StepLaws}
 use Rattle.refinement.specs.Relation.{StateRelation}
@@ -208,7 +208,7 @@ module _ (laws : StepLaws) (uses : SlotStates) (port : ℕ) (o : Operation) (own
   nothing_gained : (d new : Device) (gained : List Entry) → new ≡ d → new.tape ≡ d.tape ++ gained → gained ≡ []
   nothing_gained d new gained e is = sym (append_cancel_left d.tape [] gained (append-nil d.tape ∙ ap (λ (x : Device). x.tape) (sym e) ∙ is))
 
-  leads_none : (m : Machine) (steps : List steps.DeviceTransition) (old new : Device) → IsReachable m → StateRelation uses m old → StepLeads steps old new → (uses port 0 ≡ Own o → IsSpent (old.port port)) → (gained : List Entry) → new.tape ≡ old.tape ++ gained →
+  leads_none : (m : Machine) (steps : List steps.DeviceTransition) (old new : Device) → IsReachable m → StateRelation uses m old → TransitionsLead steps old new → (uses port 0 ≡ Own o → IsSpent (old.port port)) → (gained : List Entry) → new.tape ≡ old.tape ++ gained →
       NoneOf (IsMove port o) gained
   leads_none m [] old new r a e spent gained is = subst (NoneOf (IsMove port o)) (sym (nothing_gained old new gained e is)) no_pages
   leads_none m (step ∷ steps) old new r a (can, lead) spent gained is =
@@ -223,7 +223,7 @@ module _ (laws : StepLaws) (uses : SlotStates) (port : ℕ) (o : Operation) (own
       first entries (inl e) = subst (NoneOf (IsMove port o)) (sym e) no_pages
       first entries (inr (x, e, brings)) = subst (NoneOf (IsMove port o)) (sym e) (All-cons (λ y. IsMove port o y → ⊥) x [] (λ k. let b = brings k in b.unspent (spent b.asked)) no_pages)
 
-  leads_once : (m : Machine) (steps : List steps.DeviceTransition) (old new : Device) → IsReachable m → StateRelation uses m old → StepLeads steps old new → (gained : List Entry) → new.tape ≡ old.tape ++ gained → OneAtMost (IsMove port o) gained
+  leads_once : (m : Machine) (steps : List steps.DeviceTransition) (old new : Device) → IsReachable m → StateRelation uses m old → TransitionsLead steps old new → (gained : List Entry) → new.tape ≡ old.tape ++ gained → OneAtMost (IsMove port o) gained
   leads_once m [] old new r a e gained is = subst (OneAtMost (IsMove port o)) (sym (nothing_gained old new gained e is)) tt
   leads_once m (step ∷ steps) old new r a (can, lead) gained is =
       let f : SimulatesSteps uses m old (device_after step old) = step_follows uses m old step r a can in

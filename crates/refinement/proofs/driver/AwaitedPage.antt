@@ -16,7 +16,7 @@ use Rattle.adapter.specs.Device.{FetchedCommand, DevicePort, Device}
 use Rattle.adapter.specs.Kept.{Keeps, KeepsOutsideReset}
 use Rattle.adapter.specs.Memory.{changed}
 use Rattle.adapter.specs.Decoding.{DecodesTo}
-use Rattle.adapter.specs.Steps.{DeviceTransition, Can, device_after, StepLeads, Steps, begun, move_of}
+use Rattle.adapter.specs.Steps.{DeviceTransition, Can, device_after, TransitionsLead, Steps, begun, move_of}
 use Rattle.adapter.specs.Steps.DeviceTransition.{Fetch, FetchFault, Move, Clear, Done, Fault, Fatal, Fall, FrFall, LinkUp, Unplug, Plug, ResetEnds, Scribble}
 use Rattle.adapter.specs.declared.command.Operation.{Operation}
 use Rattle.adapter.specs.declared.tape.Entry.{Entry}
@@ -25,16 +25,16 @@ use Rattle.adapter.specs.declared.tape.Entry.TheVariants as entry
 use Rattle.adapter.proofs.Changed.{changed_same, changed_other}
 use Rattle.adapter.proofs.SaysLemmas.{says_meaning}
 use Rattle.block_machine.specs.Histories.{IsReachable}
-use Rattle.block_machine.specs.Left as left
+use Rattle.block_machine.specs.Expected as left
 use Rattle.block_machine.specs.State.{Machine}
 use Rattle.refinement.specs.Below.{StepLaws}
 use Rattle.refinement.specs.Relation.{StateRelation}
 use Rattle.refinement.specs.Awaits.{HasMovedNothing, PageHasCome, AwaitsPage}
 use Rattle.refinement.specs.Driver.{IsOwnPrepared}
-use Rattle.refinement.specs.Facts.{FindsOwnPage}
+use Rattle.refinement.specs.PortFacts.{FindsOwnPage}
 use Rattle.refinement.specs.Follows.{SimulatesSteps}
 use Rattle.refinement.specs.Places.{scratch_of}
-use Rattle.refinement.specs.Slots.{SlotState, Own, SlotStates, put, IsMove, IsOver, Brought, OwnWaits, OwnTaken, OwnOver, ServesOwn, RelatesSlot, op_of}
+use Rattle.refinement.specs.Slots.{SlotState, Own, SlotStates, put, IsMove, IsOver, PageStandsInScratch, OwnWaits, OwnTaken, OwnOver, ServesOwn, RelatesSlot, op_of}
 use Rattle.refinement.specs.Started.{ClearsNoStart}
 use Rattle.refinement.proofs.driver.IssueWrite.{own_prepared_stays}
 use Rattle.refinement.proofs.device.FactsOverAccesses.{access_steps, effect_keeps}
@@ -86,7 +86,7 @@ not_later IsKind (y ∷ before) last later (x ∷ early) e late same none is =
     omega (arith, less)
 
 -- so the page that stands in the scratch frame came since then
-brought_since : (memory : ℕ → ℕ) (tape : List Entry) (port : ℕ) (o : Operation) (since n : ℕ) → PageHasCome tape port o since → (b : Brought memory tape port o n) → (c : Brought memory tape port o since) × (c.move ≡ b.move)
+brought_since : (memory : ℕ → ℕ) (tape : List Entry) (port : ℕ) (o : Operation) (since n : ℕ) → PageHasCome tape port o since → (b : PageStandsInScratch memory tape port o n) → (c : PageStandsInScratch memory tape port o since) × (c.move ≡ b.move)
 brought_since memory tape port o since n h b = (
   record {
     before = b.before;
@@ -232,7 +232,7 @@ step_waits laws uses m port o since step d a can w =
           w.page;
     }
 
-leads_wait : StepLaws → (uses : SlotStates) (m : Machine) (port : ℕ) (o : Operation) (since : ℕ) (steps : List DeviceTransition) (old new : Device) → IsReachable m → StateRelation uses m old → StepLeads steps old new → AwaitsPage uses port o since old → AwaitsPage uses port o since new
+leads_wait : StepLaws → (uses : SlotStates) (m : Machine) (port : ℕ) (o : Operation) (since : ℕ) (steps : List DeviceTransition) (old new : Device) → IsReachable m → StateRelation uses m old → TransitionsLead steps old new → AwaitsPage uses port o since old → AwaitsPage uses port o since new
 leads_wait laws uses m port o since [] old new r a e w = subst (AwaitsPage uses port o since) (sym e) w
 leads_wait laws uses m port o since (step ∷ steps) old new r a (can, lead) w =
     let f : SimulatesSteps uses m old (device_after step old) = step_follows uses m old step r a can in
@@ -311,7 +311,7 @@ come_of : (uses : SlotStates) (port : ℕ) (o : Operation) (since : ℕ) (d : De
 come_of uses port o since d w clear = ⊎_elim (λ (x : HasMovedNothing (d.port port)). absurd (both_ways _ clear x.issued)) (λ (x : PageHasCome d.tape port o since). x) w.page
 
 pub law_page_is_awaited : StepLaws → (uses : SlotStates) (m : Machine) (port : Port) (o : Operation) (since v : ℕ) (old new : Device) → IsReachable m → StateRelation uses m old → AwaitsPage uses port.0 o since old → Reads (Px port Ci) v old new → bit v 0 ≡ false →
-    FindsOwnPage uses m port.0 o old new × Brought new.memory new.tape port.0 o since
+    FindsOwnPage uses m port.0 o old new × PageStandsInScratch new.memory new.tape port.0 o since
 law_page_is_awaited laws uses m port o since v old new r a w call clear =
     let page : FindsOwnPage uses m port.0 o old new = page_is_read laws uses m port o v old new r a w.off w.st w.own call clear in
     let y : AwaitsPage uses port.0 o since call.mid = steps_wait laws uses m port.0 o since old call.mid r a call.steps w in
@@ -320,7 +320,7 @@ law_page_is_awaited laws uses m port o since v old new r a w call clear =
     (page, (brought_since new.memory new.tape port.0 o since (new.port port.0).notes.st_set_at there page.brought).0)
 
 pub awaited_is_loaded : StepLaws → (uses : SlotStates) (m : Machine) (port : ℕ) (o : Operation) (since : ℕ) (bytes : List ℕ) (old new : Device) → IsReachable m → StateRelation uses m old → AwaitsPage uses port o since old → IsOver (old.port port) 0 →
-    Loads (scratch_of port) bytes old new → length bytes ≡ 512 → (b : Brought new.memory new.tape port o since) × (bytes ≡ b.move.bytes.value)
+    Loads (scratch_of port) bytes old new → length bytes ≡ 512 → (b : PageStandsInScratch new.memory new.tape port o since) × (bytes ≡ b.move.bytes.value)
 awaited_is_loaded laws uses m port o since bytes old new r a w over call size =
     let page = page_is_loaded laws uses m port o bytes old new r a w.off w.st w.own over call size in
     let y : AwaitsPage uses port o since new = steps_wait laws uses m port o since old new r a call.steps w in

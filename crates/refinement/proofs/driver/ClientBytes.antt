@@ -11,8 +11,8 @@ use Rattle.adapter.specs.Device.{Device}
 use Rattle.adapter.specs.Memory.{patched}
 use Rattle.adapter.proofs.MemoryLemmas.{bytes_index}
 use Rattle.block_machine.specs.Histories.{IsReachable}
-use Rattle.block_machine.specs.Left as left
-use Rattle.block_machine.specs.Left.{IsInitial}
+use Rattle.block_machine.specs.Expected as left
+use Rattle.block_machine.specs.Expected.{IsInitial}
 use Rattle.block_machine.specs.Refusals.{MayAccessFrame}
 use Rattle.block_machine.specs.State.{Machine}
 use Rattle.block_machine.specs.Steps.{Store, Load, May, after_step}

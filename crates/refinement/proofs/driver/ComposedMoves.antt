@@ -3,7 +3,7 @@ use Rattle.std.proofs.Common.{◌≡◌, ◌++◌, List, [], ◌∷◌, sym, sub
 use Rattle.adapter.specs.Device.{Device}
 use Rattle.block_machine.specs.Events.{IsByDevice, AllByDevice, AllMay}
 use Rattle.block_machine.specs.Histories.{IsReachable, IsSimulatedBySteps}
-use Rattle.block_machine.specs.Left.{after}
+use Rattle.block_machine.specs.Expected.{after}
 use Rattle.block_machine.specs.State.{Machine}
 use Rattle.block_machine.specs.Steps.{Step, May, after_step}
 use Rattle.block_machine.proofs.EventLemmas.{after-append}

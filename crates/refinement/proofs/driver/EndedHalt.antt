@@ -13,17 +13,17 @@ use Rattle.adapter.specs.Commands.{is_queued}
 use Rattle.adapter.specs.Device.{FetchedCommand, DevicePort, Device}
 use Rattle.adapter.specs.Device.Halt.{NotHalted}
 use Rattle.adapter.specs.Memory.{changed}
-use Rattle.adapter.specs.Steps.{DeviceTransition, Can, device_after, StepLeads, Steps}
+use Rattle.adapter.specs.Steps.{DeviceTransition, Can, device_after, TransitionsLead, Steps}
 use Rattle.adapter.specs.Steps.DeviceTransition.{Fetch, FetchFault, Move, Clear, Done, Fault, Fatal, Fall, FrFall, LinkUp, Unplug, Plug, ResetEnds, Scribble}
 use Rattle.adapter.specs.declared.command.Operation.{Operation}
 use Rattle.adapter.proofs.Changed.{changed_same}
 use Rattle.block_machine.specs.Histories.{IsReachable}
-use Rattle.block_machine.specs.Left as left
+use Rattle.block_machine.specs.Expected as left
 use Rattle.block_machine.specs.State.{Machine}
 use Rattle.refinement.specs.Below.{StepLaws}
 use Rattle.refinement.specs.Relation.{StateRelation}
 use Rattle.refinement.specs.Driver.{IsOwnPrepared}
-use Rattle.refinement.specs.Facts.{RunsWell, TellsNoTrouble}
+use Rattle.refinement.specs.PortFacts.{RunsWell, TellsNoTrouble}
 use Rattle.refinement.specs.Follows.{SimulatesSteps}
 use Rattle.refinement.specs.Links.{DoesNotWrite}
 use Rattle.refinement.proofs.device.ClearSactBits.{free_unarmed, steps_clear}
@@ -124,7 +124,7 @@ module _ (uses : SlotStates) (m : Machine) (d : Device) (a : StateRelation uses 
   step_ends ResetEnds can = absurd (both_ways _ off can)
   step_ends (Scribble p slot at bytes) can = h
 
-leads_end : StepLaws → (uses : SlotStates) (m : Machine) (port : ℕ) → ((slot : ℕ) → slot ≢ 0 → uses port slot ≡ Free) → (steps : List DeviceTransition) (old new : Device) → IsReachable m → StateRelation uses m old → old.hr ≡ false → StepLeads steps old new → Ends (old.port port) →
+leads_end : StepLaws → (uses : SlotStates) (m : Machine) (port : ℕ) → ((slot : ℕ) → slot ≢ 0 → uses port slot ≡ Free) → (steps : List DeviceTransition) (old new : Device) → IsReachable m → StateRelation uses m old → old.hr ≡ false → TransitionsLead steps old new → Ends (old.port port) →
     (new.hr ≡ false) × Ends (new.port port)
 leads_end laws uses m port alone [] old new r a off e h = subst (λ (d : Device). (d.hr ≡ false) × Ends (d.port port)) (sym e) (off, h)
 leads_end laws uses m port alone (step ∷ steps) old new r a off (can, lead) h =

@@ -13,8 +13,8 @@ use Rattle.adapter.specs.Device.{Device}
 use Rattle.adapter.specs.Kept.{Keeps, KeepsOutsideReset}
 use Rattle.adapter.specs.Memory.{bytes_at}
 use Rattle.adapter.specs.declared.command.Operation.{Operation}
-use Rattle.adapter.specs.Seen.{PortRegisterRead}
-use Rattle.block_machine.specs.Left.{after}
+use Rattle.adapter.specs.RegisterEffects.{PortRegisterRead}
+use Rattle.block_machine.specs.Expected.{after}
 use Rattle.block_machine.specs.Histories.{IsReachable}
 use Rattle.block_machine.specs.State.{Pending, Machine}
 use Rattle.block_machine.specs.Steps.{MayStillMove}
@@ -22,10 +22,10 @@ use Rattle.block_machine.proofs.Standing.{standing}
 use Rattle.block_machine.proofs.Trace.{living_one, runs_lives}
 use Rattle.refinement.specs.Below.{StepLaws}
 use Rattle.refinement.specs.Relation.{StateRelation, port_at}
-use Rattle.refinement.specs.Facts.{EndedIn, IsSlotClear, FindsOwnPage}
+use Rattle.refinement.specs.PortFacts.{EndedIn, IsSlotClear, FindsOwnPage}
 use Rattle.refinement.specs.Follows.{SimulatesSteps}
 use Rattle.refinement.specs.Places.{scratch_of}
-use Rattle.refinement.specs.Slots.{SlotState, Own, Serves, SlotStates, IsEnded, Stage, ServesRequest, Brought, OwnWaits, OwnTaken, OwnOver, ServesOwn, IsOver, RelatesSlot}
+use Rattle.refinement.specs.Slots.{SlotState, Own, Serves, SlotStates, IsEnded, Stage, ServesRequest, PageStandsInScratch, OwnWaits, OwnTaken, OwnOver, ServesOwn, IsOver, RelatesSlot}
 use Rattle.refinement.proofs.steps.AdapterCalls.{read_follows, load_follows}
 
 both_clear : {A : Type 0} (q : Bool) {i c : Bool} → i ≡ true && not q → c ≡ true && q → i ≡ false → c ≡ false → A
@@ -98,10 +98,10 @@ module _ (uses : SlotStates) (m : Machine) (d : Device) (port : ℕ) (o : Operat
       of (inr (inl t)) = absurd (both_ways _ issued (t.issued ∙ st))
       of (inr (inr x)) = x
 
-  own_brought : Brought d.memory d.tape port o (d.port port).notes.st_set_at
+  own_brought : PageStandsInScratch d.memory d.tape port o (d.port port).notes.st_set_at
   own_brought = ⊎_elim
       (λ (z : (d.port port).st ≡ false). absurd (both_ways _ z st))
-      (λ (b : Brought d.memory d.tape port own.command.operation (d.port port).notes.st_set_at). subst (λ (x : Operation). Brought d.memory d.tape port x (d.port port).notes.st_set_at) own.operation_is b)
+      (λ (b : PageStandsInScratch d.memory d.tape port own.command.operation (d.port port).notes.st_set_at). subst (λ (x : Operation). PageStandsInScratch d.memory d.tape port x (d.port port).notes.st_set_at) own.operation_is b)
       own_over.brought
 
   own_clear : IsSlotClear (d.port port) 0
@@ -129,7 +129,7 @@ page_is_loaded laws uses m port o bytes old new reached a h st u over call size 
     let on : KeepsOutsideReset old new = k.on h in
     let now : (new.port port).st ≡ true = (on.controls port).st ∙ st in
     let none : (new.port port).ci 0 ≡ false = (k.port port).ci 0 over.issued in
-    let b : Brought new.memory new.tape port o (new.port port).notes.st_set_at = own_brought uses (after m f.steps) new port o f.agrees u now none in (
+    let b : PageStandsInScratch new.memory new.tape port o (new.port port).notes.st_set_at = own_brought uses (after m f.steps) new port o f.agrees u now none in (
       record { follows = f; clear = own_clear uses (after m f.steps) new port o f.agrees u now none; brought = b },
       call.shows ∙ ap (bytes_at new.memory (scratch_of port)) size ∙ b.bytes,
     )

@@ -14,11 +14,11 @@ use Rattle.adapter.specs.Device.{DevicePort, Device}
 use Rattle.adapter.specs.Kept.{KeepsPort}
 use Rattle.adapter.specs.Steps.{Steps}
 use Rattle.block_machine.specs.Events.{AllByDevice}
-use Rattle.block_machine.specs.Left.{after}
+use Rattle.block_machine.specs.Expected.{after}
 use Rattle.block_machine.specs.State.{Accepted, Pending, Machine}
 use Rattle.block_machine.specs.Steps.{Step, MayStillMove, NoneQuarantined}
 use Rattle.refinement.specs.Below.{StepLaws}
-use Rattle.refinement.specs.Facts.{EndedIn, IsSlotClear}
+use Rattle.refinement.specs.PortFacts.{EndedIn, IsSlotClear}
 use Rattle.refinement.specs.Slots.{IsOver}
 use Rattle.refinement.specs.Spares.{IsFurther, SparesBook}
 use Rattle.refinement.proofs.device.FactsOverAccesses.{access_steps, effect_keeps}

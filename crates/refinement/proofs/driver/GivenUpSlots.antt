@@ -10,39 +10,39 @@ use Rattle.block_machine.specs.State.{Machine}
 use Rattle.block_machine.proofs.Members.{contains_none, contains_here, contains_there, contains_cases}
 use Rattle.refinement.specs.Relation.{StateRelation, ServeApart}
 use Rattle.refinement.specs.Driver.{DriverState, DriverRelation, AllFree, HasNoSlot}
-use Rattle.refinement.specs.Facts.{IsEngineStopped}
+use Rattle.refinement.specs.PortFacts.{IsEngineStopped}
 use Rattle.refinement.specs.Slots.{SlotState, Free, Armed, Own, Serves, SlotStates, ServesRequest, IsEmptySlot, RelatesSlot}
 use Rattle.refinement.proofs.relation.OneSlot.{changed_at}
 use Rattle.refinement.proofs.driver.PutSlot.{serves_not_free, serves_same}
 use Rattle.refinement.proofs.device.ClearSactBits.{over_unarmed}
-use Rattle.refinement.specs.GivingUp.{AreSlotsOver, with_served, served_ids, parking_all}
+use Rattle.refinement.specs.GivingUp.{AreSlotsOver, with_request_of_slot, ids_in_slots, with_all_parked}
 
 -- ---- the requests that are served
 
 -- a slot's request is among them, and so are those that were
-with_here : (u : SlotState) (ids : List RequestId) (id : RequestId) → u ≡ Serves id → Contains (with_served u ids) id
+with_here : (u : SlotState) (ids : List RequestId) (id : RequestId) → u ≡ Serves id → Contains (with_request_of_slot u ids) id
 with_here Free ids id e = serves_not_free e refl
 with_here Armed ids id e = absurd (let z : Armed ≡ Serves id = e in cc)
 with_here (Own o) ids id e = absurd (let z : Own o ≡ Serves id = e in cc)
 with_here (Serves other) ids id e = contains_here other ids id (sym (serves_same e))
 
-with_there : (u : SlotState) (ids : List RequestId) (id : RequestId) → Contains ids id → Contains (with_served u ids) id
+with_there : (u : SlotState) (ids : List RequestId) (id : RequestId) → Contains ids id → Contains (with_request_of_slot u ids) id
 with_there Free ids id c = c
 with_there Armed ids id c = c
 with_there (Own o) ids id c = c
 with_there (Serves other) ids id c = contains_there other ids id c
 
-with_cases : (u : SlotState) (ids : List RequestId) (id : RequestId) → Contains (with_served u ids) id → (u ≡ Serves id) ⊎ Contains ids id
+with_cases : (u : SlotState) (ids : List RequestId) (id : RequestId) → Contains (with_request_of_slot u ids) id → (u ≡ Serves id) ⊎ Contains ids id
 with_cases Free ids id c = inr c
 with_cases Armed ids id c = inr c
 with_cases (Own o) ids id c = inr c
 with_cases (Serves other) ids id c = ⊎_elim (λ (e : id ≡ other). inl (ap Serves (sym e))) (λ (r : Contains ids id). inr r) (contains_cases other ids id c)
 
-ids_have : (uses : SlotStates) (port n slot : ℕ) (id : RequestId) → slot < n → uses port slot ≡ Serves id → Contains (served_ids uses port n) id
+ids_have : (uses : SlotStates) (port n slot : ℕ) (id : RequestId) → slot < n → uses port slot ≡ Serves id → Contains (ids_in_slots uses port n) id
 ids_have uses port zero slot id lt u = absurd (omega (arith, lt))
 ids_have uses port (suc n) slot id lt u = ⊎_elim
-    (λ (e : slot ≡ n). with_here (uses port n) (served_ids uses port n) id (ap (λ (k : ℕ). uses port k) (sym e) ∙ u))
-    (λ (ne : slot ≡ n → ⊥). with_there (uses port n) (served_ids uses port n) id (ids_have uses port n slot id (below ne) u))
+    (λ (e : slot ≡ n). with_here (uses port n) (ids_in_slots uses port n) id (ap (λ (k : ℕ). uses port k) (sym e) ∙ u))
+    (λ (ne : slot ≡ n → ⊥). with_there (uses port n) (ids_in_slots uses port n) id (ids_have uses port n slot id (below ne) u))
     (cases_eq slot n)
   where
     below : (slot ≡ n → ⊥) → slot < n
@@ -53,12 +53,12 @@ ids_have uses port (suc n) slot id lt u = ⊎_elim
         less zero (suc b) = inl (omega arith)
         less (suc a) (suc b) = ⊎_elim (λ (l : a < b). inl (omega (arith, l))) (λ (g : a < b → ⊥). inr (λ l. g (omega (arith, l)))) (less a b)
 
-pub ids_served : (uses : SlotStates) (port n : ℕ) (id : RequestId) → Contains (served_ids uses port n) id → (slot : ℕ) × (slot < n) × (uses port slot ≡ Serves id)
+pub ids_served : (uses : SlotStates) (port n : ℕ) (id : RequestId) → Contains (ids_in_slots uses port n) id → (slot : ℕ) × (slot < n) × (uses port slot ≡ Serves id)
 ids_served uses port zero id c = absurd (contains_none id c)
 ids_served uses port (suc n) id c = ⊎_elim
     (λ (e : uses port n ≡ Serves id). (n, omega arith, e))
-    (λ (r : Contains (served_ids uses port n) id). let s = ids_served uses port n id r in (s.0, (let l = s.1 in omega (arith, l)), s.2))
-    (with_cases (uses port n) (served_ids uses port n) id c)
+    (λ (r : Contains (ids_in_slots uses port n) id). let s = ids_served uses port n id r in (s.0, (let l = s.1 in omega (arith, l)), s.2))
+    (with_cases (uses port n) (ids_in_slots uses port n) id c)
 
 -- a slot that serves a request is one of 32
 served_below : (uses : SlotStates) (m : Machine) (k : DriverState) (port slot : ℕ) (id : RequestId) → StateRelation uses m k.device → uses port slot ≡ Serves id → slot < 32
@@ -70,34 +70,34 @@ module _ (k : DriverState) (port : ℕ) where
   abbrev now : SlotStates
   now = changed k.uses port (λ slot. Free)
 
-  pub all_free : AllFree (parking_all k port).uses port
+  pub all_free : AllFree (with_all_parked k port).uses port
   all_free slot = ap (λ (f : ℕ → SlotState). f slot) (changed_same k.uses port (λ s. Free))
 
-  pub others_same : (other : ℕ) → other ≢ port → ((parking_all k port).uses other ≡ k.uses other) × ((parking_all k port).parked other ≡ k.parked other)
-  others_same other ne = (changed_other k.uses port (λ s. Free) other ne, changed_other k.parked port (served_ids k.uses port 32 ++ k.parked port) other ne)
+  pub others_same : (other : ℕ) → other ≢ port → ((with_all_parked k port).uses other ≡ k.uses other) × ((with_all_parked k port).parked other ≡ k.parked other)
+  others_same other ne = (changed_other k.uses port (λ s. Free) other ne, changed_other k.parked port (ids_in_slots k.uses port 32 ++ k.parked port) other ne)
 
   -- what serves a request then, served it before, and is of another port
   still : (q s : ℕ) (id : RequestId) → now q s ≡ Serves id → (q ≢ port) × (k.uses q s ≡ Serves id)
   still q s id = changed_at k.uses port (λ slot. Free) (λ n f. f s ≡ Serves id → (n ≢ port) × (k.uses n s ≡ Serves id))
       (λ e. absurd (let z : Free ≡ Serves id = e in cc)) (λ n ne e. (ne, e)) q
 
-  pub parked_then : (parking_all k port).parked port ≡ served_ids k.uses port 32 ++ k.parked port
-  parked_then = changed_same k.parked port (served_ids k.uses port 32 ++ k.parked port)
+  pub parked_then : (with_all_parked k port).parked port ≡ ids_in_slots k.uses port 32 ++ k.parked port
+  parked_then = changed_same k.parked port (ids_in_slots k.uses port 32 ++ k.parked port)
 
-  parked_is : (id : RequestId) → Contains (served_ids k.uses port 32 ++ k.parked port) id → Contains ((parking_all k port).parked port) id
+  parked_is : (id : RequestId) → Contains (ids_in_slots k.uses port 32 ++ k.parked port) id → Contains ((with_all_parked k port).parked port) id
   parked_is id c = subst (λ (l : List RequestId). Contains l id) (sym parked_then) c
 
-  pub still_parked : (id : RequestId) → Contains (k.parked port) id → Contains ((parking_all k port).parked port) id
-  still_parked id c = parked_is id (Contains-append_right (served_ids k.uses port 32) (k.parked port) id c)
+  pub still_parked : (id : RequestId) → Contains (k.parked port) id → Contains ((with_all_parked k port).parked port) id
+  still_parked id c = parked_is id (Contains-append_right (ids_in_slots k.uses port 32) (k.parked port) id c)
 
-  pub parks_all : (m : Machine) (slot : ℕ) (id : RequestId) → StateRelation k.uses m k.device → k.uses port slot ≡ Serves id → Contains ((parking_all k port).parked port) id
+  pub parks_all : (m : Machine) (slot : ℕ) (id : RequestId) → StateRelation k.uses m k.device → k.uses port slot ≡ Serves id → Contains ((with_all_parked k port).parked port) id
   parks_all m slot id a u =
-      parked_is id (Contains-append_left (served_ids k.uses port 32) (k.parked port) id (ids_have k.uses port 32 slot id (served_below k.uses m k port slot id a u) u))
+      parked_is id (Contains-append_left (ids_in_slots k.uses port 32) (k.parked port) id (ids_have k.uses port 32 slot id (served_below k.uses m k port slot id a u) u))
 
-  pub parking_frees_all : (slot : ℕ) (id : RequestId) → ServeApart k.uses → k.uses port slot ≡ Serves id → HasNoSlot (parking_all k port).uses id
+  pub parking_frees_all : (slot : ℕ) (id : RequestId) → ServeApart k.uses → k.uses port slot ≡ Serves id → HasNoSlot (with_all_parked k port).uses id
   parking_frees_all slot id apart u q s v = let w = still q s id v in w.0 (apart q s port slot id w.1 u).0
 
-  pub parking_leaves_all : (id : RequestId) → HasNoSlot k.uses id → HasNoSlot (parking_all k port).uses id
+  pub parking_leaves_all : (id : RequestId) → HasNoSlot k.uses id → HasNoSlot (with_all_parked k port).uses id
   parking_leaves_all id none q s v = none q s (still q s id v).1
 
   module _ (m : Machine) (over : AreSlotsOver k.uses (k.device.port port) port) where
@@ -121,7 +121,7 @@ module _ (k : DriverState) (port : ℕ) where
       lasting = a.lasting;
     }
 
-    pub all_given_up : DriverRelation m k → DriverRelation m (parking_all k port)
+    pub all_given_up : DriverRelation m k → DriverRelation m (with_all_parked k port)
     all_given_up x = record {
       agrees = all_agrees x.agrees;
       have = λ q y may here. ⊎_elim
@@ -130,18 +130,18 @@ module _ (k : DriverState) (port : ℕ) where
           (x.have q y may here);
     }
       where
-        more : (q : ℕ) (i : RequestId) → Contains (k.parked q) i → Contains ((parking_all k port).parked q) i
-        more q i = changed_at k.parked port (served_ids k.uses port 32 ++ k.parked port) (λ n l. Contains (k.parked n) i → Contains l i)
-            (λ c. Contains-append_right (served_ids k.uses port 32) (k.parked port) i c) (λ n _ c. c) q
+        more : (q : ℕ) (i : RequestId) → Contains (k.parked q) i → Contains ((with_all_parked k port).parked q) i
+        more q i = changed_at k.parked port (ids_in_slots k.uses port 32 ++ k.parked port) (λ n l. Contains (k.parked n) i → Contains l i)
+            (λ c. Contains-append_right (ids_in_slots k.uses port 32) (k.parked port) i c) (λ n _ c. c) q
 
-        moved : (q : ℕ) (i : RequestId) (slot : ℕ) → k.uses q slot ≡ Serves i → Contains ((parking_all k port).parked q) i ⊎ ((s : ℕ) × (now q s ≡ Serves i))
+        moved : (q : ℕ) (i : RequestId) (slot : ℕ) → k.uses q slot ≡ Serves i → Contains ((with_all_parked k port).parked q) i ⊎ ((s : ℕ) × (now q s ≡ Serves i))
         moved q i slot u = ⊎_elim
-            (λ (e : q ≡ port). inl (subst (λ (n : ℕ). Contains ((parking_all k port).parked n) i) (sym e) (parks_all m slot i x.agrees (ap (λ (n : ℕ). k.uses n slot) (sym e) ∙ u))))
+            (λ (e : q ≡ port). inl (subst (λ (n : ℕ). Contains ((with_all_parked k port).parked n) i) (sym e) (parks_all m slot i x.agrees (ap (λ (n : ℕ). k.uses n slot) (sym e) ∙ u))))
             (λ (ne : q ≡ port → ⊥). inr (slot, ap (λ (f : ℕ → SlotState). f slot) (changed_other k.uses port (λ s. Free) q ne) ∙ u))
             (cases_eq q port)
 
-pub given_up_over : (k : DriverState) (m : Machine) (port : ℕ) → DriverRelation m k → AreSlotsOver k.uses (k.device.port port) port → DriverRelation m (parking_all k port)
+pub given_up_over : (k : DriverState) (m : Machine) (port : ℕ) → DriverRelation m k → AreSlotsOver k.uses (k.device.port port) port → DriverRelation m (with_all_parked k port)
 given_up_over k m port x over = all_given_up k port m over x
 
-pub given_up_halted : (k : DriverState) (m : Machine) (port : ℕ) → DriverRelation m k → IsEngineStopped (k.device.port port) → DriverRelation m (parking_all k port)
+pub given_up_halted : (k : DriverState) (m : Machine) (port : ℕ) → DriverRelation m k → IsEngineStopped (k.device.port port) → DriverRelation m (with_all_parked k port)
 given_up_halted k m port x h = all_given_up k port m (λ slot. (record { issued = h.ci slot; free = h.taken slot }, λ _. h.st)) x

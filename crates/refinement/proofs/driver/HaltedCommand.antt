@@ -10,12 +10,12 @@ use Rattle.adapter.specs.Access.{Access, Does, port_written}
 use Rattle.adapter.specs.Commands.{is_queued}
 use Rattle.adapter.specs.Device.{Halt, FetchedCommand, DevicePort, Device}
 use Rattle.adapter.specs.Device.Halt.{NotHalted, HaltedPlain, HaltedQueued, LogOnly}
-use Rattle.adapter.specs.Steps.{DeviceTransition, Can, device_after, StepLeads, Steps, admits, halted, halt_after_start}
+use Rattle.adapter.specs.Steps.{DeviceTransition, Can, device_after, TransitionsLead, Steps, admits, halted, halt_after_start}
 use Rattle.adapter.specs.Steps.DeviceTransition.{Fetch, FetchFault, Move, Clear, Done, Fault, Fatal, Fall, FrFall, LinkUp, Unplug, Plug, ResetEnds, Scribble}
 use Rattle.adapter.specs.declared.command.Operation.{Operation}
 use Rattle.adapter.specs.declared.command.Operation.TheVariants.{Trim}
 use Rattle.block_machine.specs.Histories.{IsReachable}
-use Rattle.block_machine.specs.Left as left
+use Rattle.block_machine.specs.Expected as left
 use Rattle.block_machine.specs.State.{Machine}
 use Rattle.refinement.specs.Below.{StepLaws}
 use Rattle.refinement.specs.Acts.{Act, AreActsDone, accesses_of}
@@ -120,7 +120,7 @@ module _ (uses : SlotStates) (m : Machine) (d : Device) (a : StateRelation uses 
   step_halts ResetEnds can = λ st. absurd (false≢true st)
   step_halts (Scribble p slot at bytes) can = h
 
-leads_halts : StepLaws → (uses : SlotStates) (m : Machine) (port : ℕ) (steps : List DeviceTransition) (old new : Device) → IsReachable m → StateRelation uses m old → StepLeads steps old new → HaltOfTakenIfSt (old.port port) → HaltOfTakenIfSt (new.port port)
+leads_halts : StepLaws → (uses : SlotStates) (m : Machine) (port : ℕ) (steps : List DeviceTransition) (old new : Device) → IsReachable m → StateRelation uses m old → TransitionsLead steps old new → HaltOfTakenIfSt (old.port port) → HaltOfTakenIfSt (new.port port)
 leads_halts laws uses m port [] old new r a e h = subst (λ (d : Device). HaltOfTakenIfSt (d.port port)) (sym e) h
 leads_halts laws uses m port (step ∷ steps) old new r a (can, lead) h =
     let f : SimulatesSteps uses m old (device_after step old) = step_follows uses m old step r a can in

@@ -11,13 +11,13 @@ use Rattle.adapter.specs.Kept.{Keeps, KeepsOutsideReset}
 use Rattle.adapter.specs.Steps.{Steps, with_port}
 use Rattle.adapter.specs.declared.command.Operation.{Operation}
 use Rattle.adapter.specs.declared.tape.Entry.{Entry}
-use Rattle.adapter.proofs.KeptLemmas.{law_steps_guarantee}
+use Rattle.adapter.proofs.KeptLemmas.{law_step_lists_keep_what_steps_keep}
 use Rattle.block_machine.specs.declared.due.QueueMode.{QueueMode}
 use Rattle.block_machine.specs.State.{Pending, Machine}
 use Rattle.block_machine.specs.Steps.{Step, Accept, Issue, Touch, End, Age, Again, Answer, Revoke, Release, Unplug, Replace, Store, Load}
 use Rattle.block_machine.specs.Events.{IsByDevice}
-use Rattle.block_machine.specs.Left as left
-use Rattle.block_machine.specs.Left.{StepIsFaithful}
+use Rattle.block_machine.specs.Expected as left
+use Rattle.block_machine.specs.Expected.{StepIsFaithful}
 use Rattle.refinement.specs.Tape.{PutsInDisks}
 use Rattle.block_machine.specs.Histories.{IsReachable, IsSimulatedBySteps}
 use Rattle.refinement.specs.Places.{scratch_of}
@@ -38,7 +38,7 @@ use Rattle.refinement.proofs.steps.RegisterWrites.{write_effect}
 pub own_prepared_stays : (uses : SlotStates) (m : Machine) (old mid : Device) (port : ℕ) (o : Operation) (v : ℕ) → IsReachable m → StateRelation uses m old → old.hr ≡ false →
     Steps old mid → IsOwnPrepared uses old port o v → IsOwnPrepared uses mid port o v
 own_prepared_stays uses m old mid port o v r a calm s x =
-    let k : Keeps old mid = law_steps_guarantee s in
+    let k : Keeps old mid = law_step_lists_keep_what_steps_keep s in
     let c : KeepsOutsideReset old mid = k.on calm in
     let list : (mid.port port).bases.clb ≡ (old.port port).bases.clb = ap (λ (b : device.Bases). b.clb) (k.port port).bases in
     let l : KeepsTables uses old mid = steps_leave uses m old mid r a calm s in

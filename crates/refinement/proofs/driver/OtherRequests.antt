@@ -7,7 +7,7 @@ use Rattle.ata_types.specs.declared.request.RequestId.{RequestId}
 use Rattle.block_machine.specs.State.{Pending, Machine}
 use Rattle.block_machine.specs.Steps.{Step, Accept, Issue, Touch, End, Age, Again, Answer, Release, NoneQuarantined, after_step, newly_accepted, newly_issued, touch, mark_ended, older, requeued, stays}
 use Rattle.block_machine.proofs.Members.{into_map, contains_there}
-use Rattle.refinement.specs.Facts.{EndedIn}
+use Rattle.refinement.specs.PortFacts.{EndedIn}
 use Rattle.refinement.specs.Spares.{IsOfAnother}
 use Rattle.refinement.proofs.driver.OwnSteps.{older_is, without_into}
 use Rattle.refinement.proofs.relation.TouchesAndEnds.{into_other}

@@ -10,7 +10,7 @@ use Rattle.adapter.specs.declared.tape.Entry.{Entry}
 use Rattle.block_machine.specs.State.{Pending, Machine}
 use Rattle.block_machine.specs.Steps.{MayStillMove}
 use Rattle.refinement.specs.Relation.{StateRelation}
-use Rattle.refinement.specs.Facts.{ShowsFault}
+use Rattle.refinement.specs.PortFacts.{ShowsFault}
 use Rattle.refinement.specs.Slots.{SlotState, Free, Armed, Own, Serves, SlotStates, Stage, OwnWaits, OwnTaken, OwnOver, IsOver, ServesRequest, RelatesSlot}
 use Rattle.refinement.proofs.device.FaultedPort.{fault_has_a_use}
 use Rattle.refinement.proofs.steps.StillFrames.{over_unused}

@@ -3,11 +3,11 @@ use Rattle.std.proofs.Common.{ℕ, ◌++◌, List, [], ◌∷◌, None, refl, sy
 use Rattle.adapter.specs.Access.{Access, DoesAll}
 use Rattle.adapter.specs.Device.{Device}
 use Rattle.block_machine.specs.Events.{AllByDevice}
-use Rattle.block_machine.specs.Left.{after}
+use Rattle.block_machine.specs.Expected.{after}
 use Rattle.refinement.specs.Acts.{Act, ByDeviceAlone, DriverSlots, IsActDone, Performs, accesses_of, driver_state, act_steps}
 use Rattle.refinement.specs.Driven.{IsSimulated, IsSimulatedTo}
 use Rattle.refinement.specs.Driver.{AllFree}
-use Rattle.refinement.specs.Facts.{IsEngineStopped}
+use Rattle.refinement.specs.PortFacts.{IsEngineStopped}
 use Rattle.refinement.specs.GivingUp.{given_up}
 use Rattle.refinement.specs.Slots.{SlotStates}
 use Rattle.refinement.proofs.driver.ComposedMoves.{goes_still, going_reaches}

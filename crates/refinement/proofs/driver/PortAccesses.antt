@@ -11,12 +11,12 @@ use Rattle.adapter.specs.Device.{DevicePort, Device}
 use Rattle.adapter.specs.Kept.{Keeps, KeepsOutsideReset}
 use Rattle.adapter.specs.Rules.{IsOn}
 use Rattle.adapter.specs.declared.tape.Entry.{Entry}
-use Rattle.adapter.proofs.KeptLemmas.{law_steps_guarantee, KeepsPort-refl, KeepsPort-trans, KeepsControls-refl, KeepsControls-trans}
+use Rattle.adapter.proofs.KeptLemmas.{law_step_lists_keep_what_steps_keep, KeepsPort-refl, KeepsPort-trans, KeepsControls-refl, KeepsControls-trans}
 use Rattle.block_machine.proofs.HistoryLemmas.{reached_more}
-use Rattle.block_machine.specs.Left.{after}
-pub use Rattle.refinement.specs.Driven.{Grows}
+use Rattle.block_machine.specs.Expected.{after}
+pub use Rattle.refinement.specs.Driven.{TapeGrows}
 use Rattle.refinement.specs.Driven.{IsRelated, OnPortWriting, IsDrivenBy, IsSimulated, IsSimulatedTo, SparesOtherPorts, LeavesPort, NoneWrites}
-use Rattle.refinement.specs.Facts.{FaultsOnRecord}
+use Rattle.refinement.specs.PortFacts.{FaultsOnRecord}
 use Rattle.refinement.specs.Links.{DoesNotWrite, SameAdapter}
 use Rattle.refinement.specs.Slots.{SlotStates}
 use Rattle.refinement.proofs.device.FactsOverAccesses.{access_steps, beside_same}
@@ -106,7 +106,7 @@ module _ (port : Port) (q : ℕ) (other : q ≢ port.0) where
   beside_left : (access : Access) (old new : Device) → old.hr ≡ false → SparesOtherPorts port access → Does access old new → LeavesPort (old.port q) (new.port q)
   beside_left access old new off is x =
       let s = access_steps access old new x in
-      let k : Keeps old s.0 = law_steps_guarantee s.1 in
+      let k : Keeps old s.0 = law_step_lists_keep_what_steps_keep s.1 in
       let c : KeepsOutsideReset old s.0 = k.on off in
       subst (LeavesPort (old.port q)) (sym (beside_same port q other access old new x is)) (record { keeps = k.port q; controls = c.controls q; notes = k.notes q })
 
@@ -124,14 +124,14 @@ leaves_more old mid new a b = record { keeps = KeepsPort-trans a.keeps b.keeps; 
 
 -- ---- the tape
 
-pub grows_none : (d : Device) → Grows d d
+pub grows_none : (d : Device) → TapeGrows d d
 grows_none d = ([], sym (append-nil d.tape))
 
-pub grows_more : (a b c : Device) → Grows a b → Grows b c → Grows a c
+pub grows_more : (a b c : Device) → TapeGrows a b → TapeGrows b c → TapeGrows a c
 grows_more a b c x y = (x.0 ++ y.0, y.1 ∙ (ap (λ (t : List Entry). t ++ y.0) x.1 ∙ append_assoc a.tape x.0 y.0))
 
-pub access_grows : (access : Access) (old new : Device) → Does access old new → Grows old new
-access_grows access old new does = let s = access_steps access old new does in let k : Keeps old s.0 = law_steps_guarantee s.1 in (k.gained, s.2 ∙ k.tape)
+pub access_grows : (access : Access) (old new : Device) → Does access old new → TapeGrows old new
+access_grows access old new does = let s = access_steps access old new does in let k : Keeps old s.0 = law_step_lists_keep_what_steps_keep s.1 in (k.gained, s.2 ∙ k.tape)
 
 -- ---- stretches
 
@@ -144,8 +144,8 @@ module _ (May : Access → Type 0) (old new : Device) (driven : IsDrivenBy May o
   pub same_over : SameAdapter old new
   same_over = along SameAdapter same_refl same_more May (λ access a b may does. access_same access a b does) driven.accesses old new driven.only driven.all
 
-  pub tape_over : Grows old new
-  tape_over = along Grows grows_none grows_more May (λ access a b may does. access_grows access a b does) driven.accesses old new driven.only driven.all
+  pub tape_over : TapeGrows old new
+  tape_over = along TapeGrows grows_none grows_more May (λ access a b may does. access_grows access a b does) driven.accesses old new driven.only driven.all
 
   pub on_over : NoneWrites May Ghc → IsOn old → IsOn new
   on_over spares on =

@@ -17,7 +17,7 @@ use Rattle.adapter.proofs.MemoryLemmas.{patched_apart}
 use Rattle.adapter.proofs.SaysLemmas.{says_meaning}
 use Rattle.block_machine.specs.Due.{is_plain}
 use Rattle.block_machine.specs.Histories.{IsReachable}
-use Rattle.block_machine.specs.Left as left
+use Rattle.block_machine.specs.Expected as left
 use Rattle.block_machine.specs.State.{Pending, Machine}
 use Rattle.block_machine.specs.Steps.{Issue, May}
 use Rattle.block_machine.specs.declared.due.QueueMode.{QueueMode}
@@ -27,7 +27,7 @@ use Rattle.refinement.specs.Driver.{IsPrepared, KeepsTables, MissesTable}
 use Rattle.refinement.specs.Follows.{SimulatesSteps}
 use Rattle.refinement.specs.Links.{DoesNotWrite}
 use Rattle.refinement.specs.Places.{IsTableByte}
-use Rattle.refinement.specs.Slots.{SlotState, Free, Armed, SlotStates, Means, HasTrimBlock, IsArmed, IsEmptySlot, IsOver, RelatesSlot}
+use Rattle.refinement.specs.Slots.{SlotState, Free, Armed, SlotStates, MeansRequest, HasTrimBlock, IsArmed, IsEmptySlot, IsOver, RelatesSlot}
 use Rattle.refinement.specs.Started.{ClearsNoStart}
 use Rattle.refinement.proofs.device.FactsOverAccesses.{access_steps, effect_keeps}
 use Rattle.refinement.proofs.steps.FollowedSteps.{steps_follow}
@@ -147,7 +147,7 @@ readied_permitted laws uses m d port v reached a on there st ready mid s =
         served_ready (left.after m f.steps) mid port.0 j (is_queued (ready j b).command.operation) (uses port.0 j) (ready j b).readied.used (stays j b).started (f.agrees.slot port.0 j)
 
 pub readied_prepared : (uses : SlotStates) (m : Machine) (d : Device) (port slot : ℕ) (c : Meaning) (places : List ℕ) (mode : QueueMode) (e : Pending) (v : ℕ) → IsReadied uses d port slot c places → May m (Issue mode e) → e.request.port.0 ≡ port →
-    slot < mode.usable → (is_plain mode e.request.asked.op ≡ true → slot ≡ 0) → Means port slot e.request c places → is_queued c.operation ≡ not (is_plain mode e.request.asked.op) →
+    slot < mode.usable → (is_plain mode e.request.asked.op ≡ true → slot ≡ 0) → MeansRequest port slot e.request c places → is_queued c.operation ≡ not (is_plain mode e.request.asked.op) →
     HasTrimBlock e.request.asked.op d.memory port e.request → bit v slot ≡ true → ((k : ℕ) → k ≢ slot → bit v k ≡ false) → IsPrepared uses m d port slot mode e v
 readied_prepared uses m d port slot c places mode e v x may at_port usable head means kind block here alone = record {
   may = may;

@@ -17,7 +17,7 @@ use Rattle.adapter.proofs.Calls.{does_append}
 use Rattle.adapter.proofs.Changed.{changed_other}
 use Rattle.block_machine.specs.Events.{AllByDevice}
 use Rattle.block_machine.specs.Histories.{IsReachable, IsSimulatedBySteps}
-use Rattle.block_machine.specs.Left.{after}
+use Rattle.block_machine.specs.Expected.{after}
 use Rattle.block_machine.specs.State.{Machine}
 use Rattle.refinement.specs.Below.{StepLaws}
 use Rattle.refinement.specs.Acts.{Act, DriverSlots, IsActDone, driver_state, accesses_of, act_steps}

@@ -10,7 +10,7 @@ use Rattle.adapter.specs.Access.{Access, Does}
 use Rattle.adapter.specs.Access.Access.{Writing}
 use Rattle.adapter.specs.Device.{Device}
 use Rattle.adapter.specs.Kept.{Keeps}
-use Rattle.adapter.specs.Steps.{DeviceTransition, Can, device_after, StepLeads, Steps}
+use Rattle.adapter.specs.Steps.{DeviceTransition, Can, device_after, TransitionsLead, Steps}
 use Rattle.adapter.specs.Steps.DeviceTransition.{Fetch, FetchFault, Move, Clear, Done, Fault, Fatal, Fall, FrFall, LinkUp, Unplug, Plug, ResetEnds, Scribble}
 use Rattle.adapter.specs.declared.command.Operation.{Operation}
 use Rattle.adapter.specs.declared.tape.Entry.{Entry}
@@ -50,7 +50,7 @@ module _ (laws : StepLaws) (port : ℕ) (o : Operation) where
     step_unmoving ResetEnds can = ([], no_entry, All-nil (λ e. IsMove port o e → ⊥))
     step_unmoving (Scribble p slot at bytes) can = ([], no_entry, All-nil (λ e. IsMove port o e → ⊥))
 
-  leads_unmoving : (steps : List DeviceTransition) (old new : Device) → HasNoCommand (old.port port) → StepLeads steps old new → GainsNone (IsMove port o) old new
+  leads_unmoving : (steps : List DeviceTransition) (old new : Device) → HasNoCommand (old.port port) → TransitionsLead steps old new → GainsNone (IsMove port o) old new
   leads_unmoving [] old new none e = subst (GainsNone (IsMove port o) old) (sym e) (nothing old)
   leads_unmoving (step ∷ steps) old new none (can, lead) =
       let k : Keeps old (device_after step old) = laws.step step _ can in

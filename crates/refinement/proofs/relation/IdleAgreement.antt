@@ -7,11 +7,11 @@ use Rattle.ata_types.specs.declared.grant.GrantRow.{GrantRow}
 use Rattle.ata_types.specs.declared.request.ClientId.{ClientId}
 use Rattle.ata_types.specs.declared.request.Frame.{Frame}
 use Rattle.adapter.specs.Device.{Device, Lasting}
-use Rattle.adapter.specs.Steps.{WereHeld, put_into}
+use Rattle.adapter.specs.Steps.{WereHeld, bytes_put_into}
 use Rattle.adapter.specs.declared.tape.Entry.{Entry}
 use Rattle.adapter.specs.Idle.{IsIdle, TellsDisks}
 use Rattle.block_machine.specs.State.{Block, DiskBytes, Machine}
-use Rattle.block_machine.specs.Left.{IsInitial}
+use Rattle.block_machine.specs.Expected.{IsInitial}
 use Rattle.refinement.specs.Slots.{Free, Serves}
 use Rattle.refinement.specs.Relation.{IsDiskOf, SameMemory, SameSectors, port_at}
 use Rattle.refinement.specs.Returning.{optional_block, blocks_put, replug_candidates}
@@ -23,13 +23,13 @@ use Rattle.refinement.proofs.relation.OtherSlots.{true_false}
 in_block : (o : Option (List ℕ)) (bytes : List ℕ) → o ≡ Some bytes → Contains (optional_block o) (slice_index bytes)
 in_block o bytes is = subst (λ (x : Option (List ℕ)). Contains (optional_block x) (slice_index bytes)) (sym is) (0, omega arith, refl)
 
-in_blocks : (port k : ℕ) (entries : List Entry) (entry : Entry) (bytes : List ℕ) → Contains entries entry → put_into port k entry ≡ Some bytes → Contains (blocks_put port k entries) (slice_index bytes)
+in_blocks : (port k : ℕ) (entries : List Entry) (entry : Entry) (bytes : List ℕ) → Contains entries entry → bytes_put_into port k entry ≡ Some bytes → Contains (blocks_put port k entries) (slice_index bytes)
 in_blocks port k [] entry bytes here is = let lt = here.1 in absurd (omega (arith, lt))
 in_blocks port k (e ∷ es) entry bytes here is = by (λ (c : Contains es entry). in_blocks port k es entry bytes c is) here.0 here.1 here.2
   where
-    by : (Contains es entry → Contains (blocks_put port k es) (slice_index bytes)) → (i : ℕ) → i < suc (length es) → get_or (e ∷ es) i entry ≡ entry → Contains (optional_block (put_into port k e) ++ blocks_put port k es) (slice_index bytes)
-    by rest zero lt at = Contains-append_left (optional_block (put_into port k e)) (blocks_put port k es) (slice_index bytes) (in_block (put_into port k e) bytes (ap (put_into port k) at ∙ is))
-    by rest (suc i) lt at = Contains-append_right (optional_block (put_into port k e)) (blocks_put port k es) (slice_index bytes) (rest (i, omega (arith, lt), at))
+    by : (Contains es entry → Contains (blocks_put port k es) (slice_index bytes)) → (i : ℕ) → i < suc (length es) → get_or (e ∷ es) i entry ≡ entry → Contains (optional_block (bytes_put_into port k e) ++ blocks_put port k es) (slice_index bytes)
+    by rest zero lt at = Contains-append_left (optional_block (bytes_put_into port k e)) (blocks_put port k es) (slice_index bytes) (in_block (bytes_put_into port k e) bytes (ap (bytes_put_into port k) at ∙ is))
+    by rest (suc i) lt at = Contains-append_right (optional_block (bytes_put_into port k e)) (blocks_put port k es) (slice_index bytes) (rest (i, omega (arith, lt), at))
 
 returns : (tape : List Entry) (lasting : Lasting) (port k : ℕ) (bytes : List ℕ) → WereHeld tape lasting port k bytes → Contains (replug_candidates tape lasting port k) (slice_index bytes)
 returns tape lasting port k bytes (inl is) = Contains-append_left (optional_block (option_map (λ (sectors : ℕ → List ℕ). sectors k) lasting.sectors)) (blocks_put port k (drop lasting.since tape)) (slice_index bytes)

@@ -10,7 +10,7 @@ use Rattle.ata_types.specs.declared.request.Op.{Op}
 use Rattle.ata_types.specs.declared.request.Op.TheVariants.{Read, Write, Trim, Flush}
 use Rattle.adapter.specs.Commands.{is_ranged, reads_memory}
 use Rattle.adapter.specs.Device.{Disk, Lasting, DevicePort, FetchedCommand}
-use Rattle.adapter.specs.Steps.{WereHeld, put_into, lasting_after, lasting_plugged, with_flush, next_sector, move_of, clear_entry}
+use Rattle.adapter.specs.Steps.{WereHeld, bytes_put_into, lasting_after, lasting_plugged, with_flush, next_sector, move_of, clear_entry}
 use Rattle.adapter.specs.declared.command.Operation.{Operation}
 use Rattle.adapter.specs.declared.command.Operation.TheVariants as operation
 use Rattle.adapter.specs.declared.tape.Entry.{Entry}
@@ -18,8 +18,8 @@ use Rattle.adapter.specs.declared.tape.Entry.TheVariants as entry
 use Rattle.block_machine.specs.State as state
 use Rattle.block_machine.specs.State.{Block, Pending, Machine, sector_of, block_written}
 use Rattle.block_machine.specs.Due.{is_flush, changes_sectors}
-use Rattle.block_machine.specs.Left as left
-use Rattle.block_machine.specs.Steps.{Touch, End, Replace, SameBytes, HasHeld, after_step, put_sector}
+use Rattle.block_machine.specs.Expected as left
+use Rattle.block_machine.specs.Steps.{Touch, End, Replace, SameBytes, HoldsOrHeldSinceFlush, after_step, put_sector}
 use Rattle.refinement.specs.Slots.{op_of}
 use Rattle.refinement.specs.Relation.{port_at, SameSectors, HasLasting}
 use Rattle.refinement.specs.Tape.{touched_by, touch_steps}
@@ -36,7 +36,7 @@ put_aside was now b aside h = ⊎_elim
     (λ o. inr (o.0, (let c = o.1 in let lt = c.1 in (suc c.0, omega (arith, lt), c.2)), o.2))
     h
 
-held_touched : (m : Machine) (e : Pending) (i : ℕ) (block : Block) (port : Port) (k : ℕ) (b : Block) → HasHeld m port k b → HasHeld (after_step m (Touch e i block)) port k b
+held_touched : (m : Machine) (e : Pending) (i : ℕ) (block : Block) (port : Port) (k : ℕ) (b : Block) → HoldsOrHeldSinceFlush m port k b → HoldsOrHeldSinceFlush (after_step m (Touch e i block)) port k b
 held_touched m e i block port k b h = by_op (changes_sectors e.request.asked.op)
   where
     written : Block
@@ -51,20 +51,20 @@ held_touched m e i block port k b h = by_op (changes_sectors e.request.asked.op)
     by_op true = by_place ((port.0 == e.request.port.0) && (k == sector_of e.request i))
     by_op false = h
 
-held_swept : (m : Machine) (e : Pending) (from n : ℕ) (port : Port) (k : ℕ) (b : Block) → HasHeld m port k b → HasHeld (left.after m (touch_steps e from n)) port k b
+held_swept : (m : Machine) (e : Pending) (from n : ℕ) (port : Port) (k : ℕ) (b : Block) → HoldsOrHeldSinceFlush m port k b → HoldsOrHeldSinceFlush (left.after m (touch_steps e from n)) port k b
 held_swept m e from zero port k b h = h
 held_swept m e from (suc n) port k b h =
     held_touched (left.after m (touch_steps e from n)) (touched_by e from n) (from + n) (λ b. 0) port k b (held_swept m e from n port k b h)
 
 -- another command than a flush is ended, or one of another port
 held_ended : (m : Machine) (e : Pending) (port : Port) (k : ℕ) (b : Block) → ((e.request.port.0 == port.0) && is_flush e.request.asked.op) ≡ false
-    → HasHeld m port k b → HasHeld (after_step m (End e)) port k b
+    → HoldsOrHeldSinceFlush m port k b → HoldsOrHeldSinceFlush (after_step m (End e)) port k b
 held_ended m e port k b other h =
     subst (λ (aside : List Block). Holds (m.disks port k) aside b) (sym (cond-false ((e.request.port.0 == port.0) && is_flush e.request.asked.op) [] (m.aside port k) other)) h
 
 -- the disk that comes in at a port is the same, or the port is another
 held_replaced : (m : Machine) (p : Port) (id size : ℕ) (disk : state.DiskBytes) (port : Port) (k : ℕ) (b : Block) → ((port.0 == p.0) ≡ true → (id == m.disk_ids port) ≡ true)
-    → HasHeld m port k b → HasHeld (after_step m (Replace p id size disk)) port k b
+    → HoldsOrHeldSinceFlush m port k b → HoldsOrHeldSinceFlush (after_step m (Replace p id size disk)) port k b
 held_replaced m p id size disk port k b same h = go (port.0 == p.0) (id == m.disk_ids port) same
   where
     go : (here known : Bool) → (here ≡ true → known ≡ true)
@@ -104,7 +104,7 @@ puts_none o bytes none some = let z : None ≡ Some bytes = sym none ∙ some in
 
 -- the entry puts nothing anywhere
 abbrev pub IsQuiet : Entry → Type 0
-IsQuiet e = (q k : ℕ) → put_into q k e ≡ None
+IsQuiet e = (q k : ℕ) → bytes_put_into q k e ≡ None
 
 and_false : (a : Bool) → a && false ≡ false
 and_false true = refl
@@ -131,25 +131,25 @@ quiet_move port slot t bytes none q k =
 -- what a sector of the port may come back with by the longer tape, it might by the shorter one; or the machine's disk holds it now, or has held it
 abbrev pub Gains : List Entry → List Entry → Machine → ℕ → Type 0
 Gains earlier later m port = (l : Lasting) (k : ℕ) (bytes : List ℕ) → WereHeld later l port k bytes
-    → WereHeld earlier l port k bytes ⊎ HasHeld m (port_at port) k (slice_index bytes)
+    → WereHeld earlier l port k bytes ⊎ HoldsOrHeldSinceFlush m (port_at port) k (slice_index bytes)
 
 pub gains_none : (tape : List Entry) (m : Machine) (port : ℕ) → Gains tape tape m port
 gains_none tape m port l k bytes w = inl w
 
-pub gains_put : (tape : List Entry) (e : Entry) (m : Machine) (port : ℕ) → ((k : ℕ) (bytes : List ℕ) → put_into port k e ≡ Some bytes → HasHeld m (port_at port) k (slice_index bytes))
+pub gains_put : (tape : List Entry) (e : Entry) (m : Machine) (port : ℕ) → ((k : ℕ) (bytes : List ℕ) → bytes_put_into port k e ≡ Some bytes → HoldsOrHeldSinceFlush m (port_at port) k (slice_index bytes))
     → Gains tape (tape ++ e ∷ []) m port
 gains_put tape e m port put l k bytes (inl was) = inl (inl was)
 gains_put tape e m port put l k bytes (inr (x, here, is)) = ⊎_elim
-    (λ (last : x ≡ e). inr (put k bytes (ap (put_into port k) (sym last) ∙ is)))
+    (λ (last : x ≡ e). inr (put k bytes (ap (bytes_put_into port k) (sym last) ∙ is)))
     (λ before. inl (inr (x, before, is)))
     (drop_more l.since tape e x here)
 
 pub gains_quiet : (tape : List Entry) (e : Entry) (m : Machine) (port : ℕ) → IsQuiet e → Gains tape (tape ++ e ∷ []) m port
-gains_quiet tape e m port quiet = gains_put tape e m port (λ k bytes is. absurd (puts_none (put_into port k e) bytes (quiet port k) is))
+gains_quiet tape e m port quiet = gains_put tape e m port (λ k bytes is. absurd (puts_none (bytes_put_into port k e) bytes (quiet port k) is))
 
 -- what the port's sectors hold, or have held, they have afterwards
 abbrev pub Keeps : Machine → Machine → ℕ → Type 0
-Keeps m m' port = (k : ℕ) (b : Block) → HasHeld m (port_at port) k b → HasHeld m' (port_at port) k b
+Keeps m m' port = (k : ℕ) (b : Block) → HoldsOrHeldSinceFlush m (port_at port) k b → HoldsOrHeldSinceFlush m' (port_at port) k b
 
 pub keeps_same : (m m' : Machine) (port : ℕ) → m'.disks ≡ m.disks → m'.aside ≡ m.aside → Keeps m m' port
 keeps_same m m' port disks aside k b h =
@@ -168,12 +168,12 @@ lasting_now : (m : Machine) (tape : List Entry) (e : Entry) (disk : Disk) (new :
     → new.disk.size ≡ disk.size → SameSectors m disk port → HasLasting m (tape ++ e ∷ []) new port
 lasting_now m tape e disk new port quiet is size s k inside bytes w = by (subst (λ (l : Lasting). WereHeld (tape ++ e ∷ []) l port k bytes) is w)
   where
-    by : WereHeld (tape ++ e ∷ []) (record { sectors = disk.sectors; since = length tape }) port k bytes → HasHeld m (port_at port) k (slice_index bytes)
+    by : WereHeld (tape ++ e ∷ []) (record { sectors = disk.sectors; since = length tape }) port k bytes → HoldsOrHeldSinceFlush m (port_at port) k (slice_index bytes)
     by (inl now) =
         let tells : Some (s.told k) ≡ Some bytes = ap (option_map (λ (sectors : ℕ → List ℕ). sectors k)) (sym s.tells) ∙ now in
         inl (λ b lb. ap (λ (l : List ℕ). slice_index l b) (sym (same_Some (s.told k) bytes tells)) ∙ s.same k b (subst (λ (n : ℕ). k < n) size inside) lb)
     by (inr (x, here, put)) = ⊎_elim
-        (λ (last : x ≡ e). absurd (puts_none (put_into port k e) bytes (quiet port k) (ap (put_into port k) (sym last) ∙ put)))
+        (λ (last : x ≡ e). absurd (puts_none (bytes_put_into port k e) bytes (quiet port k) (ap (bytes_put_into port k) (sym last) ∙ put)))
         (λ before. absurd (drop_all tape x before))
         (drop_more (length tape) tape e x here)
 
@@ -199,16 +199,16 @@ pub gains_write : (tape : List Entry) (m : Machine) (port slot : ℕ) (t : Fetch
     → ((b : ℕ) → b < 512 → slice_index bytes b ≡ m.disks (port_at port) (next_sector t) b) → Gains tape (tape ++ entry.Move (move_of port slot t bytes) ∷ []) m q
 gains_write tape m port slot t bytes q now = gains_put tape (entry.Move (move_of port slot t bytes)) m q put
   where
-    by : (k : ℕ) (other : List ℕ) (here writes : Bool) → ((port == q) && (next_sector t == k)) ≡ here → cond (here && writes) (Some bytes) None ≡ Some other → HasHeld m (port_at q) k (slice_index other)
+    by : (k : ℕ) (other : List ℕ) (here writes : Bool) → ((port == q) && (next_sector t == k)) ≡ here → cond (here && writes) (Some bytes) None ≡ Some other → HoldsOrHeldSinceFlush m (port_at q) k (slice_index other)
     by k other true true at is =
         let p = and_parts (port == q) (next_sector t == k) at in
-        subst (λ (n : ℕ). HasHeld m (port_at n) k (slice_index other)) (eqb-true port q p.0)
-        (subst (λ (n : ℕ). HasHeld m (port_at port) n (slice_index other)) (eqb-true (next_sector t) k p.1)
-        (subst (λ (l : List ℕ). HasHeld m (port_at port) (next_sector t) (slice_index l)) (same_Some bytes other is) (inl now)))
+        subst (λ (n : ℕ). HoldsOrHeldSinceFlush m (port_at n) k (slice_index other)) (eqb-true port q p.0)
+        (subst (λ (n : ℕ). HoldsOrHeldSinceFlush m (port_at port) n (slice_index other)) (eqb-true (next_sector t) k p.1)
+        (subst (λ (l : List ℕ). HoldsOrHeldSinceFlush m (port_at port) (next_sector t) (slice_index l)) (same_Some bytes other is) (inl now)))
     by k other true false at is = absurd (puts_none None other refl is)
     by k other false writes at is = absurd (puts_none None other refl is)
 
-    put : (k : ℕ) (other : List ℕ) → put_into q k (entry.Move (move_of port slot t bytes)) ≡ Some other → HasHeld m (port_at q) k (slice_index other)
+    put : (k : ℕ) (other : List ℕ) → bytes_put_into q k (entry.Move (move_of port slot t bytes)) ≡ Some other → HoldsOrHeldSinceFlush m (port_at q) k (slice_index other)
     put k other is = by k other ((port == q) && (next_sector t == k)) (is_ranged t.meaning.operation && reads_memory t.meaning.operation) refl is
 
 -- and a clear puts zeros
@@ -216,16 +216,16 @@ pub gains_clear : (tape : List Entry) (m : Machine) (port slot first count q : �
     → ((k b : ℕ) → first ≤ k → k < first + count → b < 512 → slice_index (replicate 512 0) b ≡ m.disks (port_at port) k b) → Gains tape (tape ++ clear_entry port slot first count ∷ []) m q
 gains_clear tape m port slot first count q now = gains_put tape (clear_entry port slot first count) m q put
   where
-    by : (k : ℕ) (other : List ℕ) (here : Bool) → ((port == q) && (nat_le first k && nat_lt k (first + count))) ≡ here → cond here (Some (replicate 512 0)) None ≡ Some other → HasHeld m (port_at q) k (slice_index other)
+    by : (k : ℕ) (other : List ℕ) (here : Bool) → ((port == q) && (nat_le first k && nat_lt k (first + count))) ≡ here → cond here (Some (replicate 512 0)) None ≡ Some other → HoldsOrHeldSinceFlush m (port_at q) k (slice_index other)
     by k other true at is =
         let p = and_parts (port == q) (nat_le first k && nat_lt k (first + count)) at in
         let r = and_parts (nat_le first k) (nat_lt k (first + count)) p.1 in
-        subst (λ (n : ℕ). HasHeld m (port_at n) k (slice_index other)) (eqb-true port q p.0)
-        (subst (λ (l : List ℕ). HasHeld m (port_at port) k (slice_index l)) (same_Some (replicate 512 0) other is)
+        subst (λ (n : ℕ). HoldsOrHeldSinceFlush m (port_at n) k (slice_index other)) (eqb-true port q p.0)
+        (subst (λ (l : List ℕ). HoldsOrHeldSinceFlush m (port_at port) k (slice_index l)) (same_Some (replicate 512 0) other is)
         (inl (λ b lb. now k b (leb-true first k r.0) (ltb-true k (first + count) r.1) lb)))
     by k other false at is = absurd (puts_none None other refl is)
 
-    put : (k : ℕ) (other : List ℕ) → put_into q k (clear_entry port slot first count) ≡ Some other → HasHeld m (port_at q) k (slice_index other)
+    put : (k : ℕ) (other : List ℕ) → bytes_put_into q k (clear_entry port slot first count) ≡ Some other → HoldsOrHeldSinceFlush m (port_at q) k (slice_index other)
     put k other is = by k other ((port == q) && (nat_le first k && nat_lt k (first + count))) refl is
 
 -- A command is ended: what the disk holds is lasting if it is a flush, and else what was so before.

@@ -14,8 +14,8 @@ use Rattle.adapter.specs.declared.tape.Entry.{Entry}
 use Rattle.adapter.specs.declared.tape.Entry.TheVariants as entry
 use Rattle.block_machine.specs.State.{DiskBytes, Machine}
 use Rattle.block_machine.specs.Steps as machine
-use Rattle.block_machine.specs.Steps.{HasHeld, after_step}
-use Rattle.refinement.specs.Slots.{SlotState, Free, Own, Serves, SlotStates, Stage, IsMove, OwnWaits, OwnTaken, OwnOver, IsOver, IsPlaced, RelatesSlot, Armed}
+use Rattle.block_machine.specs.Steps.{HoldsOrHeldSinceFlush, after_step}
+use Rattle.refinement.specs.Slots.{SlotState, Free, Own, Serves, SlotStates, Stage, IsMove, OwnWaits, OwnTaken, OwnOver, IsOver, HasListInPlace, RelatesSlot, Armed}
 use Rattle.refinement.specs.Relation.{StateRelation, port_at, IsDiskOf, SameSectors, HasLasting, HasReceivedArea}
 use Rattle.refinement.specs.Tape.{PutsInDisks}
 use Rattle.refinement.specs.Follows.{SimulatesSteps}
@@ -150,11 +150,11 @@ module _ (uses : SlotStates) (m : Machine) (d : Device) (a : StateRelation uses 
           let r = a.received port s.fre in
           (inl (record { port = port; below = r.below; from = omega (arith, r.area, x.0); to = omega (arith, r.area, x.1) }), omega (arith, r.area, x.1, r.below))
 
-      placed_count : IsPlaced (d.port port) port slot → at ≡ (d.port port).bases.clb + 32 * slot + 4 → length bytes ≡ 4 → MayChange NoPort at (length bytes) × (at + length bytes ≤ DRIVER_BYTES)
+      placed_count : HasListInPlace (d.port port) port slot → at ≡ (d.port port).bases.clb + 32 * slot + 4 → length bytes ≡ 4 → MayChange NoPort at (length bytes) × (at + length bytes ≤ DRIVER_BYTES)
       placed_count w here size =
           (inr (inl (record { port = port; slot = slot; below = w.port_below; slot_below = w.slot_below; here = omega (arith, here, w.list); size = size })), omega (arith, here, size, w.list, w.port_below, w.slot_below))
 
-      use_placed : (u : SlotState) → RelatesSlot m d.memory d.tape (d.port port) port slot u → (t : FetchedCommand) → (d.port port).taken slot ≡ Some t → IsPlaced (d.port port) port slot
+      use_placed : (u : SlotState) → RelatesSlot m d.memory d.tape (d.port port) port slot u → (t : FetchedCommand) → (d.port port).taken slot ≡ Some t → HasListInPlace (d.port port) port slot
       use_placed Free h t e = some_none e h.free
       use_placed Armed h t e = some_none e h.free
       use_placed (Own o) h t e = h.placed
@@ -180,7 +180,7 @@ module _ (uses : SlotStates) (m : Machine) (d : Device) (a : StateRelation uses 
 
   -- ---- the engine stops
 
-  placed_same : (port k : ℕ) (new : DevicePort) → new.bases.clb ≡ (d.port port).bases.clb → IsPlaced (d.port port) port k → IsPlaced new port k
+  placed_same : (port k : ℕ) (new : DevicePort) → new.bases.clb ≡ (d.port port).bases.clb → HasListInPlace (d.port port) port k → HasListInPlace new port k
   placed_same port k new same h = placed_on (d.port port) new port k same h
 
   fall_slot : (port k : ℕ) (u : SlotState) → (d.port port).st ≡ false → RelatesSlot m d.memory d.tape (d.port port) port k u → RelatesSlot m d.memory d.tape (record (d.port port) { cr = false; taken = λ _. None }) port k u
@@ -340,10 +340,10 @@ module _ (uses : SlotStates) (m : Machine) (d : Device) (a : StateRelation uses 
             ap (λ (o : Option (ℕ → List ℕ)). content_of o k b) (sym (tells t).1)
             ∙ ap (λ (f : DiskBytes). f k b) (sym (cond-true (port == port) content (m.disks (port_at port)) (eq-eqb port port refl)));
       }) in
-      let comes_back : (d.telling ≡ true → IsReplugOf d port disk → (k : ℕ) → k < disk.size → HasHeld m (port_at port) k (content k)) = (λ t that k inside.
+      let comes_back : (d.telling ≡ true → IsReplugOf d port disk → (k : ℕ) → k < disk.size → HoldsOrHeldSinceFlush m (port_at port) k (content k)) = (λ t that k inside.
       let s = a.sectors t port in
       let told = tells t in
-      subst (λ (o : Option (ℕ → List ℕ)). HasHeld m (port_at port) k (content_of o k)) (sym told.1)
+      subst (λ (o : Option (ℕ → List ℕ)). HoldsOrHeldSinceFlush m (port_at port) k (content_of o k)) (sym told.1)
       (⊎_elim
       (λ (now : told.0 k ≡ s.told k). inl (λ b lb. ap (λ (l : List ℕ). slice_index l b) now ∙ s.same k b (subst (λ (n : ℕ). k < n) that.size inside) lb))
       (λ (was : WereHeld d.tape (d.port port).lasting port k (told.0 k)). a.lasting t port k (subst (λ (n : ℕ). k < n) that.size inside) (told.0 k) was)

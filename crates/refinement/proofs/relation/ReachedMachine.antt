@@ -3,7 +3,7 @@ use Rattle.ata_types.specs.declared.memory.TheConstants.{DRIVER_FRAMES}
 use Rattle.std.proofs.Common.{ℕ, ◌<◌, ◌≤◌, length, List, sym, ◌∙◌, subst}
 use Rattle.block_machine.specs.State.{Pending, Machine, frame_at}
 use Rattle.block_machine.specs.Steps.{Step, MayStillMove}
-use Rattle.block_machine.specs.Left.{after, IsInitial, IsLegal}
+use Rattle.block_machine.specs.Expected.{after, IsInitial, IsLegal}
 use Rattle.block_machine.specs.Histories.{IsReachable}
 use Rattle.block_machine.proofs.Configured.{owners_stay}
 use Rattle.block_machine.proofs.Limits.{law_limits_hold}

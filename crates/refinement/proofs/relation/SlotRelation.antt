@@ -19,7 +19,7 @@ use Rattle.adapter.proofs.Changed.{changed_same, changed_other}
 use Rattle.block_machine.specs.State.{Accepted, Pending, Machine}
 use Rattle.block_machine.specs.Steps.{MayStillMove}
 use Rattle.refinement.specs.Places.{list_of, scratch_of, IsTableByte, IsScratch}
-use Rattle.refinement.specs.Slots.{SlotState, Free, Own, Serves, SlotStates, SlotDecodesTo, IsPlaced, MeansRange, HasTrimBlock, Waits, Progress, IsTakenFor, Stage, IsMove, Brought, OwnWaits, OwnTaken, OwnOver, IsOver, RelatesSlot, Armed}
+use Rattle.refinement.specs.Slots.{SlotState, Free, Own, Serves, SlotStates, SlotDecodesTo, HasListInPlace, MeansRange, HasTrimBlock, Waits, Progress, IsTakenFor, Stage, IsMove, PageStandsInScratch, OwnWaits, OwnTaken, OwnOver, IsOver, RelatesSlot, Armed}
 use Rattle.refinement.specs.Relation.{StateRelation}
 
 -- a port as one slot sees it
@@ -87,7 +87,7 @@ progress_on Write memory new port e t same h = h
 progress_on Flush memory new port e t same h = h
 
 pub brought_on : (memory new : ℕ → ℕ) (tape later : List Entry) (port : ℕ) (o : Operation) (since then_since : ℕ) → SameScratch memory new port → GainsNone tape later port o → then_since ≡ since →
-    Brought memory tape port o since → Brought new later port o then_since
+    PageStandsInScratch memory tape port o since → PageStandsInScratch new later port o then_since
 brought_on memory new tape later port o since then_since same gains is b = record {
   before = b.before;
   after = (let a = b.after in omega (arith, a, is));
@@ -103,7 +103,7 @@ brought_on memory new tape later port o since then_since same gains is b = recor
 pub known_on : (tape gained : List Entry) (n : ℕ) → n ≤ length tape → n ≤ length (tape ++ gained)
 known_on tape gained n le = let l : length (tape ++ gained) ≡ length tape + length gained = length-append tape gained in omega (arith, l, le)
 
-pub placed_on : (p new : DevicePort) (port slot : ℕ) → new.bases.clb ≡ p.bases.clb → IsPlaced p port slot → IsPlaced new port slot
+pub placed_on : (p new : DevicePort) (port slot : ℕ) → new.bases.clb ≡ p.bases.clb → HasListInPlace p port slot → HasListInPlace new port slot
 placed_on p new port slot same h = record { port_below = h.port_below; slot_below = h.slot_below; list = same ∙ h.list }
 
 pub over_on : (p new : DevicePort) (slot : ℕ) → SameSlot p new slot → IsOver p slot → IsOver new slot
@@ -167,14 +167,14 @@ module _ (memory new_memory : ℕ → ℕ) (p new : DevicePort) (port slot : ℕ
     issued = same.issued ∙ t.issued ∙ sym same.st;
     brought = ⊎_elim
         (λ (z : t.command.moved ≡ 0). inl z)
-        (λ (x : (t.command.moved ≡ 1) × Brought memory tape port c.operation p.notes.st_set_at). inr (x.0, brought_on memory new_memory tape later port c.operation p.notes.st_set_at new.notes.st_set_at scratch gains same.since x.1))
+        (λ (x : (t.command.moved ≡ 1) × PageStandsInScratch memory tape port c.operation p.notes.st_set_at). inr (x.0, brought_on memory new_memory tape later port c.operation p.notes.st_set_at new.notes.st_set_at scratch gains same.since x.1))
         t.brought;
   }))
   own_on tape later c scratch gains (inr (inr x)) = inr (inr (record {
     over = over_on p new slot same x.over;
     brought = ⊎_elim
         (λ (z : p.st ≡ false). inl (same.st ∙ z))
-        (λ (b : Brought memory tape port c.operation p.notes.st_set_at). inr (brought_on memory new_memory tape later port c.operation p.notes.st_set_at new.notes.st_set_at scratch gains same.since b))
+        (λ (b : PageStandsInScratch memory tape port c.operation p.notes.st_set_at). inr (brought_on memory new_memory tape later port c.operation p.notes.st_set_at new.notes.st_set_at scratch gains same.since b))
         x.brought;
   }))
 

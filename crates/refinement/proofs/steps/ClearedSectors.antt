@@ -18,11 +18,11 @@ use Rattle.block_machine.specs.State.{Accepted, Block, Memory, Pending, Machine,
 use Rattle.block_machine.specs.State as state
 use Rattle.block_machine.specs.Due.{changes_sectors}
 use Rattle.block_machine.specs.Steps.{Touch, MayStillMove, after_step, put_sector, put_bytes}
-use Rattle.block_machine.specs.Left as left
-use Rattle.block_machine.specs.Left.{AllStepsFaithful}
+use Rattle.block_machine.specs.Expected as left
+use Rattle.block_machine.specs.Expected.{AllStepsFaithful}
 use Rattle.block_machine.specs.Events.{AllMay}
 use Rattle.refinement.specs.Places.{scratch_of}
-use Rattle.refinement.specs.Slots.{SlotState, Free, Own, Serves, SlotStates, Means, MeansRange, ArePlaces, TouchedUpTo, Progress, ServesRequest, OwnWaits, OwnTaken, OwnOver, RelatesSlot, op_of, Armed}
+use Rattle.refinement.specs.Slots.{SlotState, Free, Own, Serves, SlotStates, MeansRequest, MeansRange, ArePlaces, TouchedUpTo, Progress, ServesRequest, OwnWaits, OwnTaken, OwnOver, RelatesSlot, op_of, Armed}
 use Rattle.refinement.specs.Relation.{StateRelation, port_at, SameSectors}
 use Rattle.refinement.specs.Tape.{PutsInDisks, touched_by, touch_steps}
 use Rattle.refinement.specs.Follows.{SimulatesSteps}
@@ -190,7 +190,7 @@ swept m e from (suc n) op r there fits inside =
 
 module _ (uses : SlotStates) (m : Machine) (d : Device) (a : StateRelation uses m d) (port slot : ℕ) (t : FetchedCommand) (first count : ℕ) (can : MayClear d port slot t first count) where
   module _ (id : RequestId) (u : uses port slot ≡ Serves id) (h : ServesRequest m d.memory (d.port port) port slot id) (x : TakenAs d.memory (d.port port) port slot h.pending h.command h.places t) where
-    means : Means port slot h.pending.request t.meaning t.places
+    means : MeansRequest port slot h.pending.request t.meaning t.places
     means = means_taken port slot h.pending.request h.command t.meaning h.places t.places x.meaning x.places_are h.means
 
     op : h.pending.request.asked.op ≡ Trim
@@ -293,7 +293,7 @@ module _ (uses : SlotStates) (m : Machine) (d : Device) (a : StateRelation uses 
               command = h.command;
               places = h.places;
               told = h.told;
-              means = subst (λ (j : Accepted). Means port slot j h.command h.places) (sym (touched_request h.pending t.cleared count)) h.means;
+              means = subst (λ (j : Accepted). MeansRequest port slot j h.command h.places) (sym (touched_request h.pending t.cleared count)) h.means;
               stage = inr (inl (record {
                 command = record t { cleared = t.cleared + count };
                 taken = changed_same (d.port port).taken slot _;

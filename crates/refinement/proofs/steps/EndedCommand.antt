@@ -18,7 +18,7 @@ use Rattle.block_machine.specs.Steps as machine
 use Rattle.block_machine.specs.Steps.{AllTouched, after_step, mark_ended}
 use Rattle.block_machine.proofs.Standing.{standing}
 use Rattle.refinement.specs.Places.{scratch_of}
-use Rattle.refinement.specs.Slots.{SlotState, Free, Own, Serves, SlotStates, Means, MeansRange, ArePlaces, TouchedUpTo, Progress, ServesRequest, Brought, OwnWaits, OwnTaken, OwnOver, ServesOwn, RelatesSlot, op_of, Armed}
+use Rattle.refinement.specs.Slots.{SlotState, Free, Own, Serves, SlotStates, MeansRequest, MeansRange, ArePlaces, TouchedUpTo, Progress, ServesRequest, PageStandsInScratch, OwnWaits, OwnTaken, OwnOver, ServesOwn, RelatesSlot, op_of, Armed}
 use Rattle.refinement.specs.Relation.{StateRelation, port_at}
 use Rattle.refinement.specs.Tape.{TellsDone}
 use Rattle.refinement.specs.Follows.{SimulatesSteps}
@@ -157,7 +157,7 @@ module _ (uses : SlotStates) (m : Machine) (d : Device) (a : StateRelation uses 
     });
   }
     where
-      means : Means port slot h.pending.request t.meaning t.places
+      means : MeansRequest port slot h.pending.request t.meaning t.places
       means = means_taken port slot h.pending.request h.command t.meaning h.places t.places x.meaning x.places_are h.means
 
       here_port : h.pending.request.port ≡ port_at port
@@ -218,10 +218,10 @@ module _ (uses : SlotStates) (m : Machine) (d : Device) (a : StateRelation uses 
       moved : t.moved ≡ 1
       moved = can.finished.moved ∙ ap (λ (y : FetchedCommand). length y.places) (sym is) ∙ ap length x.places_are
 
-      brought : Brought d.memory (d.tape ++ done_entry port slot t.meaning.operation ∷ []) port h.command.operation (d.port port).notes.st_set_at
+      brought : PageStandsInScratch d.memory (d.tape ++ done_entry port slot t.meaning.operation ∷ []) port h.command.operation (d.port port).notes.st_set_at
       brought = ⊎_elim
           (λ (z : x.command.moved ≡ 0). absurd (let e : t.moved ≡ x.command.moved = ap (λ (y : FetchedCommand). y.moved) (sym is) in let n = moved in omega (arith, e, z, n)))
-          (λ (b : (x.command.moved ≡ 1) × Brought d.memory d.tape port h.command.operation (d.port port).notes.st_set_at).
+          (λ (b : (x.command.moved ≡ 1) × PageStandsInScratch d.memory d.tape port h.command.operation (d.port port).notes.st_set_at).
           brought_on d.memory d.memory d.tape (d.tape ++ done_entry port slot t.meaning.operation ∷ []) port h.command.operation (d.port port).notes.st_set_at (d.port port).notes.st_set_at (λ at here. refl) (gains_one d.tape (done_entry port slot t.meaning.operation) port h.command.operation (λ z. z)) refl b.1)
           x.brought
 

@@ -4,13 +4,13 @@ use Rattle.std.proofs.lemmas.List.{append_cancel_left}
 use Rattle.adapter.specs.Device as device
 use Rattle.adapter.specs.Device.{Device}
 use Rattle.adapter.specs.Steps as steps
-use Rattle.adapter.specs.Steps.{Can, device_after, StepLeads, Steps}
+use Rattle.adapter.specs.Steps.{Can, device_after, TransitionsLead, Steps}
 use Rattle.adapter.specs.Steps.DeviceTransition.{Fetch, FetchFault, Move, Clear, Done, Fault, Fatal, Fall, FrFall, LinkUp, Unplug, Plug, ResetEnds, Scribble}
 use Rattle.adapter.specs.declared.tape.Entry.{Entry}
 use Rattle.block_machine.specs.State.{Machine}
 use Rattle.block_machine.specs.Steps as machine
-use Rattle.block_machine.specs.Left as left
-use Rattle.block_machine.specs.Left.{AllStepsFaithful, StepIsFaithful}
+use Rattle.block_machine.specs.Expected as left
+use Rattle.block_machine.specs.Expected.{AllStepsFaithful, StepIsFaithful}
 use Rattle.block_machine.specs.Histories.{IsReachable}
 use Rattle.block_machine.proofs.EventLemmas.{after-append}
 use Rattle.block_machine.proofs.HistoryLemmas.{may-append, reached_more}
@@ -112,7 +112,7 @@ Follows-trans uses m old mid new a b = record {
   agrees = subst (λ (n : Machine). StateRelation uses n new) (sym (after-append m b.steps a.steps)) b.agrees;
 }
 
-leads_follow : (uses : SlotStates) (m : Machine) (steps : List steps.DeviceTransition) (old new : Device) → IsReachable m → StateRelation uses m old → StepLeads steps old new → SimulatesSteps uses m old new
+leads_follow : (uses : SlotStates) (m : Machine) (steps : List steps.DeviceTransition) (old new : Device) → IsReachable m → StateRelation uses m old → TransitionsLead steps old new → SimulatesSteps uses m old new
 leads_follow uses m [] old new r a e = subst (λ (d : Device). SimulatesSteps uses m old d) (sym e) (Follows-refl uses m old a)
 leads_follow uses m (step ∷ steps) old new r a (can, lead) =
     let first : SimulatesSteps uses m old (device_after step old) = step_follows uses m old step r a can in

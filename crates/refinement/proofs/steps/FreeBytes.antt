@@ -19,7 +19,7 @@ use Rattle.block_machine.specs.Steps.{MayStillMove}
 use Rattle.block_machine.proofs.Standing.{standing}
 use Rattle.refinement.specs.Places.{list_of, received_of, table_of, scratch_of, place_in}
 use Rattle.refinement.specs.Slots as slots
-use Rattle.refinement.specs.Slots.{SlotState, Free, Own, Serves, SlotDecodesTo, IsPlaced, Means, ArePlaces, Stage, ServesRequest, ServesOwn, OwnWaits, OwnTaken, OwnOver, IsOver, RelatesSlot, Armed}
+use Rattle.refinement.specs.Slots.{SlotState, Free, Own, Serves, SlotDecodesTo, HasListInPlace, MeansRequest, ArePlaces, Stage, ServesRequest, ServesOwn, OwnWaits, OwnTaken, OwnOver, IsOver, RelatesSlot, Armed}
 use Rattle.refinement.specs.Relation.{StateRelation}
 use Rattle.refinement.specs.Driver.{MayStore}
 use Rattle.refinement.proofs.relation.WrittenBytes.{in_free, narrow, same_port}
@@ -71,11 +71,11 @@ module _ (uses : slots.SlotStates) (m : Machine) (d : Device) (reached : IsReach
   serves_used : {id : RequestId} → uses port slot ≡ Serves id → uses port slot ≡ Free → ⊥
   serves_used u f = let z : Serves _ ≡ Free = sym u ∙ f in cc
 
-  of_header : IsPlaced (d.port port) port slot → (uses port slot ≡ Free → ⊥) → (d.port port).bases.clb + 32 * slot ≤ at → at < (d.port port).bases.clb + 32 * slot + 32 → IsUsed uses m d at
+  of_header : HasListInPlace (d.port port) port slot → (uses port slot ≡ Free → ⊥) → (d.port port).bases.clb + 32 * slot ≤ at → at < (d.port port).bases.clb + 32 * slot + 32 → IsUsed uses m d at
   of_header w used low high =
       inl (record { port = port; slot = slot; below = w.port_below; slot_below = w.slot_below; used = used; here = inl (omega (arith, w.list, low), omega (arith, w.list, high)) })
 
-  of_table : IsPlaced (d.port port) port slot → (uses port slot ≡ Free → ⊥) → (c n : Meaning) (places others : List ℕ) → (told : SlotDecodesTo d.memory (d.port port).bases.clb port slot c places) →
+  of_table : HasListInPlace (d.port port) port slot → (uses port slot ≡ Free → ⊥) → (c n : Meaning) (places others : List ℕ) → (told : SlotDecodesTo d.memory (d.port port).bases.clb port slot c places) →
       (s : DecodesTo d.memory (d.port port).bases.clb slot n others) → s.table ≤ at → at < s.table + TABLE_HEAD + PRD_BYTES * length s.prds → IsUsed uses m d at
   of_table w used c n places others told s low high =
       let t : s.table ≡ table_of port slot = says_table d.memory (d.port port).bases.clb slot n c others places s told.says ∙ told.table_is in

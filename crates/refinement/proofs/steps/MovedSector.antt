@@ -25,7 +25,7 @@ use Rattle.block_machine.specs.Steps as machine
 use Rattle.block_machine.specs.Steps.{Touch, after_step, touch, put_sector, put_bytes}
 use Rattle.block_machine.proofs.Standing.{Standing, standing}
 use Rattle.refinement.specs.Places.{scratch_of, place_in}
-use Rattle.refinement.specs.Slots.{SlotState, Free, Own, Serves, SlotStates, Means, MeansRange, ArePlaces, TouchedUpTo, Progress, Stage, ServesRequest, IsMove, ServesOwn, RelatesSlot, op_of}
+use Rattle.refinement.specs.Slots.{SlotState, Free, Own, Serves, SlotStates, MeansRequest, MeansRange, ArePlaces, TouchedUpTo, Progress, Stage, ServesRequest, IsMove, ServesOwn, RelatesSlot, op_of}
 use Rattle.refinement.specs.Relation.{StateRelation, port_at, SameSectors}
 use Rattle.refinement.specs.Tape.{TellsMove, MovesSector}
 use Rattle.refinement.specs.Follows.{SimulatesSteps}
@@ -64,9 +64,9 @@ taken_as memory p port slot e c places t is (inr (inr (inl x))) = some_none is x
 taken_as memory p port slot e c places t is (inr (inr (inr x))) = some_none is x.free
 
 -- the command that was taken is the request's
-pub means_taken : (port slot : ℕ) (r : state.Accepted) (c d : Meaning) (places others : List ℕ) → d ≡ c → others ≡ places → Means port slot r c places → Means port slot r d others
+pub means_taken : (port slot : ℕ) (r : state.Accepted) (c d : Meaning) (places others : List ℕ) → d ≡ c → others ≡ places → MeansRequest port slot r c places → MeansRequest port slot r d others
 means_taken port slot r c d places others e f means =
-    subst (λ (x : Meaning). Means port slot r x others) (sym e) (subst (λ (l : List ℕ). Means port slot r c l) (sym f) means)
+    subst (λ (x : Meaning). MeansRequest port slot r x others) (sym e) (subst (λ (l : List ℕ). MeansRequest port slot r c l) (sym f) means)
 
 -- one more sector is touched
 pub upto_more : (f : ℕ → Bool) (n : ℕ) → TouchedUpTo f n → TouchedUpTo (λ k. k == n || f k) (n + 1)
@@ -107,7 +107,7 @@ module _ (uses : SlotStates) (m : Machine) (d : Device) (a : StateRelation uses 
 
   module _ (t : FetchedCommand) (x : TakenAs d.memory (d.port port) port slot h.pending h.command h.places t) (bytes : List ℕ) (size : length bytes ≡ 512) (left : t.moved < length t.places)
       (present : (d.port port).present ≡ true) where
-    means : Means port slot h.pending.request t.meaning t.places
+    means : MeansRequest port slot h.pending.request t.meaning t.places
     means = means_taken port slot h.pending.request h.command t.meaning h.places t.places x.meaning x.places_are h.means
 
     -- the slot after a sector of a read or write
@@ -123,7 +123,7 @@ module _ (uses : SlotStates) (m : Machine) (d : Device) (a : StateRelation uses 
       command = h.command;
       places = h.places;
       told = told_on d.memory memory' (d.port port).bases.clb (d.port port).bases.clb port slot h.command h.places h.placed.list refl tables h.told;
-      means = subst (λ (r : state.Accepted). Means port slot r h.command h.places) (sym request) h.means;
+      means = subst (λ (r : state.Accepted). MeansRequest port slot r h.command h.places) (sym request) h.means;
       stage = inr (inl (record {
         command = t';
         taken = changed_same (d.port port).taken slot _;

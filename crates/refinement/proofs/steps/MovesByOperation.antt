@@ -17,7 +17,7 @@ use Rattle.adapter.proofs.MemoryLemmas.{patched_bytes}
 use Rattle.block_machine.specs.State.{Machine}
 use Rattle.block_machine.specs.Histories.{IsReachable}
 use Rattle.refinement.specs.Places.{scratch_of}
-use Rattle.refinement.specs.Slots.{SlotState, Free, Own, Serves, SlotStates, ArePlaces, ServesRequest, Brought, OwnWaits, OwnTaken, OwnOver, ServesOwn, RelatesSlot, op_of, Armed}
+use Rattle.refinement.specs.Slots.{SlotState, Free, Own, Serves, SlotStates, ArePlaces, ServesRequest, PageStandsInScratch, OwnWaits, OwnTaken, OwnOver, ServesOwn, RelatesSlot, op_of, Armed}
 use Rattle.refinement.specs.Relation.{StateRelation}
 use Rattle.refinement.specs.Tape.{TellsMove}
 use Rattle.refinement.specs.Follows.{SimulatesSteps}
@@ -100,7 +100,7 @@ module _ (uses : SlotStates) (m : Machine) (d : Device) (a : StateRelation uses 
         (λ q w v out. gains_one d.tape (entry.Move (move_of port slot t bytes)) q w (λ y. out (sym y.0)))
 
     -- the page stands there
-    brought : Brought (patched d.memory (next_place t) bytes) (d.tape ++ entry.Move (move_of port slot t bytes) ∷ []) port h.command.operation (d.port port).notes.st_set_at
+    brought : PageStandsInScratch (patched d.memory (next_place t) bytes) (d.tape ++ entry.Move (move_of port slot t bytes) ∷ []) port h.command.operation (d.port port).notes.st_set_at
     brought = record {
       before = d.tape;
       after = h.known;

@@ -7,16 +7,16 @@ use Rattle.hba_regs.specs.declared.reg.Reg.{Reg}
 use Rattle.hba_regs.specs.declared.reg.Reg.TheVariants.{Cap, Ghc, Is, Pi, Vs, Cap2, Bohc, Px}
 use Rattle.hba_regs.specs.declared.reg.PortReg.{PortReg}
 use Rattle.hba_regs.specs.declared.reg.PortReg.TheVariants as px
-use Rattle.adapter.specs.Access.{Writes, written, port_written, with_st, with_fre, with_is_cleared}
+use Rattle.adapter.specs.Access.{Writes, written, port_written, with_st, with_fre, with_is_bit_cleared}
 use Rattle.adapter.specs.Commands.{is_queued}
 use Rattle.adapter.specs.Device as device
 use Rattle.adapter.specs.Device.{Lasting, DevicePort, Device}
 use Rattle.adapter.specs.Kept.{Keeps}
 use Rattle.adapter.specs.Rules.{MayWrite, IsStable}
 use Rattle.adapter.specs.Steps.{Steps, with_port, halt_after_start}
-use Rattle.adapter.proofs.KeptLemmas.{law_steps_guarantee}
+use Rattle.adapter.proofs.KeptLemmas.{law_step_lists_keep_what_steps_keep}
 use Rattle.block_machine.specs.State.{Machine}
-use Rattle.block_machine.specs.Left as left
+use Rattle.block_machine.specs.Expected as left
 use Rattle.block_machine.specs.Histories.{IsReachable}
 use Rattle.refinement.specs.Places.{list_of, received_of}
 use Rattle.refinement.specs.Slots.{SlotState, Free, Own, Serves, SlotStates, Stage, OwnWaits, OwnTaken, OwnOver, RelatesSlot, Armed, IsEmptySlot}
@@ -263,26 +263,26 @@ module _ (uses : SlotStates) (m : Machine) (d : Device) (a : StateRelation uses 
   }
 
   told_on : (v : ℕ) → StateRelation uses m (written Is v d)
-  told_on v = all_alike (λ q. if bit v q then with_is_cleared (d.port q) else d.port q)
+  told_on v = all_alike (λ q. if bit v q then with_is_bit_cleared (d.port q) else d.port q)
       (λ q k. same q k (bit v q)) (λ q. fre q (bit v q)) (λ q. bases q (bit v q)) (λ q. present q (bit v q)) (λ q. disk q (bit v q))
     where
-      same : (q k : ℕ) (b : Bool) → SameSlot (d.port q) (if b then with_is_cleared (d.port q) else d.port q) k
+      same : (q k : ℕ) (b : Bool) → SameSlot (d.port q) (if b then with_is_bit_cleared (d.port q) else d.port q) k
       same q k true = record { issued = refl; sact = refl; taken = refl; st = refl; cr = refl; since = refl; list = refl }
       same q k false = SameSlot-refl (d.port q) k
 
-      fre : (q : ℕ) (b : Bool) → (if b then with_is_cleared (d.port q) else d.port q).fre ≡ (d.port q).fre
+      fre : (q : ℕ) (b : Bool) → (if b then with_is_bit_cleared (d.port q) else d.port q).fre ≡ (d.port q).fre
       fre q true = refl
       fre q false = refl
 
-      bases : (q : ℕ) (b : Bool) → (if b then with_is_cleared (d.port q) else d.port q).bases ≡ (d.port q).bases
+      bases : (q : ℕ) (b : Bool) → (if b then with_is_bit_cleared (d.port q) else d.port q).bases ≡ (d.port q).bases
       bases q true = refl
       bases q false = refl
 
-      present : (q : ℕ) (b : Bool) → (if b then with_is_cleared (d.port q) else d.port q).present ≡ (d.port q).present
+      present : (q : ℕ) (b : Bool) → (if b then with_is_bit_cleared (d.port q) else d.port q).present ≡ (d.port q).present
       present q true = refl
       present q false = refl
 
-      disk : (q : ℕ) (b : Bool) → disk_of (if b then with_is_cleared (d.port q) else d.port q) ≡ disk_of (d.port q)
+      disk : (q : ℕ) (b : Bool) → disk_of (if b then with_is_bit_cleared (d.port q) else d.port q) ≡ disk_of (d.port q)
       disk q true = refl
       disk q false = refl
 
@@ -305,7 +305,7 @@ module _ (uses : SlotStates) (m : Machine) (d : Device) (a : StateRelation uses 
 -- what is asked of the write stays so, whatever the device does first
 leaves_on : (uses : SlotStates) (r : Reg) (v : ℕ) (old mid : Device) → IsStable (MayWrite r v) old → Steps old mid → LeavesUses uses r v old → LeavesUses uses r v mid
 leaves_on uses (Px port px.Cmd) v old mid may s x =
-    let k : Keeps old mid = law_steps_guarantee s in
+    let k : Keeps old mid = law_step_lists_keep_what_steps_keep s in
     let hr : old.hr ≡ false = (may old (record { steps = []; lead = refl })).0.no_reset in
     record {
       start = λ b. ⊎_elim (λ (t : (old.port port.0).st ≡ true). inl (((k.on hr).controls port.0).st ∙ t)) (λ (f : AllFree uses port.0). inr f) (x.start b);
@@ -378,7 +378,7 @@ pub written_plugged : (r : Reg) (v : ℕ) (d : Device) (q : ℕ) → ((written r
 written_plugged (Px port r) v d q = same_plugged d port.0 _ (port_plugged r v (length d.tape) (d.port port.0)) q
 written_plugged Is v d q = by (bit v q)
   where
-    by : (b : Bool) → (if b then with_is_cleared (d.port q) else d.port q).plugged ≡ (d.port q).plugged
+    by : (b : Bool) → (if b then with_is_bit_cleared (d.port q) else d.port q).plugged ≡ (d.port q).plugged
     by true = refl
     by false = refl
 written_plugged Ghc v d q = refl

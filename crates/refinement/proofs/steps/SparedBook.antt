@@ -8,7 +8,7 @@ use Rattle.ata_types.specs.declared.request.RequestId.{RequestId}
 use Rattle.adapter.specs.Device.{Device}
 use Rattle.block_machine.specs.State.{Accepted, Block, Memory, Pending, Machine, frame_at, unanswered, is_reader}
 use Rattle.block_machine.specs.Steps.{Step, Accept, Issue, Touch, End, Age, Again, Answer, Revoke, Release, Unplug, Replace, Store, Load, May, MayStillMove, NoneQuarantined, after_step, at, touch, mark_ended, put_bytes, memory_after}
-use Rattle.block_machine.specs.Left.{after}
+use Rattle.block_machine.specs.Expected.{after}
 use Rattle.block_machine.specs.Events.{IsByDevice, AllByDevice, AllMay}
 use Rattle.block_machine.specs.Histories.{IsReachable}
 use Rattle.block_machine.proofs.HistoryLemmas.{reached_more}

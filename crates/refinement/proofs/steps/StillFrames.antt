@@ -13,19 +13,19 @@ use Rattle.adapter.specs.Idle.{IsIdle, IsIdlePort}
 use Rattle.adapter.specs.Kept.{KeepsPort}
 use Rattle.adapter.specs.Rules.{InDataBlocks, InUse, InCommand, IsUnowned, IsStable}
 use Rattle.adapter.specs.Rules as rules
-use Rattle.adapter.proofs.KeptLemmas.{law_steps_guarantee}
+use Rattle.adapter.proofs.KeptLemmas.{law_step_lists_keep_what_steps_keep}
 use Rattle.adapter.proofs.SaysLemmas.{says_table, says_prds, says_places}
 use Rattle.block_machine.specs.Confined.{MovesBytes}
 use Rattle.block_machine.specs.Histories.{IsReachable}
-use Rattle.block_machine.specs.Left as left
+use Rattle.block_machine.specs.Expected as left
 use Rattle.block_machine.specs.State.{Machine, frame_at}
 use Rattle.block_machine.proofs.HistoryLemmas.{reached_more}
 use Rattle.block_machine.proofs.Standing.{Standing, standing}
 use Rattle.refinement.specs.Relation.{StateRelation}
-use Rattle.refinement.specs.Facts.{DeviceSparesFrame, AreOver}
+use Rattle.refinement.specs.PortFacts.{DeviceSparesFrame, CommandsAreOver}
 use Rattle.refinement.specs.Follows.{SimulatesSteps}
 use Rattle.refinement.specs.Places.{scratch_of, place_in}
-use Rattle.refinement.specs.Slots.{SlotState, Free, Own, Serves, SlotStates, SlotDecodesTo, IsPlaced, ArePlaces, ServesRequest, OwnWaits, OwnTaken, OwnOver, IsOver, RelatesSlot, Armed}
+use Rattle.refinement.specs.Slots.{SlotState, Free, Own, Serves, SlotStates, SlotDecodesTo, HasListInPlace, ArePlaces, ServesRequest, OwnWaits, OwnTaken, OwnOver, IsOver, RelatesSlot, Armed}
 use Rattle.refinement.specs.Spares.{SparesBook}
 use Rattle.refinement.proofs.steps.FollowedSteps.{steps_follow}
 use Rattle.block_machine.proofs.Lending.{lent_clients}
@@ -38,7 +38,7 @@ over_unused p slot o (inl set) = absurd (both_ways _ o.issued set)
 over_unused p slot o (inr (t, is)) = absurd (none-some _ (sym o.free ∙ is))
 
 -- what a placed slot's header and bytes say lies below the clients' frames, but for the places
-told_low : (d : Device) (p : DevicePort) (port slot : ℕ) (c : Meaning) (places : List ℕ) (at : ℕ) → IsPlaced p port slot → SlotDecodesTo d.memory p.bases.clb port slot c places → DRIVER_BYTES ≤ at →
+told_low : (d : Device) (p : DevicePort) (port slot : ℕ) (c : Meaning) (places : List ℕ) (at : ℕ) → HasListInPlace p port slot → SlotDecodesTo d.memory p.bases.clb port slot c places → DRIVER_BYTES ≤ at →
     (((p.bases.clb + 32 * slot ≤ at) × (at < p.bases.clb + 32 * slot + 32)) ⊎ InCommand d p slot at) → InDataBlocks places at
 told_low d p port slot c places at w told high (inl x) = absurd (omega (arith, w.list, w.port_below, w.slot_below, x.1, high))
 told_low d p port slot c places at w told high (inr (c', places', s, x)) = ⊎_elim
@@ -59,7 +59,7 @@ scratch_low port at places below is high x =
     let to : at < slice_index (scratch_of port ∷ []) i.number + 512 = i.to in
     omega (arith, here, to, below, high)
 
-module _ (uses : SlotStates) (m : Machine) (d : Device) (a : StateRelation uses m d) (reached : IsReachable m) (frame : Frame) (high : DRIVER_FRAMES ≤ frame.0) (over : (id : RequestId) → m.lent frame ≡ Some id → AreOver uses d id) where
+module _ (uses : SlotStates) (m : Machine) (d : Device) (a : StateRelation uses m d) (reached : IsReachable m) (frame : Frame) (high : DRIVER_FRAMES ≤ frame.0) (over : (id : RequestId) → m.lent frame ≡ Some id → CommandsAreOver uses d id) where
   module _ (port slot at : ℕ) (from : 4096 * frame.0 ≤ at) (to : at < 4096 * frame.0 + 4096) where
     past : DRIVER_BYTES ≤ at
     past = omega (arith, high, from)
@@ -126,17 +126,17 @@ module _ (uses : SlotStates) (m : Machine) (d : Device) (a : StateRelation uses 
   still_now : DeviceSparesFrame frame d
   still_now port slot at from to x = unused port slot at from to x
 
-still_stays : (uses : SlotStates) (m : Machine) (d : Device) (frame : Frame) → IsReachable m → StateRelation uses m d → DRIVER_FRAMES ≤ frame.0 → ((id : RequestId) → m.lent frame ≡ Some id → AreOver uses d id) → IsStable (DeviceSparesFrame frame) d
+still_stays : (uses : SlotStates) (m : Machine) (d : Device) (frame : Frame) → IsReachable m → StateRelation uses m d → DRIVER_FRAMES ≤ frame.0 → ((id : RequestId) → m.lent frame ≡ Some id → CommandsAreOver uses d id) → IsStable (DeviceSparesFrame frame) d
 still_stays uses m d frame reached a high over mid s =
     let f : SimulatesSteps uses m d mid = steps_follow uses m d mid reached a s in
     let spares : SparesBook m (left.after m f.steps) = follows_spare uses m d mid f in
     still_now uses (left.after m f.steps) mid f.agrees (reached_more m f.steps reached f.may) frame high (λ id lent port slot u.
-    let k : KeepsPort (d.port port) (mid.port port) = (law_steps_guarantee s).port port in
+    let k : KeepsPort (d.port port) (mid.port port) = (law_step_lists_keep_what_steps_keep s).port port in
     let o : IsOver (d.port port) slot = over id (ap (λ (lent : Frame → Option RequestId). lent frame) (sym spares.lent) ∙ lent) port slot u in
     record { issued = k.ci slot o.issued; free = k.free slot o.issued o.free })
 
-pub lent_is_still : (uses : SlotStates) (m : Machine) (d : Device) (frame : Frame) (id : RequestId) → IsReachable m → StateRelation uses m d → m.lent frame ≡ Some id → AreOver uses d id → IsStable (DeviceSparesFrame frame) d
-lent_is_still uses m d frame id reached a lent over = still_stays uses m d frame reached a (lent_clients m frame id reached lent) (λ other is. subst (AreOver uses d) (same_id (sym lent ∙ is)) over)
+pub lent_is_still : (uses : SlotStates) (m : Machine) (d : Device) (frame : Frame) (id : RequestId) → IsReachable m → StateRelation uses m d → m.lent frame ≡ Some id → CommandsAreOver uses d id → IsStable (DeviceSparesFrame frame) d
+lent_is_still uses m d frame id reached a lent over = still_stays uses m d frame reached a (lent_clients m frame id reached lent) (λ other is. subst (CommandsAreOver uses d) (same_id (sym lent ∙ is)) over)
   where
     same_id : {x y : RequestId} → Some x ≡ Some y → x ≡ y
     same_id e = cc
@@ -147,7 +147,7 @@ unlent_is_still uses m d frame reached a none high = still_stays uses m d frame 
 -- an idle device, which has nothing in use whatever it does, uses no byte
 pub idle_is_still : (d : Device) (frame : Frame) → IsIdle d → IsStable (DeviceSparesFrame frame) d
 idle_is_still d frame idle mid s port slot at from to x =
-    let k : KeepsPort (d.port port) (mid.port port) = (law_steps_guarantee s).port port in
+    let k : KeepsPort (d.port port) (mid.port port) = (law_step_lists_keep_what_steps_keep s).port port in
     let i : IsIdlePort (d.port port) = idle.port port in
     let none : IsOver (mid.port port) slot = record { issued = k.ci slot (i.ci slot); free = k.free slot (i.ci slot) (i.taken slot) } in
     ⊎_elim
@@ -161,12 +161,12 @@ idle_is_still d frame idle mid s port slot at from to x =
 -- the bytes of a still frame are free
 pub still_is_free : (d : Device) (frame : Frame) (offset n : ℕ) → IsStable (DeviceSparesFrame frame) d → 4096 * frame.0 + 4096 ≤ d.size → offset + n ≤ 4096 → IsStable (IsUnowned (4096 * frame.0 + offset) n) d
 still_is_free d frame offset n still inside within mid s = record {
-  inside = let same : mid.size ≡ d.size = (law_steps_guarantee s).size in omega (arith, same, inside, within);
+  inside = let same : mid.size ≡ d.size = (law_step_lists_keep_what_steps_keep s).size in omega (arith, same, inside, within);
   unused = λ port slot byte from to u. still mid s port slot byte (omega (arith, from)) (omega (arith, to, within)) u;
 }
 
 -- no two slots serve one request
-pub served_once : (uses : SlotStates) (m : Machine) (d : Device) (port slot : ℕ) (id : RequestId) → StateRelation uses m d → uses port slot ≡ Serves id → IsOver (d.port port) slot → AreOver uses d id
+pub served_once : (uses : SlotStates) (m : Machine) (d : Device) (port slot : ℕ) (id : RequestId) → StateRelation uses m d → uses port slot ≡ Serves id → IsOver (d.port port) slot → CommandsAreOver uses d id
 served_once uses m d port slot id a u over q k v =
     let same = a.apart port slot q k id u v in
     subst (λ (x : ℕ). IsOver (d.port q) x) same.1 (subst (λ (x : ℕ). IsOver (d.port x) slot) same.0 over)

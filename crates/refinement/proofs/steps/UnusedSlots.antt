@@ -7,7 +7,7 @@ use Rattle.adapter.specs.Commands.{Meaning, reads_memory}
 use Rattle.adapter.specs.Device.{FetchedCommand, Device}
 use Rattle.adapter.specs.Memory.{patched}
 use Rattle.adapter.specs.Steps as steps
-use Rattle.adapter.specs.Steps.{Can, device_after, StepLeads, Steps, MayMove, next_place, with_done}
+use Rattle.adapter.specs.Steps.{Can, device_after, TransitionsLead, Steps, MayMove, next_place, with_done}
 use Rattle.adapter.specs.Steps.DeviceTransition.{Fetch, FetchFault, Move, Clear, Done, Fault, Fatal, Fall, FrFall, LinkUp, Unplug, Plug, ResetEnds, Scribble}
 use Rattle.adapter.specs.declared.command.Operation.{Operation}
 use Rattle.adapter.specs.Kept.{Keeps}
@@ -15,13 +15,13 @@ use Rattle.adapter.proofs.KeptLemmas.{step_keeps}
 use Rattle.adapter.proofs.MemoryLemmas.{patched_apart}
 use Rattle.block_machine.specs.Confined.{MovesBytes}
 use Rattle.block_machine.specs.Histories.{IsReachable}
-use Rattle.block_machine.specs.Left as left
+use Rattle.block_machine.specs.Expected as left
 use Rattle.block_machine.specs.State.{Accepted, Machine, frame_at}
 use Rattle.block_machine.proofs.HistoryLemmas.{reached_more}
 use Rattle.block_machine.proofs.Standing.{standing}
 use Rattle.refinement.proofs.relation.SlotRelation.{told_on, block_on}
 use Rattle.refinement.specs.Places.{list_of, scratch_of, place_in}
-use Rattle.refinement.specs.Slots.{SlotDecodesTo, HasTrimBlock, SlotState, Free, Own, Serves, SlotStates, Means, ArePlaces, OwnWaits, OwnTaken, OwnOver, RelatesSlot, Armed}
+use Rattle.refinement.specs.Slots.{SlotDecodesTo, HasTrimBlock, SlotState, Free, Own, Serves, SlotStates, MeansRequest, ArePlaces, OwnWaits, OwnTaken, OwnOver, RelatesSlot, Armed}
 use Rattle.refinement.specs.Relation.{StateRelation}
 use Rattle.refinement.specs.Driver.{KeepsTables}
 use Rattle.refinement.specs.Follows.{SimulatesSteps}
@@ -96,7 +96,7 @@ module _ (uses : SlotStates) (m : Machine) (d : Device) (reached : IsReachable m
               let p : next_place t ≡ place_in h.pending.request.asked.frames.items t.moved = places.1 t.moved within in
               inr (inr (inr (omega (arith, f, p))))
 
-          means : TakenAs d.memory (d.port port) port slot h.pending h.command h.places t → Means port slot h.pending.request t.meaning t.places
+          means : TakenAs d.memory (d.port port) port slot h.pending h.command h.places t → MeansRequest port slot h.pending.request t.meaning t.places
           means x = means_taken port slot h.pending.request h.command t.meaning h.places t.places x.meaning x.places_are h.means
 
           client : (op : Op) → h.pending.request.asked.op ≡ op → TakenAs d.memory (d.port port) port slot h.pending h.command h.places t → MayChange (HasOwn uses) (next_place t) (length bytes)
@@ -132,7 +132,7 @@ module _ (uses : SlotStates) (m : Machine) (d : Device) (reached : IsReachable m
   step_leaves (Plug port disk) calm can = same_bytes uses d (device_after (Plug port disk) d) refl
   step_leaves ResetEnds calm can = true_false can calm
 
-leads_leave : (uses : SlotStates) (m : Machine) (steps : List steps.DeviceTransition) (old new : Device) → IsReachable m → StateRelation uses m old → old.hr ≡ false → StepLeads steps old new → KeepsTables uses old new
+leads_leave : (uses : SlotStates) (m : Machine) (steps : List steps.DeviceTransition) (old new : Device) → IsReachable m → StateRelation uses m old → old.hr ≡ false → TransitionsLead steps old new → KeepsTables uses old new
 leads_leave uses m [] old new r a calm e = subst (KeepsTables uses old) (sym e) (leaves_none uses old)
 leads_leave uses m (step ∷ steps) old new r a calm (can, lead) =
     let f : SimulatesSteps uses m old (device_after step old) = step_follows uses m old step r a can in

@@ -18,7 +18,7 @@ use Rattle.block_machine.specs.State.{Accepted, Pending, Machine, unanswered}
 use Rattle.block_machine.specs.Due.{IsDue, with_issued}
 use Rattle.block_machine.specs.Rules.{HasRow}
 use Rattle.block_machine.specs.Steps.{Step, Accept, Issue, Touch, End, Age, Again, Answer, Revoke, Release, Unplug, Replace, Store, Load, May, MayStillMove, after_step, at, newly_issued, touch, mark_ended}
-use Rattle.block_machine.specs.Left as left
+use Rattle.block_machine.specs.Expected as left
 use Rattle.block_machine.specs.Events.{AllMay, IsByDevice, AllByDevice}
 use Rattle.block_machine.specs.Histories.{IsReachable}
 use Rattle.block_machine.proofs.Members.{map_in, into_map, at_cases}

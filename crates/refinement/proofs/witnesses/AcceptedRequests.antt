@@ -12,7 +12,7 @@ use Rattle.adapter.proofs.SaysLemmas.{cut_index}
 use Rattle.block_machine.specs.Refusals.{Situation}
 use Rattle.ata_types.specs.declared.refusal.FrameFault.TheVariants.{FrameForeign, FrameTwice, FrameLent}
 use Rattle.ata_types.specs.declared.refusal.Rule.TheVariants.{NoGrant, NoRight, BadCount, OutsideGrant, FrameCount, Frames}
-use Rattle.ata_types.specs.Grant.{Allows, Covers}
+use Rattle.ata_types.specs.SectorGrants.{AllowsOp, CoversSectors}
 use Rattle.block_machine.specs.Rules.{IsNamed, BreaksNone, HasRow}
 use Rattle.block_machine.specs.State.{Accepted, Machine, block_of, frame_at}
 use Rattle.block_machine.specs.Steps.{MayAccept, unanswered_count}
@@ -100,9 +100,9 @@ trim_breaks_none m first rows low high = none
 
     none : BreaksNone m.rows m.owner m.lent (trim_of first)
     none NoGrant h = h (row 0) named
-    none NoRight h = h.2 (subst (λ (x : GrantRow). Allows x.rights Trim) (sym (is_row h.0 h.1)) refl)
+    none NoRight h = h.2 (subst (λ (x : GrantRow). AllowsOp x.rights Trim) (sym (is_row h.0 h.1)) refl)
     none BadCount h = h (omega arith, omega arith)
-    none OutsideGrant h = h.1.2 (subst (λ (x : GrantRow). Covers x first 8) (sym (is_row h.1.0 h.1.1)) (low, omega (arith, high)))
+    none OutsideGrant h = h.1.2 (subst (λ (x : GrantRow). CoversSectors x first 8) (sym (is_row h.1.0 h.1.1)) (low, omega (arith, high)))
     none FrameCount h = h refl
     none (Frames (FrameForeign i)) h = no_frame i h.0 h.1
     none (Frames (FrameTwice i)) h = no_frame i h.0 h.4

@@ -20,9 +20,9 @@ use Rattle.adapter.specs.Steps.{Can, device_after}
 use Rattle.adapter.specs.Steps.DeviceTransition.{LinkUp}
 use Rattle.refinement.specs.Below.{StepLaws}
 use Rattle.refinement.specs.Relation.{port_at}
-use Rattle.refinement.specs.Booted.{waking, BootWitness}
+use Rattle.refinement.specs.Booted.{waking_device, BootWitness}
 use Rattle.refinement.specs.Errors.{IsDiskComing, NoDiskComes}
-use Rattle.refinement.specs.Facts.{TellsNoTrouble}
+use Rattle.refinement.specs.PortFacts.{TellsNoTrouble}
 use Rattle.refinement.specs.Links.{IsPlugEvent, NoPlugEvents}
 use Rattle.refinement.specs.Started.{IsUp, IsComingUp, SetsNoStart}
 use Rattle.refinement.proofs.device.AllowedWrites.{write_stays}
@@ -35,7 +35,7 @@ abbrev port_reg : PortReg → Reg
 port_reg r = Px (port_at 0) r
 
 abbrev sent : Device
-sent = written (port_reg Sctl) 1 waking
+sent = written (port_reg Sctl) 1 waking_device
 
 abbrev released : Device
 released = written (port_reg Sctl) 0 sent
@@ -106,9 +106,9 @@ no_trouble = record { change = no_bit 6; ready = no_bit 22; quiet = λ place low
 permitted : (r : PortReg) (v : ℕ) (d : Device) → ((p : Port) → port_reg r ≢ Px p Ci) → d.ae ≡ true → d.hr ≡ false → d.pi ≡ 0x0f → MayWritePort r v d (d.port 0) → IsStable (MayWrite (port_reg r) v) d
 permitted r v d other ae hr pi x = write_stays (port_reg r) v d other (record { ae = ae; no_reset = hr }, (omega arith, ap (λ (n : ℕ). bit n 0) pi), x)
 
-may_send : IsStable (MayWrite (port_reg Sctl) 1) waking
+may_send : IsStable (MayWrite (port_reg Sctl) 1) waking_device
 unfolding changed
-may_send = permitted Sctl 1 waking (λ p e. cc) refl refl refl (refl, inr refl)
+may_send = permitted Sctl 1 waking_device (λ p e. cc) refl refl refl (refl, inr refl)
 
 may_release : IsStable (MayWrite (port_reg Sctl) 0) sent
 unfolding changed
@@ -142,13 +142,13 @@ plugs_none old new same = record { gained = []; tape = same; none = All-nil (λ 
 no_start : (r : PortReg) (v : ℕ) → (r ≡ Cmd → ⊥) → SetsNoStart (port_at 0) (Writing (port_reg r) v)
 no_start r v other w e = absurd (other (let same : port_reg r ≡ port_reg Cmd = cc in cc))
 
-stands : ((waking.port 0).cr ≡ false) × ((linked.port 0).cr ≡ false) × ((cleared.port 0).cr ≡ false) × ((quieted.port 0).cr ≡ false) × ((ready.port 0).cr ≡ false) × ((ready.port 0).st ≡ false)
+stands : ((waking_device.port 0).cr ≡ false) × ((linked.port 0).cr ≡ false) × ((cleared.port 0).cr ≡ false) × ((quieted.port 0).cr ≡ false) × ((ready.port 0).cr ≡ false) × ((ready.port 0).st ≡ false)
 unfolding changed
 stands = (refl, refl, refl, refl, refl, refl)
 
 coming : StepLaws → IsComingUp (released.port 0)
 coming laws = access_coming laws (port_at 0) (Writing (port_reg Sctl) 0) sent released (no_start Sctl 0 (λ e. cc)) (writes (port_reg Sctl) 0 sent) (none_comes sent released refl)
-    (comreset_comes laws (port_at 0) 1 waking sent stands.0 refl (writes (port_reg Sctl) 1 waking))
+    (comreset_comes laws (port_at 0) 1 waking_device sent stands.0 refl (writes (port_reg Sctl) 1 waking_device))
 
 is_linked : StepLaws → IsUp (linked.port 0)
 is_linked laws = up_is_found laws (port_at 0) 3 released linked (none_comes released linked refl) links refl (coming laws)
@@ -164,7 +164,7 @@ pub boot_is_found : StepLaws → BootWitness
 boot_is_found laws = record {
   sent = sent;
   may_send = may_send;
-  sends = writes (port_reg Sctl) 1 waking;
+  sends = writes (port_reg Sctl) 1 waking_device;
   released = released;
   may_release = may_release;
   releases = writes (port_reg Sctl) 0 sent;

@@ -11,16 +11,16 @@ use Rattle.adapter.specs.Decoding.{piece_addresses}
 use Rattle.adapter.specs.Steps.{Steps}
 use Rattle.adapter.proofs.FirstRead.{first_done}
 use Rattle.block_machine.specs.Histories.{IsReachable}
-use Rattle.block_machine.specs.Left.{after}
+use Rattle.block_machine.specs.Expected.{after}
 use Rattle.block_machine.specs.State.{Pending, Machine}
 use Rattle.block_machine.specs.Steps.{NoneQuarantined}
 use Rattle.refinement.specs.Below.{StepLaws}
 use Rattle.refinement.specs.Relation.{port_at}
 use Rattle.refinement.specs.Driver.{DriverState, DriverRelation}
-use Rattle.refinement.specs.Facts.{IsSlotClear, EndedIn}
+use Rattle.refinement.specs.PortFacts.{IsSlotClear, EndedIn}
 use Rattle.refinement.specs.Follows.{SimulatesSteps}
 use Rattle.refinement.specs.Slots.{Free, Serves}
-use Rattle.refinement.specs.Witness.{first_id, first_known, DoneIsKnown, EndedIsKnown}
+use Rattle.refinement.specs.Witness.{first_id, first_known, DoneReadAgrees, EndedReadAgrees}
 use Rattle.refinement.proofs.driver.AddedSteps.{knowing_goes_on}
 use Rattle.refinement.proofs.driver.EndedRequests.{clear_is_ended}
 use Rattle.refinement.proofs.steps.FollowedSteps.{steps_follow}
@@ -36,7 +36,7 @@ module _ (laws : StepLaws) (k : DriverState) (m : Machine) (reached : IsReachabl
   none_kept : NoneQuarantined m (port_at 0)
   none_kept e kept is = All-contains (λ _. ⊥) [] e (All-nil (λ _. ⊥)) (subst (λ (es : List Pending). Contains es e) none kept)
 
-  pub done_is_known : k.device.hr ≡ false → (k.device.port 0).st ≡ true → (new.port 0).ci 0 ≡ false → (new.port 0).sact 0 ≡ false → DoneIsKnown k id
+  pub done_is_known : k.device.hr ≡ false → (k.device.port 0).st ≡ true → (new.port 0).ci 0 ≡ false → (new.port 0).sact 0 ≡ false → DoneReadAgrees k id
   done_is_known off st issued sact =
       let found : IsSlotClear (new.port 0) 0 × EndedIn (after m follows.steps) (port_at 0) id = clear_is_ended k.uses (after m follows.steps) new (port_at 0) 0 id follows.agrees u
       ((((laws.keeps _ _ s).on off).controls 0).st ∙ st) issued sact in
@@ -59,10 +59,10 @@ running : ((first_read_device.port 0).st ≡ true) × ((first_read_device.port 0
 unfolding changed
 running = (refl, refl)
 
-read_is_known : StepLaws → (new : Device) (done : IsReadDone first_read_device new 0 0 100 8 (piece_addresses 0x64000 8) first_disk_sector) → EndedIsKnown
+read_is_known : StepLaws → (new : Device) (done : IsReadDone first_read_device new 0 0 100 8 (piece_addresses 0x64000 8) first_disk_sector) → EndedReadAgrees
 read_is_known laws new done =
     (done_is_known laws) first_known issued (reached laws) first_knows first_id (put_same (λ port slot. Free) 0 0 (Serves first_id)) refl new done.steps refl running.0 done.free.ci
     (((laws.keeps _ _ done.steps).port 0).sact 0 running.1)
 
-pub ended_is_known : StepLaws → EndedIsKnown
+pub ended_is_known : StepLaws → EndedReadAgrees
 ended_is_known laws = read_is_known laws first_done.0 first_done.1

@@ -23,9 +23,9 @@ use Rattle.adapter.proofs.FirstRead.{first_says}
 use Rattle.adapter.proofs.SaysLemmas.{cut_length}
 use Rattle.block_machine.specs.declared.due.QueueMode.{QueueMode}
 use Rattle.block_machine.specs.Histories.{IsReachable}
-use Rattle.block_machine.specs.Left.{IsInitial}
+use Rattle.block_machine.specs.Expected.{IsInitial}
 use Rattle.block_machine.specs.State.{Accepted, Pending, Machine}
-use Rattle.block_machine.specs.Steps.{Accept, Issue, May, MayAccept, MayStillMove, HasHeld, after_step, newly_accepted, newly_issued}
+use Rattle.block_machine.specs.Steps.{Accept, Issue, May, MayAccept, MayStillMove, HoldsOrHeldSinceFlush, after_step, newly_accepted, newly_issued}
 use Rattle.block_machine.proofs.Setting.{empty, filled_starts}
 use Rattle.refinement.specs.Below.{StepLaws}
 use Rattle.refinement.specs.Slots.{Free, Serves, SlotDecodesTo, IsEmptySlot}
@@ -112,7 +112,7 @@ unfolding first_disk_sector
 tells k b bl = get_or-replicate 512 b k 0 bl
 
 -- nothing is on the tape: the disk may come back as it was first in
-lasts : (memory : ℕ → ℕ) (k : ℕ) (bytes : List ℕ) → WereHeld [] (record { sectors = Some first_disk_sector; since = 0 }) 0 k bytes → HasHeld (start_with memory) (port_at 0) k (slice_index bytes)
+lasts : (memory : ℕ → ℕ) (k : ℕ) (bytes : List ℕ) → WereHeld [] (record { sectors = Some first_disk_sector; since = 0 }) 0 k bytes → HoldsOrHeldSinceFlush (start_with memory) (port_at 0) k (slice_index bytes)
 lasts memory k bytes (inl is) = inl (λ b bl. ap (λ (l : List ℕ). slice_index l b) (sym (same_Some (first_disk_sector k) bytes is)) ∙ tells k b bl)
 lasts memory k bytes (inr (entry, here, is)) = let lt = here.1 in absurd (omega (arith, lt))
 

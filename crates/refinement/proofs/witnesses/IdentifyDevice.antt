@@ -20,7 +20,7 @@ use Rattle.refinement.specs.Relation.{port_at}
 use Rattle.refinement.specs.Driver.{DriverRelation, IsOwnPrepared, idle}
 use Rattle.refinement.specs.Places.{scratch_of}
 use Rattle.refinement.specs.Slots.{Free, Own, Serves, SlotDecodesTo}
-use Rattle.refinement.specs.Witness.{identify_memory, prepared_identify, issued_identify, own_known, OwnIsKnown}
+use Rattle.refinement.specs.Witness.{identify_memory, prepared_identify, issued_identify, own_known, OwnCommandAgrees}
 use Rattle.refinement.proofs.relation.OneSlot.{changed_at}
 use Rattle.refinement.proofs.driver.EndedRequests.{page_is_read}
 use Rattle.refinement.proofs.driver.PermittedAccesses.{own_is_permitted}
@@ -130,7 +130,7 @@ running : (issued_identify.port 0).st ≡ true
 unfolding changed
 running = refl
 
-pub own_is_known : StepLaws → OwnIsKnown
+pub own_is_known : StepLaws → OwnCommandAgrees
 own_is_known laws = record {
   machine = machine;
   reached = reached;

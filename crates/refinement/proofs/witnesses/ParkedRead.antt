@@ -20,9 +20,9 @@ use Rattle.block_machine.proofs.Members.{contains_here, contains_cases, contains
 use Rattle.refinement.specs.Below.{StepLaws}
 use Rattle.refinement.specs.Relation.{StateRelation, port_at}
 use Rattle.refinement.specs.Driver.{DriverRelation, HasNoSlot, LeavesUses}
-use Rattle.refinement.specs.Facts.{IsEngineStopped}
+use Rattle.refinement.specs.PortFacts.{IsEngineStopped}
 use Rattle.refinement.specs.Slots.{Free, Serves, put}
-use Rattle.refinement.specs.Witness.{first_id, first_uses, first_known, KeptIsKnown, stopping_read, stopped_read, parked_known, ParkedReadWitness}
+use Rattle.refinement.specs.Witness.{first_id, first_uses, first_known, KeptReadAgrees, stopping_read, stopped_read, parked_known, ParkedReadWitness}
 use Rattle.refinement.proofs.driver.OwnSteps.{keeping_knows, park_knows}
 use Rattle.refinement.proofs.steps.FollowedSteps.{silent_agrees}
 use Rattle.refinement.proofs.driver.PutSlot.{put_same, put_cases}
@@ -118,7 +118,7 @@ keeping = after_step issued (Answer (newly_issued waits) PortDead)
 kept_one : (e : Pending) → Contains keeping.kept e → e.request.id ≡ first_id
 kept_one e h = ⊎_elim (λ (is : e ≡ newly_issued waits). ap (λ (x : Pending). x.request.id) is) (λ i. absurd (contains_none e i)) (contains_cases (newly_issued waits) [] e h)
 
-pub kept_is_known : StepLaws → KeptIsKnown
+pub kept_is_known : StepLaws → KeptReadAgrees
 kept_is_known laws = record {
   machine = keeping;
   reached = laws.reached issued (Answer (newly_issued waits) PortDead ∷ []) (reached laws) (tt, (booked, tt));

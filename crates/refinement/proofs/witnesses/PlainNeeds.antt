@@ -23,7 +23,7 @@ use Rattle.refinement.specs.Below.{StepLaws}
 use Rattle.refinement.specs.Relation.{StateRelation, port_at}
 use Rattle.refinement.specs.Driver.{LeavesUses}
 use Rattle.refinement.specs.Places.{table_of}
-use Rattle.refinement.specs.Served.{queued_read, two_memory, two_issued, one_taken, two_known, TwoReadsWitness}
+use Rattle.refinement.specs.TwoReads.{queued_read, two_memory, two_issued, one_taken, two_known, TwoReadsWitness}
 use Rattle.refinement.specs.Slots.{SlotStates, SlotDecodesTo}
 use Rattle.refinement.specs.Witness.{ready_with}
 use Rattle.refinement.proofs.witnesses.QueuedReads.{two_are_known}

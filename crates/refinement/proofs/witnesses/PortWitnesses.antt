@@ -11,7 +11,7 @@ use Rattle.adapter.specs.Decoding.{piece_addresses}
 use Rattle.adapter.specs.Steps.{Can, device_after, begun, Steps}
 use Rattle.adapter.specs.Steps.DeviceTransition.{Fetch, Fault}
 use Rattle.adapter.proofs.FirstRead.{first_says}
-use Rattle.refinement.specs.Facts.{RecordsFaults, IsCleanToStart}
+use Rattle.refinement.specs.PortFacts.{RecordsFaults, IsCleanToStart}
 use Rattle.refinement.proofs.device.RecordedFaults.{running_faulted, steps_recorded}
 
 pub first_recorded : RecordsFaults first_read_device.tape (first_read_device.port 0) 0

@@ -29,7 +29,7 @@ use Rattle.refinement.specs.Below.{StepLaws}
 use Rattle.refinement.specs.Relation.{StateRelation, port_at, HaveSlots}
 use Rattle.refinement.specs.Driver.{DriverRelation, IsPrepared, idle}
 use Rattle.refinement.specs.Places.{table_of}
-use Rattle.refinement.specs.Served.{queued_read, two_memory, two_armed, armed_uses, one_issued, two_issued, one_taken, two_known, TwoReadsWitness, TwoStoredReads}
+use Rattle.refinement.specs.TwoReads.{queued_read, two_memory, two_armed, armed_uses, one_issued, two_issued, one_taken, two_known, TwoReadsWitness, TwoStoredReads}
 use Rattle.refinement.specs.Slots.{Free, Serves, SlotStates, put, SlotDecodesTo, Armed}
 use Rattle.refinement.specs.Witness.{first_id, ready_with}
 use Rattle.refinement.proofs.witnesses.AcceptedRequests.{accepted_of, has_its_grant, read_into, read_is_new, read_no_trim, places_in}

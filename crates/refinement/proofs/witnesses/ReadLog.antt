@@ -23,7 +23,7 @@ use Rattle.block_machine.specs.State.{Machine}
 use Rattle.refinement.specs.Below.{StepLaws}
 use Rattle.refinement.specs.Relation.{StateRelation, port_at}
 use Rattle.refinement.specs.Driver.{DriverRelation, IsOwnPrepared, idle}
-use Rattle.refinement.specs.Facts.{TellsNoTrouble}
+use Rattle.refinement.specs.PortFacts.{TellsNoTrouble}
 use Rattle.refinement.specs.Places.{scratch_of}
 use Rattle.refinement.specs.Slots.{Free, Own, SlotDecodesTo}
 use Rattle.refinement.specs.Witness.{ready_with}
@@ -35,7 +35,7 @@ use Rattle.refinement.proofs.relation.OtherSlots.{empty_port}
 use Rattle.refinement.proofs.relation.SlotRelation.{SameFixed-refl}
 use Rattle.refinement.proofs.witnesses.SpeltSlot.{page_told, zeros_from}
 use Rattle.refinement.proofs.witnesses.FirstRead.{start_with, starts_with, ready_knows, bit_one_other}
-use Rattle.refinement.specs.Logged.{log_memory, log_port, logging, log_uses, LogIsEnded}
+use Rattle.refinement.specs.Logged.{log_memory, log_port, log_device, log_uses, LogIsEnded}
 use Rattle.refinement.specs.Recovering.{RunsLinked, EndsHalt, FaultLeavesIssued}
 use Rattle.refinement.proofs.driver.EndedHalt.{issued_ends, ended_well}
 
@@ -60,20 +60,20 @@ ready : DriverRelation machine (idle (ready_with log_memory))
 ready = ready_knows log_memory
 
 -- a halt is no matter of the slots
-halt_agrees : StateRelation (idle logging).uses machine logging
+halt_agrees : StateRelation (idle log_device).uses machine log_device
 unfolding changed
 halt_agrees =
     empty_port (idle (ready_with log_memory)).uses machine (ready_with log_memory) ready.agrees 0 log_port [] (SameFixed-refl (idle (ready_with log_memory)).uses log_memory []) (gains_none [] machine)
     (record { slots = λ k. record { issued = refl; sact = refl; taken = refl; st = refl; cr = refl; since = refl; list = refl }; fre = refl; received_at = refl; present = refl; disk = refl })
 
-knows : DriverRelation machine (idle logging)
+knows : DriverRelation machine (idle log_device)
 knows = record { agrees = halt_agrees; have = ready.have }
 
-runs : RunsLinked (logging.port 0)
+runs : RunsLinked (log_device.port 0)
 unfolding changed
 runs = record { st = refl; cr = refl; det = refl; present = refl; fresh = refl; linked = refl; whole = refl }
 
-prepared : IsOwnPrepared (idle logging).uses logging 0 ReadLog 1
+prepared : IsOwnPrepared (idle log_device).uses log_device 0 ReadLog 1
 unfolding changed
 prepared = record {
   own = refl;
@@ -91,20 +91,20 @@ prepared = record {
 -- ---- it is issued
 
 abbrev issued : Device
-issued = written (Px (port_at 0) Ci) 1 logging
+issued = written (Px (port_at 0) Ci) 1 log_device
 
-writes : Writes (Px (port_at 0) Ci) 1 logging issued
-writes = record { mid = logging; steps = record { steps = []; lead = refl }; effect = refl }
+writes : Writes (Px (port_at 0) Ci) 1 log_device issued
+writes = record { mid = log_device; steps = record { steps = []; lead = refl }; effect = refl }
 
 ends : StepLaws → EndsHalt log_uses 0 issued
-ends laws = issued_ends laws (idle logging).uses machine (port_at 0) ReadLog 1 logging issued reached halt_agrees refl (λ slot ne. refl) prepared writes
+ends laws = issued_ends laws (idle log_device).uses machine (port_at 0) ReadLog 1 log_device issued reached halt_agrees refl (λ slot ne. refl) prepared writes
 
 opens : FaultLeavesIssued log_uses 0 issued
 unfolding changed
 opens = record { off = refl; st = refl; plain = refl; undue = refl; alone = λ slot ne. put_other (λ _ _. Free) 0 0 (Own ReadLog) 0 slot (λ _ z. ne z); told = inl refl }
 
 issued_agrees : StateRelation log_uses machine issued
-issued_agrees = own_agrees (idle logging).uses machine logging halt_agrees 0 ReadLog 1 prepared
+issued_agrees = own_agrees (idle log_device).uses machine log_device halt_agrees 0 ReadLog 1 prepared
 
 issued_runs : RunsLinked (issued.port 0)
 unfolding changed
@@ -206,7 +206,7 @@ no_trouble = record {
   quiet = λ place low high. bit_one_other place (λ e. omega (arith, e, low));
 }
 
-halted : (logging.port 0).halt ≡ LogOnly
+halted : (log_device.port 0).halt ≡ LogOnly
 unfolding changed
 halted = refl
 
@@ -218,7 +218,7 @@ log_is_ended laws = record {
   halted = halted;
   runs = runs;
   prepared = prepared;
-  permitted = own_is_permitted laws (idle logging).uses machine logging reached halt_agrees (port_at 0) ReadLog 1 (record { ae = refl; no_reset = refl }) (omega arith, refl) prepared;
+  permitted = own_is_permitted laws (idle log_device).uses machine log_device reached halt_agrees (port_at 0) ReadLog 1 (record { ae = refl; no_reset = refl }) (omega arith, refl) prepared;
   issued = issued;
   writes = writes;
   ends = (ends laws);

@@ -25,11 +25,11 @@ use Rattle.adapter.proofs.Changed.{changed_other}
 use Rattle.adapter.proofs.FirstRead.{first_says}
 use Rattle.refinement.specs.Below.{StepLaws}
 use Rattle.refinement.specs.Relation.{port_at}
-use Rattle.refinement.specs.Facts.{IsEngineStopped, TellsNoTrouble}
+use Rattle.refinement.specs.PortFacts.{IsEngineStopped, TellsNoTrouble}
 use Rattle.refinement.proofs.device.AllowedWrites.{write_stays}
 use Rattle.refinement.specs.Recovered.{FaultIsSeen, RecoveredWitness}
 use Rattle.refinement.specs.Recovering.{IsLinked, WorksPlainly}
-use Rattle.refinement.specs.Served.{queued_read, two_issued}
+use Rattle.refinement.specs.TwoReads.{queued_read, two_issued}
 use Rattle.refinement.proofs.device.PlainPort.{plainly_well}
 use Rattle.refinement.proofs.witnesses.QueuedReads.{second_told}
 

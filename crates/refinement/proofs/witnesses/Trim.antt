@@ -20,7 +20,7 @@ use Rattle.refinement.specs.Relation.{port_at}
 use Rattle.refinement.specs.Driver.{DriverRelation, IsPrepared, idle}
 use Rattle.refinement.specs.Places.{scratch_of}
 use Rattle.refinement.specs.Slots.{Free, Serves, SlotDecodesTo}
-use Rattle.refinement.specs.Trimmed.{trim, example_trim_block, trim_memory, prepared_trim, issued_trim, taken_trim, trim_known, TrimIsKnown}
+use Rattle.refinement.specs.Trimmed.{trim, example_trim_block, trim_memory, prepared_trim, issued_trim, taken_trim, trim_known, TrimAgrees}
 use Rattle.refinement.specs.Witness.{first_id, first_uses}
 use Rattle.refinement.proofs.witnesses.AcceptedRequests.{accepted_of, has_its_grant, trim_of, trim_is_new}
 use Rattle.refinement.proofs.driver.OwnSteps.{accept_knows}
@@ -184,7 +184,7 @@ bits : ((issued_trim.port 0).st ≡ true) × ((ended.port 0).ci 0 ≡ false) × 
 unfolding changed
 bits = (refl, refl, refl, refl)
 
-pub trim_is_known : StepLaws → TrimIsKnown
+pub trim_is_known : StepLaws → TrimAgrees
 trim_is_known laws = record {
   machine = issued;
   reached = (reached laws);

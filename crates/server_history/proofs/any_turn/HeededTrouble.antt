@@ -16,21 +16,21 @@ use Rattle.adapter.specs.Rules.{IsOn}
 use Rattle.adapter.specs.declared.tape.Entry.{Entry}
 use Rattle.refinement.specs.Driven.{IsDrivenBy, SparesOtherPorts}
 use Rattle.refinement.specs.Errors.{IsFatalOf}
-use Rattle.refinement.specs.Facts.{IsFaultOf, ShowsNoTrouble}
+use Rattle.refinement.specs.PortFacts.{IsFaultOf, ShowsNoTrouble}
 use Rattle.refinement.specs.Links.{IsPlugEvent, DoesNotWrite}
 use Rattle.server_history.proofs.state.DrivenAccesses.{by_none, by_then, driven_as}
 use Rattle.block_machine.specs.Histories.{JointState}
 use Rattle.block_machine.specs.Ports.{Evidence, Ports}
-use Rattle.driver_history.specs.Evidence.{Gains, ShowsChange, ShowsFailure}
+use Rattle.driver_history.specs.Evidence.{TapeGainsEntry, ShowsChange, ShowsFailure}
 use Rattle.driver_history.specs.Histories.{LosesNoPortError}
 use Rattle.error_recovery.specs.Evidence.{GainsSinceStart, ShowsFatal}
 use Rattle.commands.specs.Masks.{ReadsCiOrSact}
-use Rattle.commands.specs.Batches.{IsIssuingOn}
+use Rattle.commands.specs.Batches.{IsBatchAccess}
 use Rattle.port_control.specs.Looks.{IsLooking}
 use Rattle.port_control.specs.Services.{LeavesCauses}
 use Rattle.port_control.specs.declared.events.PortEvent.TheVariants.{NoEvent}
 use Rattle.slots.specs.Uses.{PortSlots}
-use Rattle.server_history.specs.Below.{LawsBelow}
+use Rattle.server_history.specs.Prerequisites.{PrerequisiteLaws}
 use Rattle.server_history.specs.Served.{PollsUsedSlots, IsEmptyMask, HasTurnWithoutError}
 use Rattle.server_history.proofs.state.TurnAccesses.{none_or_some}
 use Rattle.server_history.proofs.state.TransferAccesses.{issuing_serves}
@@ -39,13 +39,13 @@ use Rattle.server_history.proofs.any_turn.ShownTrouble.{fatal_unless, set_unless
 -- ---- what the tape gained
 
 -- a kind of entry that none of those gained is of
-pub gains_none : (Such : Entry → Type 0) (old new : Device) (gained : List Entry) → new.tape ≡ old.tape ++ gained → All (λ e. Such e → ⊥) gained → Gains Such old new → ⊥
+pub gains_none : (Such : Entry → Type 0) (old new : Device) (gained : List Entry) → new.tape ≡ old.tape ++ gained → All (λ e. Such e → ⊥) gained → TapeGainsEntry Such old new → ⊥
 gains_none Such old new gained tape none g =
     let same : g.gained ≡ gained = append_cancel_left old.tape g.gained gained (sym g.tape ∙ tape) in
     All-contains (λ e. Such e → ⊥) gained g.entry none (subst (λ (xs : List Entry). Contains xs g.entry) same g.here) g.is
 
 -- what was gained since ST was set was gained
-pub gained_running : (Such : Entry → Type 0) (port : ℕ) (old new : Device) → GainsSinceStart Such port old new → Gains Such old new
+pub gained_running : (Such : Entry → Type 0) (port : ℕ) (old new : Device) → GainsSinceStart Such port old new → TapeGainsEntry Such old new
 gained_running Such port old new g = record {
   gained = g.before ++ (g.entry ∷ g.later);
   tape = g.tape;
@@ -62,7 +62,7 @@ finding_ordinary port (Writing r v) here = absurd here
 finding_ordinary port (Loading at bytes) here = absurd here
 finding_ordinary port (Storing at bytes) here = absurd here
 
-issuing_spares : (port : Port) (access : Access) → IsIssuingOn port access → DoesNotWrite (Px port Is) access
+issuing_spares : (port : Port) (access : Access) → IsBatchAccess port access → DoesNotWrite (Px port Is) access
 issuing_spares port (Writing r v) here = ⊎_elim
     (λ (is : r ≡ Px port Sact). λ q. let z : Px port Sact ≡ Px port Is = sym is ∙ q in absurd cc)
     (λ (is : r ≡ Px port Ci). λ q. let z : Px port Ci ≡ Px port Is = sym is ∙ q in absurd cc)
@@ -71,10 +71,10 @@ issuing_spares port (Storing at bytes) here = tt
 issuing_spares port (Loading at bytes) here = tt
 issuing_spares port (Reading r v) here = tt
 
-issuing_ordinary : (port : Port) (access : Access) → IsIssuingOn port access → LeavesCauses port access
+issuing_ordinary : (port : Port) (access : Access) → IsBatchAccess port access → LeavesCauses port access
 issuing_ordinary port access here = (issuing_serves port access here, issuing_spares port access here)
 
-module _ (laws : LawsBelow) where
+module _ (laws : PrerequisiteLaws) where
   module _ (port : Port) (slots : PortSlots) (replies : List Reply) (old : JointState Device) (new : Device) (turn : HasTurnWithoutError port slots replies old.device new) (on : IsOn old.device) where
     -- what comes after a look that told nothing
     pub later_driven : turn.look ≡ NoEvent → IsDrivenBy (LeavesCauses port) turn.seen new
@@ -83,7 +83,7 @@ module _ (laws : LawsBelow) where
         (λ some.
         let k = c.checks (λ none. false≢true (sym (none some.0 some.1) ∙ some.2)) in
         by_then laws (driven_as (ReadsCiOrSact port) (LeavesCauses port) turn.seen k.read (finding_ordinary port) k.reads.driven)
-        (driven_as (IsIssuingOn port) (LeavesCauses port) k.read new (issuing_ordinary port) k.over))
+        (driven_as (IsBatchAccess port) (LeavesCauses port) k.read new (issuing_ordinary port) k.over))
         (none_or_some 32 c.mask)
       where
         c : PollsUsedSlots port slots replies turn.seen new
@@ -102,7 +102,7 @@ module _ (laws : LawsBelow) where
       told_none = (laws.looking.looks_undisturbed turn.looks.causes turn.looks.status (sym turn.looks.tells ∙ calm)).0.quiet
 
       -- so a fault that came is shown
-      fault_shown : Gains (IsFaultOf port.0) old.device new → (new.port port.0).is 30 ≡ true
+      fault_shown : TapeGainsEntry (IsFaultOf port.0) old.device new → (new.port port.0).is 30 ≡ true
       fault_shown g = set_unless ((new.port port.0).is 30) (λ clear.
           let late = laws.looking.ordinary_faults port turn.seen new seen_on (later_driven calm) clear in
           let early = laws.looking.looks_fault port turn.look old.device turn.seen on turn.looks (told_none 30 (omega arith) (omega arith)) late.0 in
@@ -110,7 +110,7 @@ module _ (laws : LawsBelow) where
           gains_none (IsFaultOf port.0) old.device new none.gained none.tape none.none g)
 
       -- and so is a fatal error
-      fatal_shown : Gains (IsFatalOf port.0) old.device new → ShowsFatal (new.port port.0)
+      fatal_shown : TapeGainsEntry (IsFatalOf port.0) old.device new → ShowsFatal (new.port port.0)
       fatal_shown g = fatal_unless (new.port port.0) (λ clear.
           let late = laws.looking.ordinary_fatals port turn.seen new seen_on (later_driven calm) clear in
           let early = laws.looking.looks_fatal port turn.look old.device turn.seen on turn.looks (λ place low high. told_none place low (omega (arith, high))) late.0 in
@@ -118,7 +118,7 @@ module _ (laws : LawsBelow) where
           gains_none (IsFatalOf port.0) old.device new none.gained none.tape none.none g)
 
       -- and so is a disk that went or came
-      disk_shown : Gains (IsPlugEvent port.0) old.device new → (new.port port.0).serr_n ≡ true
+      disk_shown : TapeGainsEntry (IsPlugEvent port.0) old.device new → (new.port port.0).serr_n ≡ true
       disk_shown g = set_unless (new.port port.0).serr_n (λ clear.
           let late = laws.looking.ordinary_disks port turn.seen new seen_on (later_driven calm) clear in
           let early = laws.looking.looks_disk port turn.look old.device turn.seen on turn.looks late.0 in

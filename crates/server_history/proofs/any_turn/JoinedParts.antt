@@ -14,11 +14,11 @@ use Rattle.ata_types.specs.declared.request.Outcome.{Outcome}
 use Rattle.ata_types.specs.declared.request.Outcome.TheVariants.{Aborted, DeviceError, Ok, PortDead, Revoked, Unplugged}
 use Rattle.ata_types.specs.declared.request.Reply.{Reply}
 use Rattle.refinement.specs.Relation.{port_at}
-use Rattle.block_machine.specs.Events.{IsLawful, IsToldBefore, AbstractState, RepliesMatch, WasIssued, answers_of, reply_of}
+use Rattle.block_machine.specs.Events.{IsLawfulAnswer, IsToldBefore, AbstractState, RepliesMatch, WasIssued, answers_of, reply_of}
 use Rattle.block_machine.specs.Ports.{Evidence, RequestFault, IsServiced, Ports, SameDisk, SamePort}
 use Rattle.block_machine.specs.State.{Pending}
 use Rattle.block_machine.specs.Steps.{Step, Answer}
-use Rattle.host_boot.specs.Taken.{probe_result_of}
+use Rattle.host_boot.specs.TakeOver.{probe_result_of}
 use Rattle.host_boot.specs.declared.ProbeResult.{ProbeResult}
 use Rattle.driver_history.specs.Parts.{EvidenceAgreesOn}
 use Rattle.server_history.specs.Turns.{NamesOnly}
@@ -174,7 +174,7 @@ pub lawful_lift : (old new : AbstractState) (evidence other : Evidence) (ports l
     → (WasIssued old.machine e.request.id → WasIssued new.machine e.request.id) → ((told : RequestFault) → Contains evidence.faults told → Contains other.faults told)
     → (Contains evidence.lost e.request.port → Contains other.lost e.request.port) → (Contains evidence.stopped e.request.port → Contains other.stopped e.request.port)
     → later.state e.request.port ≡ ports.state e.request.port → (SameDisk old.ports ports e.request.port → SameDisk new.ports later e.request.port)
-    → IsLawful old evidence ports e o → IsLawful new other later e o
+    → IsLawfulAnswer old evidence ports e o → IsLawfulAnswer new other later e o
 lawful_lift old new evidence other ports later e Ok was faults lost stopped state disk l = (was l.0, l.1, l.2, l.3)
 lawful_lift old new evidence other ports later e (DeviceError status error) was faults lost stopped state disk l = (was l.0, l.1, faults _ l.2, stopped l.3)
 lawful_lift old new evidence other ports later e Aborted was faults lost stopped state disk l = (was l.0, l.1, (state ∙ l.2.0, stopped l.2.1, disk l.2.2))

@@ -14,7 +14,7 @@ use Rattle.adapter.specs.Device.{Device, DevicePort}
 use Rattle.adapter.specs.Rules.{IsOn}
 use Rattle.adapter.specs.declared.tape.Entry.{Entry}
 use Rattle.adapter.specs.declared.tape.Entry.TheVariants as entry
-use Rattle.refinement.specs.Driven.{Grows}
+use Rattle.refinement.specs.Driven.{TapeGrows}
 use Rattle.refinement.specs.Driver.{IsBacked}
 use Rattle.refinement.specs.Errors.{IsDiskComing, NoDiskComes}
 use Rattle.refinement.specs.Links.{IsPlugEvent, NoPlugEvents, DoesNotWrite}
@@ -23,7 +23,7 @@ use Rattle.block_machine.specs.State.{Machine}
 use Rattle.block_machine.specs.Steps.{Step}
 use Rattle.port_control.specs.Looks.{LooksAt}
 use Rattle.port_control.specs.declared.events.PortEvent.{PortEvent}
-use Rattle.server_history.specs.Below.{LawsBelow}
+use Rattle.server_history.specs.Prerequisites.{PrerequisiteLaws}
 use Rattle.server_history.proofs.any_turn.ShownTrouble.{grows_over}
 use Rattle.server_history.specs.Server.{ServerState, MachineRelation}
 use Rattle.server_history.proofs.any_turn.ToldTrouble.{one_or_none, shows_link}
@@ -59,9 +59,9 @@ none_comes port old new none = record {
 
 -- where none comes, this goes on
 StaysSo : (DevicePort → Type 0) → Port → Device → Device → Type 0
-StaysSo P port old new = Grows old new × (NoDiskComes port.0 old new → P (old.port port.0) → P (new.port port.0))
+StaysSo P port old new = TapeGrows old new × (NoDiskComes port.0 old new → P (old.port port.0) → P (new.port port.0))
 
-module _ (laws : LawsBelow) (port : Port) (P : DevicePort → Type 0) (one : (access : Access) (old new : Device) → NoDiskComes port.0 old new → Does access old new → P (old.port port.0) → P (new.port port.0)) where
+module _ (laws : PrerequisiteLaws) (port : Port) (P : DevicePort → Type 0) (one : (access : Access) (old new : Device) → NoDiskComes port.0 old new → Does access old new → P (old.port port.0) → P (new.port port.0)) where
   so_over : (access : Access) (old new : Device) → Does access old new → StaysSo P port old new
   unfolding StaysSo
   so_over access old new does = (laws.looks.tape.access_grows access old new does, λ none so. one access old new none does so)
@@ -82,7 +82,7 @@ module _ (laws : LawsBelow) (port : Port) (P : DevicePort → Type 0) (one : (ac
   unfolding StaysSo
   stays_so accesses old new does = (so_all accesses old new does).1
 
-module _ (laws : LawsBelow) (port : Port) where
+module _ (laws : PrerequisiteLaws) (port : Port) where
   module _ (old seen : Device) (look : PortEvent) (l : LooksAt port look old seen) (on : IsOn old) (not_lost : look ≢ LinkChanged) where
     on_over : (access : Access) (a b : Device) → DoesNotWrite Ghc access → Does access a b → IsOn a → IsOn b
     on_over access a b spares does here = laws.looks.access_on access a b here (λ v is. absurd (subst (DoesNotWrite Ghc) is spares refl)) does
@@ -111,8 +111,8 @@ module _ (laws : LawsBelow) (port : Port) where
 
 -- Steps that the device backs, from the beginning of the turn to any moment after one at which a disk is in: the machine had a disk in the port before them, or one of them takes
 -- its disk out or puts one in.
-pub had_disk : (laws : LawsBelow) (port : Port) (s : ServerState) (seen new : Device) (m : Machine) (accesses : List Access) → DoesAll accesses s.device seen → (seen.port port.0).present ≡ true
-    → MachineRelation s m → Grows seen new → (steps : List Step) → IsBacked s.device new m steps → (m.present port ≡ true) ⊎ (list_any (changes_disk port) steps ≡ true)
+pub had_disk : (laws : PrerequisiteLaws) (port : Port) (s : ServerState) (seen new : Device) (m : Machine) (accesses : List Access) → DoesAll accesses s.device seen → (seen.port port.0).present ≡ true
+    → MachineRelation s m → TapeGrows seen new → (steps : List Step) → IsBacked s.device new m steps → (m.present port ≡ true) ⊎ (list_any (changes_disk port) steps ≡ true)
 had_disk laws port s seen new m accesses does own is later steps backed = ⊎_elim
     (λ was. inl ((is.knows.agrees.disk port.0).present ∙ was))
     (λ came. inr (

@@ -14,12 +14,12 @@ use Rattle.adapter.specs.Access.Access.{Writing}
 use Rattle.adapter.specs.Device.{Device, DevicePort}
 use Rattle.adapter.specs.Rules.{IsOn}
 use Rattle.adapter.specs.declared.tape.Entry.{Entry}
-use Rattle.refinement.specs.Driven.{Grows}
+use Rattle.refinement.specs.Driven.{TapeGrows}
 use Rattle.refinement.specs.Errors.{IsFatalOf, NoneFails, NoneFatal}
-use Rattle.refinement.specs.Facts.{IsFaultOf}
+use Rattle.refinement.specs.PortFacts.{IsFaultOf}
 use Rattle.refinement.specs.Links.{IsPlugEvent, NoPlugEvents, DoesNotWrite}
 use Rattle.error_recovery.specs.Evidence.{GainsSinceStart, ShowsFatal, HidesNoTrouble}
-use Rattle.server_history.specs.Below.{LawsBelow}
+use Rattle.server_history.specs.Prerequisites.{PrerequisiteLaws}
 
 -- ---- lists
 
@@ -49,15 +49,15 @@ split (b ∷ before) e later (f ∷ first) rest is =
 -- ---- accesses one after another
 
 -- the tape grows over them
-pub grows_over : LawsBelow → (accesses : List Access) (old new : Device) → DoesAll accesses old new → Grows old new
-grows_over laws [] old new is = subst (Grows old) (sym is) (laws.looks.tape.grows_none old)
+pub grows_over : PrerequisiteLaws → (accesses : List Access) (old new : Device) → DoesAll accesses old new → TapeGrows old new
+grows_over laws [] old new is = subst (TapeGrows old) (sym is) (laws.looks.tape.grows_none old)
 grows_over laws (access ∷ accesses) old new (mid, does, rest) = laws.looks.tape.grows_more old mid new (laws.looks.tape.access_grows access old mid does) (grows_over laws accesses mid new rest)
 
 -- ---- what came since ST was set
 
 module _ (Such : Entry → Type 0) (port : ℕ) where
   -- it came after a moment that wasn't later
-  pub since_then : (old start new : Device) → Grows start new → length start.tape ≤ (new.port port).notes.st_set_at → GainsSinceStart Such port old new → GainsSinceStart Such port start new
+  pub since_then : (old start new : Device) → TapeGrows start new → length start.tape ≤ (new.port port).notes.st_set_at → GainsSinceStart Such port old new → GainsSinceStart Such port start new
   since_then old start new grows set g =
       let at : (old.tape ++ g.before) ++ (g.entry ∷ g.later) ≡ start.tape ++ grows.0 = append_assoc old.tape g.before (g.entry ∷ g.later) ∙ sym g.tape ∙ grows.1 in
       let long = length-append old.tape g.before in
@@ -67,7 +67,7 @@ module _ (Such : Entry → Type 0) (port : ℕ) where
       record { before = m.0; entry = g.entry; later = g.later; tape = grows.1 ∙ ap (λ (list : List Entry). start.tape ++ list) m.1; is = g.is; since = omega (arith, since, long, same) }
 
   -- and by a moment after which none came
-  pub until_then : (start mid new : Device) → Grows start mid → (later : List Entry) → new.tape ≡ mid.tape ++ later → All (λ e. Such e → ⊥) later → (new.port port).notes.st_set_at ≡ (mid.port port).notes.st_set_at
+  pub until_then : (start mid new : Device) → TapeGrows start mid → (later : List Entry) → new.tape ≡ mid.tape ++ later → All (λ e. Such e → ⊥) later → (new.port port).notes.st_set_at ≡ (mid.port port).notes.st_set_at
       → GainsSinceStart Such port start new → GainsSinceStart Such port start mid
   until_then start mid new grows later is none same g =
       let at : g.before ++ (g.entry ∷ g.later) ≡ grows.0 ++ later = cancel start.tape (sym g.tape ∙ is ∙ ap (λ (list : List Entry). list ++ later) grows.1 ∙ append_assoc start.tape grows.0 later) in
@@ -106,7 +106,7 @@ ShowsNoFatal p = (place : ℕ) → 27 ≤ place → place ≤ 29 → p.is place 
 
 -- what isn't shown hasn't come
 pub record ShowsAll (port : ℕ) (old new : Device) : Type 0 where
-  pub grows : Grows old new
+  pub grows : TapeGrows old new
   pub fault : (new.port port).is 30 ≡ false → ((old.port port).is 30 ≡ false) × NoneFails port old new
   pub fatal : ShowsNoFatal (new.port port) → ShowsNoFatal (old.port port) × NoneFatal port old new
   pub disk : (new.port port).serr_n ≡ false → ((old.port port).serr_n ≡ false) × NoPlugEvents port old new
@@ -133,12 +133,12 @@ fatal_unless p not = by (p.is 27) (p.is 28) (p.is 29) refl refl refl
             (cases_eq place 27)
 
 -- the adapter stays on over them
-pub on_over : LawsBelow → (accesses : List Access) (old new : Device) → IsOn old → All StaysOn accesses → DoesAll accesses old new → IsOn new
+pub on_over : PrerequisiteLaws → (accesses : List Access) (old new : Device) → IsOn old → All StaysOn accesses → DoesAll accesses old new → IsOn new
 on_over laws [] old new on all is = subst IsOn (sym is) on
 on_over laws (access ∷ accesses) old new on all (mid, does, rest) =
     on_over laws accesses mid new (laws.looks.access_on access old mid on (All-head StaysOn access accesses all) does) (All-tail StaysOn access accesses all) rest
 
-module _ (laws : LawsBelow) (port : Port) where
+module _ (laws : PrerequisiteLaws) (port : Port) where
   pub on_one : (access : Access) (old new : Device) → IsOn old → DoesNotWrite Ghc access → Does access old new → IsOn new
   on_one access old new on spares does = laws.looks.access_on access old new on (stays_on access spares) does
 
@@ -179,7 +179,7 @@ shown_since port old start new a set = record {
     early = let same = a.same in omega (arith, same, set)
 
 -- where it was shown when the stretch began, ST having been set after another moment
-pub shown_more : (port : ℕ) (old start mid new : Device) → HidesNoTrouble port start mid → Grows start mid → length start.tape ≤ (mid.port port).notes.st_set_at → ShowsAll port mid new → HidesNoTrouble port old new
+pub shown_more : (port : ℕ) (old start mid new : Device) → HidesNoTrouble port start mid → TapeGrows start mid → length start.tape ≤ (mid.port port).notes.st_set_at → ShowsAll port mid new → HidesNoTrouble port old new
 shown_more port old start mid new shown grows set a = record {
   fault = λ g. set_unless ((new.port port).is 30) (λ clear.
       let n = a.fault clear in
@@ -199,5 +199,5 @@ shown_more port old start mid new shown grows set a = record {
     early : length start.tape ≤ (new.port port).notes.st_set_at
     early = let same = a.same in omega (arith, same, set)
 
-    whole : Grows start new
+    whole : TapeGrows start new
     whole = (grows.0 ++ a.grows.0, a.grows.1 ∙ ap (λ (list : List Entry). list ++ a.grows.0) grows.1 ∙ append_assoc start.tape grows.0 a.grows.0)

@@ -14,19 +14,19 @@ use Rattle.adapter.specs.Device.{Device}
 use Rattle.adapter.specs.Rules.{IsOn}
 use Rattle.adapter.specs.declared.tape.Entry.{Entry}
 use Rattle.adapter.specs.declared.tape.Entry.TheVariants as entry
-use Rattle.refinement.specs.Driven.{Grows}
+use Rattle.refinement.specs.Driven.{TapeGrows}
 use Rattle.refinement.specs.Errors.{IsFatalOf, NoDiskComes}
-use Rattle.refinement.specs.Facts.{IsFaultOf}
+use Rattle.refinement.specs.PortFacts.{IsFaultOf}
 use Rattle.refinement.specs.Links.{IsPlugEvent, DoesNotWrite}
 use Rattle.server_history.proofs.state.ListMembers.{contains_there}
-use Rattle.driver_history.specs.Evidence.{Gains, ShowsChange, ShowsFailure}
+use Rattle.driver_history.specs.Evidence.{TapeGainsEntry, ShowsChange, ShowsFailure}
 use Rattle.error_recovery.specs.Evidence.{ShowsFatal}
 use Rattle.error_recovery.specs.declared.Recovered.{Recovered}
 use Rattle.port_boot.specs.States.{RunsOn}
 use Rattle.port_control.specs.Looks.{LooksAt, port_event_of}
 use Rattle.port_control.specs.declared.events.PortEvent.{PortEvent}
 use Rattle.port_control.specs.declared.events.PortEvent.TheVariants.{FatalError, TaskFileError, LinkChanged, NoEvent}
-use Rattle.server_history.specs.Below.{LawsBelow}
+use Rattle.server_history.specs.Prerequisites.{PrerequisiteLaws}
 use Rattle.server_history.specs.ErrorHandling.{EndsStopped, TellsErrorHandling}
 use Rattle.port_control.specs.declared.events.PortError.{PortError}
 use Rattle.port_control.specs.declared.events.PortError.TheVariants as kinds
@@ -74,7 +74,7 @@ one_or_none Such told (e ∷ gained) = ⊎_elim
     (told e)
 
 -- what the first of two stretches gained, both did
-gains_more : (Such : Entry → Type 0) (old mid new : Device) → Grows mid new → Gains Such old mid → Gains Such old new
+gains_more : (Such : Entry → Type 0) (old mid new : Device) → TapeGrows mid new → TapeGainsEntry Such old mid → TapeGainsEntry Such old new
 gains_more Such old mid new grows g = record {
   gained = g.gained ++ grows.0;
   tape = grows.1 ∙ ap (λ (tape : List Entry). tape ++ grows.0) g.tape ∙ append_assoc old.tape g.gained grows.0;
@@ -101,7 +101,7 @@ lost_or_not kinds.TimedOut = inr (λ e. let z : kinds.TimedOut ≡ kinds.LinkCha
 
 -- ---- what a look saw
 
-module _ (laws : LawsBelow) (port : Port) (look : PortEvent) (old seen : Device) (l : LooksAt port look old seen) (on : IsOn old) where
+module _ (laws : PrerequisiteLaws) (port : Port) (look : PortEvent) (old seen : Device) (l : LooksAt port look old seen) (on : IsOn old) where
   its : (told : PortEvent) → look ≡ told → port_event_of l.causes l.status ≡ told
   its told is = sym l.tells ∙ is
 
@@ -112,14 +112,14 @@ module _ (laws : LawsBelow) (port : Port) (look : PortEvent) (old seen : Device)
   shown_at : (place : ℕ) → is_cause place ≡ true → bit l.causes place ≡ shown_interrupt (l.seen.port port.0) place
   shown_at = laws.looks.shown_after port Is l.causes old l.seen on.no_reset l.reads
 
-  looked : Grows old seen
+  looked : TapeGrows old seen
   looked =
       laws.looks.tape.grows_more old l.seen seen (laws.looks.tape.access_grows (Reading (Px port Is) l.causes) old l.seen l.reads)
       (laws.looks.tape.grows_more l.seen l.cleared seen (laws.looks.tape.access_grows (Writing (Px port Is) l.causes) l.seen l.cleared l.clears)
       (laws.looks.tape.grows_more l.cleared l.acknowledged seen (laws.looks.tape.access_grows (Writing reg.Is l.own) l.cleared l.acknowledged l.acknowledges)
       (laws.looks.tape.access_grows (Reading (Px port Ssts) l.status) l.acknowledged seen l.shows)))
 
-  grows : Grows old l.seen
+  grows : TapeGrows old l.seen
   grows = laws.looks.tape.access_grows (Reading (Px port Is) l.causes) old l.seen l.reads
 
   goes : RunsOn port.0 old l.seen
@@ -144,7 +144,7 @@ module _ (laws : LawsBelow) (port : Port) (look : PortEvent) (old seen : Device)
         (or_cases (p.is 27) (p.is 28 || p.is 29) (fatal_shows p f))
 
     -- TFES was shown then, or a fault came before PxIS was read
-    pub fault_shown : (new : Device) → Grows l.seen new → ((old.port port.0).is 30 ≡ true) ⊎ Gains (IsFaultOf port.0) old new
+    pub fault_shown : (new : Device) → TapeGrows l.seen new → ((old.port port.0).is 30 ≡ true) ⊎ TapeGainsEntry (IsFaultOf port.0) old new
     fault_shown new later = ⊎_elim
         (λ (is : (old.port port.0).is 30 ≡ true). inl is)
         (λ (clear : (old.port port.0).is 30 ≡ false). inr (⊎_elim
@@ -157,12 +157,12 @@ module _ (laws : LawsBelow) (port : Port) (look : PortEvent) (old seen : Device)
 
   module _ (broken : look ≡ FatalError) where
     -- one of those three was shown then, or a fatal error came before PxIS was read
-    pub fatal_shown : (new : Device) → Grows l.seen new → ShowsFatal (old.port port.0) ⊎ Gains (IsFatalOf port.0) old new
+    pub fatal_shown : (new : Device) → TapeGrows l.seen new → ShowsFatal (old.port port.0) ⊎ TapeGainsEntry (IsFatalOf port.0) old new
     fatal_shown new later = ⊎_elim (at 28 (omega arith) (omega arith) refl refl) (λ more. ⊎_elim (at 29 (omega arith) (omega arith) refl refl) (at 27 (omega arith) (omega arith) refl refl) more)
         (laws.looking.looks_broken l.causes l.status (its FatalError broken)).0
       where
         at : (place : ℕ) → 27 ≤ place → place ≤ 29 → is_cause place ≡ true → shown_interrupt (l.seen.port port.0) place ≡ (l.seen.port port.0).is place → bit l.causes place ≡ true
-            → ShowsFatal (old.port port.0) ⊎ Gains (IsFatalOf port.0) old new
+            → ShowsFatal (old.port port.0) ⊎ TapeGainsEntry (IsFatalOf port.0) old new
         at place from to cause plain set = ⊎_elim
             (λ (is : (old.port port.0).is place ≡ true). inl (record { place = place; from = from; to = to; set = is }))
             (λ (clear : (old.port port.0).is place ≡ false). inr (⊎_elim
@@ -179,7 +179,7 @@ module _ (laws : LawsBelow) (port : Port) (look : PortEvent) (old seen : Device)
     no_change change = not_lost (laws.looking.looks_changed port look old seen on l change)
 
     -- nor was a device missing, unless a disk came
-    pub not_missing : (new : Device) → Grows seen new → (old.port port.0).link_due ≡ false → (old.port port.0).ssts_det ≢ 3 → NoDiskComes port.0 old new → ⊥
+    pub not_missing : (new : Device) → TapeGrows seen new → (old.port port.0).link_due ≡ false → (old.port port.0).ssts_det ≢ 3 → NoDiskComes port.0 old new → ⊥
     not_missing new later undue missing none =
         not_lost (laws.looking.looks_unlinked port look old seen on l missing undue (laws.looks.tape.comes_parts port.0 old seen new looked.0 later.0 looked.1 later.1 none).0)
 
@@ -194,7 +194,7 @@ module _ (laws : LawsBelow) (port : Port) (look : PortEvent) (old seen : Device)
       by LinkChanged is = absurd (not_lost is)
 
   -- and a failure was shown when the turn began, or came
-  pub errors_shown : (look ≡ TaskFileError) ⊎ (look ≡ FatalError) → (new : Device) → Grows l.seen new → ShowsFailure (old.port port.0) ⊎ (Gains (IsFaultOf port.0) old new ⊎ Gains (IsFatalOf port.0) old new)
+  pub errors_shown : (look ≡ TaskFileError) ⊎ (look ≡ FatalError) → (new : Device) → TapeGrows l.seen new → ShowsFailure (old.port port.0) ⊎ (TapeGainsEntry (IsFaultOf port.0) old new ⊎ TapeGainsEntry (IsFatalOf port.0) old new)
   errors_shown error new later = ⊎_elim
       (λ failed. ⊎_elim (λ is. inl (inr is)) (λ came. inr (inl came)) (fault_shown failed new later))
       (λ broken. ⊎_elim (λ is. inl (inl is)) (λ came. inr (inr came)) (fatal_shown broken new later))
@@ -203,7 +203,7 @@ module _ (laws : LawsBelow) (port : Port) (look : PortEvent) (old seen : Device)
   -- ---- a loss
 
   -- it was there to tell when the turn began, or a disk went or came
-  pub loss_shown : look ≡ LinkChanged → (old.port port.0).link_due ≡ false → (new : Device) → Grows seen new → ShowsChange (old.port port.0) ⊎ (((old.port port.0).ssts_det ≢ 3) ⊎ Gains (IsPlugEvent port.0) old new)
+  pub loss_shown : look ≡ LinkChanged → (old.port port.0).link_due ≡ false → (new : Device) → TapeGrows seen new → ShowsChange (old.port port.0) ⊎ (((old.port port.0).ssts_det ≢ 3) ⊎ TapeGainsEntry (IsPlugEvent port.0) old new)
   loss_shown lost undue new later = ⊎_elim
       (λ change. inl change)
       (λ more. inr (⊎_elim (λ out. inl out) (λ some. inr (⊎_elim

@@ -10,13 +10,13 @@ use Rattle.ata_types.specs.declared.request.RequestId.{RequestId}
 use Rattle.refinement.specs.Spares.{SparesBook}
 use Rattle.block_machine.specs.Events.{AllMay, IsByDevice, IsIssuedIn, handles, issues_it}
 use Rattle.block_machine.specs.Histories.{IsReachable}
-use Rattle.block_machine.specs.Left.{after}
+use Rattle.block_machine.specs.Expected.{after}
 use Rattle.block_machine.specs.State.{Machine, Pending}
 use Rattle.block_machine.specs.Steps.{Step, Again, Answer, Issue, after_step, at, newly_issued, requeued}
 use Rattle.server_history.proofs.state.ListMembers.{at_cases, contains_cases, into_map, map_in, without_in, without_into}
 use Rattle.server_history.specs.Turns.{IsOfTurn}
 use Rattle.server_history.proofs.state.DeviceSteps.{not_handled}
-use Rattle.server_history.specs.Below.{LawsBelow}
+use Rattle.server_history.specs.Prerequisites.{PrerequisiteLaws}
 use Rattle.server_history.proofs.state.FirstMembers.{nowhere}
 
 -- where no step passes a test, none is counted
@@ -54,7 +54,7 @@ Keeps change = (e : Pending) → (change e).request ≡ e.request
 changed_request : (id : RequestId) (change : Pending → Pending) → Keeps change → (e : Pending) → (at id change e).request ≡ e.request
 changed_request id change keeps e = ⊎_elim (λ q. ap (λ (x : Pending). x.request) q.1 ∙ keeps e) (λ q. ap (λ (x : Pending). x.request) q.1) (at_cases id change e)
 
-module _ (laws : LawsBelow) (port : Port) (m : Machine) where
+module _ (laws : PrerequisiteLaws) (port : Port) (m : Machine) where
   -- ---- who stood before
 
   device_before : (step : Step) (before : List Step) → IsByDevice step → (z : Pending) → Contains (after m (step ∷ before)).book z → (x : Pending) × Contains (after m before).book x × IsSame x z

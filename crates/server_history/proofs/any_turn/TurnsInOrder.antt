@@ -9,9 +9,9 @@ use Rattle.ata_types.specs.declared.request.Outcome.TheVariants.{Ok, DeviceError
 use Rattle.ata_types.specs.declared.request.RequestId.{RequestId}
 use Rattle.adapter.specs.declared.access.DeviceStep.{DeviceStep}
 use Rattle.refinement.specs.Relation.{port_at}
-use Rattle.block_machine.specs.Events.{AbstractCall, AbstractState, AllLawful, AllMay, AreStepsOfCall, IsIssuedIn, IsLawful, IssuesLast, AnswersAllUnplugged, changes_disk}
+use Rattle.block_machine.specs.Events.{AbstractCall, AbstractState, AllAnswersLawful, AllMay, AreStepsOfCall, IsIssuedIn, IsLawfulAnswer, IssuesLast, AnswersAllUnplugged, changes_disk}
 use Rattle.block_machine.specs.Histories.{IsReachable}
-use Rattle.block_machine.specs.Left.{after}
+use Rattle.block_machine.specs.Expected.{after}
 use Rattle.block_machine.specs.Ports.{Evidence, Ports}
 use Rattle.block_machine.specs.State.{Machine, Pending}
 use Rattle.block_machine.specs.Steps.{Step, Again, Answer, Issue, Replace, Unplug}
@@ -19,7 +19,7 @@ use Rattle.driver_history.specs.Heeding.{OnlyFailedPortsRequeue}
 use Rattle.server_history.specs.Turns.{IsOfTurn, IsStepOf}
 use Rattle.server_history.proofs.any_turn.TurnSteps.{IsSame, StandsIn, handled_own, issued_before, others_left, others_were, same_as, same_more, stood}
 use Rattle.server_history.proofs.plain_calls.IssueRounds.{issued_parts}
-use Rattle.server_history.specs.Below.{LawsBelow}
+use Rattle.server_history.specs.Prerequisites.{PrerequisiteLaws}
 
 -- ---- lists of steps
 
@@ -45,7 +45,7 @@ pub belong_join : (ask : AbstractCall DeviceStep) (ports : Ports) (late early : 
 belong_join ask ports [] early a b = b
 belong_join ask ports (step ∷ late) early a b = (belong_join ask ports late early a.0 b, a.1)
 
-pub lawful_join : (old : AbstractState) (evidence : Evidence) (ports : Ports) (late early : List Step) → AllLawful old evidence ports late → AllLawful old evidence ports early → AllLawful old evidence ports (late ++ early)
+pub lawful_join : (old : AbstractState) (evidence : Evidence) (ports : Ports) (late early : List Step) → AllAnswersLawful old evidence ports late → AllAnswersLawful old evidence ports early → AllAnswersLawful old evidence ports (late ++ early)
 lawful_join old evidence ports [] early a b = b
 lawful_join old evidence ports (Answer e o ∷ late) early a b = (lawful_join old evidence ports late early a.0 b, a.1)
 lawful_join old evidence ports (Again e ∷ late) early a b = (lawful_join old evidence ports late early a.0 b, a.1)
@@ -53,9 +53,9 @@ lawful_join old evidence ports (step ∷ late) early a b = lawful_join old evide
 
 -- answers are lawful in another call where each of them is
 pub lawful_on : (old new : AbstractState) (evidence other : Evidence) (ports later : Ports) (steps : List Step)
-    → ((e : Pending) (o : Outcome) → Contains steps (Answer e o) → IsLawful old evidence ports e o → IsLawful new other later e o)
+    → ((e : Pending) (o : Outcome) → Contains steps (Answer e o) → IsLawfulAnswer old evidence ports e o → IsLawfulAnswer new other later e o)
     → ((e : Pending) → Contains steps (Again e) → Contains evidence.stopped e.request.port → Contains other.stopped e.request.port)
-    → AllLawful old evidence ports steps → AllLawful new other later steps
+    → AllAnswersLawful old evidence ports steps → AllAnswersLawful new other later steps
 lawful_on old new evidence other ports later [] each again a = tt
 lawful_on old new evidence other ports later (Answer e o ∷ steps) each again a = (
   lawful_on old new evidence other ports later steps (λ x y h. each x y (Contains-append_right ((Answer e o) ∷ []) steps (Answer x y) h)) (λ x h. again x (Contains-append_right ((Answer e o) ∷ []) steps (Again x) h)) a.0,
@@ -128,7 +128,7 @@ pub record AreTurns (old : AbstractState) (n : ℕ) (steps : List Step) : Type 0
   pub further : (e : Pending) → Contains old.machine.book e → n ≤ e.request.port.0 → (x : Pending) × Contains (after old.machine steps).book x × IsSame e x
   pub origin : (x : Pending) → Contains (after old.machine steps).book x → n ≤ x.request.port.0 → (e : Pending) × Contains old.machine.book e × IsSame e x
 
-module _ (laws : LawsBelow) (old : AbstractState) (reached : IsReachable old.machine) where
+module _ (laws : PrerequisiteLaws) (old : AbstractState) (reached : IsReachable old.machine) where
   pub no_turns : AreTurns old 0 []
   no_turns = record {
     may = tt;

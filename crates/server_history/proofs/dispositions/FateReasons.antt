@@ -10,7 +10,7 @@ use Rattle.ata_types.specs.declared.request.Outcome.TheVariants as outcome
 use Rattle.ata_types.specs.declared.request.Reply.{Reply}
 use Rattle.ata_types.specs.declared.request.RequestId.{RequestId}
 use Rattle.adapter.specs.declared.access.DeviceStep.{DeviceStep}
-use Rattle.block_machine.specs.Events.{AllLawful, AreStepsOfCall, EndsUndone, IsByDevice, IsIssuedIn, IsLawful, IsByServer, AbstractState, Service, Tick, issues_it}
+use Rattle.block_machine.specs.Events.{AllAnswersLawful, AreStepsOfCall, EndsUndone, IsByDevice, IsIssuedIn, IsLawfulAnswer, IsByServer, AbstractState, Service, Tick, issues_it}
 use Rattle.block_machine.specs.Ports.{Evidence, Ports}
 use Rattle.block_machine.specs.State.{Pending}
 use Rattle.block_machine.specs.Steps.{Step, Again, Answer, Issue}
@@ -18,14 +18,14 @@ use Rattle.block_machine.specs.declared.due.QueueMode.{QueueMode}
 use Rattle.driver_history.specs.Heeding.{OnlyFailedPortsRequeue}
 use Rattle.server_history.proofs.state.ListMembers.{contains_cases, contains_there}
 use Rattle.request_queue.specs.Entries.{BookEntry}
-use Rattle.request_queue.specs.Dispositions.{Holdings, AreResolved, IsResolved, disposition_of, disposition_of_unfailed}
+use Rattle.request_queue.specs.Dispositions.{BookAndLoans, AreResolved, IsResolved, disposition_of, disposition_of_unfailed}
 use Rattle.request_queue.specs.declared.PendingRequest.{PendingRequest}
 use Rattle.request_queue.specs.declared.disposition.FailedRequest.{FailedRequest}
 use Rattle.request_queue.specs.declared.disposition.Disposition.{Disposition}
 use Rattle.request_queue.specs.declared.disposition.Disposition.TheVariants.{Complete, Requeue, Wait}
 use Rattle.request_queue.specs.declared.disposition.Revalidation.{Revalidation}
 use Rattle.request_queue.specs.declared.disposition.Revalidation.TheVariants.{SameDisk, DiskLost, Dead as NoEnd}
-use Rattle.server_history.specs.Below.{LawsBelow}
+use Rattle.server_history.specs.Prerequisites.{PrerequisiteLaws}
 use Rattle.server_history.specs.Dispositions.{IsResolveStep}
 use Rattle.server_history.specs.Served.{AnswersEach, AllByDeviceOrIssue}
 use Rattle.server_history.specs.Server.{ServerState}
@@ -106,9 +106,9 @@ other_ends (Some its) revalidation other e = by (its.id.0 == e.id.0) refl
 -- ---- what is left of the book
 
 -- where each of them ends, none of them is left
-pub none_left : LawsBelow → (disposition : PendingRequest → Disposition) → ((e : PendingRequest) → (o : Outcome) × (disposition e ≡ Complete o)) → (requests : List BookEntry) (replies : List Reply) (old new : Holdings) → AreResolved disposition requests replies old new
+pub none_left : PrerequisiteLaws → (disposition : PendingRequest → Disposition) → ((e : PendingRequest) → (o : Outcome) × (disposition e ≡ Complete o)) → (requests : List BookEntry) (replies : List Reply) (old new : BookAndLoans) → AreResolved disposition requests replies old new
     → (x : BookEntry) → Contains new.book x → Contains old.book x × (Contains requests x → ⊥)
-none_left laws disposition ends [] replies old new (none, is) x here = (subst (λ (h : Holdings). Contains h.book x) is here, λ there. absurd (nowhere x there))
+none_left laws disposition ends [] replies old new (none, is) x here = (subst (λ (h : BookAndLoans). Contains h.book x) is here, λ there. absurd (nowhere x there))
 none_left laws disposition ends (request ∷ requests) replies old new (mid, its, later, split, meets, more) x here =
     let w = ends request.entry in
     let m : IsResolved request (Complete w.0) its old mid = subst (λ (f : Disposition). IsResolved request f its old mid) w.1 meets in
@@ -117,7 +117,7 @@ none_left laws disposition ends (request ∷ requests) replies old new (mid, its
     (left.0, λ there. ⊎_elim (λ (same : x ≡ request). left.1 (ap (λ (y : BookEntry). y.entry.id) same)) (λ late. rest.1 late) (contains_cases request requests x there))
 
 -- who was answered has left it
-pub answered_left : LawsBelow → (port : Port) (done : ℕ) (requests : List BookEntry) (old new : ServerState) → AnswersEach port done requests old new → (x : BookEntry) → Contains new.book x
+pub answered_left : PrerequisiteLaws → (port : Port) (done : ℕ) (requests : List BookEntry) (old new : ServerState) → AnswersEach port done requests old new → (x : BookEntry) → Contains new.book x
     → Contains old.book x × ((e : BookEntry) → Contains requests e → x.entry.id ≢ e.entry.id)
 answered_left laws port done [] old new none x here = (subst (λ (s : ServerState). Contains s.book x) none here, λ e there. absurd (nowhere e there))
 answered_left laws port done (request ∷ requests) old new (mid, one, its, more) x here =
@@ -153,8 +153,8 @@ module _ (port : Port) where
       (deciding_belong ports steps (All-tail (IsResolveStep port) (Answer e o) steps all) (λ x there. again x (contains_there (Answer e o) steps (Again x) there)), inr tt)
   deciding_belong ports (step ∷ steps) all again = absurd (All-head (IsResolveStep port) step steps all)
 
-  pub deciding_lawful : (old : AbstractState) (evidence : Evidence) (ports : Ports) (steps : List Step) → All (IsResolveStep port) steps → ((e : Pending) (o : Outcome) → Contains steps (Answer e o) → IsLawful old evidence ports e o)
-      → ((e : Pending) → Contains steps (Again e) → Contains evidence.stopped e.request.port) → AllLawful old evidence ports steps
+  pub deciding_lawful : (old : AbstractState) (evidence : Evidence) (ports : Ports) (steps : List Step) → All (IsResolveStep port) steps → ((e : Pending) (o : Outcome) → Contains steps (Answer e o) → IsLawfulAnswer old evidence ports e o)
+      → ((e : Pending) → Contains steps (Again e) → Contains evidence.stopped e.request.port) → AllAnswersLawful old evidence ports steps
   deciding_lawful old evidence ports [] all answer again = tt
   deciding_lawful old evidence ports (Again e ∷ steps) all answer again = (
     deciding_lawful old evidence ports steps (All-tail (IsResolveStep port) (Again e) steps all) (λ x o there. answer x o (contains_there (Again e) steps (Answer x o) there)) (λ x there. again x (contains_there (Again e) steps (Again x) there)),

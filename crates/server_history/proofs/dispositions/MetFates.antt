@@ -15,19 +15,19 @@ use Rattle.adapter.specs.Memory.{changed}
 use Rattle.refinement.specs.Driver.{ForgetsAtMost, HasNoSlot, DriverState, DriverRelation}
 use Rattle.block_machine.specs.Events.{IsByDevice, IsToldBefore, RepliesMatch, answers_of, reply_of}
 use Rattle.block_machine.specs.Histories.{IsReachable}
-use Rattle.block_machine.specs.Left.{after}
+use Rattle.block_machine.specs.Expected.{after}
 use Rattle.block_machine.specs.State.{Machine, Pending}
 use Rattle.block_machine.specs.Steps.{Step, Again, Answer, May, after_step, stays, unlend}
 use Rattle.dma_frames.specs.Loan.{Lending}
 use Rattle.dma_frames.specs.Table.{Table, lent_to}
 use Rattle.request_queue.specs.Entries.{HasFewIssues, BookEntry, IsAccepted, IsEarlier, BookIsInOrder, update_if_id, requeued_entry, without_entry}
-use Rattle.request_queue.specs.Dispositions.{KeepsOrEndsLoan, Holdings, AreResolved, IsResolved, keeps_loan, reply_to}
+use Rattle.request_queue.specs.Dispositions.{KeepsOrEndsLoan, BookAndLoans, AreResolved, IsResolved, keeps_loan, reply_to}
 use Rattle.request_queue.specs.Machine.{BookRelation, EntryRelation}
 use Rattle.request_queue.specs.declared.PendingRequest.{PendingRequest}
 use Rattle.request_queue.specs.declared.disposition.Disposition.{Disposition}
 use Rattle.request_queue.specs.declared.disposition.Disposition.TheVariants.{Complete, Requeue, Wait}
-use Rattle.server_history.specs.Below.{LawsBelow}
-use Rattle.server_history.specs.Dispositions.{IsResolveStep, IsLetGo, AreResolvable, AreResolvedInMachine, keeps_frames_lent, loan_of, loans_of}
+use Rattle.server_history.specs.Prerequisites.{PrerequisiteLaws}
+use Rattle.server_history.specs.Dispositions.{IsResolveStep, IsDecidedAndReleased, AreResolvable, AreResolvedInMachine, keeps_frames_lent, loan_of, loans_of}
 use Rattle.server_history.specs.Server.{DifferInRequest, RevokedMarkAgrees}
 use Rattle.server_history.proofs.dispositions.FittingFates.{AllFit, FitsEntry}
 use Rattle.server_history.proofs.healthy_turn.OneAnswer.{given_back}
@@ -130,8 +130,8 @@ decided_elsewhere parked port id q ne = rw (ne_eqb q port ne) refl
 
 -- ---- one request
 
-module _ (laws : LawsBelow) (port : Port) (disposition : PendingRequest → Disposition) where
-  module _ (request : BookEntry) (rest : List BookEntry) (now mid : Holdings) (k : DriverState) (m : Machine) (may : AreResolvable port disposition (request ∷ rest) now k m) where
+module _ (laws : PrerequisiteLaws) (port : Port) (disposition : PendingRequest → Disposition) where
+  module _ (request : BookEntry) (rest : List BookEntry) (now mid : BookAndLoans) (k : DriverState) (m : Machine) (may : AreResolvable port disposition (request ∷ rest) now k m) where
     pub here : Contains now.book request
     here = (may.here request (Contains-get_or (request ∷ rest) 0 request (omega arith))).0
 
@@ -180,9 +180,9 @@ module _ (laws : LawsBelow) (port : Port) (disposition : PendingRequest → Disp
     -- ---- with those that come after it
 
     -- this step decides it, by which these are kept
-    module _ (step : Step) (its later replies : List Reply) (new : Holdings) (split : replies ≡ its ++ later) (comes : May m step) (of_port : IsResolveStep port step) (own : IsByDevice step → ⊥)
+    module _ (step : Step) (its later replies : List Reply) (new : BookAndLoans) (split : replies ≡ its ++ later) (comes : May m step) (of_port : IsResolveStep port step) (own : IsByDevice step → ⊥)
         (parked : ℕ → List RequestId) (elsewhere : (q : ℕ) → q ≢ port.0 → parked q ≡ k.parked q)
-        (its_still : (id : RequestId) → Contains (parked port.0) id → Contains (k.parked port.0) id × (IsLetGo disposition request → request.entry.id ≢ id))
+        (its_still : (id : RequestId) → Contains (parked port.0) id → Contains (k.parked port.0) id × (IsDecidedAndReleased disposition request → request.entry.id ≢ id))
         (gone : List Pending) (keeps : (after_step m step).kept ≡ gone ++ m.kept) (lends : mid.kept ≡ now.kept ++ loans_of gone) (alone : AllPairs DifferInRequest (loans_of gone))
         (its_own : (e : Pending) → Contains gone e → EntryRelation request e × (keeps_frames_lent (disposition request.entry) request.entry ≡ true))
         (told : (e : Pending) (o : Outcome) → Answer e o ≡ step → EntryRelation request e × (disposition request.entry ≡ Complete o))
@@ -222,13 +222,13 @@ module _ (laws : LawsBelow) (port : Port) (disposition : PendingRequest → Disp
           let w = r.whose y.0 y.1 in
           differs w.0 w.1 (sym w.2.id ∙ sym (ap (λ (l : Lending). l.request) y.2) ∙ sym same ∙ ap (λ (l : Lending). l.request) x.2 ∙ (its_own x.0 x.1).0.id)))
 
-      still_by : (id : RequestId) → Contains (r.parked port.0) id → Contains (k.parked port.0) id × ((e : BookEntry) → Contains (request ∷ rest) e → IsLetGo disposition e → e.entry.id ≢ id)
+      still_by : (id : RequestId) → Contains (r.parked port.0) id → Contains (k.parked port.0) id × ((e : BookEntry) → Contains (request ∷ rest) e → IsDecidedAndReleased disposition e → e.entry.id ≢ id)
       still_by id there =
           let late = r.still id there in
           let first = its_still id late.0 in (
             first.0,
             λ e here goes. ⊎_elim
-                (λ (same : e ≡ request). subst (λ (y : BookEntry). y.entry.id ≢ id) (sym same) (first.1 (subst (IsLetGo disposition) same goes)))
+                (λ (same : e ≡ request). subst (λ (y : BookEntry). y.entry.id ≢ id) (sym same) (first.1 (subst (IsDecidedAndReleased disposition) same goes)))
                 (λ (later_on : Contains rest e). late.1 e later_on goes)
                 (first_or_later request rest e here),
           )
@@ -257,7 +257,7 @@ module _ (laws : LawsBelow) (port : Port) (disposition : PendingRequest → Disp
 
   -- ---- one that ends
 
-  module _ (request : BookEntry) (rest : List BookEntry) (now mid new : Holdings) (its later replies : List Reply) (k : DriverState) (m : Machine) (may : AreResolvable port disposition (request ∷ rest) now k m) (split : replies ≡ its ++ later)
+  module _ (request : BookEntry) (rest : List BookEntry) (now mid new : BookAndLoans) (its later replies : List Reply) (k : DriverState) (m : Machine) (may : AreResolvable port disposition (request ∷ rest) now k m) (split : replies ≡ its ++ later)
       (more : (k : DriverState) (m : Machine) → AreResolvable port disposition rest mid k m → AreResolvedInMachine port disposition rest later mid new k m) (fit : FitsEntry (disposition request.entry) request.entry) (o : Outcome) (is : disposition request.entry ≡ Complete o) (meets : IsResolved request (Complete o) its now mid) where
     abbrev x : Pending
     x = p request rest now mid k m may
@@ -300,7 +300,7 @@ module _ (laws : LawsBelow) (port : Port) (disposition : PendingRequest → Disp
 
     -- what comes of it, once the rest met their fates
     module _ (parked : ℕ → List RequestId) (elsewhere : (q : ℕ) → q ≢ port.0 → parked q ≡ k.parked q)
-        (its_still : (id : RequestId) → Contains (parked port.0) id → Contains (k.parked port.0) id × (IsLetGo disposition request → request.entry.id ≢ id)) (gone : List Pending) (keeps : (after_step m (Answer x o)).kept ≡ gone ++ m.kept)
+        (its_still : (id : RequestId) → Contains (parked port.0) id → Contains (k.parked port.0) id × (IsDecidedAndReleased disposition request → request.entry.id ≢ id)) (gone : List Pending) (keeps : (after_step m (Answer x o)).kept ≡ gone ++ m.kept)
         (lends : mid.kept ≡ now.kept ++ loans_of gone) (alone : AllPairs DifferInRequest (loans_of gone)) (its_own : (e : Pending) → Contains gone e → EntryRelation request e × (keeps_frames_lent (disposition request.entry) request.entry ≡ true))
         (goes : AreResolvable port disposition rest mid (record k { parked = parked }) (after_step m (Answer x o))) where
       r : AreResolvedInMachine port disposition rest later mid new (record k { parked = parked }) (after_step m (Answer x o))
@@ -383,7 +383,7 @@ module _ (laws : LawsBelow) (port : Port) (disposition : PendingRequest → Disp
 
   -- ---- each fate
 
-  meet_one : (request : BookEntry) (rest : List BookEntry) (now mid new : Holdings) (its later replies : List Reply) (k : DriverState) (m : Machine) → AreResolvable port disposition (request ∷ rest) now k m → replies ≡ its ++ later
+  meet_one : (request : BookEntry) (rest : List BookEntry) (now mid new : BookAndLoans) (its later replies : List Reply) (k : DriverState) (m : Machine) → AreResolvable port disposition (request ∷ rest) now k m → replies ≡ its ++ later
       → ((k : DriverState) (m : Machine) → AreResolvable port disposition rest mid k m → AreResolvedInMachine port disposition rest later mid new k m) → FitsEntry (disposition request.entry) request.entry → (f : Disposition) → disposition request.entry ≡ f → IsResolved request f its now mid
       → AreResolvedInMachine port disposition (request ∷ rest) replies now new k m
   meet_one request rest now mid new its later replies k m may split more fit Wait is meets = record {
@@ -405,7 +405,7 @@ module _ (laws : LawsBelow) (port : Port) (disposition : PendingRequest → Disp
     lent = r.lent;
     held = r.held;
     kept = r.kept;
-    loans = r.loans ∙ ap (λ (h : Holdings). h.kept ++ loans_of r.held) meets.1;
+    loans = r.loans ∙ ap (λ (h : BookAndLoans). h.kept ++ loans_of r.held) meets.1;
     two = r.two;
     whose = λ e here. let w = r.whose e here in (w.0, in_rest request rest now mid k m may w.0 w.1, w.2, w.3);
     answered = λ e o here. let w = r.answered e o here in (w.0, in_rest request rest now mid k m may w.0 w.1, w.2, w.3);
@@ -428,12 +428,12 @@ module _ (laws : LawsBelow) (port : Port) (disposition : PendingRequest → Disp
       }
 
       r : AreResolvedInMachine port disposition rest later mid new k m
-      r = more k m (subst (λ (h : Holdings). AreResolvable port disposition rest h k m) (sym meets.1) goes)
+      r = more k m (subst (λ (h : BookAndLoans). AreResolvable port disposition rest h k m) (sym meets.1) goes)
   meet_one request rest now mid new its later replies k m may split more fit Requeue is meets =
       decides request rest now mid k m may (Again x) its later replies new split comes of_port (λ none. none) (decided k.parked port.0 request.entry.id)
       (decided_elsewhere k.parked port.0 request.entry.id)
       (λ id there. let w = left_parked request rest now mid k m may id there in (w.0, λ goes. w.1)) [] refl
-      (ap (λ (h : Holdings). h.kept) meets.1 ∙ sym (append-nil now.kept)) (λ i j d lt below. absurd (omega (arith, lt, below))) (λ e there. absurd (nowhere e there))
+      (ap (λ (h : BookAndLoans). h.kept) meets.1 ∙ sym (append-nil now.kept)) (λ i j d lt below. absurd (omega (arith, lt, below))) (λ e there. absurd (nowhere e there))
       (λ e o same. let z : Answer e o ≡ Again x = same in absurd cc)
       (λ e same. let e_is : e ≡ x = (let z : Again e ≡ Again x = same in cc) in (subst (EntryRelation request) (sym e_is) (entry request rest now mid k m may).2, is))
       r
@@ -480,10 +480,10 @@ module _ (laws : LawsBelow) (port : Port) (disposition : PendingRequest → Disp
       }
 
       r : AreResolvedInMachine port disposition rest later mid new (left_known request rest now mid k m may) (after_step m (Again x))
-      r = more (left_known request rest now mid k m may) (after_step m (Again x)) (subst (λ (h : Holdings). AreResolvable port disposition rest h (left_known request rest now mid k m may) (after_step m (Again x))) (sym meets.1) goes)
+      r = more (left_known request rest now mid k m may) (after_step m (Again x)) (subst (λ (h : BookAndLoans). AreResolvable port disposition rest h (left_known request rest now mid k m may) (after_step m (Again x))) (sym meets.1) goes)
   meet_one request rest now mid new its later replies k m may split more fit (Complete o) is meets = meet_end request rest now mid new its later replies k m may split more fit o is meets
 
-pub meet : LawsBelow → (port : Port) (disposition : PendingRequest → Disposition) (requests : List BookEntry) → AllFit disposition requests → (replies : List Reply) (old new : Holdings) (k : DriverState) (m : Machine)
+pub meet : PrerequisiteLaws → (port : Port) (disposition : PendingRequest → Disposition) (requests : List BookEntry) → AllFit disposition requests → (replies : List Reply) (old new : BookAndLoans) (k : DriverState) (m : Machine)
     → AreResolvable port disposition requests old k m → AreResolved disposition requests replies old new → AreResolvedInMachine port disposition requests replies old new k m
 meet laws port disposition [] fit replies old new k m may (none, is) = record {
   steps = [];
@@ -494,11 +494,11 @@ meet laws port disposition [] fit replies old new k m may (none, is) = record {
   knows = may.knows;
   others = λ q ne. refl;
   still = λ id here. (here, λ e none goes same. nowhere e none);
-  book = subst (λ (h : Holdings). BookRelation h.book m.book) (sym is) may.book;
-  lent = λ frame. may.lent frame ∙ ap (λ (h : Holdings). lent_to h.table frame) (sym is);
+  book = subst (λ (h : BookAndLoans). BookRelation h.book m.book) (sym is) may.book;
+  lent = λ frame. may.lent frame ∙ ap (λ (h : BookAndLoans). lent_to h.table frame) (sym is);
   held = [];
   kept = refl;
-  loans = ap (λ (h : Holdings). h.kept) is ∙ sym (append-nil old.kept);
+  loans = ap (λ (h : BookAndLoans). h.kept) is ∙ sym (append-nil old.kept);
   two = λ i j d lt below. absurd (omega (arith, lt, below));
   whose = λ e here. absurd (nowhere e here);
   answered = λ e o here. absurd (nowhere (Answer e o) here);
@@ -511,7 +511,7 @@ meet laws port disposition (request ∷ rest) fit replies old new k m may (mid, 
     (fit request (first_here request rest)) (disposition request.entry) refl meets
 
 -- Where no loan is kept, and who was parked of the port are issued ones among these, none of the port is.
-pub none_parked : (port : Port) (disposition : PendingRequest → Disposition) (requests : List BookEntry) → AllFit disposition requests → (replies : List Reply) (old new : Holdings) (k : DriverState) (m : Machine)
+pub none_parked : (port : Port) (disposition : PendingRequest → Disposition) (requests : List BookEntry) → AllFit disposition requests → (replies : List Reply) (old new : BookAndLoans) (k : DriverState) (m : Machine)
     (r : AreResolvedInMachine port disposition requests replies old new k m) → ((e : PendingRequest) → keeps_frames_lent (disposition e) e ≡ false)
     → ((id : RequestId) → Contains (k.parked port.0) id → (e : BookEntry) × Contains requests e × (e.entry.id ≡ id) × (e.entry.issued ≡ true)) → r.parked port.0 ≡ []
 none_parked port disposition requests fit replies old new k m r quiet its = nobody (r.parked port.0) (λ id here.

@@ -13,16 +13,16 @@ use Rattle.ata_types.specs.declared.request.Reply.{Reply}
 use Rattle.ata_types.specs.declared.request.RequestId.{RequestId}
 use Rattle.server_history.proofs.state.ListMembers.{contains_cases, contains_there, map_in}
 use Rattle.dma_frames.specs.Table.{Table}
-use Rattle.request_queue.specs.Entries.{HasFewIssues, BookEntry, IsAccepted, IsEarlier, BookIsInOrder, update_if_id, has_id, is_of, requeued_entry, without_entry}
-use Rattle.request_queue.specs.Dispositions.{KeepsOrEndsLoan, Holdings, AreResolved, IsResolved, disposition_of, disposition_of_unfailed, keeps_loan}
+use Rattle.request_queue.specs.Entries.{HasFewIssues, BookEntry, IsAccepted, IsEarlier, BookIsInOrder, update_if_id, has_id, is_of_port, requeued_entry, without_entry}
+use Rattle.request_queue.specs.Dispositions.{KeepsOrEndsLoan, BookAndLoans, AreResolved, IsResolved, disposition_of, disposition_of_unfailed, keeps_loan}
 use Rattle.request_queue.specs.declared.PendingRequest.{PendingRequest}
 use Rattle.request_queue.specs.declared.disposition.FailedRequest.{FailedRequest}
 use Rattle.request_queue.specs.declared.disposition.Disposition.{Disposition}
 use Rattle.request_queue.specs.declared.disposition.Disposition.TheVariants.{Complete, Requeue, Wait}
 use Rattle.request_queue.specs.declared.disposition.Revalidation.{Revalidation}
 use Rattle.request_queue.specs.declared.disposition.Revalidation.TheVariants.{Dead, DiskLost, SameDisk}
-use Rattle.server_history.specs.Below.{LawsBelow}
-use Rattle.server_history.specs.ErrorHandling.{holdings_of, requests_of}
+use Rattle.server_history.specs.Prerequisites.{PrerequisiteLaws}
+use Rattle.server_history.specs.ErrorHandling.{book_and_loans_of, requests_of}
 use Rattle.server_history.specs.Server.{RevokedMarkInvariant, ServerState}
 use Rattle.server_history.proofs.dispositions.FittingFates.{AllFit, FitsEntry}
 use Rattle.server_history.proofs.state.LoanCounts.{counts, fewer_issued, issued_of, kept_issued, one_fewer, requeued_issued}
@@ -50,18 +50,18 @@ ends_of (Some failed) revalidation other e = by (failed.id.0 == e.id.0) refl
 -- ---- what is left
 
 -- the requests are of the port in a book as a server has it, in its order
-pub record MayDecide (port : Port) (requests : List BookEntry) (now : Holdings) : Type 0 where
+pub record MayDecide (port : Port) (requests : List BookEntry) (now : BookAndLoans) : Type 0 where
   pub here : (e : BookEntry) → Contains requests e → Contains now.book e × (e.entry.port ≡ port)
   pub earlier : AllPairs IsEarlier requests
   pub ordered : BookIsInOrder now.book
   pub accepted : All (IsAccepted now.table) now.book
 
 -- so it is with all of the port's
-pub its_requests : (port : Port) (s : ServerState) → BookIsInOrder s.book → All (IsAccepted s.table) s.book → MayDecide port (requests_of port s.book) (holdings_of port s)
+pub its_requests : (port : Port) (s : ServerState) → BookIsInOrder s.book → All (IsAccepted s.table) s.book → MayDecide port (requests_of port s.book) (book_and_loans_of port s)
 its_requests port s ordered accepted = record { here = here; earlier = AllPairs-filter IsEarlier own s.book ordered.ordered; ordered = ordered; accepted = accepted }
   where
     own : BookEntry → Bool
-    own e = is_of port e.entry
+    own e = is_of_port port e.entry
 
     here : (e : BookEntry) → Contains (requests_of port s.book) e → Contains s.book e × (e.entry.port ≡ port)
     here e there = (
@@ -83,7 +83,7 @@ pub record WasIn (book : List BookEntry) (e : BookEntry) : Type 0 where
 
 -- The book is as a server has it still; it has no request that it hadn't, and none of these that was answered; each frame has its owner; and no more places are needed for loans
 -- of the port.
-pub record IsLeft (port : Port) (disposition : PendingRequest → Disposition) (requests : List BookEntry) (old new : Holdings) : Type 0 where
+pub record IsLeft (port : Port) (disposition : PendingRequest → Disposition) (requests : List BookEntry) (old new : BookAndLoans) : Type 0 where
   pub ordered : BookIsInOrder new.book
   pub accepted : All (IsAccepted new.table) new.book
   pub owners : new.table.owners ≡ old.table.owners
@@ -127,11 +127,11 @@ marked_as rows book e w m =
 pub marked_from : (rows : List GrantRow) (book : List BookEntry) → All (RevokedMarkInvariant rows) book → (e : BookEntry) → WasIn book e → RevokedMarkInvariant rows e
 marked_from rows book all e w = marked_as rows book e w (All-contains (RevokedMarkInvariant rows) book w.was all w.there)
 
-module _ (laws : LawsBelow) (port : Port) (disposition : PendingRequest → Disposition) where
+module _ (laws : PrerequisiteLaws) (port : Port) (disposition : PendingRequest → Disposition) where
   -- ---- one request
 
   -- it met its fate, and the others may meet theirs
-  record HasMet (request : BookEntry) (rest : List BookEntry) (old mid : Holdings) : Type 0 where
+  record HasMet (request : BookEntry) (rest : List BookEntry) (old mid : BookAndLoans) : Type 0 where
     may : MayDecide port rest mid
     owners : mid.table.owners ≡ old.table.owners
     from : (e : BookEntry) → Contains mid.book e → WasIn old.book e
@@ -139,7 +139,7 @@ module _ (laws : LawsBelow) (port : Port) (disposition : PendingRequest → Disp
     places : length mid.kept + issued_of port mid.book ≤ length old.kept + issued_of port old.book
     fewer : (q : Port) → issued_of q mid.book ≤ issued_of q old.book
 
-  module _ (request : BookEntry) (rest : List BookEntry) (old mid : Holdings) (may : MayDecide port (request ∷ rest) old) where
+  module _ (request : BookEntry) (rest : List BookEntry) (old mid : BookAndLoans) (may : MayDecide port (request ∷ rest) old) where
     its : Contains old.book request
     its = (may.here request (first_here request rest)).0
 
@@ -262,7 +262,7 @@ module _ (laws : LawsBelow) (port : Port) (disposition : PendingRequest → Disp
 
   -- ---- one after another
 
-  pub fated : (requests : List BookEntry) → AllFit disposition requests → (replies : List Reply) (old new : Holdings) → MayDecide port requests old → AreResolved disposition requests replies old new
+  pub fated : (requests : List BookEntry) → AllFit disposition requests → (replies : List Reply) (old new : BookAndLoans) → MayDecide port requests old → AreResolved disposition requests replies old new
       → IsLeft port disposition requests old new
   fated [] fit replies old new may (none, is) = subst (IsLeft port disposition [] old) (sym is) (record {
     ordered = may.ordered;

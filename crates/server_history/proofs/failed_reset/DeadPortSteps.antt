@@ -5,7 +5,7 @@ use Rattle.std.proofs.lemmas.List.Elements.{All-head, All-tail}
 use Rattle.ata_types.specs.declared.PortState.TheVariants.{Dead}
 use Rattle.ata_types.specs.declared.request.Outcome.{Outcome}
 use Rattle.ata_types.specs.declared.request.Outcome.TheVariants as outcome
-use Rattle.block_machine.specs.Events.{IsLawful, AbstractState, AnswersAllUnplugged}
+use Rattle.block_machine.specs.Events.{IsLawfulAnswer, AbstractState, AnswersAllUnplugged}
 use Rattle.block_machine.specs.Ports.{Evidence, Ports}
 use Rattle.block_machine.specs.State.{Machine, Pending}
 use Rattle.block_machine.specs.Steps.{Step, Answer}
@@ -17,8 +17,8 @@ abbrev pub IsDeath : Ports → Pending → Outcome → Type 0
 IsDeath ports e o = (o ≡ outcome.PortDead) × (ports.state e.request.port ≡ Dead)
 
 module _ (ports : Ports) where
-  pub death_lawful : (old : AbstractState) (evidence : Evidence) (e : Pending) (o : Outcome) → IsDeath ports e o → IsLawful old evidence ports e o
-  death_lawful old evidence e o death = subst (IsLawful old evidence ports e) (sym death.0) death.1
+  pub death_lawful : (old : AbstractState) (evidence : Evidence) (e : Pending) (o : Outcome) → IsDeath ports e o → IsLawfulAnswer old evidence ports e o
+  death_lawful old evidence e o death = subst (IsLawfulAnswer old evidence ports e) (sym death.0) death.1
 
   pub deaths_grounded : (evidence : Evidence) (steps : List Step) → All (IsAnswerOf (IsDeath ports)) steps → OnlyFailedPortsRequeue evidence steps
   deaths_grounded evidence [] all = tt

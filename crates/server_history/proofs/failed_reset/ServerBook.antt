@@ -8,14 +8,14 @@ use Rattle.refinement.specs.Relation.{port_at}
 use Rattle.ata_types.specs.declared.Port.{Port}
 use Rattle.ata_types.specs.declared.PortState.TheVariants.{Absent, Ready as ReadyState}
 use Rattle.ata_types.specs.declared.request.Reply.{Reply}
-use Rattle.host_boot.specs.Taken.{StillStandsBehind, probe_result_of, wanted_of}
+use Rattle.host_boot.specs.TakeOver.{StillBacksProbeResult, probe_result_of, wanted_of}
 use Rattle.host_boot.specs.declared.ProbeResult.{ProbeResult}
 use Rattle.host_boot.specs.declared.ProbeResult.TheVariants.{Ready, Unready, Unserved}
 use Rattle.request_queue.specs.Entries.{BookEntry}
 use Rattle.request_queue.specs.Dispositions.{disposition_of}
-use Rattle.server_history.specs.Below.{LawsBelow}
-use Rattle.server_history.specs.ErrorHandling.{holdings_of, requests_of}
-use Rattle.server_history.specs.Resets.{MayResolve, ResolvesPort, with_holdings, ResolvePorts}
+use Rattle.server_history.specs.Prerequisites.{PrerequisiteLaws}
+use Rattle.server_history.specs.ErrorHandling.{book_and_loans_of, requests_of}
+use Rattle.server_history.specs.Resets.{MayResolve, ResolvesPort, with_book_and_loans, ResolvePorts}
 use Rattle.server_history.specs.Server.{ServerState, InCallInvariant, is_served, quarantined_at, state_of, used_for}
 use Rattle.server_history.specs.StuckServer.{ServerInvariant}
 use Rattle.server_history.proofs.state.IssueCounts.{places}
@@ -33,7 +33,7 @@ ready_served Unserved ready = let z : Absent ≡ ReadyState = ready in absurd cc
 ready_served (Ready info) ready = refl
 ready_served (Unready state) ready = refl
 
-module _ (laws : LawsBelow) (s : ServerState) (k : InCallInvariant s) where
+module _ (laws : PrerequisiteLaws) (s : ServerState) (k : InCallInvariant s) where
   -- of a port that isn't ready nobody is issued
   none_issued : (port : Port) → state_of (probe_result_of s.ports port.0) ≢ ReadyState → issued_of port s.book ≡ 0
   none_issued port other = ap (count_by (λ (e : BookEntry). e.entry.issued)) (nobody (requests_of port s.book) (λ e here.
@@ -55,7 +55,7 @@ module _ (laws : LawsBelow) (s : ServerState) (k : InCallInvariant s) where
     room = k.room;
     served = λ port low. served_is (wanted_of s.wanted port) (probe_result_of s.ports port) port s.device (k.behind port low).behind;
     few = λ port its. (k.there port its).0;
-    idle = λ port low unserved. (subst (λ (f : ProbeResult). StillStandsBehind (wanted_of s.wanted port) f port s.device) unserved (k.behind port low).behind).1;
+    idle = λ port low unserved. (subst (λ (f : ProbeResult). StillBacksProbeResult (wanted_of s.wanted port) f port s.device) unserved (k.behind port low).behind).1;
     unused = λ port slot unserved. ⊎_elim
         (λ u. let z : Absent ≡ ReadyState = sym (ap state_of unserved) ∙ used_ready s port slot u.0 k u.1 in absurd cc)
         (λ (none : used_for s.slots port slot ≡ None). none)
@@ -83,21 +83,21 @@ pub may_settle : (s : ServerState) → ServerInvariant s → MayResolve s
 may_settle s b = record { four_kept = b.four_kept; ordered = b.ordered; accepted = b.accepted; places = b.places }
 
 -- and those of the other ports may still, once those of one port met theirs
-module _ (laws : LawsBelow) (s new : ServerState) (port : Port) (replies : List Reply) (low : port.0 < 4) (may : MayResolve s) (settles : ResolvesPort port replies s new) where
-  pub left : IsLeft port (disposition_of None settles.revalidation) (requests_of port s.book) (holdings_of port s) settles.now
-  left = fated laws port (disposition_of None settles.revalidation) (requests_of port s.book) (fits_each None settles.revalidation (requests_of port s.book)) replies (holdings_of port s) settles.now (its_requests port s may.ordered may.accepted) settles.meets
+module _ (laws : PrerequisiteLaws) (s new : ServerState) (port : Port) (replies : List Reply) (low : port.0 < 4) (may : MayResolve s) (settles : ResolvesPort port replies s new) where
+  pub left : IsLeft port (disposition_of None settles.revalidation) (requests_of port s.book) (book_and_loans_of port s) settles.now
+  left = fated laws port (disposition_of None settles.revalidation) (requests_of port s.book) (fits_each None settles.revalidation (requests_of port s.book)) replies (book_and_loans_of port s) settles.now (its_requests port s may.ordered may.accepted) settles.meets
 
-  pub kept_same : quarantined_at (with_holdings port settles.now s).kept port.0 ≡ settles.now.kept
+  pub kept_same : quarantined_at (with_book_and_loans port settles.now s).kept port.0 ≡ settles.now.kept
   kept_same = get_or-set_same s.kept port.0 settles.now.kept [] (let four = may.four_kept in omega (arith, four, low))
 
-  pub kept_other : (q : ℕ) → q ≢ port.0 → quarantined_at (with_holdings port settles.now s).kept q ≡ quarantined_at s.kept q
+  pub kept_other : (q : ℕ) → q ≢ port.0 → quarantined_at (with_book_and_loans port settles.now s).kept q ≡ quarantined_at s.kept q
   kept_other q other = get_or-set_other s.kept port.0 q settles.now.kept [] other
 
-  places_then : (q : Port) → length (quarantined_at (with_holdings port settles.now s).kept q.0) + issued_of q settles.now.book ≤ 32
+  places_then : (q : Port) → length (quarantined_at (with_book_and_loans port settles.now s).kept q.0) + issued_of q settles.now.book ≤ 32
   places_then q = ⊎_elim
       (λ (same : q.0 ≡ port.0).
       let its : port ≡ q = ap (λ (n : ℕ). record { 0 = n }) (sym same) in
-      subst (λ (p : Port). length (quarantined_at (with_holdings port settles.now s).kept p.0) + issued_of p settles.now.book ≤ 32) its
+      subst (λ (p : Port). length (quarantined_at (with_book_and_loans port settles.now s).kept p.0) + issued_of p settles.now.book ≤ 32) its
       (let long = ap length kept_same in let were = may.places port in let less = left.places in omega (arith, long, were, less)))
       (λ (other : q.0 ≢ port.0). let long = ap length (kept_other q.0 other) in let were = may.places q in let less = left.fewer q in omega (arith, long, were, less))
       (cases_eq q.0 port.0)
@@ -111,7 +111,7 @@ module _ (laws : LawsBelow) (s new : ServerState) (port : Port) (replies : List 
   })
 
 -- and so on, port by port
-pub all_settle_on : LawsBelow → (found : List ProbeResult) (n : ℕ) → n + length found ≤ 4 → (replies : List Reply) (old new : ServerState) → ResolvePorts n found replies old new → MayResolve old → MayResolve new
+pub all_settle_on : PrerequisiteLaws → (found : List ProbeResult) (n : ℕ) → n + length found ≤ 4 → (replies : List Reply) (old new : ServerState) → ResolvePorts n found replies old new → MayResolve old → MayResolve new
 all_settle_on laws [] n few replies old new (none, same) may = subst MayResolve (sym same) may
 all_settle_on laws (found ∷ rest) n few replies old new (mid, its, later, split, one, more) may =
     all_settle_on laws rest (n + 1) (omega (arith, few)) later mid new more (settles_on laws old mid (port_at n) its (omega (arith, few)) may one)

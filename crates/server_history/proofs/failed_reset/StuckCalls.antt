@@ -25,8 +25,8 @@ use Rattle.adapter.specs.declared.access.DeviceStep.{DeviceStep}
 use Rattle.refinement.specs.Driven.{known}
 use Rattle.refinement.specs.Links.{SameAdapter}
 use Rattle.block_machine.specs.Events.{AllMay, AnswersTick, Device as Told, HasTimedOut, LoadAt, AbstractState, RevokeOf, Served, Shown, State, Stepped, StoreAt, Submit, Submitted, Tick, WasRevoked}
-use Rattle.block_machine.specs.Histories.{Happening, JointState, now}
-use Rattle.block_machine.specs.Left.{after}
+use Rattle.block_machine.specs.Histories.{JointEvent, JointState, now}
+use Rattle.block_machine.specs.Expected.{after}
 use Rattle.block_machine.specs.Ports.{Ports}
 use Rattle.block_machine.specs.Refusals.{IsAcceptable, IsFirstMemFault, IsFirstRefusal, MayAccessFrame}
 use Rattle.block_machine.specs.Rules.{HasRow}
@@ -35,7 +35,7 @@ use Rattle.block_machine.specs.Steps.{Step, Age, Again, Answer, Load, Store, old
 use Rattle.server_history.proofs.state.ListMembers.{contains_cases}
 use Rattle.dma_frames.specs.Table.{lent_to, owner_of}
 use Rattle.driver_history.specs.Trace.{IsAccessForPorts, LeavesEngine}
-use Rattle.server_history.specs.Below.{LawsBelow}
+use Rattle.server_history.specs.Prerequisites.{PrerequisiteLaws}
 use Rattle.server_history.specs.Histories.{ExtendsHistory, ExtendsStuck, LeadsToServer, load_said, store_said}
 use Rattle.server_history.specs.Server.{ServerState, MachineRelation, ports_of, admission_context}
 use Rattle.server_history.specs.StuckServer.{ServerInvariant, StuckInvariant}
@@ -58,7 +58,7 @@ none_older (e ∷ book) = ap₂ (λ (x : Pending) (xs : List Pending). x ∷ xs)
 never_here : (step : Step) (ready : Port → Bool) → (step ≡ Age ready → ⊥) → Contains (Age ready ∷ []) step → ⊥
 never_here step ready other here = ⊎_elim other (nowhere step) (contains_cases (Age ready) [] step here)
 
-module _ (laws : LawsBelow) (s : ServerState) (t : StuckInvariant s) where
+module _ (laws : PrerequisiteLaws) (s : ServerState) (t : StuckInvariant s) where
   abbrev b : ServerInvariant s
   b = t.booked
 
@@ -152,7 +152,7 @@ module _ (laws : LawsBelow) (s : ServerState) (t : StuckInvariant s) where
 
   -- ---- a tick
 
-  module _ (first : JointState Device) (past : List (Happening Device DeviceStep)) (leads : LeadsToServer first past s) where
+  module _ (first : JointState Device) (past : List (JointEvent Device DeviceStep)) (leads : LeadsToServer first past s) where
     abbrev old : AbstractState
     old = (now first past).abstract
 
@@ -187,7 +187,7 @@ module _ (laws : LawsBelow) (s : ServerState) (t : StuckInvariant s) where
       emptied = λ port ready. absurd (was_never port ready);
     }
 
-    ticked : (h : Happening Device DeviceStep) × (h.event.ask ≡ Tick) × (h.event.said ≡ Served []) × LeadsToServer first (h ∷ past) s
+    ticked : (h : JointEvent Device DeviceStep) × (h.event.ask ≡ Tick) × (h.event.said ≡ Served []) × LeadsToServer first (h ∷ past) s
     ticked = lead_by laws first past s s Tick (Served []) ages refl refl leads (holds_off s b t.dead t.off) (tt, tt) (tt, inr tt) (tt, λ id h i. false≢true h) tt
         answers
         tt

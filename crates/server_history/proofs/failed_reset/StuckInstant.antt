@@ -19,20 +19,20 @@ use Rattle.adapter.specs.Rules.{IsOn}
 use Rattle.adapter.specs.Steps.{Steps}
 use Rattle.refinement.specs.Links.{SameAdapter}
 use Rattle.block_machine.specs.Histories.{JointState, IsReachable}
-use Rattle.block_machine.specs.Left.{IsValidRow}
+use Rattle.block_machine.specs.Expected.{IsValidRow}
 use Rattle.block_machine.specs.Ports.{PortsWellFormed, Evidence, Ports}
 use Rattle.block_machine.specs.State.{Machine}
 use Rattle.driver_history.specs.Histories.{LosesNoPortError, IsPortAlive}
 use Rattle.refinement.specs.Acts.{DriverSlots}
-use Rattle.driver_history.specs.Holds.{PortStateInvariant, DriverInvariantWith, HasNoUnanswered}
+use Rattle.driver_history.specs.PortInvariants.{PortStateInvariant, DriverInvariantWith, HasNoUnanswered}
 use Rattle.dma_frames.specs.Loan.{Lending}
 use Rattle.dma_frames.specs.Table.{Table}
-use Rattle.host_boot.specs.Taken.{probe_result_of, wanted_of}
+use Rattle.host_boot.specs.TakeOver.{probe_result_of, wanted_of}
 use Rattle.host_boot.specs.declared.ProbeResult.{ProbeResult}
 use Rattle.host_boot.specs.declared.ProbeResult.TheVariants.{Ready, Unready, Unserved}
 use Rattle.request_queue.specs.Entries.{BookEntry, IsAccepted, BookIsInOrder}
 use Rattle.request_queue.specs.Machine.{EntryRelation}
-use Rattle.server_history.specs.Below.{LawsBelow}
+use Rattle.server_history.specs.Prerequisites.{PrerequisiteLaws}
 use Rattle.server_history.specs.ErrorHandling.{requests_of}
 use Rattle.server_history.specs.Server.{RevokedMarkInvariant, ServerState, MachineRelation, is_served, quarantined_at, ports_of, state_of, slot_state_of}
 use Rattle.server_history.specs.StuckServer.{AreDead, ServerInvariant}
@@ -136,7 +136,7 @@ LeavesPorts (Loading at bytes) = Unit {0}
 LeavesPorts (Storing at bytes) = Unit {0}
 LeavesPorts access = ⊥
 
-module _ (laws : LawsBelow) where
+module _ (laws : PrerequisiteLaws) where
   pub steps_idle : (old new : Device) → Steps old new → (port : ℕ) → IsIdlePort (old.port port) → IsIdlePort (new.port port)
   steps_idle old new steps port idle =
       let keeps = (laws.basic.keeps old new steps).port port in

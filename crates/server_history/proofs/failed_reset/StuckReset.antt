@@ -15,25 +15,25 @@ use Rattle.adapter.specs.declared.access.DeviceStep.{DeviceStep}
 use Rattle.refinement.specs.Driver.{IsBacked}
 use Rattle.server_history.proofs.state.FollowedAccesses.{followed_adds}
 use Rattle.block_machine.specs.Events.{AllByDevice, AllMay, Reset, WasReset}
-use Rattle.block_machine.specs.Histories.{Happening, JointState, IsReachable, now}
-use Rattle.block_machine.specs.Left.{after}
-use Rattle.block_machine.specs.Ports.{PortsWellFormed, Evidence, RequestFault, IsStuck, Ports, SameDisk}
+use Rattle.block_machine.specs.Histories.{JointEvent, JointState, IsReachable, now}
+use Rattle.block_machine.specs.Expected.{after}
+use Rattle.block_machine.specs.Ports.{PortsWellFormed, Evidence, RequestFault, IsAfterStuckReset, Ports, SameDisk}
 use Rattle.block_machine.specs.State.{Machine}
 use Rattle.block_machine.specs.Steps.{Step}
 use Rattle.driver_history.specs.Evidence.{IsEvidencedOf}
 use Rattle.driver_history.specs.Histories.{PortCorresponds}
 use Rattle.driver_history.specs.Trace.{LeavesEngine}
 use Rattle.host_boot.specs.Resets.{IsOfReset}
-use Rattle.host_boot.specs.Taken.{probe_result_of}
+use Rattle.host_boot.specs.TakeOver.{probe_result_of}
 use Rattle.host_boot.specs.declared.ProbeResult.{ProbeResult}
 use Rattle.host_boot.specs.declared.ProbeResult.TheVariants.{Ready, Unready, Unserved}
 use Rattle.identify.specs.declared.DiskInfo.{DiskInfo}
 use Rattle.std.specs.Prelude.{Option}
 use Rattle.request_queue.specs.Entries.{BookEntry}
-use Rattle.server_history.specs.Below.{LawsBelow}
+use Rattle.server_history.specs.Prerequisites.{PrerequisiteLaws}
 use Rattle.server_history.specs.Histories.{ExtendsStuck, LeadsToServer}
 use Rattle.server_history.specs.Server.{ServerState, MachineRelation, last_disk_in, last_disk_of, is_served, ports_of, remembered_at, last_sectors_of, last_serial_of, state_of, slot_state_of}
-use Rattle.server_history.specs.StuckServer.{AreDead, ResetGetsStuck, ServerInvariant, StuckInvariant, stuck_found}
+use Rattle.server_history.specs.StuckServer.{AreDead, ResetGetsStuck, ServerInvariant, StuckInvariant, found_after_stuck_reset}
 use Rattle.server_history.proofs.state.DeviceSteps.{devices_belong, devices_last, devices_lawful}
 use Rattle.server_history.proofs.state.HistorySteps.{happening_with, lead_with, machine_on, with_device}
 use Rattle.server_history.proofs.state.FirstMembers.{nowhere}
@@ -63,28 +63,28 @@ leaves_engine port (Storing at bytes) its = absurd its
 -- ---- ports that got stuck
 
 -- it is served as it was
-stuck_served : (f : ProbeResult) → is_served (stuck_found f) ≡ is_served f
+stuck_served : (f : ProbeResult) → is_served (found_after_stuck_reset f) ≡ is_served f
 stuck_served Unserved = refl
 stuck_served (Ready info) = refl
 stuck_served (Unready state) = refl
 
-stuck_dead : (f : ProbeResult) → is_served (stuck_found f) ≡ true → stuck_found f ≡ Unready Dead
+stuck_dead : (f : ProbeResult) → is_served (found_after_stuck_reset f) ≡ true → found_after_stuck_reset f ≡ Unready Dead
 stuck_dead Unserved its = absurd (false≢true its)
 stuck_dead (Ready info) its = refl
 stuck_dead (Unready state) its = refl
 
-stuck_unserved : (f : ProbeResult) → stuck_found f ≡ Unserved → f ≡ Unserved
+stuck_unserved : (f : ProbeResult) → found_after_stuck_reset f ≡ Unserved → f ≡ Unserved
 stuck_unserved Unserved is = refl
 stuck_unserved (Ready info) is = let z : Unready Dead ≡ Unserved = is in absurd cc
 stuck_unserved (Unready state) is = let z : Unready Dead ≡ Unserved = is in absurd cc
 
 -- of it nothing but the last disk is known
-stuck_disk : (f : ProbeResult) (last : Option DiskInfo) → last_disk_of (stuck_found f) last ≡ last
+stuck_disk : (f : ProbeResult) (last : Option DiskInfo) → last_disk_of (found_after_stuck_reset f) last ≡ last
 stuck_disk Unserved last = refl
 stuck_disk (Ready info) last = refl
 stuck_disk (Unready state) last = refl
 
-module _ (laws : LawsBelow) (s new : ServerState) (b : ServerInvariant s) (g : ResetGetsStuck s new) where
+module _ (laws : PrerequisiteLaws) (s new : ServerState) (b : ServerInvariant s) (g : ResetGetsStuck s new) where
   -- the server then
   abbrev n : ServerState
   n = record s { device = new.device; ports = new.ports; remembered = new.remembered; modes = new.modes; slots = new.slots }
@@ -124,7 +124,7 @@ module _ (laws : LawsBelow) (s new : ServerState) (b : ServerInvariant s) (g : R
     knows = is.knows;
     book = is.book;
     kept = record {
-      dead = λ e here. g.found e.request.port.0 ∙ ap stuck_found (is.kept.dead e here);
+      dead = λ e here. g.found e.request.port.0 ∙ ap found_after_stuck_reset (is.kept.dead e here);
       loan = is.kept.loan;
       whose = is.kept.whose;
       apart = is.kept.apart;
@@ -197,7 +197,7 @@ module _ (laws : LawsBelow) (s new : ServerState) (b : ServerInvariant s) (g : R
   stuck_named : (port : Port) → is_served (probe_result_of s.ports port.0) ≡ true → Contains (chosen its_served four) port
   stuck_named port its = is_chosen its_served four port (in_four port (b.few port.0 its)) its
 
-  module _ (first : JointState Device) (past : List (Happening Device DeviceStep)) (leads : LeadsToServer first past s) where
+  module _ (first : JointState Device) (past : List (JointEvent Device DeviceStep)) (leads : LeadsToServer first past s) where
     abbrev old : JointState Device
     old = now first past
 
@@ -219,7 +219,7 @@ module _ (laws : LawsBelow) (s new : ServerState) (b : ServerInvariant s) (g : R
     same_disk : (port : Port) → SameDisk old.abstract.ports (ports_of n) port
     same_disk port = subst (λ (p : Ports). SameDisk p (ports_of n) port) (sym ports_are) (ap last_serial_of (disk_same port), ap last_sectors_of (disk_same port))
 
-    gets_stuck : (port : Port) → IsStuck old.abstract.ports evidence (ports_of n) port
+    gets_stuck : (port : Port) → IsAfterStuckReset old.abstract.ports evidence (ports_of n) port
     unfolding evidence
     gets_stuck port = (
       served_same port.0 ∙ ap (λ (p : Ports). p.served port) (sym ports_are),
@@ -267,7 +267,7 @@ module _ (laws : LawsBelow) (s new : ServerState) (b : ServerInvariant s) (g : R
       heeds = tt;
     }
 
-    event : (h : Happening Device DeviceStep) × (h.event.ask ≡ Reset) × (h.event.said ≡ WasReset None) × LeadsToServer first (h ∷ past) n
+    event : (h : JointEvent Device DeviceStep) × (h.event.ask ≡ Reset) × (h.event.said ≡ WasReset None) × LeadsToServer first (h ∷ past) n
     event =
         let f = follows old.abstract.machine (laws.basic.history_reached s.wanted first past leads.history) leads.stands.machine in
         lead_with laws first past s n Reset (WasReset None) evidence f.steps refl leads (holds_off n stalled.booked dead off) (dead_fit n dead stalled.booked.few)

@@ -15,18 +15,18 @@ use Rattle.refinement.specs.Relation.{port_at}
 use Rattle.refinement.specs.Driven.{known}
 use Rattle.refinement.specs.Driver.{HasNoSlot, IsBacked, DriverState}
 use Rattle.block_machine.specs.Events.{AllMay, AnswersService, AbstractState, Served, Service}
-use Rattle.block_machine.specs.Histories.{IsReachable, Happening, JointState, now}
-use Rattle.block_machine.specs.Left.{after}
+use Rattle.block_machine.specs.Histories.{IsReachable, JointEvent, JointState, now}
+use Rattle.block_machine.specs.Expected.{after}
 use Rattle.block_machine.specs.State.{Machine, Pending}
 use Rattle.block_machine.specs.Steps.{Step, Again, Answer}
 use Rattle.dma_frames.specs.Loan.{Lending}
 use Rattle.dma_frames.specs.Table.{Table}
-use Rattle.host_boot.specs.Taken.{probe_result_of}
+use Rattle.host_boot.specs.TakeOver.{probe_result_of}
 use Rattle.host_boot.specs.declared.ProbeResult.{ProbeResult}
 use Rattle.host_boot.specs.declared.ProbeResult.TheVariants.{Ready, Unready, Unserved}
 use Rattle.identify.specs.declared.DiskInfo.{DiskInfo}
-use Rattle.request_queue.specs.Entries.{BookEntry, IsAccepted, is_of}
-use Rattle.request_queue.specs.Dispositions.{disposition_of, disposition_of_unfailed, Holdings, AreResolved}
+use Rattle.request_queue.specs.Entries.{BookEntry, IsAccepted, is_of_port}
+use Rattle.request_queue.specs.Dispositions.{disposition_of, disposition_of_unfailed, BookAndLoans, AreResolved}
 use Rattle.request_queue.specs.Machine.{EntryRelation}
 use Rattle.request_queue.specs.declared.PendingRequest.{PendingRequest}
 use Rattle.request_queue.specs.declared.disposition.Disposition.{Disposition}
@@ -44,10 +44,10 @@ use Rattle.adapter.specs.declared.access.DeviceStep.{DeviceStep}
 use Rattle.adapter.specs.Device.{Device}
 use Rattle.std.proofs.lemmas.List.{set_past}
 use Rattle.server_history.proofs.recovery_turn.ReplacedPort.{is_listed}
-use Rattle.server_history.specs.Below.{LawsBelow}
+use Rattle.server_history.specs.Prerequisites.{PrerequisiteLaws}
 use Rattle.server_history.specs.Dispositions.{IsResolveStep, AreResolvable, AreResolvedInMachine, keeps_frames_lent, loans_of}
-use Rattle.server_history.specs.ErrorHandling.{holdings_of, requests_of}
-use Rattle.server_history.specs.Resets.{IsResetRevalidation, MayResolve, ResolvePorts, ResolvesPort, with_holdings}
+use Rattle.server_history.specs.ErrorHandling.{book_and_loans_of, requests_of}
+use Rattle.server_history.specs.Resets.{IsResetRevalidation, MayResolve, ResolvePorts, ResolvesPort, with_book_and_loans}
 use Rattle.server_history.specs.Server.{QuarantineRelation, ServerState, MachineRelation, is_served, quarantined_at, ports_of, state_of, RevokedMarkInvariant}
 use Rattle.server_history.specs.StuckServer.{ServerInvariant, StuckInvariant}
 use Rattle.server_history.proofs.failed_reset.ServerBook.{kept_other, kept_same, left, may_settle, settles_on}
@@ -76,7 +76,7 @@ dead_prospect was found NoEnd x dead = refl
 other_prospect : (was : Option DiskInfo) (found : ProbeResult) (revalidation : Revalidation) → IsResetRevalidation was found revalidation → found ≢ Unready Dead → revalidation ≢ NoEnd
 other_prospect was found revalidation expects alive is = alive (subst (IsResetRevalidation was found) is expects)
 
-module _ (laws : LawsBelow) (s : ServerState) (t : StuckInvariant s) where
+module _ (laws : PrerequisiteLaws) (s : ServerState) (t : StuckInvariant s) where
   abbrev b : ServerInvariant s
   b = t.booked
 
@@ -123,7 +123,7 @@ module _ (laws : LawsBelow) (s : ServerState) (t : StuckInvariant s) where
     c = with_all table kept book
 
     abbrev new : ServerState
-    new = with_holdings (port_at n) one.now c
+    new = with_book_and_loans (port_at n) one.now c
 
     abbrev disposition : PendingRequest → Disposition
     disposition = disposition_of None one.revalidation
@@ -171,7 +171,7 @@ module _ (laws : LawsBelow) (s : ServerState) (t : StuckInvariant s) where
         subst (HasNoSlot p.stands.uses) x.2.id (laws.slots.waiting p.stands.uses w s.device w_reached p.stands.knows.agrees x.0 x.1 waits))
         (either s t.dead n)
 
-    may_meet : AreResolvable (port_at n) disposition requests (holdings_of (port_at n) c) k w
+    may_meet : AreResolvable (port_at n) disposition requests (book_and_loans_of (port_at n) c) k w
     may_meet = record {
       reached = w_reached;
       knows = p.stands.knows;
@@ -185,8 +185,8 @@ module _ (laws : LawsBelow) (s : ServerState) (t : StuckInvariant s) where
       unserved = unserved;
     }
 
-    met : AreResolvedInMachine (port_at n) disposition requests its (holdings_of (port_at n) c) one.now k w
-    met = meet laws (port_at n) disposition requests (fits_each None one.revalidation requests) its (holdings_of (port_at n) c) one.now k w may_meet one.meets
+    met : AreResolvedInMachine (port_at n) disposition requests its (book_and_loans_of (port_at n) c) one.now k w
+    met = meet laws (port_at n) disposition requests (fits_each None one.revalidation requests) its (book_and_loans_of (port_at n) c) one.now k w may_meet one.meets
 
     abbrev z : Machine
     z = after w met.steps
@@ -194,7 +194,7 @@ module _ (laws : LawsBelow) (s : ServerState) (t : StuckInvariant s) where
     -- who was parked of a port that isn't dead is decided on
     none_left : probe_result_of s.ports n ≢ Unready Dead → met.parked n ≡ []
     none_left alive =
-        none_parked (port_at n) disposition requests (fits_each None one.revalidation requests) its (holdings_of (port_at n) c) one.now k w met (quiet alive)
+        none_parked (port_at n) disposition requests (fits_each None one.revalidation requests) its (book_and_loans_of (port_at n) c) one.now k w met (quiet alive)
         (λ id here. absurd (nowhere id (subst (λ (ids : List RequestId). Contains ids id) (p.stands.unparked n alive) here)))
 
     -- ---- its steps
@@ -247,7 +247,7 @@ module _ (laws : LawsBelow) (s : ServerState) (t : StuckInvariant s) where
     leaves = deciding_leaves (port_at n) w met.steps met.own
 
     owners_then : one.now.table.owners ≡ table.owners
-    owners_then = fates_owners disposition requests its (holdings_of (port_at n) c) one.now one.meets
+    owners_then = fates_owners disposition requests its (book_and_loans_of (port_at n) c) one.now one.meets
 
     stands_then : MachineRelation new z
     stands_then = record {
@@ -281,7 +281,7 @@ module _ (laws : LawsBelow) (s : ServerState) (t : StuckInvariant s) where
         ⊎_elim
         (λ free. none_unserved free x.was x.there was_own)
         (λ dead.
-        l.gone x.was outcome.PortDead (in_filter (λ (y : BookEntry). is_of (port_at n) y.entry) book x.was x.there (eq-eqb x.was.entry.port.0 n was_own)) (ends_dead dead x.was.entry) e here x.id)
+        l.gone x.was outcome.PortDead (in_filter (λ (y : BookEntry). is_of_port (port_at n) y.entry) book x.was x.there (eq-eqb x.was.entry.port.0 n was_own)) (ends_dead dead x.was.entry) e here x.id)
         (either s t.dead n)
 
     emptied_then : (q : Port) → q.0 < n + 1 → (e : BookEntry) → Contains one.now.book e → e.entry.port ≢ q
@@ -320,8 +320,8 @@ module _ (laws : LawsBelow) (s : ServerState) (t : StuckInvariant s) where
         let same = ap (λ (q : Port). q.0) x.port in
         omega (arith, high, low, same, own)
 
-    meets_none : (its ≡ []) × (one.now ≡ holdings_of (port_at n) here)
-    meets_none = subst (λ (list : List BookEntry). AreResolved (disposition_of None one.revalidation) list its (holdings_of (port_at n) here) one.now)
+    meets_none : (its ≡ []) × (one.now ≡ book_and_loans_of (port_at n) here)
+    meets_none = subst (λ (list : List BookEntry). AreResolved (disposition_of None one.revalidation) list its (book_and_loans_of (port_at n) here) one.now)
         (nobody (requests_of (port_at n) book) (λ e there.
         let x = (its_requests (port_at n) here p.settle.ordered p.settle.accepted).here e there in
         none_beyond e x.0 (ap (λ (q : Port). q.0) x.1)))
@@ -329,7 +329,7 @@ module _ (laws : LawsBelow) (s : ServerState) (t : StuckInvariant s) where
 
     same_then : mid ≡ here
     same_then =
-        one.server ∙ ap (λ (now : Holdings). with_holdings (port_at n) now here) meets_none.1
+        one.server ∙ ap (λ (now : BookAndLoans). with_book_and_loans (port_at n) now here) meets_none.1
         ∙ ap (λ (list : List (List Lending)). with_all table list book) (set_past kept n (quarantined_at kept n) (let four = p.settle.four_kept in omega (arith, four, high)))
 
     beyond_ended : HaveEnded m (n + 1) mid (before ++ its)
@@ -418,7 +418,7 @@ module _ (laws : LawsBelow) (s : ServerState) (t : StuckInvariant s) where
 
     -- ---- the event
 
-    module _ (first : JointState Device) (past : List (Happening Device DeviceStep)) (leads : LeadsToServer first past s) where
+    module _ (first : JointState Device) (past : List (JointEvent Device DeviceStep)) (leads : LeadsToServer first past s) where
       abbrev old : AbstractState
       old = (now first past).abstract
 
@@ -482,7 +482,7 @@ module _ (laws : LawsBelow) (s : ServerState) (t : StuckInvariant s) where
           not_bad port its (inl foreign) = let y : Dead ≡ Foreign = sym (is_dead port its) ∙ foreign in cc
           not_bad port its (inr (cause, unfit)) = let y : Dead ≡ Unfit cause = sym (is_dead port its) ∙ unfit in cc
 
-      event : (h : Happening Device DeviceStep) × (h.event.ask ≡ Service) × (h.event.said ≡ Served replies) × LeadsToServer first (h ∷ past) n
+      event : (h : JointEvent Device DeviceStep) × (h.event.ask ≡ Service) × (h.event.said ≡ Served replies) × LeadsToServer first (h ∷ past) n
       event = lead_by laws first past s n Service (Served replies) x.steps refl refl leads (holds_off n stalled_then.booked t.dead t.off)
           x.may (answers_belong (IsDeath (ports_of s)) Service (ports_of s) (λ e o death. tt) x.steps x.deaths) (none_last x.steps (λ id. answers_issue_none (IsDeath (ports_of s)) id x.steps x.deaths))
           (answers_lawful (IsDeath (ports_of s)) old no_evidence (ports_of s) (death_lawful (ports_of s) old no_evidence) x.steps x.deaths)

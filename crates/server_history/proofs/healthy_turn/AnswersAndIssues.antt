@@ -12,28 +12,28 @@ use Rattle.block_machine.specs.Due.{IsDue, NoneDue, of_port}
 use Rattle.block_machine.specs.declared.due.QueueMode.{QueueMode}
 use Rattle.block_machine.specs.Events.{AllMay}
 use Rattle.block_machine.specs.Histories.{IsReachable}
-use Rattle.block_machine.specs.Left.{after}
+use Rattle.block_machine.specs.Expected.{after}
 use Rattle.block_machine.specs.State.{Machine, Pending}
 use Rattle.block_machine.specs.Steps.{Step, Answer}
 use Rattle.server_history.proofs.state.ListMembers.{into_map}
-use Rattle.host_boot.specs.Taken.{probe_result_of}
+use Rattle.host_boot.specs.TakeOver.{probe_result_of}
 use Rattle.host_boot.specs.declared.ProbeResult.{ProbeResult}
 use Rattle.request_queue.specs.Entries.{BookEntry, BookIsInOrder, asks, asks_of, due_ids}
-use Rattle.server_history.specs.Below.{LawsBelow}
+use Rattle.server_history.specs.Prerequisites.{PrerequisiteLaws}
 use Rattle.server_history.specs.Served.{AnswersDone, AnswersEach, AnswersOne, TurnAnswers, HasEnded, HasTurnWithoutError, SameSettings, ok_answers_of}
 use Rattle.server_history.specs.Server.{ServerState, InCallInvariant, MachineRelation, SettledInvariant, mode_in, no_slots, slots_at, state_of}
 use Rattle.server_history.proofs.healthy_turn.OneAnswer.{IsAnswer, answer_kept, answer_one}
 use Rattle.server_history.proofs.plain_calls.IssueRounds.{each_apart, each_settings, each_slots, settled}
 use Rattle.dma_frames.specs.Table.{Table}
-use Rattle.server_history.proofs.state.PortSlots.{AreOver}
+use Rattle.server_history.proofs.state.PortSlots.{CommandsAreOver}
 
 -- an answer leaves the requests of other ports
-answer_apart : LawsBelow → (port : Port) (e : BookEntry) (old new : ServerState) → BookIsInOrder old.book → AnswersOne port e old new → (other : Port) → other ≢ port → of_port other (asks_of new.book) ≡ of_port other (asks_of old.book)
+answer_apart : PrerequisiteLaws → (port : Port) (e : BookEntry) (old new : ServerState) → BookIsInOrder old.book → AnswersOne port e old new → (other : Port) → other ≢ port → of_port other (asks_of new.book) ≡ of_port other (asks_of old.book)
 answer_apart laws port e old new order one other ne =
     ap (of_port other) (ap (λ (n : ServerState). asks_of n.book) one.server ∙ laws.asks_answered old.book e.entry.id)
     ∙ laws.answered_apart other (asks_of old.book) (asks e.entry) (laws.asked old.book order) (into_map (λ (y : BookEntry). asks y.entry) old.book e one.here) (λ same. ne (sym same ∙ one.port_is))
 
-answer_order : LawsBelow → (port : Port) (e : BookEntry) (old new : ServerState) → BookIsInOrder old.book → AnswersOne port e old new → BookIsInOrder new.book
+answer_order : PrerequisiteLaws → (port : Port) (e : BookEntry) (old new : ServerState) → BookIsInOrder old.book → AnswersOne port e old new → BookIsInOrder new.book
 answer_order laws port e old new order one = subst (λ (n : ServerState). BookIsInOrder n.book) (sym one.server) (laws.fewer old.book e.entry.id order)
 
 -- These requests are answered by a machine's steps, after which the machine stands for the new server.
@@ -44,7 +44,7 @@ pub record AreAnswered (port : Port) (requests : List BookEntry) (old new : Serv
   pub backed : IsBacked old.device new.device m (ok_answers_of ended)
   pub stands : MachineRelation new (after m (ok_answers_of ended))
 
-module _ (laws : LawsBelow) (port : Port) (done : ℕ) where
+module _ (laws : PrerequisiteLaws) (port : Port) (done : ℕ) where
   pub answers_apart : (requests : List BookEntry) (old new : ServerState) → BookIsInOrder old.book → AnswersEach port done requests old new → (other : Port) → other ≢ port
       → of_port other (asks_of new.book) ≡ of_port other (asks_of old.book)
   answers_apart [] old new order none other ne = ap (λ (n : ServerState). of_port other (asks_of n.book)) none
@@ -68,18 +68,18 @@ module _ (laws : LawsBelow) (port : Port) (done : ℕ) where
       answers_slots requests mid new more other ne ∙ ap (λ (n : ServerState). slots_at n.slots other) one.server ∙ get_or-set_other old.slots port.0 other _ no_slots ne
 
   -- what is over and ready stays so
-  pub over_on : (e : BookEntry) (old mid : ServerState) → AnswersOne port e old mid → AreOver port done old.device → AreOver port done mid.device
-  over_on e old mid one over = subst (AreOver port done) (sym (ap (λ (n : ServerState). n.device) one.server)) over
+  pub over_on : (e : BookEntry) (old mid : ServerState) → AnswersOne port e old mid → CommandsAreOver port done old.device → CommandsAreOver port done mid.device
+  over_on e old mid one over = subst (CommandsAreOver port done) (sym (ap (λ (n : ServerState). n.device) one.server)) over
 
   pub ready_on : (e : BookEntry) (old mid : ServerState) → AnswersOne port e old mid → state_of (probe_result_of old.ports port.0) ≡ Ready → state_of (probe_result_of mid.ports port.0) ≡ Ready
   ready_on e old mid one ready = subst (λ (found : List ProbeResult). state_of (probe_result_of found port.0) ≡ Ready) (sym (ap (λ (n : ServerState). n.ports) one.server)) ready
 
-  pub answers_kept : (requests : List BookEntry) (old new : ServerState) → InCallInvariant old → state_of (probe_result_of old.ports port.0) ≡ Ready → AreOver port done old.device → AnswersEach port done requests old new → InCallInvariant new
+  pub answers_kept : (requests : List BookEntry) (old new : ServerState) → InCallInvariant old → state_of (probe_result_of old.ports port.0) ≡ Ready → CommandsAreOver port done old.device → AnswersEach port done requests old new → InCallInvariant new
   answers_kept [] old new k ready over none = subst InCallInvariant (sym none) k
   answers_kept (e ∷ requests) old new k ready over (mid, one, its, more) =
       answers_kept requests mid new (answer_kept laws old mid port e k ready one (over one.slot one.small its)) (ready_on e old mid one ready) (over_on e old mid one over) more
 
-  pub each_answered : (requests : List BookEntry) (old new : ServerState) → InCallInvariant old → state_of (probe_result_of old.ports port.0) ≡ Ready → AreOver port done old.device → AnswersEach port done requests old new
+  pub each_answered : (requests : List BookEntry) (old new : ServerState) → InCallInvariant old → state_of (probe_result_of old.ports port.0) ≡ Ready → CommandsAreOver port done old.device → AnswersEach port done requests old new
       → (m : Machine) → IsReachable m → MachineRelation old m → AreAnswered port requests old new m
   each_answered [] old new k ready over none m reached is = record {
     ended = [];
@@ -102,7 +102,7 @@ module _ (laws : LawsBelow) (port : Port) (done : ℕ) where
         stands = subst (MachineRelation new) (sym (laws.basic.joined m (ok_answers_of z.ended) first)) z.stands;
       }
 
-  pub answers_settle : (replies : List Reply) (s new : ServerState) → SettledInvariant s → state_of (probe_result_of s.ports port.0) ≡ Ready → AreOver port done s.device → AnswersDone port done replies s new → SettledInvariant new
+  pub answers_settle : (replies : List Reply) (s new : ServerState) → SettledInvariant s → state_of (probe_result_of s.ports port.0) ≡ Ready → CommandsAreOver port done s.device → AnswersDone port done replies s new → SettledInvariant new
   answers_settle replies s new t ready over a = settled laws port a.mid new (answers_kept a.requests s a.mid t.kept ready over a.each) none_other a.issued
     where
       none_other : (other : Port) → other ≢ port → NoneDue (mode_in a.mid other) (asks_of a.mid.book) other
@@ -114,7 +114,7 @@ module _ (laws : LawsBelow) (port : Port) (done : ℕ) where
 -- ---- a port's turn
 
 -- what a turn leaves of the server
-pub turn_settings : LawsBelow → (port : Port) (replies : List Reply) (old new : ServerState) (turn : HasTurnWithoutError port (slots_at old.slots port.0) replies old.device new.device) → TurnAnswers port replies old new turn
+pub turn_settings : PrerequisiteLaws → (port : Port) (replies : List Reply) (old new : ServerState) (turn : HasTurnWithoutError port (slots_at old.slots port.0) replies old.device new.device) → TurnAnswers port replies old new turn
     → SameSettings old new
 turn_settings laws port replies old new turn (inl (none, is)) = is ∙ ap (λ (n : ServerState). record old { device = n.device; table = n.table; slots = n.slots; book = n.book }) (sym is)
 turn_settings laws port replies old new turn (inr (some, a)) =
@@ -127,7 +127,7 @@ turn_settings laws port replies old new turn (inr (some, a)) =
     table_is = ap (λ (n : ServerState). n.table) (each_settings laws port (due_ids (mode_in a.mid port) port (asks_of a.mid.book)) a.mid new a.issued)
 
 -- and of the requests of another port
-pub turn_apart : LawsBelow → (port : Port) (replies : List Reply) (old new : ServerState) (turn : HasTurnWithoutError port (slots_at old.slots port.0) replies old.device new.device) → BookIsInOrder old.book
+pub turn_apart : PrerequisiteLaws → (port : Port) (replies : List Reply) (old new : ServerState) (turn : HasTurnWithoutError port (slots_at old.slots port.0) replies old.device new.device) → BookIsInOrder old.book
     → TurnAnswers port replies old new turn → (other : Port) → other ≢ port → of_port other (asks_of new.book) ≡ of_port other (asks_of old.book)
 turn_apart laws port replies old new turn order (inl (none, is)) other ne = ap (λ (n : ServerState). of_port other (asks_of n.book)) is
 turn_apart laws port replies old new turn order (inr (some, a)) other ne =
@@ -136,7 +136,7 @@ turn_apart laws port replies old new turn order (inr (some, a)) other ne =
     ∙ answers_apart laws port c.done a.requests (record old { device = c.read }) a.mid order a.each other ne
 
 -- and of the slots of another port
-pub turn_slots : LawsBelow → (port : Port) (replies : List Reply) (old new : ServerState) (turn : HasTurnWithoutError port (slots_at old.slots port.0) replies old.device new.device) → TurnAnswers port replies old new turn
+pub turn_slots : PrerequisiteLaws → (port : Port) (replies : List Reply) (old new : ServerState) (turn : HasTurnWithoutError port (slots_at old.slots port.0) replies old.device new.device) → TurnAnswers port replies old new turn
     → (other : ℕ) → other ≢ port.0 → slots_at new.slots other ≡ slots_at old.slots other
 turn_slots laws port replies old new turn (inl (none, is)) other ne = ap (λ (n : ServerState). slots_at n.slots other) is
 turn_slots laws port replies old new turn (inr (some, a)) other ne =

@@ -17,9 +17,9 @@ use Rattle.adapter.specs.declared.access.DeviceStep.{DeviceStep}
 use Rattle.adapter.specs.declared.command.Operation.TheVariants.{ReadLog}
 use Rattle.refinement.specs.Driven.{GainsNoMove}
 use Rattle.refinement.specs.Driver.{IsBacked}
-use Rattle.block_machine.specs.Events.{AllByDevice, AllLawful, AllMay, AreStepsOfCall, IsByDevice, IsLawful, IssuesLast, IsToldBefore, AbstractState, Served, Service, RepliesMatch, answers_of, issues_it}
+use Rattle.block_machine.specs.Events.{AllByDevice, AllAnswersLawful, AllMay, AreStepsOfCall, IsByDevice, IsLawfulAnswer, IssuesLast, IsToldBefore, AbstractState, Served, Service, RepliesMatch, answers_of, issues_it}
 use Rattle.block_machine.specs.Histories.{IsReachable}
-use Rattle.block_machine.specs.Left.{after}
+use Rattle.block_machine.specs.Expected.{after}
 use Rattle.block_machine.specs.Ports.{Evidence, IsServiced, Ports, SamePort}
 use Rattle.block_machine.specs.State.{Machine, Pending}
 use Rattle.block_machine.specs.Steps.{Step, Again, Answer, Issue}
@@ -27,11 +27,11 @@ use Rattle.block_machine.specs.declared.due.QueueMode.{QueueMode}
 use Rattle.driver_history.specs.Heeding.{OnlyFailedPortsRequeue}
 use Rattle.driver_history.specs.Evidence.{IsEvidencedOf}
 use Rattle.driver_history.specs.Histories.{IssuesDue}
-use Rattle.host_boot.specs.Taken.{probe_result_of}
+use Rattle.host_boot.specs.TakeOver.{probe_result_of}
 use Rattle.port_control.specs.declared.events.PortEvent.TheVariants.{NoEvent}
 use Rattle.request_queue.specs.Entries.{BookEntry, IsEarlier}
 use Rattle.slots.specs.declared.SlotUse.{SlotUse}
-use Rattle.server_history.specs.Below.{LawsBelow}
+use Rattle.server_history.specs.Prerequisites.{PrerequisiteLaws}
 use Rattle.server_history.specs.Served.{StepsAnswer, TurnAnswers, HasEnded, HasTurnWithoutError, IsAnsweredIn, AllByDeviceOrIssue, SameSettings, ok_answers_of}
 use Rattle.server_history.specs.Server.{ServerState, MachineRelation, SettledInvariant, mode_in, ports_of, remembered_at, slots_at, state_of, used_for}
 use Rattle.server_history.specs.Turns.{InService, ServesPort, IsOfTurn, LeavesOthers, SimulatesTurn, NamesOnly, joint_state_of, abstract_state_of}
@@ -89,7 +89,7 @@ device_own port (Again e) is = absurd is
 device_own port (Answer e o) is = absurd is
 device_own port step is = is
 
-device_lawful : (old : AbstractState) (evidence : Evidence) (ports : Ports) (step : Step) (base : List Step) → IsByDevice step → AllLawful old evidence ports base → AllLawful old evidence ports (step ∷ base)
+device_lawful : (old : AbstractState) (evidence : Evidence) (ports : Ports) (step : Step) (base : List Step) → IsByDevice step → AllAnswersLawful old evidence ports base → AllAnswersLawful old evidence ports (step ∷ base)
 device_lawful old evidence ports (Again e) base is l = absurd is
 device_lawful old evidence ports (Answer e o) base is l = absurd is
 device_lawful old evidence ports step base is l = l
@@ -150,7 +150,7 @@ told_ordered port (e ∷ requests) (p ∷ ended) each order =
 
 -- ---- the whole
 
-module _ (laws : LawsBelow) (port : Port) (replies : List Reply) (old new : ServerState) (t : SettledInvariant old) (ready : state_of (probe_result_of old.ports port.0) ≡ ReadyState)
+module _ (laws : PrerequisiteLaws) (port : Port) (replies : List Reply) (old new : ServerState) (t : SettledInvariant old) (ready : state_of (probe_result_of old.ports port.0) ≡ ReadyState)
     (turn : HasTurnWithoutError port (slots_at old.slots port.0) replies old.device new.device) (told : TurnAnswers port replies old new turn) where
   low : port.0 < 4
   low = (ready_found old port.0 t.kept ready).0
@@ -235,14 +235,14 @@ module _ (laws : LawsBelow) (port : Port) (replies : List Reply) (old new : Serv
     early_may = may_parts laws m (ok_answers_of b.ended) b.before (may_parts laws m b.later (ok_answers_of b.ended ++ b.before) (subst (AllMay m) b.steps_are x.may)).0
 
     -- who is answered was issued when the turn began, and has ended
-    ok_lawful : (e : Pending) → Contains b.ended e → IsLawful began its (ports_of new) e Ok
+    ok_lawful : (e : Pending) → Contains b.ended e → IsLawfulAnswer began its (ports_of new) e Ok
     ok_lawful e here =
         let y = ended_by e here in
         let l = laws.basic.found_before m.book (after m b.before).book e (laws.basic.spares m b.before b.first).book (ended_stood laws (after m b.before) b.ended early_may.1 e here) in
         (record { pending = l.0; here = l.1; id_is = ap (λ r. r.id) (sym l.2.request); issued = sym l.2.issued ∙ y.2.issued }, y.2.issued, y.2.touched, y.2.ended)
 
-    lawful : AllLawful began its (ports_of new) x.steps
-    lawful = all_steps (AllLawful began its (ports_of new)) tt (device_lawful began its (ports_of new)) (λ e base here rest. (rest, ok_lawful e here)) (λ e base its_port rest. rest)
+    lawful : AllAnswersLawful began its (ports_of new) x.steps
+    lawful = all_steps (AllAnswersLawful began its (ports_of new)) tt (device_lawful began its (ports_of new)) (λ e base here rest. (rest, ok_lawful e here)) (λ e base its_port rest. rest)
 
     grounded : OnlyFailedPortsRequeue its x.steps
     grounded = all_steps (OnlyFailedPortsRequeue its) tt (device_grounded its) (λ e base here rest. rest) (λ e base its_port rest. rest)

@@ -21,12 +21,12 @@ use Rattle.refinement.specs.Driven.{known}
 use Rattle.refinement.specs.Driver.{ForgetsAtMost, HasNoSlot, DriverState, parking}
 use Rattle.refinement.specs.Slots.{Free, Serves, SlotStates, put, IsDropped, IsEnded, IsOver, ServesRequest}
 use Rattle.dma_frames.specs.Table.{Table, lent_to, LendsOnly}
-use Rattle.host_boot.specs.Taken.{probe_result_of}
+use Rattle.host_boot.specs.TakeOver.{probe_result_of}
 use Rattle.request_queue.specs.Entries.{BookEntry, IsAccepted, without_entry}
 use Rattle.request_queue.specs.Machine.{BookRelation, EntryRelation}
 use Rattle.server_history.specs.Served.{AnswersOne, HasEnded}
-use Rattle.server_history.specs.Server.{ServerState, InCallInvariant, MachineRelation, mode_at, slots_at, state_of, usable_of, with_slot, used_for, RevokedMarkInvariant}
-use Rattle.server_history.specs.Below.{LawsBelow}
+use Rattle.server_history.specs.Server.{ServerState, InCallInvariant, MachineRelation, mode_at, slots_at, state_of, usable_slots_of, with_slot, used_for, RevokedMarkInvariant}
+use Rattle.server_history.specs.Prerequisites.{PrerequisiteLaws}
 use Rattle.server_history.proofs.state.HistorySteps.{kept_then}
 use Rattle.server_history.proofs.state.PlacedSlots.{freed_was, placed_four, placed_has, placed_uses}
 use Rattle.server_history.proofs.state.PortSlots.{IsServedBy, its_mode, used_low, used_or_not, ready_found, served_request, serves_used, stage_over, usable_ready}
@@ -34,7 +34,7 @@ use Rattle.server_history.proofs.state.PortSlots.{IsServedBy, its_mode, used_low
 -- ---- loans
 
 -- the frames of the request given back, in the machine and in the table
-pub given_back : LawsBelow → (m : Machine) (e : BookEntry) (x : Pending) (old new : Table) → IsReachable m → HoldsFrames m x → EntryRelation e x → ((f : Frame) → m.lent f ≡ lent_to old f)
+pub given_back : PrerequisiteLaws → (m : Machine) (e : BookEntry) (x : Pending) (old new : Table) → IsReachable m → HoldsFrames m x → EntryRelation e x → ((f : Frame) → m.lent f ≡ lent_to old f)
     → All (λ f. lent_to old f ≡ Some e.entry.id) e.frames → LendsOnly old new e.frames None → (f : Frame) → unlend x.request.id m.lent f ≡ lent_to new f
 given_back laws m e x old new reached lives entry same lent lends f = by (m.lent f) refl
   where
@@ -79,7 +79,7 @@ pub record IsAnswer (port : Port) (request : BookEntry) (old new : ServerState) 
   pub has : HasEnded port request done
   pub stands : MachineRelation new (after_step m (Answer done outcome.Ok))
 
-module _ (laws : LawsBelow) (s new : ServerState) (port : Port) (e : BookEntry) (k : InCallInvariant s) (ready : state_of (probe_result_of s.ports port.0) ≡ ReadyState)
+module _ (laws : PrerequisiteLaws) (s new : ServerState) (port : Port) (e : BookEntry) (k : InCallInvariant s) (ready : state_of (probe_result_of s.ports port.0) ≡ ReadyState)
     (one : AnswersOne port e s new) (over : IsOver (s.device.port port.0) one.slot) where
   abbrev id : RequestId
   id = e.entry.id
@@ -196,7 +196,7 @@ module _ (laws : LawsBelow) (s new : ServerState) (port : Port) (e : BookEntry) 
       (after_step k.machine (Answer a.done outcome.Ok)) (laws.basic.reached k.machine (Answer a.done outcome.Ok ∷ []) k.reached (tt, (a.here, tt)))
       (subst (λ (n : ServerState). MachineRelation n (after_step k.machine (Answer a.done outcome.Ok))) one.server a.stands))
     where
-      slot_low : slot < usable_of (probe_result_of s.ports port.0) (mode_at s.modes port.0)
+      slot_low : slot < usable_slots_of (probe_result_of s.ports port.0) (mode_at s.modes port.0)
       slot_low = used_low s port.0 slot one.used k low one.served
 
       in_list : port.0 < length s.slots
@@ -212,5 +212,5 @@ module _ (laws : LawsBelow) (s new : ServerState) (port : Port) (e : BookEntry) 
           (λ free. free)
           (used_or_not (used_for (with_slot s.slots port.0 slot None) q n))
 
-      few : usable_of (probe_result_of s.ports port.0) (mode_at s.modes port.0) ≤ 32
+      few : usable_slots_of (probe_result_of s.ports port.0) (mode_at s.modes port.0) ≤ 32
       few = let u = usable_ready s port.0 k ready in let f = (its_mode s port.0 k (ready_found s port.0 k ready).0).0.1 in omega (arith, u, f)

@@ -20,12 +20,12 @@ use Rattle.server_history.specs.Laws.AccessPurpose.{Finding, Looking, Serving}
 use Rattle.server_history.proofs.state.DrivenAccesses.{by_none}
 use Rattle.block_machine.specs.Events.{AllByDevice, AllMay, issues_it}
 use Rattle.block_machine.specs.Histories.{IsReachable}
-use Rattle.block_machine.specs.Left.{after}
+use Rattle.block_machine.specs.Expected.{after}
 use Rattle.block_machine.specs.State.{Machine, Pending}
 use Rattle.block_machine.specs.declared.due.QueueMode.{QueueMode}
 use Rattle.block_machine.specs.Steps.{Step, Answer}
 use Rattle.server_history.proofs.state.ListMembers.{contains_cases, contains_there, into_map, map_in}
-use Rattle.host_boot.specs.Taken.{probe_result_of}
+use Rattle.host_boot.specs.TakeOver.{probe_result_of}
 use Rattle.host_boot.specs.declared.ProbeResult.TheVariants.{Ready}
 use Rattle.driver_history.specs.Histories.{IssuesDue}
 use Rattle.identify.specs.declared.DiskInfo.{DiskInfo}
@@ -36,8 +36,8 @@ use Rattle.port_control.specs.declared.events.PortEvent.TheVariants.{NoEvent}
 use Rattle.request_queue.specs.Entries.{BookEntry, asks_of, due_ids}
 use Rattle.slots.specs.Uses.{PortSlots}
 use Rattle.slots.specs.declared.SlotUse.{SlotUse}
-use Rattle.server_history.specs.Below.{LawsBelow}
-use Rattle.commands.specs.Batches.{IsIssuingOn}
+use Rattle.server_history.specs.Prerequisites.{PrerequisiteLaws}
+use Rattle.commands.specs.Batches.{IsBatchAccess}
 use Rattle.server_history.specs.Served.{AnswersDone, AnswersEach, AnswersOne, IsEmptyMask, HasTurnWithoutError, IsMaskOf, AllByDeviceOrIssue, IsAnsweredIn, ok_answers_of, done_reply, is_used}
 use Rattle.server_history.specs.Turns.{ServesPort}
 use Rattle.server_history.specs.Server.{ServerState, InCallInvariant, MachineRelation, SettledInvariant, mode_in, slots_at, state_of, used_for, with_slot}
@@ -54,18 +54,18 @@ use Rattle.server_history.proofs.state.PlacedSlots.{placed_other, placed_same}
 use Rattle.server_history.proofs.state.TransferAccesses.{finding_serves}
 use Rattle.server_history.proofs.plain_calls.IssueRounds.{AreIssued, any_append, devices_issue_none, dues, dues_carried, each_driven, each_issued, each_silent, last_on, or_none}
 use Rattle.server_history.proofs.healthy_turn.AnswersAndIssues.{AreAnswered, answers_kept, answers_settings, each_answered, over_on, ready_on}
-use Rattle.server_history.proofs.state.PortSlots.{AreOver, ready_found, served_by, serves_used}
+use Rattle.server_history.proofs.state.PortSlots.{CommandsAreOver, ready_found, served_by, serves_used}
 use Rattle.server_history.proofs.state.FirstMembers.{nowhere, first_here}
 
 -- accesses of a look, and of finding a transfer done, serve ports
-pub looks_serve : LawsBelow → (port : Port) (old new : Device) → IsSimulated (IsLooking port) AnyUse old new → IsSimulated IsService AnyUse old new
+pub looks_serve : PrerequisiteLaws → (port : Port) (old new : Device) → IsSimulated (IsLooking port) AnyUse old new → IsSimulated IsService AnyUse old new
 looks_serve laws port old new followed = (laws.looking.fragments.wider (Looking port) Serving (λ uses. uses) (laws.looking.looking_service port) (λ uses any. any) old new followed).followed
 
-pub finds_serve : LawsBelow → (port : Port) (mask done : ℕ) (old new : Device) → ReadsDone port mask done old new → IsSimulated IsService AnyUse old new
+pub finds_serve : PrerequisiteLaws → (port : Port) (mask done : ℕ) (old new : Device) → ReadsDone port mask done old new → IsSimulated IsService AnyUse old new
 finds_serve laws port mask done old new finds = (laws.looking.fragments.wider (Finding port) Serving (λ uses. uses) (finding_serves port) (λ uses any. any) old new (laws.finding_followed port mask done old new finds)).followed
 
 -- one stretch, and then another
-serves_then : LawsBelow → (old mid new : Device) → IsSimulated IsService AnyUse old mid → IsSimulated IsService AnyUse mid new → IsSimulated IsService AnyUse old new
+serves_then : PrerequisiteLaws → (old mid new : Device) → IsSimulated IsService AnyUse old mid → IsSimulated IsService AnyUse mid new → IsSimulated IsService AnyUse old new
 serves_then laws old mid new a b = (laws.looking.fragments.both Serving Serving (λ uses. uses) (λ uses. uses) (λ access is. is) (λ uses any. any) old mid new a b).followed
 
 -- answers issue nothing
@@ -74,13 +74,13 @@ answers_issue_none id [] = refl
 answers_issue_none id (e ∷ ended) = any_append (issues_it id) (ok_answers_of ended) (Answer e Ok ∷ []) ∙ ap (λ (b : Bool). b || false) (answers_issue_none id ended)
 
 -- the steps of a stretch in which nobody is answered
-pub followed_steps : LawsBelow → (s : ServerState) (new : Device) → IsSimulated IsService AnyUse s.device new → (m : Machine) → IsReachable m → MachineRelation s m
+pub followed_steps : PrerequisiteLaws → (s : ServerState) (new : Device) → IsSimulated IsService AnyUse s.device new → (m : Machine) → IsReachable m → MachineRelation s m
     → (steps : List Step) × AllMay m steps × MachineRelation (record s { device = new }) (after m steps) × IsBacked s.device new m steps × AllByDevice steps
 followed_steps laws s new followed m reached is =
     let x = (followed_adds laws followed is.uses is.parked tt).adds m reached is.knows in
     (x.0, x.1, machine_on laws s new m x.0 is x.3.only x.2, x.3.backed, x.3.only)
 
-nobody_answered : LawsBelow → (s : ServerState) (new : Device) (port : Port) → SettledInvariant s → state_of (probe_result_of s.ports port.0) ≡ ReadyState → (turn : HasTurnWithoutError port (slots_at s.slots port.0) [] s.device new) → IsSimulated IsService AnyUse s.device new
+nobody_answered : PrerequisiteLaws → (s : ServerState) (new : Device) (port : Port) → SettledInvariant s → state_of (probe_result_of s.ports port.0) ≡ ReadyState → (turn : HasTurnWithoutError port (slots_at s.slots port.0) [] s.device new) → IsSimulated IsService AnyUse s.device new
     → ((q : ℕ) → state_of (probe_result_of s.ports q) ≢ Dead → GainsNoMove q ReadLog s.device new)
     → (turn.look ≡ NoEvent → (slot : ℕ) (used : SlotUse) → slot < 32 → used_for s.slots port.0 slot ≡ Some used → (s.device.port port.0).ci slot ≡ false → (s.device.port port.0).sact slot ≡ false → ⊥)
     → ServesPort port [] s (record s { device = new })
@@ -137,7 +137,7 @@ module _ (s : ServerState) (port : Port) (k : InCallInvariant s) (ready : state_
       by (inr (inr (inr d))) = record { issued = d.issued; free = d.free }
 
   -- and they are clear after a look
-  still_clear : LawsBelow → (seen : Device) → IsDrivenBy (IsLooking port) s.device seen → (used : SlotUse) → used_for s.slots port.0 slot ≡ Some used → (s.device.port port.0).ci slot ≡ false
+  still_clear : PrerequisiteLaws → (seen : Device) → IsDrivenBy (IsLooking port) s.device seen → (used : SlotUse) → used_for s.slots port.0 slot ≡ Some used → (s.device.port port.0).ci slot ≡ false
       → (s.device.port port.0).sact slot ≡ false → ((seen.port port.0).ci slot ≡ false) × ((seen.port port.0).sact slot ≡ false)
   still_clear laws seen driven used its ci sact = (
     (still_over laws port slot s.device seen driven (clear_over used its ci sact)).issued,
@@ -167,9 +167,9 @@ module _ (port : Port) (e : BookEntry) (old mid : ServerState) (one : AnswersOne
   now_free : used_for mid.slots port.0 one.slot ≡ None
   now_free = ap (λ (list : List PortSlots). used_for list port.0 one.slot) slots_are ∙ placed_same old.slots port.0 one.slot None in_list in_places
 
-module _ (laws : LawsBelow) (port : Port) (low : port.0 < 4) (done : ℕ) where
+module _ (laws : PrerequisiteLaws) (port : Port) (low : port.0 < 4) (done : ℕ) where
   -- each slot that was found done, and is free in the end, has its request among these
-  done_told : (requests : List BookEntry) (old new : ServerState) → InCallInvariant old → state_of (probe_result_of old.ports port.0) ≡ ReadyState → AreOver port done old.device → AnswersEach port done requests old new
+  done_told : (requests : List BookEntry) (old new : ServerState) → InCallInvariant old → state_of (probe_result_of old.ports port.0) ≡ ReadyState → CommandsAreOver port done old.device → AnswersEach port done requests old new
       → ((slot : ℕ) → slot < 32 → bit done slot ≡ true → used_for new.slots port.0 slot ≡ None) → (slot : ℕ) (used : SlotUse) → slot < 32 → bit done slot ≡ true → used_for old.slots port.0 slot ≡ Some used
       → (e : BookEntry) × Contains requests e × (e.entry.id ≡ used.id)
   done_told [] old new k ready over none free slot used small is its =
@@ -185,7 +185,7 @@ module _ (laws : LawsBelow) (port : Port) (low : port.0 < 4) (done : ℕ) where
       (cases_eq slot one.slot)
 
   -- and each of these has a slot that was found done
-  told_done : (requests : List BookEntry) (old new : ServerState) → InCallInvariant old → state_of (probe_result_of old.ports port.0) ≡ ReadyState → AreOver port done old.device → AnswersEach port done requests old new
+  told_done : (requests : List BookEntry) (old new : ServerState) → InCallInvariant old → state_of (probe_result_of old.ports port.0) ≡ ReadyState → CommandsAreOver port done old.device → AnswersEach port done requests old new
       → (e : BookEntry) → Contains requests e → (slot : ℕ) × (slot < 32) × (bit done slot ≡ true) × ((used : SlotUse) × (used_for old.slots port.0 slot ≡ Some used) × (used.id ≡ e.entry.id))
   told_done [] old new k ready over none e here = absurd (nowhere e here)
   told_done (first ∷ requests) old new k ready over (mid, one, clear, more) e here = ⊎_elim
@@ -208,12 +208,12 @@ module _ (s : ServerState) (seen : Device) (port : Port) (t : SettledInvariant s
   low = (ready_found s port.0 k ready).0
 
   -- a look brings no page of the log but on dead ports
-  seen_silent : LawsBelow → (q : ℕ) → state_of (probe_result_of s.ports q) ≢ Dead → GainsNoMove q ReadLog s.device seen
+  seen_silent : PrerequisiteLaws → (q : ℕ) → state_of (probe_result_of s.ports q) ≢ Dead → GainsNoMove q ReadLog s.device seen
   seen_silent laws q lives = looking_silent s seen port k laws looks q ReadLog refl (λ dead. lives (ap state_of dead))
 
   module _ (l : LooksAt port NoEvent s.device seen) where
     -- no slot is used
-    pub idle : LawsBelow → IsMaskOf (slots_at s.slots port.0) 0 → ServesPort port [] s (record s { device = seen })
+    pub idle : PrerequisiteLaws → IsMaskOf (slots_at s.slots port.0) 0 → ServesPort port [] s (record s { device = seen })
     idle laws its =
         nobody_answered laws s seen port t ready
         (record {
@@ -227,7 +227,7 @@ module _ (s : ServerState) (seen : Device) (port : Port) (t : SettledInvariant s
         (seen_silent laws)
         (λ calm slot used small is ci sact. false≢true (sym (bit_zero slot) ∙ its slot small ∙ ap is_used is))
 
-    module _ (laws : LawsBelow) (mask : ℕ) (its : IsMaskOf (slots_at s.slots port.0) mask) (some : IsEmptyMask mask → ⊥) where
+    module _ (laws : PrerequisiteLaws) (mask : ℕ) (its : IsMaskOf (slots_at s.slots port.0) mask) (some : IsEmptyMask mask → ⊥) where
       -- a used slot is asked for
       asked : (slot : ℕ) (used : SlotUse) → slot < 32 → used_for s.slots port.0 slot ≡ Some used → bit mask slot ≡ true
       asked slot used small is = its slot small ∙ ap is_used is
@@ -260,7 +260,7 @@ module _ (s : ServerState) (seen : Device) (port : Port) (t : SettledInvariant s
                 reads = reads;
                 exact = λ slot used small is. ((λ found. absurd (false≢true (sym (none slot small) ∙ found))), (λ w. absurd (nowhere w.0 w.1)));
                 running = λ _. (refl, refl);
-                over = by_none (IsIssuingOn port) new;
+                over = by_none (IsBatchAccess port) new;
               };
             };
           })
@@ -282,7 +282,7 @@ module _ (s : ServerState) (seen : Device) (port : Port) (t : SettledInvariant s
         found_kept : InCallInvariant from
         found_kept = finding_kept (record s { device = seen }) found port seen_kept ready laws mask done reads
 
-        over : AreOver port done found
+        over : CommandsAreOver port done found
         over = found_over (record s { device = seen }) found port seen_kept ready laws mask done reads its
 
         mid_kept : InCallInvariant a.mid
@@ -350,8 +350,8 @@ module _ (s : ServerState) (seen : Device) (port : Port) (t : SettledInvariant s
             z : AreIssued port ids a.mid new (after m base)
             z = each_issued laws port ids a.mid new mid_kept a.issued (after m base) (laws.basic.reached m base reached base_may) (subst (MachineRelation a.mid) (sym base_is) y.stands)
 
-        last_issues : IsDrivenBy (IsIssuingOn port) found new.device
-        last_issues = subst (λ (d : Device). IsDrivenBy (IsIssuingOn port) d new.device) mid_device (each_driven laws port ids a.mid new a.issued)
+        last_issues : IsDrivenBy (IsBatchAccess port) found new.device
+        last_issues = subst (λ (d : Device). IsDrivenBy (IsBatchAccess port) d new.device) mid_device (each_driven laws port ids a.mid new a.issued)
 
         -- a request is told exactly if its slot was found done
         told_of : (e : BookEntry) → Contains a.requests e → IsAnsweredIn e.entry.id replies

@@ -15,12 +15,12 @@ use Rattle.hba_regs.specs.declared.reg.Reg.TheVariants.{Px}
 use Rattle.hba_regs.specs.declared.reg.PortReg.TheVariants.{Ci, Sact}
 use Rattle.adapter.specs.Access.{Reads}
 use Rattle.adapter.specs.Device.{Device}
-use Rattle.refinement.specs.Driven.{Grows, IsDrivenBy}
+use Rattle.refinement.specs.Driven.{TapeGrows, IsDrivenBy}
 use Rattle.refinement.specs.Driver.{IsBacked}
 use Rattle.refinement.specs.Slots.{IsEmptySlot, RelatesSlot, Serves, ServesRequest, Stage, SlotState}
 use Rattle.block_machine.specs.Events.{AllMay, AnswersEnded, changes_disk}
 use Rattle.block_machine.specs.Histories.{IsReachable}
-use Rattle.block_machine.specs.Left.{after}
+use Rattle.block_machine.specs.Expected.{after}
 use Rattle.block_machine.specs.Ports.{Evidence, IsStoppedOrStuck, SamePort}
 use Rattle.block_machine.specs.State.{Pending, Machine}
 use Rattle.block_machine.specs.Steps.{Step, Answer}
@@ -30,11 +30,11 @@ use Rattle.driver_history.specs.Heeding.{ServesReady, tells_fault}
 use Rattle.driver_history.specs.Evidence.{ShowsFailure, ShowsLoss}
 use Rattle.driver_history.specs.Histories.{FindsDone, HasUnservedDisk, IsAnsweredOk, IsIssuedOn}
 use Rattle.driver_history.specs.Trace.{ReadsCiAndSact}
-use Rattle.host_boot.specs.Taken.{probe_result_of}
+use Rattle.host_boot.specs.TakeOver.{probe_result_of}
 use Rattle.port_control.specs.Looks.{IsLooking}
 use Rattle.port_control.specs.declared.events.PortEvent.TheVariants.{LinkChanged, NoEvent}
 use Rattle.slots.specs.declared.SlotUse.{SlotUse}
-use Rattle.server_history.specs.Below.{LawsBelow}
+use Rattle.server_history.specs.Prerequisites.{PrerequisiteLaws}
 use Rattle.server_history.specs.Served.{StepsAnswer, PollsSlots, HasEnded, HasTurnWithoutError, IsAnsweredIn, IsMaskOf, ok_answers_of, done_reply, is_used}
 use Rattle.server_history.proofs.any_turn.TurnSteps.{counts_none}
 use Rattle.server_history.proofs.any_turn.UnusedSlotBits.{unused_clear}
@@ -63,7 +63,7 @@ tells_none q (step ∷ steps) told = tells_none q steps (λ x o here. told x o (
 
 -- ---- a turn
 
-module _ (laws : LawsBelow) (port : Port) (replies : List Reply) (old new : ServerState) (t : SettledInvariant old) (ready : state_of (probe_result_of old.ports port.0) ≡ ReadyState)
+module _ (laws : PrerequisiteLaws) (port : Port) (replies : List Reply) (old new : ServerState) (t : SettledInvariant old) (ready : state_of (probe_result_of old.ports port.0) ≡ ReadyState)
     (turn : HasTurnWithoutError port (slots_at old.slots port.0) replies old.device new.device) (list : TurnList port (slots_at old.slots port.0) replies old.device new.device turn)
     (same : SamePort (ports_of old) (ports_of new) port) (m : Machine) (reached : IsReachable m) (at : MachineRelation old m) (steps : List Step) (may : AllMay m steps)
     (b : StepsAnswer (mode_in old port) port replies steps)
@@ -257,7 +257,7 @@ module _ (laws : LawsBelow) (port : Port) (replies : List Reply) (old new : Serv
   not_lost : turn.look ≢ LinkChanged
   not_lost lost = let z : NoEvent ≡ LinkChanged = sym turn.quiet ∙ lost in cc
 
-  later : Grows turn.seen new.device
+  later : TapeGrows turn.seen new.device
   later = let over = later_driven laws port (slots_at old.slots port.0) replies (joint_state_of old m) new.device turn kept.on turn.quiet in grows_over laws over.accesses turn.seen new.device over.all
 
   -- nor was a loss

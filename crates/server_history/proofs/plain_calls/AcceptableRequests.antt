@@ -29,14 +29,14 @@ use Rattle.block_machine.specs.State.{Machine, block_of}
 use Rattle.block_machine.specs.Steps as steps
 use Rattle.block_machine.specs.Steps.{HoldsFrames, MayAccept, Step, newly_accepted}
 use Rattle.dma_frames.specs.Table.{Table, owner_of, lent_to, LendsOnly}
-use Rattle.host_boot.specs.Taken.{probe_result_of}
-use Rattle.request_queue.specs.Entries.{IsAccepted, unanswered_entries}
+use Rattle.host_boot.specs.TakeOver.{probe_result_of}
+use Rattle.request_queue.specs.Entries.{IsAccepted, entry_count_of_client}
 use Rattle.request_queue.specs.Machine.{EntryRelation}
 use Rattle.server_history.specs.Served.{accepted_as}
-use Rattle.block_machine.specs.Left.{IsValidRow, after}
+use Rattle.block_machine.specs.Expected.{IsValidRow, after}
 use Rattle.server_history.specs.Server.{ServerState, InCallInvariant, MachineRelation, ports_of, admission_context, state_of}
 use Rattle.server_history.specs.Basics.{FrameHolderLaws}
-use Rattle.server_history.specs.Below.{LawsBelow}
+use Rattle.server_history.specs.Prerequisites.{PrerequisiteLaws}
 use Rattle.server_history.proofs.plain_calls.RefusalsAndBytes.{situation_is}
 
 -- ---- what isn't refused holds
@@ -88,8 +88,8 @@ module _ (s : ServerState) (r : Request) (acc : IsAcceptable (admission_context 
       ap (λ (p : Port). state_of (probe_result_of s.ports p.0)) (sym port_is) ∙ at
 
   -- its client has room
-  pub has_room : unanswered_entries s.book r.client.0 < 16
-  has_room = ⊎_elim (λ (low : unanswered_entries s.book r.client.0 < 16). low) (λ high. absurd (acc ClientFull high)) (cases_lt (unanswered_entries s.book r.client.0) 16)
+  pub has_room : entry_count_of_client s.book r.client.0 < 16
+  has_room = ⊎_elim (λ (low : entry_count_of_client s.book r.client.0 < 16). low) (λ high. absurd (acc ClientFull high)) (cases_lt (entry_count_of_client s.book r.client.0) 16)
 
   -- none of its frames is lent
   pub unlent : All (λ f. lent_to s.table f ≡ None) r.frames.items
@@ -110,7 +110,7 @@ module _ (s : ServerState) (r : Request) (acc : IsAcceptable (admission_context 
     pub entry_in : (m : Machine) → EntryRelation (accepted_as port r id) (newly_accepted (request_in m))
     entry_in m = record { id = refl; client = refl; grant = refl; port = refl; op = refl; range = refl; frames = refl; issued = refl; issues = refl; age = refl }
 
-    module _ (laws : LawsBelow) (m : Machine) (reached : IsReachable m) (is : MachineRelation s m) where
+    module _ (laws : PrerequisiteLaws) (m : Machine) (reached : IsReachable m) (is : MachineRelation s m) where
       abbrev at : JointState Device
       at = record { device = s.device; abstract = record { machine = m; ports = ports_of s } }
 
@@ -131,7 +131,7 @@ module _ (s : ServerState) (r : Request) (acc : IsAcceptable (admission_context 
 
     -- ---- it is as the book has it
 
-    module _ (laws : LawsBelow) (k : InCallInvariant s) where
+    module _ (laws : PrerequisiteLaws) (k : InCallInvariant s) where
       granted : IsGranted k.machine.rows (request_in k.machine)
       granted = laws.living.granted k.machine (request_in k.machine) (is_new laws k.machine k.reached k.stands)
 

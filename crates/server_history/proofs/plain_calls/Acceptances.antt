@@ -16,8 +16,8 @@ use Rattle.adapter.specs.declared.access.DeviceStep.{DeviceStep}
 use Rattle.block_machine.specs.Due.{NoneDue, is_plain, of_port}
 use Rattle.block_machine.specs.Events as events
 use Rattle.block_machine.specs.Events.{Submit, Submitted, NoneDueWhereReady, issues_it}
-use Rattle.block_machine.specs.Histories.{JointState, Happening, IsReachable, now}
-use Rattle.block_machine.specs.Left.{after}
+use Rattle.block_machine.specs.Histories.{JointState, JointEvent, IsReachable, now}
+use Rattle.block_machine.specs.Expected.{after}
 use Rattle.block_machine.specs.Ports.{SamePorts}
 use Rattle.block_machine.specs.Refusals.{Situation, IsAcceptable}
 use Rattle.block_machine.specs.Rules.{IsNamed}
@@ -28,7 +28,7 @@ use Rattle.block_machine.specs.declared.due.Unanswered.{Unanswered}
 use Rattle.server_history.proofs.state.ListMembers.{append_in, contains_there, some_in}
 use Rattle.refinement.specs.Driven.{IsDrivenBy, known}
 use Rattle.dma_frames.specs.Table.{Table, lent_to, LendsOnly}
-use Rattle.host_boot.specs.Taken.{probe_result_of}
+use Rattle.host_boot.specs.TakeOver.{probe_result_of}
 use Rattle.host_boot.specs.declared.ProbeResult.{ProbeResult}
 use Rattle.request_queue.specs.Entries.{BookEntry, IsAccepted, IsEarlier, asks, asks_of, due_ids}
 use Rattle.driver_history.specs.Histories.{IssuesDue, IsIssuingAccess}
@@ -39,10 +39,10 @@ use Rattle.hba_regs.specs.declared.reg.PortReg.TheVariants.{Ci, Sact}
 use Rattle.hba_regs.specs.declared.reg.PortReg.TheVariants as register
 use Rattle.adapter.specs.Access.{Access}
 use Rattle.adapter.specs.Access.Access.{Loading, Reading, Storing, Writing}
-use Rattle.server_history.specs.Below.{LawsBelow}
+use Rattle.server_history.specs.Prerequisites.{PrerequisiteLaws}
 use Rattle.server_history.specs.Histories.{ExtendsSettled, LeadsToServer}
-use Rattle.commands.specs.Batches.{IsIssuingOn}
-use Rattle.server_history.specs.Served.{Accepts, IssuesAll, accepted_as, accepting}
+use Rattle.commands.specs.Batches.{IsBatchAccess}
+use Rattle.server_history.specs.Served.{Accepts, IssuesAll, accepted_as, with_accepted}
 use Rattle.server_history.specs.Server.{ServerState, InCallInvariant, MachineRelation, SettledInvariant, mode_in, ports_of, admission_context, state_of, used_for, RevokedMarkInvariant}
 use Rattle.slots.specs.declared.SlotUse.{SlotUse}
 use Rattle.block_machine.specs.declared.due.QueueMode.{QueueMode}
@@ -59,14 +59,14 @@ use Rattle.server_history.proofs.state.FirstMembers.{first_here}
 -- ---- what issuing writes
 
 -- neither GHC, nor a bit that tells of trouble
-pub issuing_spares_host : (port : Port) (access : Access) → IsIssuingOn port access → DoesNotWrite Ghc access
+pub issuing_spares_host : (port : Port) (access : Access) → IsBatchAccess port access → DoesNotWrite Ghc access
 issuing_spares_host port (Writing r v) here =
     λ q. ⊎_elim (λ (is : r ≡ Px port Sact). let z : Px port Sact ≡ Ghc = sym is ∙ q in absurd cc) (λ (is : r ≡ Px port Ci). let z : Px port Ci ≡ Ghc = sym is ∙ q in absurd cc) here
 issuing_spares_host port (Storing at bytes) here = tt
 issuing_spares_host port (Loading at bytes) here = absurd here
 issuing_spares_host port (Reading r v) here = absurd here
 
-pub issuing_clears_none : (port other : Port) (access : Access) → IsIssuingOn port access → ClearsNoError other access
+pub issuing_clears_none : (port other : Port) (access : Access) → IsBatchAccess port access → ClearsNoError other access
 issuing_clears_none port other (Writing r v) here = record {
   is = λ q. absurd (⊎_elim (λ (is : r ≡ Px port Sact). let z : Px port Sact ≡ Px other register.Is = sym is ∙ q in absurd cc) (λ (is : r ≡ Px port Ci). let z : Px port Ci ≡ Px other register.Is = sym is ∙ q in absurd cc) here);
   serr = λ q. absurd (⊎_elim (λ (is : r ≡ Px port Sact). let z : Px port Sact ≡ Px other register.Serr = sym is ∙ q in absurd cc) (λ (is : r ≡ Px port Ci). let z : Px port Ci ≡ Px other register.Serr = sym is ∙ q in absurd cc) here);
@@ -108,13 +108,13 @@ own_longer q [] e other = cond-false (e.entry.port.0 == q.0) (asks e.entry ∷ [
 own_longer q (x ∷ book) e other =
     ap (λ (us : List Unanswered). cond (x.entry.port.0 == q.0) (asks x.entry ∷ us) us) (own_longer q book e other)
 
-module _ (laws : LawsBelow) (s : ServerState) (k : InCallInvariant s) (r : Request) (acc : IsAcceptable (admission_context s) r) (row : GrantRow) (named : IsNamed s.grants r row) (port : Port) (port_is : row.port ≡ port)
+module _ (laws : PrerequisiteLaws) (s : ServerState) (k : InCallInvariant s) (r : Request) (acc : IsAcceptable (admission_context s) r) (row : GrantRow) (named : IsNamed s.grants r row) (port : Port) (port_is : row.port ≡ port)
     (id : RequestId) (id_is : id.0 ≡ s.last + 1) (table : Table) (lends : LendsOnly s.table table r.frames.items (Some id)) where
   abbrev e : BookEntry
   e = accepted_as port r id
 
   abbrev more : ServerState
-  more = accepting port r id table s
+  more = with_accepted port r id table s
 
   ready : state_of (probe_result_of s.ports port.0) ≡ ReadyState
   ready = on_ready s r acc row named port port_is
@@ -198,14 +198,14 @@ module _ (laws : LawsBelow) (s : ServerState) (k : InCallInvariant s) (r : Reque
     same : new ≡ record more { device = new.device; slots = new.slots; book = new.book }
     same = each_settings laws port ids more new issues
 
-    driven : IsDrivenBy (IsIssuingOn port) s.device new.device
+    driven : IsDrivenBy (IsBatchAccess port) s.device new.device
     driven = each_driven laws port ids more new issues
 
     port_low : port.0 < 4
     port_low = (ready_found s port.0 k ready).0
 
-    pub event : (first : JointState Device) (past : List (Happening Device DeviceStep)) → LeadsToServer first past s
-        → (h : Happening Device DeviceStep) × (h.event.ask ≡ Submit r) × (h.event.said ≡ Submitted (Ok id)) × LeadsToServer first (h ∷ past) new
+    pub event : (first : JointState Device) (past : List (JointEvent Device DeviceStep)) → LeadsToServer first past s
+        → (h : JointEvent Device DeviceStep) × (h.event.ask ≡ Submit r) × (h.event.said ≡ Submitted (Ok id)) × LeadsToServer first (h ∷ past) new
     event first past leads =
         lead_by laws first past s new (Submit r) (Submitted (Ok id)) (x.steps ++ early) (ap (λ (n : ServerState). n.wanted) same) (ap ports_of same) leads (holding new settles.kept)
         (laws.basic.may m x.steps early (tt, fresh m was is) x.may)
@@ -215,10 +215,10 @@ module _ (laws : LawsBelow) (s : ServerState) (k : InCallInvariant s) (r : Reque
         (allowed, (asked, accepts_on mode port x.steps early x.only, refl), same_ports_are, all_issued)
         tt
         driven.accesses
-        (driven.all, (row, its_row, All-weaker (IsIssuingOn port) (IsIssuingAccess row.port) (λ access here. subst (λ (p : Port). IsIssuingAccess p access) (sym port_is) (issuing_is port port_low access here)) driven.accesses driven.only))
-        (λ other. All-weaker (IsIssuingOn port) (LeavesEngine other) (issuing_leaves laws port other) driven.accesses driven.only)
+        (driven.all, (row, its_row, All-weaker (IsBatchAccess port) (IsIssuingAccess row.port) (λ access here. subst (λ (p : Port). IsIssuingAccess p access) (sym port_is) (issuing_is port port_low access here)) driven.accesses driven.only))
+        (λ other. All-weaker (IsBatchAccess port) (LeavesEngine other) (issuing_leaves laws port other) driven.accesses driven.only)
         (λ other is_ready. due_now other)
-        (λ other. record { finds = tt; faults = tt; probes = tt; boots = tt; port_error = laws.calls.ordinary other (with_device s.device old) new.device driven.accesses (told_by s.device old.abstract.ports) (ports_of new) k.on driven.all (All-weaker (IsIssuingOn port) (DoesNotWrite Ghc) (issuing_spares_host port) driven.accesses driven.only) (All-weaker (IsIssuingOn port) (ClearsNoError other) (issuing_clears_none port other) driven.accesses driven.only); well = λ i. absurd (uninterrupted s.device old.abstract.ports other i); heeds = uninterrupted s.device old.abstract.ports other })
+        (λ other. record { finds = tt; faults = tt; probes = tt; boots = tt; port_error = laws.calls.ordinary other (with_device s.device old) new.device driven.accesses (told_by s.device old.abstract.ports) (ports_of new) k.on driven.all (All-weaker (IsBatchAccess port) (DoesNotWrite Ghc) (issuing_spares_host port) driven.accesses driven.only) (All-weaker (IsBatchAccess port) (ClearsNoError other) (issuing_clears_none port other) driven.accesses driven.only); well = λ i. absurd (uninterrupted s.device old.abstract.ports other i); heeds = uninterrupted s.device old.abstract.ports other })
         (laws.backed_parts s.device s.device new.device m early x.steps (laws.backed_own s.device m (Accept asked) (λ no. no)) x.backed)
         stands
       where
@@ -281,7 +281,7 @@ module _ (laws : LawsBelow) (s : ServerState) (k : InCallInvariant s) (r : Reque
             (λ u here own. sym (any_append (issues_it u.id) x.steps early ∙ or_none (list_any (issues_it u.id) x.steps)))
             (dues laws port more new accept_kept issues (next m was is) x other (none_other other))))
 
-pub acceptance : LawsBelow → (s new : ServerState) (port : Port) (r : Request) (id : RequestId) → SettledInvariant s → IsAcceptable (admission_context s) r → Accepts port r id s new → ExtendsSettled s new (Submit r) (Submitted (Ok id))
+pub acceptance : PrerequisiteLaws → (s new : ServerState) (port : Port) (r : Request) (id : RequestId) → SettledInvariant s → IsAcceptable (admission_context s) r → Accepts port r id s new → ExtendsSettled s new (Submit r) (Submitted (Ok id))
 acceptance laws s new port r id k acc a = record {
   settled = settles laws s k.kept r acc a.row a.named port a.port_is id a.id_is a.table a.lent k.issued new a.issued;
   adds = event laws s k.kept r acc a.row a.named port a.port_is id a.id_is a.table a.lent k.issued new a.issued;

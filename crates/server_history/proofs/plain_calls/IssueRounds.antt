@@ -13,9 +13,9 @@ use Rattle.refinement.specs.Slots.{op_of}
 use Rattle.refinement.specs.Driver.{IsBacked}
 use Rattle.server_history.proofs.state.DrivenAccesses.{by_none}
 use Rattle.block_machine.specs.Due.{AreAllDueInOrder, IsDue, NoneDue, due_of, mark_issued, of_port, with_issued}
-use Rattle.block_machine.specs.Events.{AbstractCall, AbstractState, AllByDevice, AllLawful, AllMay, AreStepsOfCall, IsIssuedIn, IsByServer, IssuesLast, accepts_of, handles, issues_it}
+use Rattle.block_machine.specs.Events.{AbstractCall, AbstractState, AllByDevice, AllAnswersLawful, AllMay, AreStepsOfCall, IsIssuedIn, IsByServer, IssuesLast, accepts_of, handles, issues_it}
 use Rattle.block_machine.specs.Histories.{IsReachable}
-use Rattle.block_machine.specs.Left.{after}
+use Rattle.block_machine.specs.Expected.{after}
 use Rattle.block_machine.specs.Ports.{Ports, Evidence}
 use Rattle.block_machine.specs.State.{Machine, Pending, unanswered}
 use Rattle.block_machine.specs.Steps.{Step, Accept, Again, Answer, Issue}
@@ -23,17 +23,17 @@ use Rattle.block_machine.specs.declared.due.QueueMode.{QueueMode}
 use Rattle.block_machine.specs.declared.due.Unanswered.{Unanswered}
 use Rattle.server_history.proofs.state.ListMembers.{contains_cases, contains_here, contains_there, into_map, map_in}
 use Rattle.driver_history.specs.Histories.{IssuesDue, with_issue_undone}
-use Rattle.commands.specs.Batches.{IsIssuingOn, SlotTask, issues_of}
+use Rattle.commands.specs.Batches.{IsBatchAccess, PlacedTask, issues_of}
 use Rattle.request_queue.specs.Entries.{BookEntry, BookIsInOrder, IsWaiting, asks, asks_of, due_ids}
-use Rattle.server_history.specs.Below.{LawsBelow}
-use Rattle.server_history.specs.Served.{AllByDeviceOrIssue, IssuesAll, IssuesBatchOf, PutsInSlot, PutsInSlots}
+use Rattle.server_history.specs.Prerequisites.{PrerequisiteLaws}
+use Rattle.server_history.specs.Served.{AllByDeviceOrIssue, IssuesAll, IssuesTogetherIfAny, PutsInSlot, PutsInSlots}
 use Rattle.server_history.specs.Server.{ServerState, InCallInvariant, MachineRelation, SettledInvariant, mode_at, mode_in, no_slots, slots_at}
 use Rattle.server_history.proofs.state.DueRequests.{same_book}
 use Rattle.server_history.proofs.state.DeviceSteps.{devices_last, not_handled}
 use Rattle.server_history.proofs.plain_calls.IssuedTogether.{AreIssuedTogether, HaveIds, issued_together, together_kept, together_silent}
 use Rattle.server_history.proofs.plain_calls.RequestsInSlots.{BookAndSlotsInvariant, book_and_slots, never_again, put_keeps, puts_settings}
 use Rattle.server_history.proofs.state.SilentOperations.{silent_none}
-use Rattle.host_boot.specs.Taken.{probe_result_of}
+use Rattle.host_boot.specs.TakeOver.{probe_result_of}
 use Rattle.host_boot.specs.declared.ProbeResult.TheVariants.{Unready}
 use Rattle.server_history.proofs.state.FirstMembers.{nowhere, first_here}
 
@@ -104,7 +104,7 @@ module _ (mode : QueueMode) (port : Port) where
       issues (Issue its e) only id h = h
       issues step only id h = absurd (not_handled id step only.0 h)
 
-  pub lawful_on : (old : AbstractState) (evidence : Evidence) (ports : Ports) (late early : List Step) → AllByDeviceOrIssue mode port late → AllLawful old evidence ports early → AllLawful old evidence ports (late ++ early)
+  pub lawful_on : (old : AbstractState) (evidence : Evidence) (ports : Ports) (late early : List Step) → AllByDeviceOrIssue mode port late → AllAnswersLawful old evidence ports early → AllAnswersLawful old evidence ports (late ++ early)
   lawful_on old evidence ports [] early only l = l
   lawful_on old evidence ports (Issue its e ∷ late) early only l = lawful_on old evidence ports late early only.2 l
   lawful_on old evidence ports (Again e ∷ late) early only l = absurd only.0
@@ -135,16 +135,16 @@ same_id a b same = ap (λ (n : ℕ). record { 0 = n }) same
 
 -- The requests were put in slots, one after another, and the device went on.
 pub record ArePutInSlots (port : Port) (ids : List RequestId) (old new : ServerState) : Type 0 where
-  pub tasks : List SlotTask
+  pub tasks : List PlacedTask
   pub taken : ServerState
   pub puts : PutsInSlots port ids tasks old taken
   pub server : new ≡ record taken { device = new.device }
 
-pub are_put : (port : Port) (ids : List RequestId) (old new : ServerState) → IssuesBatchOf port ids old new → ArePutInSlots port ids old new
+pub are_put : (port : Port) (ids : List RequestId) (old new : ServerState) → IssuesTogetherIfAny port ids old new → ArePutInSlots port ids old new
 are_put port [] old new none = record { tasks = []; taken = old; puts = refl; server = none ∙ ap (λ (n : ServerState). record old { device = n.device }) (sym none) }
 are_put port (id ∷ ids) old new issues = record { tasks = issues.tasks; taken = issues.taken; puts = issues.puts; server = issues.server }
 
-module _ (laws : LawsBelow) (port : Port) where
+module _ (laws : PrerequisiteLaws) (port : Port) where
   -- ---- the issues of requests
 
   issues_only : (mode : QueueMode) (ids : List RequestId) (requests : List Pending) → HaveIds port ids requests → AllByDeviceOrIssue mode port (issues_of mode requests)
@@ -172,7 +172,7 @@ module _ (laws : LawsBelow) (port : Port) where
       (contains_cases first ids id there)
 
   -- none is issued twice
-  issues_last : (mode : QueueMode) (ids : List RequestId) (tasks : List SlotTask) (s new : ServerState) → BookAndSlotsInvariant s → PutsInSlots port ids tasks s new → (requests : List Pending) → HaveIds port ids requests → IssuesLast (issues_of mode requests)
+  issues_last : (mode : QueueMode) (ids : List RequestId) (tasks : List PlacedTask) (s new : ServerState) → BookAndSlotsInvariant s → PutsInSlots port ids tasks s new → (requests : List Pending) → HaveIds port ids requests → IssuesLast (issues_of mode requests)
   issues_last mode [] [] s new k none [] are = tt
   issues_last mode [] [] s new k none (e ∷ requests) are = absurd are
   issues_last mode (first ∷ ids) (t ∷ tasks) s new k (mid, one, more) [] are = absurd are
@@ -186,7 +186,7 @@ module _ (laws : LawsBelow) (port : Port) where
   issues_last mode [] (t ∷ tasks) s new k puts requests are = absurd puts
   issues_last mode (first ∷ ids) [] s new k puts requests are = absurd puts
 
-  pub each_issued : (ids : List RequestId) (old new : ServerState) → InCallInvariant old → IssuesBatchOf port ids old new → (m : Machine) → IsReachable m → MachineRelation old m → AreIssued port ids old new m
+  pub each_issued : (ids : List RequestId) (old new : ServerState) → InCallInvariant old → IssuesTogetherIfAny port ids old new → (m : Machine) → IsReachable m → MachineRelation old m → AreIssued port ids old new m
   each_issued [] old new k none m reached is = record {
     steps = [];
     may = tt;
@@ -217,32 +217,32 @@ module _ (laws : LawsBelow) (port : Port) where
             (λ id late i. false≢true (sym (devices_issue_none id x.steps x.only) ∙ i));
       }
 
-  pub each_kept : (ids : List RequestId) (old new : ServerState) → InCallInvariant old → IssuesBatchOf port ids old new → InCallInvariant new
+  pub each_kept : (ids : List RequestId) (old new : ServerState) → InCallInvariant old → IssuesTogetherIfAny port ids old new → InCallInvariant new
   each_kept [] old new k none = subst InCallInvariant (sym none) k
   each_kept (first ∷ ids) old new k issues = together_kept laws old new port first ids k issues
 
   -- in that no data comes for a command of the driver's own but on dead ports
-  pub each_silent : (ids : List RequestId) (old new : ServerState) → InCallInvariant old → IssuesBatchOf port ids old new → (q : ℕ) (o : Operation) → op_of o ≡ None → probe_result_of old.ports q ≢ Unready Dead
+  pub each_silent : (ids : List RequestId) (old new : ServerState) → InCallInvariant old → IssuesTogetherIfAny port ids old new → (q : ℕ) (o : Operation) → op_of o ≡ None → probe_result_of old.ports q ≢ Unready Dead
       → GainsNoMove q o old.device new.device
   each_silent [] old new k none q o own other = subst (λ (n : ServerState). GainsNoMove q o old.device n.device) (sym none) (silent_none q o old.device)
   each_silent (first ∷ ids) old new k issues q o own other = together_silent laws old new port first ids k issues q o own other
 
   -- the accesses that issue them
-  pub each_driven : (ids : List RequestId) (old new : ServerState) → IssuesBatchOf port ids old new → IsDrivenBy (IsIssuingOn port) old.device new.device
-  each_driven [] old new none = subst (λ (n : ServerState). IsDrivenBy (IsIssuingOn port) old.device n.device) (sym none) (by_none (IsIssuingOn port) old.device)
+  pub each_driven : (ids : List RequestId) (old new : ServerState) → IssuesTogetherIfAny port ids old new → IsDrivenBy (IsBatchAccess port) old.device new.device
+  each_driven [] old new none = subst (λ (n : ServerState). IsDrivenBy (IsBatchAccess port) old.device n.device) (sym none) (by_none (IsBatchAccess port) old.device)
   each_driven (first ∷ ids) old new issues = issues.issued.issues.driven
 
   -- ---- the server then
 
   -- but for the device, the slots and the book, the server is as it was
-  pub each_settings : (ids : List RequestId) (old new : ServerState) → IssuesBatchOf port ids old new → new ≡ record old { device = new.device; slots = new.slots; book = new.book }
+  pub each_settings : (ids : List RequestId) (old new : ServerState) → IssuesTogetherIfAny port ids old new → new ≡ record old { device = new.device; slots = new.slots; book = new.book }
   each_settings ids old new issues =
       let x : ArePutInSlots port ids old new = are_put port ids old new issues in
       x.server ∙ ap (λ (n : ServerState). record n { device = new.device }) (puts_settings laws port ids x.tasks old x.taken x.puts)
       ∙ ap (λ (n : ServerState). record old { device = new.device; slots = n.slots; book = n.book }) (sym x.server)
 
   -- nothing changes how ports take commands
-  pub each_modes : (ids : List RequestId) (old new : ServerState) → IssuesBatchOf port ids old new → new.modes ≡ old.modes
+  pub each_modes : (ids : List RequestId) (old new : ServerState) → IssuesTogetherIfAny port ids old new → new.modes ≡ old.modes
   each_modes ids old new issues = ap (λ (n : ServerState). n.modes) (each_settings ids old new issues)
 
   -- ---- the book then
@@ -253,35 +253,35 @@ module _ (laws : LawsBelow) (port : Port) where
   with_each (id ∷ ids) book = with_each ids (with_issued id book)
 
   -- what one that is put in a slot leaves of what is asked
-  put_asks : (old mid : ServerState) (id : RequestId) (t : SlotTask) → PutsInSlot port id t old mid → asks_of mid.book ≡ with_issued id (asks_of old.book)
+  put_asks : (old mid : ServerState) (id : RequestId) (t : PlacedTask) → PutsInSlot port id t old mid → asks_of mid.book ≡ with_issued id (asks_of old.book)
   put_asks old mid id t one = ap (λ (n : ServerState). asks_of n.book) one.server ∙ laws.asks_issued old.book id
 
-  puts_asks : (ids : List RequestId) (tasks : List SlotTask) (old new : ServerState) → PutsInSlots port ids tasks old new → asks_of new.book ≡ with_each ids (asks_of old.book)
+  puts_asks : (ids : List RequestId) (tasks : List PlacedTask) (old new : ServerState) → PutsInSlots port ids tasks old new → asks_of new.book ≡ with_each ids (asks_of old.book)
   puts_asks [] [] old new none = ap (λ (n : ServerState). asks_of n.book) none
   puts_asks (id ∷ ids) (t ∷ tasks) old new (mid, one, more) = puts_asks ids tasks mid new more ∙ ap (with_each ids) (put_asks old mid id t one)
   puts_asks [] (t ∷ tasks) old new puts = absurd puts
   puts_asks (id ∷ ids) [] old new puts = absurd puts
 
-  each_asks : (ids : List RequestId) (old new : ServerState) → IssuesBatchOf port ids old new → asks_of new.book ≡ with_each ids (asks_of old.book)
+  each_asks : (ids : List RequestId) (old new : ServerState) → IssuesTogetherIfAny port ids old new → asks_of new.book ≡ with_each ids (asks_of old.book)
   each_asks ids old new issues =
       let x : ArePutInSlots port ids old new = are_put port ids old new issues in
       ap (λ (n : ServerState). asks_of n.book) x.server ∙ puts_asks ids x.tasks old x.taken x.puts
 
   -- once all that were due are issued, none is
-  puts_done : (mode : QueueMode) (ids : List RequestId) (tasks : List SlotTask) (old new : ServerState) → PutsInSlots port ids tasks old new → AreAllDueInOrder mode port ids (asks_of old.book) → NoneDue mode (asks_of new.book) port
+  puts_done : (mode : QueueMode) (ids : List RequestId) (tasks : List PlacedTask) (old new : ServerState) → PutsInSlots port ids tasks old new → AreAllDueInOrder mode port ids (asks_of old.book) → NoneDue mode (asks_of new.book) port
   puts_done mode [] [] old new none turns = subst (λ (n : ServerState). NoneDue mode (asks_of n.book) port) (sym none) turns
   puts_done mode (id ∷ ids) (t ∷ tasks) old new (mid, one, more) turns =
       puts_done mode ids tasks mid new more (subst (AreAllDueInOrder mode port ids) (sym (put_asks old mid id t one)) turns.1)
   puts_done mode [] (t ∷ tasks) old new puts turns = absurd puts
   puts_done mode (id ∷ ids) [] old new puts turns = absurd puts
 
-  pub each_done : (mode : QueueMode) (ids : List RequestId) (old new : ServerState) → IssuesBatchOf port ids old new → AreAllDueInOrder mode port ids (asks_of old.book) → NoneDue mode (asks_of new.book) port
+  pub each_done : (mode : QueueMode) (ids : List RequestId) (old new : ServerState) → IssuesTogetherIfAny port ids old new → AreAllDueInOrder mode port ids (asks_of old.book) → NoneDue mode (asks_of new.book) port
   each_done mode ids old new issues turns =
       let x : ArePutInSlots port ids old new = are_put port ids old new issues in
       subst (λ (n : ServerState). NoneDue mode (asks_of n.book) port) (sym x.server) (puts_done mode ids x.tasks old x.taken x.puts turns)
 
   -- requests of another port are as they were
-  puts_apart : (ids : List RequestId) (tasks : List SlotTask) (old new : ServerState) → BookIsInOrder old.book → PutsInSlots port ids tasks old new → (other : Port) → other ≢ port → of_port other (asks_of new.book) ≡ of_port other (asks_of old.book)
+  puts_apart : (ids : List RequestId) (tasks : List PlacedTask) (old new : ServerState) → BookIsInOrder old.book → PutsInSlots port ids tasks old new → (other : Port) → other ≢ port → of_port other (asks_of new.book) ≡ of_port other (asks_of old.book)
   puts_apart [] [] old new order none other ne = ap (λ (n : ServerState). of_port other (asks_of n.book)) none
   puts_apart (first ∷ ids) (t ∷ tasks) old new order (mid, one, more) other ne =
       puts_apart ids tasks mid new (subst (λ (n : ServerState). BookIsInOrder n.book) (sym one.server) (laws.issued old.book first order (subst (λ (id : RequestId). IsWaiting id old.book) one.id_is (laws.waits (mode_in old port) old.book (asks one.request.entry) one.due)))) more other ne
@@ -291,20 +291,20 @@ module _ (laws : LawsBelow) (port : Port) where
   puts_apart [] (t ∷ tasks) old new order puts other ne = absurd puts
   puts_apart (id ∷ ids) [] old new order puts other ne = absurd puts
 
-  pub each_apart : (ids : List RequestId) (old new : ServerState) → BookIsInOrder old.book → IssuesBatchOf port ids old new → (other : Port) → other ≢ port → of_port other (asks_of new.book) ≡ of_port other (asks_of old.book)
+  pub each_apart : (ids : List RequestId) (old new : ServerState) → BookIsInOrder old.book → IssuesTogetherIfAny port ids old new → (other : Port) → other ≢ port → of_port other (asks_of new.book) ≡ of_port other (asks_of old.book)
   each_apart ids old new order issues other ne =
       let x : ArePutInSlots port ids old new = are_put port ids old new issues in
       ap (λ (n : ServerState). of_port other (asks_of n.book)) x.server ∙ puts_apart ids x.tasks old x.taken order x.puts other ne
 
   -- and so are the slots of another port
-  puts_slots : (ids : List RequestId) (tasks : List SlotTask) (old new : ServerState) → PutsInSlots port ids tasks old new → (other : ℕ) → other ≢ port.0 → slots_at new.slots other ≡ slots_at old.slots other
+  puts_slots : (ids : List RequestId) (tasks : List PlacedTask) (old new : ServerState) → PutsInSlots port ids tasks old new → (other : ℕ) → other ≢ port.0 → slots_at new.slots other ≡ slots_at old.slots other
   puts_slots [] [] old new none other ne = ap (λ (n : ServerState). slots_at n.slots other) none
   puts_slots (id ∷ ids) (t ∷ tasks) old new (mid, one, more) other ne =
       puts_slots ids tasks mid new more other ne ∙ ap (λ (n : ServerState). slots_at n.slots other) one.server ∙ get_or-set_other old.slots port.0 other _ no_slots ne
   puts_slots [] (t ∷ tasks) old new puts other ne = absurd puts
   puts_slots (id ∷ ids) [] old new puts other ne = absurd puts
 
-  pub each_slots : (ids : List RequestId) (old new : ServerState) → IssuesBatchOf port ids old new → (other : ℕ) → other ≢ port.0 → slots_at new.slots other ≡ slots_at old.slots other
+  pub each_slots : (ids : List RequestId) (old new : ServerState) → IssuesTogetherIfAny port ids old new → (other : ℕ) → other ≢ port.0 → slots_at new.slots other ≡ slots_at old.slots other
   each_slots ids old new issues other ne =
       let x : ArePutInSlots port ids old new = are_put port ids old new issues in
       ap (λ (n : ServerState). slots_at n.slots other) x.server ∙ puts_slots ids x.tasks old x.taken x.puts other ne
@@ -480,7 +480,7 @@ mark_id steps r = by (list_any (issues_it r.id) steps)
 
 -- Where the port's requests are the same in two machines, and the same of them are issued in two lists of steps, what is due once the others
 -- are undone is the same.
-pub dues_carried : LawsBelow → (mode : QueueMode) → (one other : List Step) (m n : Machine) (q : Port) → of_port q (map unanswered m.book) ≡ of_port q (map unanswered n.book)
+pub dues_carried : PrerequisiteLaws → (mode : QueueMode) → (one other : List Step) (m n : Machine) (q : Port) → of_port q (map unanswered m.book) ≡ of_port q (map unanswered n.book)
     → ((r : Unanswered) → Contains (map unanswered m.book) r → r.port ≡ q → list_any (issues_it r.id) one ≡ list_any (issues_it r.id) other)
     → IssuesDue mode one m q → IssuesDue mode other n q
 dues_carried laws mode one other m n q same alike dues r here own = (

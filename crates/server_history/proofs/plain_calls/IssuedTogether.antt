@@ -19,15 +19,15 @@ use Rattle.adapter.specs.declared.command.Operation.TheVariants.{Identify}
 use Rattle.block_machine.specs.Due.{IsDue, is_plain}
 use Rattle.block_machine.specs.Events.{AllByDevice, AllMay}
 use Rattle.block_machine.specs.Histories.{IsReachable}
-use Rattle.block_machine.specs.Left.{after}
+use Rattle.block_machine.specs.Expected.{after}
 use Rattle.block_machine.specs.State.{Machine, Pending, unanswered}
 use Rattle.block_machine.specs.Steps.{Step, Issue, May, after_step}
 use Rattle.block_machine.specs.declared.due.QueueMode.{QueueMode}
 use Rattle.block_machine.specs.declared.due.Unanswered.{Unanswered}
-use Rattle.commands.specs.Batches.{IsIssuingOn, IssuesBatchAtEnd, MayServeBatch, SlotTask, issues_of, with_serving_batch}
+use Rattle.commands.specs.Batches.{IsBatchAccess, IssuesBatchAtEnd, MayServeBatch, PlacedTask, issues_of, with_serving_batch}
 use Rattle.commands.specs.Tasks.{IsTaskOf, addresses_of, meaning_of, task_operation, with_serving}
 use Rattle.commands.specs.declared.ncq.Task.{Task}
-use Rattle.host_boot.specs.Taken.{probe_result_of}
+use Rattle.host_boot.specs.TakeOver.{probe_result_of}
 use Rattle.host_boot.specs.declared.ProbeResult.{ProbeResult}
 use Rattle.host_boot.specs.declared.ProbeResult.TheVariants.{Unready}
 use Rattle.port_control.specs.Services.{IsService}
@@ -42,7 +42,7 @@ use Rattle.refinement.specs.Spares.{SparesBook}
 use Rattle.request_queue.specs.Entries.{BookEntry, asks_of, issue, update_if_id}
 use Rattle.request_queue.specs.Machine.{BookRelation, EntryRelation}
 use Rattle.slots.specs.declared.SlotUse.{SlotUse}
-use Rattle.server_history.specs.Below.{LawsBelow}
+use Rattle.server_history.specs.Prerequisites.{PrerequisiteLaws}
 use Rattle.server_history.specs.Served.{IssuesTogether, PutsInSlot, PutsInSlots, task_of, use_for}
 use Rattle.server_history.specs.Server.{HasStoredCommand, InCallInvariant, IsUsedAs, MachineRelation, PortInvariant, QuarantineRelation, RevokedMarkInvariant, ServerState, mode_in, state_of, used_for, with_slot}
 use Rattle.server_history.proofs.plain_calls.Looks.{behind_served}
@@ -69,12 +69,12 @@ abbrev pub HaveIds : Port → List RequestId → List Pending → Type 0
 HaveIds port ids requests = AllZip (λ id e. (e.request.id ≡ id) × (e.request.port ≡ port)) ids requests
 
 -- These requests of the machine are the server's with these ids, and these tasks; and they may be issued one after another.
-pub record AreTheRequests (port : Port) (mode : QueueMode) (ids : List RequestId) (tasks : List SlotTask) (m : Machine) (requests : List Pending) : Type 0 where
+pub record AreTheRequests (port : Port) (mode : QueueMode) (ids : List RequestId) (tasks : List PlacedTask) (m : Machine) (requests : List Pending) : Type 0 where
   pub ids_are : HaveIds port ids requests
   pub tasks_are : AllZip (λ t e. IsTaskOf port t.slot t.task t.frames mode e) tasks requests
   pub may : AllMay m (issues_of mode requests)
 
-module _ (laws : LawsBelow) (s mid : ServerState) (port : Port) (id : RequestId) (t : SlotTask) (k : BookAndSlotsInvariant s) (one : PutsInSlot port id t s mid) (m : Machine) (is : BookAgrees s m) where
+module _ (laws : PrerequisiteLaws) (s mid : ServerState) (port : Port) (id : RequestId) (t : PlacedTask) (k : BookAndSlotsInvariant s) (one : PutsInSlot port id t s mid) (m : Machine) (is : BookAgrees s m) where
   abbrev request : BookEntry
   request = one.request
 
@@ -131,8 +131,8 @@ module _ (laws : LawsBelow) (s mid : ServerState) (port : Port) (id : RequestId)
     rows = is.rows;
   })
 
-module _ (laws : LawsBelow) (port : Port) where
-  pub requests_of_tasks : (mode : QueueMode) (ids : List RequestId) (tasks : List SlotTask) (s new : ServerState) → BookAndSlotsInvariant s → PutsInSlots port ids tasks s new → mode_in s port ≡ mode → (m : Machine) → BookAgrees s m
+module _ (laws : PrerequisiteLaws) (port : Port) where
+  pub requests_of_tasks : (mode : QueueMode) (ids : List RequestId) (tasks : List PlacedTask) (s new : ServerState) → BookAndSlotsInvariant s → PutsInSlots port ids tasks s new → mode_in s port ≡ mode → (m : Machine) → BookAgrees s m
       → (requests : List Pending) × AreTheRequests port mode ids tasks m requests
   requests_of_tasks mode [] [] s new k none same m is = ([], record { ids_are = tt; tasks_are = tt; may = tt })
   requests_of_tasks mode (id ∷ ids) (t ∷ tasks) s new k (mid, one, more) same m is =
@@ -153,7 +153,7 @@ module _ (laws : LawsBelow) (port : Port) where
   -- ---- the machine then
 
   -- its book is the server's
-  issues_book : (mode : QueueMode) (ids : List RequestId) (tasks : List SlotTask) (s new : ServerState) → PutsInSlots port ids tasks s new → (requests : List Pending) → HaveIds port ids requests → (m : Machine) → BookRelation s.book m.book
+  issues_book : (mode : QueueMode) (ids : List RequestId) (tasks : List PlacedTask) (s new : ServerState) → PutsInSlots port ids tasks s new → (requests : List Pending) → HaveIds port ids requests → (m : Machine) → BookRelation s.book m.book
       → BookRelation new.book (after m (issues_of mode requests)).book
   issues_book mode [] [] s new none [] are m is = subst (λ (n : ServerState). BookRelation n.book m.book) (sym none) is
   issues_book mode (id ∷ ids) (t ∷ tasks) s new (mid, one, more) (e ∷ requests) are m is =
@@ -167,7 +167,7 @@ module _ (laws : LawsBelow) (port : Port) where
   issues_book mode (id ∷ ids) [] s new puts requests are m is = absurd puts
 
   -- each slot serves its request, and the others are used as before
-  issues_uses : (found : List ProbeResult) (ids : List RequestId) (tasks : List SlotTask) (s new : ServerState) → BookAndSlotsInvariant s → PutsInSlots port ids tasks s new → (requests : List Pending) → HaveIds port ids requests → (slots : DriverSlots)
+  issues_uses : (found : List ProbeResult) (ids : List RequestId) (tasks : List PlacedTask) (s new : ServerState) → BookAndSlotsInvariant s → PutsInSlots port ids tasks s new → (requests : List Pending) → HaveIds port ids requests → (slots : DriverSlots)
       → ((q n : ℕ) → IsUsedAs (probe_result_of found q) (used_for s.slots q n) (slots.uses q n)) → (q n : ℕ) → IsUsedAs (probe_result_of found q) (used_for new.slots q n) ((with_serving_batch port tasks requests slots).uses q n)
   issues_uses found [] [] s new k none [] are slots was = λ q n. subst (λ (c : ServerState). IsUsedAs (probe_result_of found q) (used_for c.slots q n) (slots.uses q n)) (sym none) (was q n)
   issues_uses found (id ∷ ids) (t ∷ tasks) s new k (mid, one, more) (e ∷ requests) are slots was =
@@ -180,7 +180,7 @@ module _ (laws : LawsBelow) (port : Port) where
   issues_uses found [] (t ∷ tasks) s new k puts requests are slots was = absurd puts
   issues_uses found (id ∷ ids) [] s new k puts requests are slots was = absurd puts
 
-  parked_same : (tasks : List SlotTask) (requests : List Pending) (slots : DriverSlots) → (with_serving_batch port tasks requests slots).parked ≡ slots.parked
+  parked_same : (tasks : List PlacedTask) (requests : List Pending) (slots : DriverSlots) → (with_serving_batch port tasks requests slots).parked ≡ slots.parked
   parked_same [] requests slots = refl
   parked_same (t ∷ tasks) [] slots = refl
   parked_same (t ∷ tasks) (e ∷ requests) slots = parked_same tasks requests (with_serving port t.slot e.request.id slots)
@@ -193,7 +193,7 @@ record SameButBook (old new : Machine) : Type 0 where
   pub lent : new.lent ≡ old.lent
   pub next : new.next ≡ old.next
 
-issues_leave : LawsBelow → (mode : QueueMode) (requests : List Pending) (m : Machine) → SameButBook m (after m (issues_of mode requests))
+issues_leave : PrerequisiteLaws → (mode : QueueMode) (requests : List Pending) (m : Machine) → SameButBook m (after m (issues_of mode requests))
 issues_leave laws mode [] m = record { kept = refl; rows = refl; owner = refl; lent = refl; next = refl }
 issues_leave laws mode (e ∷ requests) m =
     let rest = issues_leave laws mode requests (after_step m (Issue mode e)) in
@@ -213,7 +213,7 @@ pub record AreIssuedTogether (port : Port) (ids : List RequestId) (old new : Ser
   pub stands : MachineRelation new (after m (issues_of (mode_in old port) requests ++ steps))
 
 -- it writes no PxCMD
-issuing_commands : (port : Port) (q : Port) (access : Access) → IsIssuingOn port access → DoesNotWrite (Px q Cmd) access
+issuing_commands : (port : Port) (q : Port) (access : Access) → IsBatchAccess port access → DoesNotWrite (Px q Cmd) access
 issuing_commands port q (Writing w v) is = ⊎_elim
     (λ (its : w ≡ Px port Sact) (same : w ≡ Px q Cmd). let z : Px port Sact ≡ Px q Cmd = sym its ∙ same in absurd cc)
     (λ (its : w ≡ Px port Ci) (same : w ≡ Px q Cmd). let z : Px port Ci ≡ Px q Cmd = sym its ∙ same in absurd cc)
@@ -237,11 +237,11 @@ queued_is queued mode Write kind = transfer queued
 queued_is queued mode Trim kind = sym kind
 queued_is queued mode Flush kind = sym kind
 
-module _ (laws : LawsBelow) (s new : ServerState) (port : Port) (first : RequestId) (ids : List RequestId) (k : InCallInvariant s) (i : IssuesTogether port (first ∷ ids) s new) where
+module _ (laws : PrerequisiteLaws) (s new : ServerState) (port : Port) (first : RequestId) (ids : List RequestId) (k : InCallInvariant s) (i : IssuesTogether port (first ∷ ids) s new) where
   abbrev all_ids : List RequestId
   all_ids = first ∷ ids
 
-  abbrev tasks : List SlotTask
+  abbrev tasks : List PlacedTask
   tasks = i.tasks
 
   book_was : BookAndSlotsInvariant s
@@ -335,7 +335,7 @@ module _ (laws : LawsBelow) (s new : ServerState) (port : Port) (first : Request
       (not_own (probe_result_of s.ports q) (used_for s.slots q 0) (k.stands.uses q 0) o other (k.stands.used q 0))
 
   served : IsDrivenBy IsService s.device new.device
-  served = driven_as (IsIssuingOn port) IsService s.device new.device (issuing_serves port) i.issued.issues.driven
+  served = driven_as (IsBatchAccess port) IsService s.device new.device (issuing_serves port) i.issued.issues.driven
 
   -- the acts that do it
   comes : ActsReach i.issued.issues.driven.accesses (driver_state (its_slots k.machine k.reached k.stands) s.device) k.machine (driver_state (slots_then k.machine k.reached k.stands) new.device)
@@ -346,17 +346,17 @@ module _ (laws : LawsBelow) (s new : ServerState) (port : Port) (first : Request
   behind : (q : ℕ) → q < 4 → PortInvariant s.wanted s.ports q new.device
   behind =
       behind_served laws s new.device port k ready served
-      (λ q small other. laws.looks.other_left port q s.device new.device other k.on (driven_as (IsIssuingOn port) (SparesOtherPorts port) s.device new.device (laws.issuing_of port) i.issued.issues.driven))
+      (λ q small other. laws.looks.other_left port q s.device new.device other k.on (driven_as (IsBatchAccess port) (SparesOtherPorts port) s.device new.device (laws.issuing_of port) i.issued.issues.driven))
       (λ q other. together_silent q Identify refl other)
       (λ q.
       laws.port_error.halts_acts (port_at q) comes.acts (driver_state (its_slots k.machine k.reached k.stands) s.device) (driver_state (slots_then k.machine k.reached k.stands) new.device) k.machine k.reached k.stands.knows comes.done
       (subst (All (DoesNotWrite (Px (port_at q) Cmd))) (sym comes.accesses_are)
-      (All-weaker (IsIssuingOn port) (DoesNotWrite (Px (port_at q) Cmd)) (issuing_commands port (port_at q)) i.issued.issues.driven.accesses i.issued.issues.driven.only)))
+      (All-weaker (IsBatchAccess port) (DoesNotWrite (Px (port_at q) Cmd)) (issuing_commands port (port_at q)) i.issued.issues.driven.accesses i.issued.issues.driven.only)))
 
   -- each slot's bytes say its command
   commands_then : (q n : ℕ) (used : SlotUse) → used_for i.taken.slots q n ≡ Some used → HasStoredCommand used.queued new.device q n
   commands_then q n used is = ⊎_elim
-      (λ (was : (used_for s.slots q n ≡ Some used) × ((t : SlotTask) → Contains tasks t → AreApart port.0 t.slot q n)).
+      (λ (was : (used_for s.slots q n ≡ Some used) × ((t : PlacedTask) → Contains tasks t → AreApart port.0 t.slot q n)).
       let there = used_there s q n used k was.0 in
       let h = k.commands q n used was.0 in
       record {
@@ -364,20 +364,20 @@ module _ (laws : LawsBelow) (s new : ServerState) (port : Port) (first : Request
         places = h.places;
         stored = laws.slots.stored (port_at q) n h.command h.places comes.acts (driver_state (its_slots k.machine k.reached k.stands) s.device) _ k.machine k.reached k.stands.knows comes.done
             (λ a d small.
-            batch_leaves_stored laws port (port_at q) tasks n low there.0 there.1 (λ t here. (All-contains (λ (x : SlotTask). x.slot < 32) tasks t i.issued.issues.small here, was.1 t here)) _
-            (subst (All (IsIssuingOn port)) (sym comes.accesses_are) i.issued.issues.driven.only a d small)
+            batch_leaves_stored laws port (port_at q) tasks n low there.0 there.1 (λ t here. (All-contains (λ (x : PlacedTask). x.slot < 32) tasks t i.issued.issues.small here, was.1 t here)) _
+            (subst (All (IsBatchAccess port)) (sym comes.accesses_are) i.issued.issues.driven.only a d small)
             (subst (All (IsOfBatch port tasks)) (sym comes.accesses_are) (of_batch port i.issued.issues.queued tasks i.issued.issues.driven.accesses i.issued.issues.order) a d small)) k.on h.stored;
         kind = h.kind;
       })
-      (λ (its : (q ≡ port.0) × ((t : SlotTask) × Contains tasks t × (t.slot ≡ n) × (t.task.queued ≡ used.queued))).
+      (λ (its : (q ≡ port.0) × ((t : PlacedTask) × Contains tasks t × (t.slot ≡ n) × (t.task.queued ≡ used.queued))).
       let t = its.1.0 in
-      let stored = All-contains (λ (x : SlotTask). IsStored new.device port.0 x.slot (meaning_of x.task) (addresses_of port.0 x.task.op x.task.range.count x.frames)) tasks t i.issued.stored its.1.1 in
+      let stored = All-contains (λ (x : PlacedTask). IsStored new.device port.0 x.slot (meaning_of x.task) (addresses_of port.0 x.task.op x.task.range.count x.frames)) tasks t i.issued.stored its.1.1 in
       subst (λ (queued : Bool). HasStoredCommand queued new.device q n) its.1.3
       (subst (λ (p : ℕ). HasStoredCommand t.task.queued new.device p n) (sym its.0) (subst (λ (slot : ℕ). HasStoredCommand t.task.queued new.device port.0 slot) its.1.2
       (record { command = _; places = _; stored = stored; kind = kind_of t its.1.1 }))))
       (puts_used laws port all_ids tasks s i.taken book_was i.puts q n used is)
     where
-      kind_of : (t : SlotTask) → Contains tasks t → is_queued (task_operation t.task.queued t.task.op) ≡ t.task.queued
+      kind_of : (t : PlacedTask) → Contains tasks t → is_queued (task_operation t.task.queued t.task.op) ≡ t.task.queued
       kind_of t here =
           let x = at_left (λ t e. IsTaskOf port t.slot t.task t.frames (mode_in s port) e) tasks (requests k.machine k.reached k.stands) (found k.machine k.reached k.stands).1.tasks_are t here in
           queued_is t.task.queued (mode_in s port) t.task.op x.2.kind

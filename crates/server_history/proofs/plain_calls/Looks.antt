@@ -17,14 +17,14 @@ use Rattle.refinement.specs.Halting.{HaltOfTakenIfSt}
 use Rattle.refinement.specs.Slots.{IsOver, SlotStates, op_of}
 use Rattle.server_history.proofs.state.FollowedAccesses.{followed_adds, followed_silent}
 use Rattle.server_history.proofs.state.DrivenAccesses.{driven_as, kept_over as accesses_keep}
-use Rattle.host_boot.specs.Taken.{probe_result_of}
+use Rattle.host_boot.specs.TakeOver.{probe_result_of}
 use Rattle.host_boot.specs.declared.ProbeResult.TheVariants.{Unready}
 use Rattle.server_history.specs.Served.{IsMaskOf}
 use Rattle.server_history.specs.Server.{ServerState, InCallInvariant, PortInvariant, slots_at, state_of, used_for}
 use Rattle.server_history.proofs.state.HistorySteps.{machine_on, kept_on}
 use Rattle.server_history.proofs.state.PlainHalts.{followed_halts}
 use Rattle.server_history.proofs.state.PortsOverAccesses.{port_on}
-use Rattle.server_history.proofs.state.PortSlots.{AreOver, busy_used, not_own, ready_found, serves_used, used_there}
+use Rattle.server_history.proofs.state.PortSlots.{CommandsAreOver, busy_used, not_own, ready_found, serves_used, used_there}
 use Rattle.server_history.proofs.state.StoredCommands.{service_leaves_stored}
 use Rattle.refinement.specs.Acts.{driver_state}
 use Rattle.std.specs.List.{All}
@@ -32,14 +32,14 @@ use Rattle.port_control.specs.Looks.{IsLooking}
 use Rattle.port_control.specs.Services.{IsService}
 use Rattle.commands.specs.Masks.{ReadsDone, ReadsCiOrSact}
 use Rattle.hba_regs.specs.Bits.{bit}
-use Rattle.server_history.specs.Below.{LawsBelow}
+use Rattle.server_history.specs.Prerequisites.{PrerequisiteLaws}
 use Rattle.server_history.proofs.state.TransferAccesses.{finding_serves}
 
 -- ---- what stands behind the ports
 
 -- Accesses that serve a ready port leave what stands behind each, where the others are left to the device, no page comes but on
 -- dead ones, and halts are of taken commands still.
-pub behind_served : LawsBelow → (s : ServerState) (new : Device) (port : Port) → InCallInvariant s → state_of (probe_result_of s.ports port.0) ≡ ReadyState → IsDrivenBy IsService s.device new
+pub behind_served : PrerequisiteLaws → (s : ServerState) (new : Device) (port : Port) → InCallInvariant s → state_of (probe_result_of s.ports port.0) ≡ ReadyState → IsDrivenBy IsService s.device new
     → ((q : ℕ) → q < 4 → q ≢ port.0 → LeavesPort (s.device.port q) (new.port q)) → ((q : ℕ) → probe_result_of s.ports q ≢ Unready Dead → GainsNoMove q Identify s.device new)
     → ((q : ℕ) → HaltOfTakenIfSt (s.device.port q) → HaltOfTakenIfSt (new.port q)) → (q : ℕ) → q < 4 → PortInvariant s.wanted s.ports q new
 behind_served laws s new port k ready driven left silent halts q low =
@@ -58,14 +58,14 @@ looking_spares port q r other (Storing at bytes) here = tt
 
 module _ (s : ServerState) (new : Device) (port : Port) (k : InCallInvariant s) where
   -- in followed accesses that write neither PxCI nor PxSACT, no data comes for a command of the driver's own but on dead ports
-  silent_over : LawsBelow → (May : Access → Type 0) → ((q : Port) → NoneWrites May (Px q Ci) × NoneWrites May (Px q Sact)) → IsSimulated May AnyUse s.device new
+  silent_over : PrerequisiteLaws → (May : Access → Type 0) → ((q : Port) → NoneWrites May (Px q Ci) × NoneWrites May (Px q Sact)) → IsSimulated May AnyUse s.device new
       → (q : ℕ) (o : Operation) → op_of o ≡ None → probe_result_of s.ports q ≢ Unready Dead → GainsNoMove q o s.device new
   silent_over laws May none followed q o own other =
       followed_silent laws followed k.stands.uses k.stands.parked k.machine tt k.reached k.stands.knows (port_at q) o own (none (port_at q)).0 (none (port_at q)).1
       (not_own (probe_result_of s.ports q) (used_for s.slots q 0) (k.stands.uses q 0) o other (k.stands.used q 0))
 
   -- followed accesses that serve the port, and write no PxCI, where what stands behind each port goes on
-  kept_by : LawsBelow → (May : Access → Type 0) → ((access : Access) → May access → IsService access) → ((access : Access) (at : ℕ) (bytes : List ℕ) → May access → access ≡ Storing at bytes → ⊥) → ((q : Port) → NoneWrites May (Px q Ci) × NoneWrites May (Px q Sact)) → ((q : Port) → NoneWrites May (Px q Cmd))
+  kept_by : PrerequisiteLaws → (May : Access → Type 0) → ((access : Access) → May access → IsService access) → ((access : Access) (at : ℕ) (bytes : List ℕ) → May access → access ≡ Storing at bytes → ⊥) → ((q : Port) → NoneWrites May (Px q Ci) × NoneWrites May (Px q Sact)) → ((q : Port) → NoneWrites May (Px q Cmd))
       → ((q : ℕ) → q < 4 → PortInvariant s.wanted s.ports q new) → IsSimulated May AnyUse s.device new → InCallInvariant (record s { device = new })
   kept_by below May service storeless none commandless behind followed =
       let uses : SlotStates = k.stands.uses in
@@ -101,16 +101,16 @@ module _ (s : ServerState) (new : Device) (port : Port) (k : InCallInvariant s) 
   finding_stores : (access : Access) (at : ℕ) (bytes : List ℕ) → ReadsCiOrSact port access → access ≡ Storing at bytes → ⊥
   finding_stores access at bytes is e = subst (ReadsCiOrSact port) e is
 
-  pub looking_silent : LawsBelow → IsSimulated (IsLooking port) AnyUse s.device new → (q : ℕ) (o : Operation) → op_of o ≡ None → probe_result_of s.ports q ≢ Unready Dead → GainsNoMove q o s.device new
+  pub looking_silent : PrerequisiteLaws → IsSimulated (IsLooking port) AnyUse s.device new → (q : ℕ) (o : Operation) → op_of o ≡ None → probe_result_of s.ports q ≢ Unready Dead → GainsNoMove q o s.device new
   looking_silent laws followed = silent_over laws (IsLooking port) (λ q. (looking_spares port q Ci (λ e. absurd cc), looking_spares port q Sact (λ e. absurd cc))) followed
 
   -- a look, whatever the port is, where what stands behind each port goes on
-  pub looked_kept : LawsBelow → IsSimulated (IsLooking port) AnyUse s.device new → ((q : ℕ) → q < 4 → PortInvariant s.wanted s.ports q new) → InCallInvariant (record s { device = new })
+  pub looked_kept : PrerequisiteLaws → IsSimulated (IsLooking port) AnyUse s.device new → ((q : ℕ) → q < 4 → PortInvariant s.wanted s.ports q new) → InCallInvariant (record s { device = new })
   looked_kept laws followed behind =
       kept_by laws (IsLooking port) (laws.looking.looking_service port) looking_stores (λ q. (looking_spares port q Ci (λ e. absurd cc), looking_spares port q Sact (λ e. absurd cc))) (λ q. looking_spares port q Cmd (λ e. absurd cc)) behind followed
 
 module _ (s : ServerState) (new : Device) (port : Port) (k : InCallInvariant s) (ready : state_of (probe_result_of s.ports port.0) ≡ ReadyState) where
-  kept_over : LawsBelow → (May : Access → Type 0) → ((access : Access) → May access → IsService access) → ((access : Access) (at : ℕ) (bytes : List ℕ) → May access → access ≡ Storing at bytes → ⊥) → ((q : Port) → NoneWrites May (Px q Ci) × NoneWrites May (Px q Sact)) → ((q : Port) → NoneWrites May (Px q Cmd))
+  kept_over : PrerequisiteLaws → (May : Access → Type 0) → ((access : Access) → May access → IsService access) → ((access : Access) (at : ℕ) (bytes : List ℕ) → May access → access ≡ Storing at bytes → ⊥) → ((q : Port) → NoneWrites May (Px q Ci) × NoneWrites May (Px q Sact)) → ((q : Port) → NoneWrites May (Px q Cmd))
       → ((q : ℕ) → q < 4 → q ≢ port.0 → LeavesPort (s.device.port q) (new.port q)) → IsSimulated May AnyUse s.device new → InCallInvariant (record s { device = new })
   kept_over below May service storeless none commandless left followed =
       kept_by s new port k below May service storeless none commandless
@@ -119,11 +119,11 @@ module _ (s : ServerState) (new : Device) (port : Port) (k : InCallInvariant s) 
       (λ q. followed_halts below (port_at q) May s k new followed (commandless (port_at q))))
       followed
 
-  pub looking_kept : LawsBelow → IsSimulated (IsLooking port) AnyUse s.device new → InCallInvariant (record s { device = new })
+  pub looking_kept : PrerequisiteLaws → IsSimulated (IsLooking port) AnyUse s.device new → InCallInvariant (record s { device = new })
   looking_kept laws followed =
       kept_over laws (IsLooking port) (laws.looking.looking_service port) (looking_stores s new port k) (λ q. (looking_spares port q Ci (λ e. absurd cc), looking_spares port q Sact (λ e. absurd cc))) (λ q. looking_spares port q Cmd (λ e. absurd cc)) (λ q low other. laws.looks.other_left port q s.device new other k.on (driven_as (IsLooking port) (SparesOtherPorts port) s.device new (laws.looking.looking_of port) followed.driven)) followed
 
-  module _ (laws : LawsBelow) (mask done : ℕ) (finds : ReadsDone port mask done s.device new) where
+  module _ (laws : PrerequisiteLaws) (mask done : ℕ) (finds : ReadsDone port mask done s.device new) where
     pub finding_kept : InCallInvariant (record s { device = new })
     finding_kept =
         let followed = laws.finding_followed port mask done s.device new finds in
@@ -134,7 +134,7 @@ module _ (s : ServerState) (new : Device) (port : Port) (k : InCallInvariant s) 
     finding_silent = silent_over s new port k laws (ReadsCiOrSact port) (λ q. (finding_spares s new port k q Ci, finding_spares s new port k q Sact)) (laws.finding_followed port mask done s.device new finds)
 
     -- the command of a slot that was found done is over, where only used slots were asked for
-    pub found_over : IsMaskOf (slots_at s.slots port.0) mask → AreOver port done new
+    pub found_over : IsMaskOf (slots_at s.slots port.0) mask → CommandsAreOver port done new
     found_over its slot small found =
         let asked : bit mask slot ≡ true = (and_parts (bit mask slot) _ (and_parts _ _ (sym (finds.tells slot small) ∙ found)).0).0 in
         let used = busy_used (used_for s.slots port.0 slot) (sym (its slot small) ∙ asked) in
@@ -154,12 +154,12 @@ no_issue port access is v same = by (subst (IsLooking port) same is)
     by (inl e) = let z : Px port Ci ≡ Px port Is = e in absurd cc
     by (inr e) = absurd (let z = e.0 in cc)
 
-pub still_over : LawsBelow → (port : Port) (slot : ℕ) (old new : Device) → IsDrivenBy (IsLooking port) old new → IsOver (old.port port.0) slot → IsOver (new.port port.0) slot
+pub still_over : PrerequisiteLaws → (port : Port) (slot : ℕ) (old new : Device) → IsDrivenBy (IsLooking port) old new → IsOver (old.port port.0) slot → IsOver (new.port port.0) slot
 still_over laws port slot old new driven = accesses_keep (λ d. IsOver (d.port port.0) slot) (IsLooking port)
     (λ access a b is does. laws.slots.over_access port slot access a b (λ v same. absurd (no_issue port access is v same)) does) old new driven
 
 -- PxCI and PxSACT, which are read after a look, show the bits of a slot clear that had no command before
-pub both_clear : LawsBelow → (port : Port) (slot issued active : ℕ) (old seen read new : Device) → slot < 32 → IsDrivenBy (IsLooking port) old seen → Reads (Px port Ci) issued seen read
+pub both_clear : PrerequisiteLaws → (port : Port) (slot issued active : ℕ) (old seen read new : Device) → slot < 32 → IsDrivenBy (IsLooking port) old seen → Reads (Px port Ci) issued seen read
     → Reads (Px port Sact) active read new → IsOver (old.port port.0) slot → (old.port port.0).sact slot ≡ false → (bit issued slot ≡ false) × (bit active slot ≡ false)
 both_clear laws port slot issued active old seen read new small looks reads shows over clear =
     let unarmed = laws.looks.reads_clear port.0 slot (Px port Ci) issued seen read reads (laws.looking.looks_inactive port port.0 slot old seen looks clear) in (

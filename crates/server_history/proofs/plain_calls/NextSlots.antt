@@ -8,15 +8,15 @@ use Rattle.ata_types.specs.declared.PortState.TheVariants.{Ready as ReadyState}
 use Rattle.ata_types.specs.declared.request.RequestId.{RequestId}
 use Rattle.block_machine.specs.Due.{IsDue, is_plain}
 use Rattle.command_table.specs.Written.{IsUnused}
-use Rattle.commands.specs.Batches.{SlotTask}
-use Rattle.host_boot.specs.Taken.{probe_result_of}
+use Rattle.commands.specs.Batches.{PlacedTask}
+use Rattle.host_boot.specs.TakeOver.{probe_result_of}
 use Rattle.refinement.specs.Driven.{RelatesWith}
 use Rattle.refinement.specs.Slots.{Free}
 use Rattle.request_queue.specs.Entries.{BookEntry, asks, asks_of}
 use Rattle.slots.specs.Uses.{IsLowestFree, IsTaken}
 use Rattle.slots.specs.declared.SlotUse.{SlotUse}
-use Rattle.server_history.specs.Below.{LawsBelow}
-use Rattle.server_history.specs.Served.{LeavesBookInOrder, MayTakeSlot, PutsInSlots}
+use Rattle.server_history.specs.Prerequisites.{PrerequisiteLaws}
+use Rattle.server_history.specs.Served.{ChangesSlotsAndBook, FindsSlotFor, PutsInSlots}
 use Rattle.server_history.specs.Server.{InCallInvariant, ServerState, mode_in, slots_at, state_of, used_for}
 use Rattle.server_history.proofs.plain_calls.RequestsInSlots.{BookAndSlotsInvariant, IsUsedFor, book_and_slots, due_ready, lowest_head, lowest_small, lowest_usable, never_full, none_beside, puts_free, puts_keep, puts_settings, puts_there, puts_still_used}
 use Rattle.server_history.proofs.state.FirstMembers.{first_here}
@@ -36,7 +36,7 @@ free_before was now still none = ⊎_elim
 
 -- ---- after others
 
-module _ (laws : LawsBelow) (s mid : ServerState) (port : Port) (ids : List RequestId) (tasks : List SlotTask) (k : InCallInvariant s) (puts : PutsInSlots port ids tasks s mid) where
+module _ (laws : PrerequisiteLaws) (s mid : ServerState) (port : Port) (ids : List RequestId) (tasks : List PlacedTask) (k : InCallInvariant s) (puts : PutsInSlots port ids tasks s mid) where
   was : BookAndSlotsInvariant s
   was = book_and_slots laws s k
 
@@ -46,7 +46,7 @@ module _ (laws : LawsBelow) (s mid : ServerState) (port : Port) (ids : List Requ
   settings : mid ≡ record s { slots = mid.slots; book = mid.book }
   settings = puts_settings laws port ids tasks s mid puts
 
-  pub leaves_in_order : LeavesBookInOrder s mid
+  pub leaves_in_order : ChangesSlotsAndBook s mid
   leaves_in_order =
       let then_is = subst BookAndSlotsInvariant settings now in
       record { settings = settings; four = then_is.four; slots = then_is.slots; ordered = then_is.ordered; accepted = then_is.accepted }
@@ -83,7 +83,7 @@ module _ (laws : LawsBelow) (s mid : ServerState) (port : Port) (ids : List Requ
     pub next_free : ((slot : ℕ) → slot < (slots_at mid.slots port.0).usable → IsTaken (slots_at mid.slots port.0) slot) → ⊥
     next_free = never_full mid port now request here port_is due
 
-    pub may_take : (slot : ℕ) → IsLowestFree (slots_at mid.slots port.0) slot → MayTakeSlot s port tasks request slot
+    pub may_take : (slot : ℕ) → IsLowestFree (slots_at mid.slots port.0) slot → FindsSlotFor s port tasks request slot
     may_take slot lowest = record {
       usable = small;
       small = lowest_small mid port now request here port_is due slot lowest;
@@ -109,7 +109,7 @@ module _ (laws : LawsBelow) (s mid : ServerState) (port : Port) (ids : List Requ
 
 -- ---- after none
 
-module _ (laws : LawsBelow) (s : ServerState) (request : BookEntry) (k : InCallInvariant s) (here : Contains s.book request) (due : IsDue (mode_in s request.entry.port) (asks_of s.book) (asks request.entry)) where
+module _ (laws : PrerequisiteLaws) (s : ServerState) (request : BookEntry) (k : InCallInvariant s) (here : Contains s.book request) (due : IsDue (mode_in s request.entry.port) (asks_of s.book) (asks request.entry)) where
   abbrev its_port : Port
   its_port = request.entry.port
 
@@ -126,5 +126,5 @@ module _ (laws : LawsBelow) (s : ServerState) (request : BookEntry) (k : InCallI
     (k.stands.uses, free_unused s k.machine its_port.0 k.stands (due_ready s its_port (book_and_slots laws s k) request here refl due) slot lowest.1, record { machine = k.machine; parked = k.stands.parked; reached = k.reached; knows = k.stands.knows }),
   )
     where
-      may : MayTakeSlot s its_port [] request slot
+      may : FindsSlotFor s its_port [] request slot
       may = may_take laws s s its_port [] [] k refl request here refl due slot lowest

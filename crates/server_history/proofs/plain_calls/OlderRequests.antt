@@ -10,17 +10,17 @@ use Rattle.ata_types.specs.declared.request.RequestId.{RequestId}
 use Rattle.adapter.specs.Commands.{Meaning}
 use Rattle.adapter.specs.Device.{DevicePort, FetchedCommand}
 use Rattle.refinement.specs.Driven.{known}
-use Rattle.refinement.specs.Slots.{Means, Progress, ServesRequest, Stage}
+use Rattle.refinement.specs.Slots.{MeansRequest, Progress, ServesRequest, Stage}
 use Rattle.block_machine.specs.Due.{NoneDue, is_plain}
 use Rattle.block_machine.specs.State.{Machine, Pending}
 use Rattle.block_machine.specs.Steps.{Age, after_step, older}
 use Rattle.block_machine.specs.declared.due.Unanswered.{Unanswered}
 use Rattle.server_history.proofs.state.ListMembers.{into_map, map_in}
-use Rattle.host_boot.specs.Taken.{probe_result_of}
+use Rattle.host_boot.specs.TakeOver.{probe_result_of}
 use Rattle.request_queue.specs.Entries as entries
 use Rattle.request_queue.specs.Entries.{BookEntry}
 use Rattle.request_queue.specs.declared.PendingRequest.{PendingRequest}
-use Rattle.server_history.specs.Below.{LawsBelow}
+use Rattle.server_history.specs.Prerequisites.{PrerequisiteLaws}
 use Rattle.server_history.specs.Server.{ServerState, InCallInvariant, MachineRelation, SettledInvariant, mode_in, state_of, RevokedMarkInvariant}
 use Rattle.server_history.specs.Turns.{a_tick_older, is_ready}
 use Rattle.server_history.proofs.state.RevokedMarks.{older_marked}
@@ -89,7 +89,7 @@ module _ (memory : ℕ → ℕ) (p : DevicePort) (port slot : ℕ) where
         command = x.command;
         places = x.places;
         told = x.told;
-        means = older_by (λ e. Means port slot e.request x.command x.places) ready x.pending x.means x.means;
+        means = older_by (λ e. MeansRequest port slot e.request x.command x.places) ready x.pending x.means x.means;
         stage = older_by (λ e. Stage memory p port slot e x.command x.places) ready x.pending x.stage (stage_on x.pending (suc x.pending.age) x.command x.places x.stage);
       })
       (λ kept. record {
@@ -108,7 +108,7 @@ module _ (memory : ℕ → ℕ) (p : DevicePort) (port slot : ℕ) where
 
 -- ---- the server
 
-module _ (laws : LawsBelow) (s : ServerState) where
+module _ (laws : PrerequisiteLaws) (s : ServerState) where
   abbrev ready : Port → Bool
   ready port = is_ready (probe_result_of s.ports port.0)
 

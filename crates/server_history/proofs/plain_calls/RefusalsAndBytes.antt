@@ -26,8 +26,8 @@ use Rattle.refinement.specs.Spares.{SparesBook}
 use Rattle.server_history.proofs.state.DrivenAccesses.{by_one}
 use Rattle.block_machine.specs.Events.{AbstractCall, Submit, StoreAt, LoadAt, Service, Tick, Reset, RevokeOf, State, AllMay, Device as Told, CallResult, Submitted, Shown, Stepped, IsAnswered, AbstractState, WasRevoked}
 use Rattle.block_machine.specs.Rules.{HasRow}
-use Rattle.block_machine.specs.Histories.{JointState, Happening, IsReachable, now}
-use Rattle.block_machine.specs.Left.{after}
+use Rattle.block_machine.specs.Histories.{JointState, JointEvent, IsReachable, now}
+use Rattle.block_machine.specs.Expected.{after}
 use Rattle.block_machine.specs.Ports.{Evidence, Ports}
 use Rattle.block_machine.specs.Refusals.{Situation, IsFirstMemFault, IsFirstRefusal, MayAccessFrame}
 use Rattle.block_machine.specs.State.{Machine}
@@ -35,12 +35,12 @@ use Rattle.block_machine.specs.Steps.{Step, Load, Store}
 use Rattle.block_machine.specs.Events as events
 use Rattle.ata_types.specs.declared.PortState.TheVariants.{Ready as ReadyState}
 use Rattle.dma_frames.specs.Table.{owner_of, lent_to}
-use Rattle.host_boot.specs.Taken.{probe_result_of}
+use Rattle.host_boot.specs.TakeOver.{probe_result_of}
 use Rattle.host_boot.specs.declared.ProbeResult.TheVariants.{Unready}
 use Rattle.ata_types.specs.declared.PortState.TheVariants.{Dead}
 use Rattle.ata_types.specs.declared.memory.TheConstants.{DRIVER_BYTES, DRIVER_FRAMES}
 use Rattle.port_control.specs.Services.{IsService}
-use Rattle.server_history.specs.Below.{LawsBelow}
+use Rattle.server_history.specs.Prerequisites.{PrerequisiteLaws}
 use Rattle.driver_history.specs.Heeding.{OnlyFailedPortsRequeueIn}
 use Rattle.driver_history.specs.Histories.{ExplainsAccesses, IssuesAllDue, IssuesDue, LosesNoPortError, PortCorresponds}
 use Rattle.driver_history.specs.Trace.{ClearsNoError, LeavesEngine}
@@ -60,7 +60,7 @@ use Rattle.server_history.proofs.state.PortSlots.{not_own, used_there}
 
 -- ---- what a history leads to
 
-module _ (laws : LawsBelow) (first : JointState Device) (past : List (Happening Device DeviceStep)) (s : ServerState) (leads : LeadsToServer first past s) where
+module _ (laws : PrerequisiteLaws) (first : JointState Device) (past : List (JointEvent Device DeviceStep)) (s : ServerState) (leads : LeadsToServer first past s) where
   pub reached : IsReachable (now first past).abstract.machine
   reached = laws.basic.history_reached s.wanted first past leads.history
 
@@ -113,7 +113,7 @@ pub record GoesTo (s : ServerState) (new : Device) : Type 0 where
 abbrev Parts : ServerState → Device → AbstractCall DeviceStep → CallResult → List Step → List Access → Type 0
 Parts s new ask said steps accesses = (m : AbstractState) → m.ports ≡ ports_of s → (port : Port) → PortCorresponds (still s m) (happening (still s m) new ask said steps (ports_of s)) accesses port
 
-module _ (laws : LawsBelow) where
+module _ (laws : PrerequisiteLaws) where
   -- what a request meets is what it meets in the machine
   pub situation_is : (s : ServerState) (old : JointState Device) → ServerRelation old s → events.situation_of old.abstract ≡ admission_context s
   situation_is s old at = λ i. record {
@@ -294,7 +294,7 @@ module _ (laws : LawsBelow) where
 
 -- ---- a server whose adapter is on
 
-module _ (laws : LawsBelow) where
+module _ (laws : PrerequisiteLaws) where
   -- ---- trouble that isn't lost
 
   untroubled : (s : ServerState) → InCallInvariant s → (m : AbstractState) (port : Port) → LosesNoPortError (told_by s.device m.ports) (still s m) (ports_of s) s.device port

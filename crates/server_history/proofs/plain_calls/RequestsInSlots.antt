@@ -12,18 +12,18 @@ use Rattle.ata_types.specs.declared.request.RequestId.{RequestId}
 use Rattle.block_machine.specs.Due.{IsDue, conflict, is_plain, issued_count, mark_issued, waits_for, with_issued}
 use Rattle.block_machine.specs.declared.due.QueueMode.{QueueMode}
 use Rattle.block_machine.specs.declared.due.Unanswered.{Unanswered}
-use Rattle.commands.specs.Batches.{SlotTask}
+use Rattle.commands.specs.Batches.{PlacedTask}
 use Rattle.commands.specs.declared.ncq.Task.{Task}
-use Rattle.host_boot.specs.Taken.{probe_result_of}
+use Rattle.host_boot.specs.TakeOver.{probe_result_of}
 use Rattle.host_boot.specs.declared.ProbeResult.{ProbeResult}
 use Rattle.refinement.specs.Relation.{HaveSlots}
 use Rattle.refinement.specs.Slots.{Serves, SlotState, SlotStates, is_serving, put, serving_count}
 use Rattle.request_queue.specs.Entries.{BookEntry, BookIsInOrder, IsAccepted, asks, asks_of, has_id, issue, update_if_id}
 use Rattle.slots.specs.Uses.{IsLowestFree, IsTaken, PortSlots}
 use Rattle.slots.specs.declared.SlotUse.{SlotUse}
-use Rattle.server_history.specs.Below.{LawsBelow}
+use Rattle.server_history.specs.Prerequisites.{PrerequisiteLaws}
 use Rattle.server_history.specs.Served.{PutsInSlot, PutsInSlots, use_for}
-use Rattle.server_history.specs.Server.{InCallInvariant, IsUsedAs, RevokedMarkInvariant, ServerState, SlotsInvariant, StandsAlone, mode_at, mode_in, slot_state_of, slots_at, state_of, usable_of, used_for, with_slot}
+use Rattle.server_history.specs.Server.{InCallInvariant, IsUsedAs, RevokedMarkInvariant, ServerState, SlotsInvariant, StandsAlone, mode_at, mode_in, slot_state_of, slots_at, state_of, usable_slots_of, used_for, with_slot}
 use Rattle.server_history.proofs.state.ChangedRequests.{all_changed}
 use Rattle.server_history.proofs.state.DueRequests.{same_book}
 use Rattle.server_history.proofs.state.FirstMembers.{first_here, nowhere}
@@ -50,7 +50,7 @@ pub record HasItsRequest (book : List BookEntry) (port : ℕ) (used : SlotUse) :
 -- What of `InCallInvariant` speaks of neither device nor machine; and each used slot has its request, so that on a ready
 -- port no more slots are used than requests are issued.
 pub record BookAndSlotsInvariant (s : ServerState) : Type 0 where
-  pub modes : (port : ℕ) → state_of (probe_result_of s.ports port) ≡ ReadyState → (port < 4) × (usable_of (probe_result_of s.ports port) (mode_at s.modes port) ≡ (mode_at s.modes port).usable)
+  pub modes : (port : ℕ) → state_of (probe_result_of s.ports port) ≡ ReadyState → (port < 4) × (usable_slots_of (probe_result_of s.ports port) (mode_at s.modes port) ≡ (mode_at s.modes port).usable)
       × (1 ≤ (mode_at s.modes port).usable) × ((mode_at s.modes port).usable ≤ 32)
   pub four : length s.slots ≡ 4
   pub slots : (port : ℕ) → port < 4 → SlotsInvariant s.ports s.modes s.slots port
@@ -71,7 +71,7 @@ serving_alike uses other port same (suc n) =
     ap (λ (b : Bool). if b then suc (serving_count uses port n) else serving_count uses port n) (ap is_serving (same n))
     ∙ ap (λ (k : ℕ). if is_serving (other port n) then suc k else k) (serving_alike uses other port same n)
 
-pub book_and_slots : LawsBelow → (s : ServerState) → InCallInvariant s → BookAndSlotsInvariant s
+pub book_and_slots : PrerequisiteLaws → (s : ServerState) → InCallInvariant s → BookAndSlotsInvariant s
 book_and_slots laws s k = record {
   modes = λ port ready. let low = (ready_found s port k ready).0 in let fit = (its_mode s port k low).0 in (low, usable_ready s port k ready, fit.0, fit.1);
   four = k.four;
@@ -279,7 +279,7 @@ serving_more uses other port slot same n = (both n).1
 
 -- ---- one is put in its slot
 
-module _ (laws : LawsBelow) (s new : ServerState) (port : Port) (id : RequestId) (t : SlotTask) (k : BookAndSlotsInvariant s) (one : PutsInSlot port id t s new) where
+module _ (laws : PrerequisiteLaws) (s new : ServerState) (port : Port) (id : RequestId) (t : PlacedTask) (k : BookAndSlotsInvariant s) (one : PutsInSlot port id t s new) where
   abbrev e : BookEntry
   e = one.request
 
@@ -311,10 +311,10 @@ module _ (laws : LawsBelow) (s new : ServerState) (port : Port) (id : RequestId)
   pub put_head : is_plain put_mode e.entry.op ≡ true → slot ≡ 0
   put_head = lowest_head s port k e one.here one.port_is one.due slot one.lowest
 
-  slot_low : slot < usable_of (probe_result_of s.ports port.0) (mode_at s.modes port.0)
+  slot_low : slot < usable_slots_of (probe_result_of s.ports port.0) (mode_at s.modes port.0)
   slot_low = subst (λ (n : ℕ). slot < n) (sym (k.modes port.0 put_ready).1) put_usable
 
-  few : usable_of (probe_result_of s.ports port.0) (mode_at s.modes port.0) ≤ 32
+  few : usable_slots_of (probe_result_of s.ports port.0) (mode_at s.modes port.0) ≤ 32
   few = let same = (k.modes port.0 put_ready).1 in let most = (k.modes port.0 put_ready).3 in omega (arith, same, most)
 
   in_list : port.0 < length s.slots
@@ -475,18 +475,18 @@ module _ (laws : LawsBelow) (s new : ServerState) (port : Port) (id : RequestId)
 -- ---- one after another
 
 -- the task's slot of the port is used for it
-abbrev pub IsUsedFor : Port → ServerState → SlotTask → Type 0
+abbrev pub IsUsedFor : Port → ServerState → PlacedTask → Type 0
 IsUsedFor port s t = (used : SlotUse) × (used_for s.slots port.0 t.slot ≡ Some used) × (used.queued ≡ t.task.queued)
 
-module _ (laws : LawsBelow) (port : Port) where
-  pub puts_keep : (ids : List RequestId) (tasks : List SlotTask) (s new : ServerState) → BookAndSlotsInvariant s → PutsInSlots port ids tasks s new → BookAndSlotsInvariant new
+module _ (laws : PrerequisiteLaws) (port : Port) where
+  pub puts_keep : (ids : List RequestId) (tasks : List PlacedTask) (s new : ServerState) → BookAndSlotsInvariant s → PutsInSlots port ids tasks s new → BookAndSlotsInvariant new
   puts_keep [] [] s new k none = subst BookAndSlotsInvariant (sym none) k
   puts_keep (id ∷ ids) (t ∷ tasks) s new k (mid, one, more) = puts_keep ids tasks mid new (put_keeps laws s mid port id t k one) more
   puts_keep [] (t ∷ tasks) s new k more = absurd more
   puts_keep (id ∷ ids) [] s new k more = absurd more
 
   -- but for slots and book, the server is as it was
-  pub puts_settings : (ids : List RequestId) (tasks : List SlotTask) (s new : ServerState) → PutsInSlots port ids tasks s new → new ≡ record s { slots = new.slots; book = new.book }
+  pub puts_settings : (ids : List RequestId) (tasks : List PlacedTask) (s new : ServerState) → PutsInSlots port ids tasks s new → new ≡ record s { slots = new.slots; book = new.book }
   puts_settings [] [] s new none = none ∙ ap (λ (n : ServerState). record s { slots = n.slots; book = n.book }) (sym none)
   puts_settings (id ∷ ids) (t ∷ tasks) s new (mid, one, more) =
       puts_settings ids tasks mid new more ∙ ap (λ (n : ServerState). record n { slots = new.slots; book = new.book }) one.server
@@ -494,19 +494,19 @@ module _ (laws : LawsBelow) (port : Port) where
   puts_settings (id ∷ ids) [] s new more = absurd more
 
   -- one more
-  pub puts_more : (ids : List RequestId) (tasks : List SlotTask) (s mid new : ServerState) (id : RequestId) (t : SlotTask) → PutsInSlots port ids tasks s mid → PutsInSlot port id t mid new → PutsInSlots port (ids ++ id ∷ []) (tasks ++ t ∷ []) s new
+  pub puts_more : (ids : List RequestId) (tasks : List PlacedTask) (s mid new : ServerState) (id : RequestId) (t : PlacedTask) → PutsInSlots port ids tasks s mid → PutsInSlot port id t mid new → PutsInSlots port (ids ++ id ∷ []) (tasks ++ t ∷ []) s new
   puts_more [] [] s mid new id t none one = (new, subst (λ (n : ServerState). PutsInSlot port id t n new) none one, refl)
   puts_more (first ∷ ids) (other ∷ tasks) s mid new id t (next, its, more) one = (next, its, puts_more ids tasks next mid new id t more one)
   puts_more [] (other ∷ tasks) s mid new id t puts one = absurd puts
   puts_more (first ∷ ids) [] s mid new id t puts one = absurd puts
 
   -- where one is put in a slot, the port is ready
-  pub puts_ready : (id : RequestId) (ids : List RequestId) (tasks : List SlotTask) (s new : ServerState) → BookAndSlotsInvariant s → PutsInSlots port (id ∷ ids) tasks s new → state_of (probe_result_of s.ports port.0) ≡ ReadyState
+  pub puts_ready : (id : RequestId) (ids : List RequestId) (tasks : List PlacedTask) (s new : ServerState) → BookAndSlotsInvariant s → PutsInSlots port (id ∷ ids) tasks s new → state_of (probe_result_of s.ports port.0) ≡ ReadyState
   puts_ready id ids [] s new k more = absurd more
   puts_ready id ids (t ∷ tasks) s new k (mid, one, more) = put_ready laws s mid port id t k one
 
   -- what was used still is
-  still_used : (s new : ServerState) (id : RequestId) (t : SlotTask) → BookAndSlotsInvariant s → PutsInSlot port id t s new → (q n : ℕ) (used : SlotUse) → used_for s.slots q n ≡ Some used → used_for new.slots q n ≡ Some used
+  still_used : (s new : ServerState) (id : RequestId) (t : PlacedTask) → BookAndSlotsInvariant s → PutsInSlot port id t s new → (q n : ℕ) (used : SlotUse) → used_for s.slots q n ≡ Some used → used_for new.slots q n ≡ Some used
   still_used s new id t k one q n used is =
       ap (λ (c : ServerState). used_for c.slots q n) one.server
       ∙ other_uses_placed laws s new port id t k one q n
@@ -514,7 +514,7 @@ module _ (laws : LawsBelow) (port : Port) where
       ∙ is
 
   -- so the slots were free
-  pub puts_free : (ids : List RequestId) (tasks : List SlotTask) (s new : ServerState) → BookAndSlotsInvariant s → PutsInSlots port ids tasks s new → All (λ t. used_for s.slots port.0 t.slot ≡ None) tasks
+  pub puts_free : (ids : List RequestId) (tasks : List PlacedTask) (s new : ServerState) → BookAndSlotsInvariant s → PutsInSlots port ids tasks s new → All (λ t. used_for s.slots port.0 t.slot ≡ None) tasks
   puts_free [] [] s new k none = All-nil (λ t. used_for s.slots port.0 t.slot ≡ None)
   puts_free (id ∷ ids) (t ∷ tasks) s new k (mid, one, more) =
       All-cons (λ t. used_for s.slots port.0 t.slot ≡ None) t tasks one.lowest.1
@@ -529,35 +529,35 @@ module _ (laws : LawsBelow) (port : Port) where
   puts_free (id ∷ ids) [] s new k more = absurd more
 
   -- a slot that is used then is used as one of the tasks, or was before, and is none of theirs
-  pub puts_used : (ids : List RequestId) (tasks : List SlotTask) (s new : ServerState) → BookAndSlotsInvariant s → PutsInSlots port ids tasks s new → (q n : ℕ) (used : SlotUse) → used_for new.slots q n ≡ Some used
-      → ((used_for s.slots q n ≡ Some used) × ((t : SlotTask) → Contains tasks t → AreApart port.0 t.slot q n))
-      ⊎ ((q ≡ port.0) × ((t : SlotTask) × Contains tasks t × (t.slot ≡ n) × (t.task.queued ≡ used.queued)))
+  pub puts_used : (ids : List RequestId) (tasks : List PlacedTask) (s new : ServerState) → BookAndSlotsInvariant s → PutsInSlots port ids tasks s new → (q n : ℕ) (used : SlotUse) → used_for new.slots q n ≡ Some used
+      → ((used_for s.slots q n ≡ Some used) × ((t : PlacedTask) → Contains tasks t → AreApart port.0 t.slot q n))
+      ⊎ ((q ≡ port.0) × ((t : PlacedTask) × Contains tasks t × (t.slot ≡ n) × (t.task.queued ≡ used.queued)))
   puts_used [] [] s new k none q n used is = inl (ap (λ (c : ServerState). used_for c.slots q n) (sym none) ∙ is, λ t here. absurd (nowhere t here))
   puts_used (id ∷ ids) (t ∷ tasks) s new k (mid, one, more) q n used is = ⊎_elim
-      (λ (was : (used_for mid.slots q n ≡ Some used) × ((x : SlotTask) → Contains tasks x → AreApart port.0 x.slot q n)).
+      (λ (was : (used_for mid.slots q n ≡ Some used) × ((x : PlacedTask) → Contains tasks x → AreApart port.0 x.slot q n)).
       let is_then : used_for (with_slot s.slots port.0 t.slot (Some (use_for (mode_in s port) one.request))) q n ≡ Some used = ap (λ (c : ServerState). used_for c.slots q n) (sym one.server) ∙ was.0 in
       ⊎_elim
       (λ (its : (q ≡ port.0) × (n ≡ t.slot)).
       let same : use_for (mode_in s port) one.request ≡ used = its_there laws s mid port id t k one q n used its.0 its.1 is_then in
       inr (its.0, (t, first_here t tasks, sym its.1, ap (λ (r : Task). r.queued) one.task_is ∙ ap (λ (u : SlotUse). u.queued) same)))
       (λ (other : AreApart port.0 t.slot q n).
-      inl (was_used laws s mid port id t k one q n used other is_then, λ x here. ⊎_elim (λ (same : x ≡ t). subst (λ (y : SlotTask). AreApart port.0 y.slot q n) (sym same) other) (λ (later : Contains tasks x). was.1 x later) (contains_cases t tasks x here)))
+      inl (was_used laws s mid port id t k one q n used other is_then, λ x here. ⊎_elim (λ (same : x ≡ t). subst (λ (y : PlacedTask). AreApart port.0 y.slot q n) (sym same) other) (λ (later : Contains tasks x). was.1 x later) (contains_cases t tasks x here)))
       (its_or_other port.0 t.slot q n))
-      (λ (its : (q ≡ port.0) × ((x : SlotTask) × Contains tasks x × (x.slot ≡ n) × (x.task.queued ≡ used.queued))).
+      (λ (its : (q ≡ port.0) × ((x : PlacedTask) × Contains tasks x × (x.slot ≡ n) × (x.task.queued ≡ used.queued))).
       inr (its.0, (its.1.0, contains_there t tasks its.1.0 its.1.1, its.1.2, its.1.3)))
       (puts_used ids tasks mid new (put_keeps laws s mid port id t k one) more q n used is)
   puts_used [] (t ∷ tasks) s new k more q n used is = absurd more
   puts_used (id ∷ ids) [] s new k more q n used is = absurd more
 
   -- what was used before any of them still is
-  pub puts_still_used : (ids : List RequestId) (tasks : List SlotTask) (s new : ServerState) → BookAndSlotsInvariant s → PutsInSlots port ids tasks s new → (q n : ℕ) (used : SlotUse) → used_for s.slots q n ≡ Some used → used_for new.slots q n ≡ Some used
+  pub puts_still_used : (ids : List RequestId) (tasks : List PlacedTask) (s new : ServerState) → BookAndSlotsInvariant s → PutsInSlots port ids tasks s new → (q n : ℕ) (used : SlotUse) → used_for s.slots q n ≡ Some used → used_for new.slots q n ≡ Some used
   puts_still_used [] [] s new k none q n used is = ap (λ (c : ServerState). used_for c.slots q n) none ∙ is
   puts_still_used (id ∷ ids) (t ∷ tasks) s new k (mid, one, more) q n used is = puts_still_used ids tasks mid new (put_keeps laws s mid port id t k one) more q n used (still_used s mid id t k one q n used is)
   puts_still_used [] (t ∷ tasks) s new k more q n used is = absurd more
   puts_still_used (id ∷ ids) [] s new k more q n used is = absurd more
 
   -- each one's slot is used for it
-  pub puts_there : (ids : List RequestId) (tasks : List SlotTask) (s new : ServerState) → BookAndSlotsInvariant s → PutsInSlots port ids tasks s new → All (IsUsedFor port new) tasks
+  pub puts_there : (ids : List RequestId) (tasks : List PlacedTask) (s new : ServerState) → BookAndSlotsInvariant s → PutsInSlots port ids tasks s new → All (IsUsedFor port new) tasks
   puts_there [] [] s new k none = All-nil (IsUsedFor port new)
   puts_there (id ∷ ids) (t ∷ tasks) s new k (mid, one, more) =
       All-cons (IsUsedFor port new) t tasks (
@@ -571,7 +571,7 @@ module _ (laws : LawsBelow) (port : Port) where
 
   -- ---- each of them waits until its turn comes
 
-  puts_wait : (ids : List RequestId) (tasks : List SlotTask) (s new : ServerState) → BookAndSlotsInvariant s → PutsInSlots port ids tasks s new → (id : RequestId) → Contains ids id → (e : BookEntry) → Contains s.book e → e.entry.id ≡ id → e.entry.issued ≡ false
+  puts_wait : (ids : List RequestId) (tasks : List PlacedTask) (s new : ServerState) → BookAndSlotsInvariant s → PutsInSlots port ids tasks s new → (id : RequestId) → Contains ids id → (e : BookEntry) → Contains s.book e → e.entry.id ≡ id → e.entry.issued ≡ false
   puts_wait [] tasks s new k more id there e here its = absurd (nowhere id there)
   puts_wait (first ∷ ids) (t ∷ tasks) s new k (mid, one, more) id there e here its = ⊎_elim
       (λ (same : id ≡ first).
@@ -589,7 +589,7 @@ module _ (laws : LawsBelow) (port : Port) where
   puts_wait (first ∷ ids) [] s new k more id there e here its = absurd more
 
   -- so none is put in two slots
-  pub never_again : (first : RequestId) (t : SlotTask) (ids : List RequestId) (tasks : List SlotTask) (s mid new : ServerState) → BookAndSlotsInvariant s → PutsInSlot port first t s mid → PutsInSlots port ids tasks mid new → Contains ids first → ⊥
+  pub never_again : (first : RequestId) (t : PlacedTask) (ids : List RequestId) (tasks : List PlacedTask) (s mid new : ServerState) → BookAndSlotsInvariant s → PutsInSlot port first t s mid → PutsInSlots port ids tasks mid new → Contains ids first → ⊥
   never_again first t ids tasks s mid new k one more there = false≢true (sym waits ∙ ap (λ (x : BookEntry). x.entry.issued) now)
     where
       e : BookEntry

@@ -5,7 +5,7 @@ use Rattle.ata_types.specs.declared.PortState.TheVariants.{Absent}
 use Rattle.adapter.specs.Device.{Device}
 use Rattle.refinement.specs.Driven.{IsSimulated}
 use Rattle.refinement.specs.Driver.{AllFree}
-use Rattle.host_boot.specs.Again.{RebootsPort, IsSurveyOrBoot}
+use Rattle.host_boot.specs.Again.{RebootsPort, IsCapPiOrBootAccess}
 use Rattle.host_boot.specs.declared.Booted.{Booted}
 use Rattle.host_boot.specs.declared.ProbeResult.{ProbeResult}
 use Rattle.host_boot.specs.declared.ProbeResult.TheVariants.{Unready}
@@ -20,7 +20,7 @@ use Rattle.port_control.specs.declared.events.PortError.TheVariants.{FatalError,
 pub record IsFoundAbsent (wanted : Wanted) (port : Port) (port_error : PortError) (found : ProbeResult) (old new : Device) : Type 0 where
   pub lost : port_error ≡ LinkChanged
   pub is : found ≡ Unready Absent
-  pub starts : IsSimulated (IsSurveyOrBoot port) (λ uses. AllFree uses port.0) old new
+  pub starts : IsSimulated (IsCapPiOrBootAccess port) (λ uses. AllFree uses port.0) old new
   pub ended : BacksState (serial_of wanted) Absent port.0 new
 
 pub boots_or_absent : (port_error : PortError) (wanted : Wanted) (port : Port) (booted : Booted) (old new : Device) → BootsAfter port_error wanted port booted old new

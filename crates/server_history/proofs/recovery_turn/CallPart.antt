@@ -17,12 +17,12 @@ use Rattle.block_machine.specs.Events.{AreStepsOfCall}
 use Rattle.block_machine.specs.Histories.{IsReachable}
 use Rattle.block_machine.specs.State.{Machine}
 use Rattle.block_machine.specs.declared.due.QueueMode.{QueueMode}
-use Rattle.host_boot.specs.Taken.{probe_result_of}
+use Rattle.host_boot.specs.TakeOver.{probe_result_of}
 use Rattle.host_boot.specs.declared.ProbeResult.TheVariants.{Ready}
 use Rattle.identify.specs.declared.DiskInfo.{DiskInfo}
 use Rattle.port_control.specs.Looks.{IsLooking}
 use Rattle.request_queue.specs.Entries.{BookEntry, asks, asks_of, due_ids}
-use Rattle.server_history.specs.Below.{LawsBelow}
+use Rattle.server_history.specs.Prerequisites.{PrerequisiteLaws}
 use Rattle.server_history.specs.ErrorHandling.{HasResolved, HandlesPortError}
 use Rattle.port_control.specs.declared.events.PortError.TheVariants.{TimedOut}
 use Rattle.server_history.specs.Server.{InCallInvariant, MachineRelation, SettledInvariant, ServerState, mode_in, ports_of, state_of}
@@ -51,7 +51,7 @@ unlooked port old seen same = subst (IsSimulated (IsLooking port) AnyUse old) (s
 })
 
 -- once its requests met their fates, the server keeps what it keeps
-pub goes_on : LawsBelow → (port : Port) (later : List Reply) (old new : ServerState) → InCallInvariant old → state_of (probe_result_of old.ports port.0) ≡ ReadyState → (a : HasResolved port later old new)
+pub goes_on : PrerequisiteLaws → (port : Port) (later : List Reply) (old new : ServerState) → InCallInvariant old → state_of (probe_result_of old.ports port.0) ≡ ReadyState → (a : HasResolved port later old new)
     → IsSimulated (IsLooking port) AnyUse old.device a.error_handled.seen → InCallInvariant new
 goes_on laws port later old new k ready a looks =
     let f = adds_fates laws port later old new k ready a looks k.machine k.reached k.stands in
@@ -63,7 +63,7 @@ none_due_unready s k port unready mode r own due =
     let y = map_in (λ (x : BookEntry). asks x.entry) s.book r due.here in
     unready (ap (λ (q : Port). state_of (probe_result_of s.ports q.0)) (sym own ∙ ap (λ (u : Unanswered). u.port) y.2) ∙ of_ready s k y.0 y.1)
 
-pub unready_undue : LawsBelow → (s : ServerState) → InCallInvariant s → (port : Port) → ((info : DiskInfo) → probe_result_of s.ports port.0 ≡ Ready info → ⊥) → due_ids (mode_in s port) port (asks_of s.book) ≡ []
+pub unready_undue : PrerequisiteLaws → (s : ServerState) → InCallInvariant s → (port : Port) → ((info : DiskInfo) → probe_result_of s.ports port.0 ≡ Ready info → ⊥) → due_ids (mode_in s port) port (asks_of s.book) ≡ []
 unready_undue laws s k port unready = ap (map (λ (r : Unanswered). r.id)) (nobody (due_of (mode_in s port) port (asks_of s.book)) none)
   where
     none : (r : Unanswered) → Contains (due_of (mode_in s port) port (asks_of s.book)) r → ⊥
@@ -71,7 +71,7 @@ unready_undue laws s k port unready = ap (map (λ (r : Unanswered). r.id)) (nobo
         let own = laws.own (mode_in s port) port (asks_of s.book) r here in
         none_due_unready s k port (λ ready. let found = (ready_found s port.0 k ready).1 in unready found.0 found.1) (mode_in s port) r own ((laws.exact (mode_in s port) port (asks_of s.book) r own).0 here)
 
-module _ (laws : LawsBelow) (port : Port) (replies : List Reply) (old new : ServerState) (t : SettledInvariant old) (ready : state_of (probe_result_of old.ports port.0) ≡ ReadyState)
+module _ (laws : PrerequisiteLaws) (port : Port) (replies : List Reply) (old new : ServerState) (t : SettledInvariant old) (ready : state_of (probe_result_of old.ports port.0) ≡ ReadyState)
     (r : HandlesPortError port replies old new) (looks : IsSimulated (IsLooking port) AnyUse old.device r.settled.error_handled.seen) where
   abbrev k : InCallInvariant old
   k = t.kept

@@ -15,9 +15,9 @@ use Rattle.ata_types.specs.declared.request.RequestId.{RequestId}
 use Rattle.adapter.specs.declared.access.DeviceStep.{DeviceStep}
 use Rattle.refinement.specs.Driven.{AnyUse, IsSimulated}
 use Rattle.refinement.specs.Driver.{IsBacked}
-use Rattle.block_machine.specs.Events.{AllByDevice, AllLawful, AllMay, AreStepsOfCall, EndsUndone, IsIssuedIn, IsLawful, IssuesLast, IsToldBefore, AbstractState, Service, RepliesMatch, AnswersAllUnplugged, WasIssued, answers_of, issues_it, reply_of, IsReadyAgain}
+use Rattle.block_machine.specs.Events.{AllByDevice, AllAnswersLawful, AllMay, AreStepsOfCall, EndsUndone, IsIssuedIn, IsLawfulAnswer, IssuesLast, IsToldBefore, AbstractState, Service, RepliesMatch, AnswersAllUnplugged, WasIssued, answers_of, issues_it, reply_of, IsReadyAgain}
 use Rattle.block_machine.specs.Histories.{IsReachable}
-use Rattle.block_machine.specs.Left.{after}
+use Rattle.block_machine.specs.Expected.{after}
 use Rattle.block_machine.specs.Ports.{Evidence, Ports, SameDisk}
 use Rattle.block_machine.specs.State.{Machine, Pending}
 use Rattle.block_machine.specs.Steps.{Step, Again, Answer, Issue}
@@ -27,18 +27,18 @@ use Rattle.server_history.proofs.state.ListMembers.{contains_here, map_in, in_fi
 use Rattle.block_machine.specs.Due.{due_of}
 use Rattle.driver_history.specs.Heeding.{OnlyFailedPortsRequeue, ToldOkOr}
 use Rattle.driver_history.specs.Histories.{IssuesDue}
-use Rattle.driver_history.specs.Holds.{HasNoUnanswered}
+use Rattle.driver_history.specs.PortInvariants.{HasNoUnanswered}
 use Rattle.identify.specs.declared.error_log.FailedSlot.{FailedSlot}
 use Rattle.error_recovery.specs.declared.Next.{Next}
 use Rattle.error_recovery.specs.declared.Next.TheVariants.{Running, Restart, Dead as Stuck}
-use Rattle.host_boot.specs.Taken.{probe_result_of}
+use Rattle.host_boot.specs.TakeOver.{probe_result_of}
 use Rattle.host_boot.specs.declared.ProbeResult.{ProbeResult}
 use Rattle.host_boot.specs.declared.ProbeResult.TheVariants.{Unserved, Ready, Unready}
 use Rattle.identify.specs.declared.DiskInfo.{DiskInfo}
 use Rattle.port_control.specs.Looks.{IsLooking}
 use Rattle.port_control.specs.declared.events.PortError.{PortError}
 use Rattle.port_control.specs.declared.events.PortError.TheVariants.{FatalError, TaskFileError, TimedOut, LinkChanged}
-use Rattle.request_queue.specs.Entries.{BookEntry, asks, asks_of, due_ids, is_of}
+use Rattle.request_queue.specs.Entries.{BookEntry, asks, asks_of, due_ids, is_of_port}
 use Rattle.request_queue.specs.Dispositions.{disposition_of}
 use Rattle.request_queue.specs.Machine.{EntryRelation}
 use Rattle.request_queue.specs.declared.PendingRequest.{PendingRequest}
@@ -48,8 +48,8 @@ use Rattle.request_queue.specs.declared.disposition.Revalidation.{Revalidation}
 use Rattle.request_queue.specs.declared.disposition.Revalidation.TheVariants.{SameDisk as Same, DiskLost, Dead as NoEnd}
 use Rattle.slots.specs.Uses.{PortSlots, use_at}
 use Rattle.slots.specs.declared.SlotUse.{SlotUse}
-use Rattle.server_history.specs.Below.{LawsBelow}
-use Rattle.server_history.specs.ErrorHandling.{IsFailedRequest, IsRevalidation, HasResolved, HandlesPortError, holdings_of, requests_of}
+use Rattle.server_history.specs.Prerequisites.{PrerequisiteLaws}
+use Rattle.server_history.specs.ErrorHandling.{IsFailedRequest, IsRevalidation, HasResolved, HandlesPortError, book_and_loans_of, requests_of}
 use Rattle.server_history.specs.Served.{HasEnded, ok_answers_of, done_reply}
 use Rattle.server_history.specs.Server.{InCallInvariant, MachineRelation, ServerState, last_disk_in, last_disk_of, mode_in, ports_of, remembered_at, last_sectors_of, last_serial_of, slots_at, state_of}
 use Rattle.server_history.specs.Turns.{IsOfTurn, abstract_state_of}
@@ -83,7 +83,7 @@ pub record DecidesTurn (port : Port) (replies : List Reply) (old new : ServerSta
   pub own : All (IsOfTurn port) steps
   pub belong : AreStepsOfCall {D = DeviceStep} Service (ports_of new) steps
   pub last : IssuesLast steps
-  pub lawful : AllLawful (abstract_state_of old m) evidence (ports_of new) steps
+  pub lawful : AllAnswersLawful (abstract_state_of old m) evidence (ports_of new) steps
   pub grounded : r.settled.error_handled.port_error ≢ TimedOut → OnlyFailedPortsRequeue evidence steps
   pub tells : RepliesMatch steps replies
   pub unplugs : AnswersAllUnplugged steps (after m steps)
@@ -109,7 +109,7 @@ failed_used slots (Some its) failed x (used, at, names) is =
     let same : record { id = used.id; status = its.status; error = its.error } ≡ x = cc in
     (its.slot.0, used, at, ap (λ (f : FailedRequest). f.id) (sym same))
 
-module _ (laws : LawsBelow) (port : Port) (replies : List Reply) (old new : ServerState) (k : InCallInvariant old) (ready : state_of (probe_result_of old.ports port.0) ≡ ReadyState) (r : HandlesPortError port replies old new)
+module _ (laws : PrerequisiteLaws) (port : Port) (replies : List Reply) (old new : ServerState) (k : InCallInvariant old) (ready : state_of (probe_result_of old.ports port.0) ≡ ReadyState) (r : HandlesPortError port replies old new)
     (looks : IsSimulated (IsLooking port) AnyUse old.device r.settled.error_handled.seen) (k_mid : InCallInvariant r.mid) where
   abbrev a : HasResolved port r.later old r.mid
   a = r.settled
@@ -194,8 +194,8 @@ module _ (laws : LawsBelow) (port : Port) (replies : List Reply) (old new : Serv
   -- but on the same disk, no request of it is left
   none_stays : a.revalidation ≢ Same → (x : BookEntry) → Contains r.mid.book x → x.entry.port ≢ port
   none_stays other x here own =
-      let w = none_left laws (disposition_of a.failed a.revalidation) (other_ends a.failed a.revalidation other) its r.later (holdings_of port a.mid) a.now a.meets x (subst (λ (s : ServerState). Contains s.book x) a.server here) in
-      w.1 (in_filter (λ (y : BookEntry). is_of port y.entry) a.mid.book x w.0 (eq-eqb x.entry.port.0 port.0 (ap (λ (q : Port). q.0) own)))
+      let w = none_left laws (disposition_of a.failed a.revalidation) (other_ends a.failed a.revalidation other) its r.later (book_and_loans_of port a.mid) a.now a.meets x (subst (λ (s : ServerState). Contains s.book x) a.server here) in
+      w.1 (in_filter (λ (y : BookEntry). is_of_port port y.entry) a.mid.book x w.0 (eq-eqb x.entry.port.0 port.0 (ap (λ (q : Port). q.0) own)))
 
   -- ---- who is named
 
@@ -226,8 +226,8 @@ module _ (laws : LawsBelow) (port : Port) (replies : List Reply) (old new : Serv
   -- a request that met its fate was in the book
   of_its : (e : BookEntry) → Contains its e → Contains a.mid.book e × (e.entry.port ≡ port)
   of_its e here = (
-    All-contains (Contains a.mid.book) its e (All-filter (λ (x : BookEntry). is_of port x.entry) (Contains a.mid.book) a.mid.book (All-contains_itself a.mid.book)) here,
-    ap (λ (q : ℕ). record { 0 = q }) (eqb-true e.entry.port.0 port.0 (All-contains (λ (x : BookEntry). is_of port x.entry ≡ true) its e (filter_passes (λ (x : BookEntry). is_of port x.entry) a.mid.book) here)),
+    All-contains (Contains a.mid.book) its e (All-filter (λ (x : BookEntry). is_of_port port x.entry) (Contains a.mid.book) a.mid.book (All-contains_itself a.mid.book)) here,
+    ap (λ (q : ℕ). record { 0 = q }) (eqb-true e.entry.port.0 port.0 (All-contains (λ (x : BookEntry). is_of_port port x.entry ≡ true) its e (filter_passes (λ (x : BookEntry). is_of_port port x.entry) a.mid.book) here)),
   )
 
   module _ (m : Machine) (reached : IsReachable m) (is : MachineRelation old m) (f : AddsFates port r.later old r.mid a m) where
@@ -264,7 +264,7 @@ module _ (laws : LawsBelow) (port : Port) (replies : List Reply) (old new : Serv
 
     -- ---- answers
 
-    fate_lawful : (e : Pending) (o : Outcome) → Contains f.dispositions (Answer e o) → IsLawful began evidence (ports_of new) e o
+    fate_lawful : (e : Pending) (o : Outcome) → Contains f.dispositions (Answer e o) → IsLawfulAnswer began evidence (ports_of new) e o
     fate_lawful e o here = by (why a.failed a.revalidation w.0.entry o w.3)
       where
         w : (request : BookEntry) × Contains its request × EntryRelation request e × (disposition_of a.failed a.revalidation request.entry ≡ Complete o)
@@ -286,10 +286,10 @@ module _ (laws : LawsBelow) (port : Port) (replies : List Reply) (old new : Serv
           subst (SameDisk (ports_of old) (ports_of new)) (sym its_port) (same_shown same),
         )
 
-        by : Why a.failed a.revalidation w.0.entry o → IsLawful began evidence (ports_of new) e o
+        by : Why a.failed a.revalidation w.0.entry o → IsLawfulAnswer began evidence (ports_of new) e o
         by (inl x) =
             let issued = failed_issued x.0 x.1 w.0 there x.2 in
-            subst (IsLawful began evidence (ports_of new) e) (sym x.3) (
+            subst (IsLawfulAnswer began evidence (ports_of new) e) (sym x.3) (
               was issued,
               w.2.issued ∙ issued,
               subst (λ (failed : Option FailedRequest). Contains (faults_of failed) (record { id = e.request.id; status = x.0.status; error = x.0.error })) (sym x.1)
@@ -297,11 +297,11 @@ module _ (laws : LawsBelow) (port : Port) (replies : List Reply) (old new : Serv
               subst (Contains evidence.stopped) (sym its_port) (stopped_named port a.error_handled.result.next (λ stuck. let y : None ≡ Some x.0 = sym (no_way stuck).1 ∙ x.1 in absurd cc)),
             )
         by (inr (inl x)) =
-            subst (IsLawful began evidence (ports_of new) e) (sym x.3) (was x.1, w.2.issues ∙ x.2, goes_on x.0)
+            subst (IsLawfulAnswer began evidence (ports_of new) e) (sym x.3) (was x.1, w.2.issues ∙ x.2, goes_on x.0)
         by (inr (inr (inl x))) =
-            subst (IsLawful began evidence (ports_of new) e) (sym x.1) (subst (Contains evidence.lost) (sym its_port) (other_lost x.0), subst (Contains evidence.stopped) (sym its_port) (other_stopped x.0))
-        by (inr (inr (inr (inl x)))) = subst (IsLawful began evidence (ports_of new) e) (sym x.1) (ap (ports_of new).state its_port ∙ dead_state x.0)
-        by (inr (inr (inr (inr x)))) = subst (IsLawful began evidence (ports_of new) e) (sym x.3) (inr (goes_on x.0))
+            subst (IsLawfulAnswer began evidence (ports_of new) e) (sym x.1) (subst (Contains evidence.lost) (sym its_port) (other_lost x.0), subst (Contains evidence.stopped) (sym its_port) (other_stopped x.0))
+        by (inr (inr (inr (inl x)))) = subst (IsLawfulAnswer began evidence (ports_of new) e) (sym x.1) (ap (ports_of new).state its_port ∙ dead_state x.0)
+        by (inr (inr (inr (inr x)))) = subst (IsLawfulAnswer began evidence (ports_of new) e) (sym x.3) (inr (goes_on x.0))
 
     again_same : (e : Pending) → Contains f.dispositions (Again e) → (a.revalidation ≡ Same) × (e.request.port ≡ port)
     again_same e here = let w = f.again e here in (why_again a.failed a.revalidation w.0.entry w.3, w.2.port ∙ (of_its w.0 w.1).1)
@@ -316,19 +316,19 @@ module _ (laws : LawsBelow) (port : Port) (replies : List Reply) (old new : Serv
     ended_port e here = let y = ended_by e here in y.2.entry.port ∙ y.2.port_is
 
     -- who is told Ok was issued when the turn began, and has ended
-    ok_lawful : (e : Pending) → Contains f.ended e → IsLawful began evidence (ports_of new) e outcome.Ok
+    ok_lawful : (e : Pending) → Contains f.ended e → IsLawfulAnswer began evidence (ports_of new) e outcome.Ok
     ok_lawful e here =
         let y = ended_by e here in
         let l = laws.basic.found_before m.book (after m f.first).book e (laws.basic.spares m f.first f.first_only).book (ended_stood laws (after m f.first) f.ended early_may.1 e here) in
         (record { pending = l.0; here = l.1; id_is = ap (λ r. r.id) (sym l.2.request); issued = sym l.2.issued ∙ y.2.issued }, y.2.issued, y.2.touched, y.2.ended)
 
-    lawful : AllLawful began evidence (ports_of new) (z.steps ++ base)
+    lawful : AllAnswersLawful began evidence (ports_of new) (z.steps ++ base)
     lawful =
         lawful_on (mode_in r.mid port) port began evidence (ports_of new) z.steps base z.only
         (lawful_join began evidence (ports_of new) f.dispositions (f.middle ++ (ok_answers_of f.ended ++ f.first))
         (deciding_lawful port began evidence (ports_of new) f.dispositions f.own fate_lawful (λ e here. let s = again_same e here in subst (Contains evidence.stopped) (sym s.1) (same_stopped s.0)))
         (lawful_join began evidence (ports_of new) f.middle (ok_answers_of f.ended ++ f.first) (devices_lawful began evidence (ports_of new) f.middle f.middle_only)
-        (answers_all (AllLawful began evidence (ports_of new)) f.ended f.first (λ e steps here l. (l, ok_lawful e here)) (devices_lawful began evidence (ports_of new) f.first f.first_only))))
+        (answers_all (AllAnswersLawful began evidence (ports_of new)) f.ended f.first (λ e steps here l. (l, ok_lawful e here)) (devices_lawful began evidence (ports_of new) f.first f.first_only))))
 
     again_failed : a.error_handled.port_error ≢ TimedOut → (e : Pending) → Contains f.dispositions (Again e) → Contains evidence.failed port
     again_failed unhung e here = ⊎_elim (λ lost. absurd (not_same lost (again_same e here).0)) (failed_named unhung) (lost_or_not a.error_handled.port_error)
@@ -599,7 +599,7 @@ module _ (laws : LawsBelow) (port : Port) (replies : List Reply) (old new : Serv
 -- ---- the whole
 
 -- So it is from each machine that stands for the server.
-pub recovered_decides : LawsBelow → (port : Port) (replies : List Reply) (old new : ServerState) → InCallInvariant old → state_of (probe_result_of old.ports port.0) ≡ ReadyState → (r : HandlesPortError port replies old new)
+pub recovered_decides : PrerequisiteLaws → (port : Port) (replies : List Reply) (old new : ServerState) → InCallInvariant old → state_of (probe_result_of old.ports port.0) ≡ ReadyState → (r : HandlesPortError port replies old new)
     → IsSimulated (IsLooking port) AnyUse old.device r.settled.error_handled.seen → InCallInvariant r.mid → (m : Machine) → IsReachable m → MachineRelation old m
     → DecidesTurn port replies old new r (evidence_by r.settled) m
 recovered_decides laws port replies old new k ready r looks k_mid m reached is =

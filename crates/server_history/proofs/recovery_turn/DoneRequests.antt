@@ -19,20 +19,20 @@ use Rattle.refinement.specs.Driven.{AnyUse, IsSimulated}
 use Rattle.refinement.specs.Slots.{Serves, ServesRequest}
 use Rattle.block_machine.specs.Events.{AllMay, AnswersEnded}
 use Rattle.block_machine.specs.Histories.{IsReachable}
-use Rattle.block_machine.specs.Left.{after}
+use Rattle.block_machine.specs.Expected.{after}
 use Rattle.block_machine.specs.State.{Machine, Pending}
 use Rattle.block_machine.specs.Steps.{Step, Answer}
 use Rattle.server_history.proofs.state.ListMembers.{contains_cases, contains_there}
 use Rattle.driver_history.specs.Histories.{FindsDone, IsAnsweredOk, IsIssuedOn}
 use Rattle.driver_history.specs.Trace.{ReadsCiAndSact}
-use Rattle.host_boot.specs.Taken.{probe_result_of}
+use Rattle.host_boot.specs.TakeOver.{probe_result_of}
 use Rattle.port_control.specs.Looks.{IsLooking}
 use Rattle.request_queue.specs.Entries.{BookEntry}
 use Rattle.request_queue.specs.Dispositions.{disposition_of}
 use Rattle.request_queue.specs.Machine.{EntryRelation}
 use Rattle.request_queue.specs.declared.disposition.Disposition.TheVariants.{Complete}
 use Rattle.slots.specs.declared.SlotUse.{SlotUse}
-use Rattle.server_history.specs.Below.{LawsBelow}
+use Rattle.server_history.specs.Prerequisites.{PrerequisiteLaws}
 use Rattle.server_history.specs.ErrorHandling.{IsErrorHandled, HasResolved, HandlesPortError, requests_of}
 use Rattle.server_history.specs.Served.{AnswersEach, HasEnded, ok_answers_of, is_used}
 use Rattle.server_history.specs.Server.{ServerState, InCallInvariant, MachineRelation, mode_in, state_of, used_for}
@@ -50,14 +50,14 @@ use Rattle.server_history.proofs.state.TransferAccesses.{both_read}
 use Rattle.server_history.proofs.dispositions.FateReasons.{Why, why}
 use Rattle.server_history.proofs.recovery_turn.TurnParts.{evidence_by, until_issues}
 use Rattle.server_history.proofs.healthy_turn.AnswersAndIssues.{over_on, ready_on}
-use Rattle.server_history.proofs.state.PortSlots.{AreOver, HasSlot, issued_has, ready_found, serves_used}
+use Rattle.server_history.proofs.state.PortSlots.{CommandsAreOver, HasSlot, issued_has, ready_found, serves_used}
 use Rattle.server_history.proofs.recovery_turn.TurnStretches.{done_over, found_kept}
 use Rattle.server_history.proofs.state.PairedLists.{at_left, at_right}
 use Rattle.server_history.proofs.state.FirstMembers.{nowhere, first_here}
 
 -- ---- slots whose requests were answered
 
-module _ (laws : LawsBelow) (port : Port) (low : port.0 < 4) (done : ℕ) where
+module _ (laws : PrerequisiteLaws) (port : Port) (low : port.0 < 4) (done : ℕ) where
   -- of a request that was answered a slot was found done
   record HadSlot (s : ServerState) (id : RequestId) : Type 0 where
     slot : ℕ
@@ -67,7 +67,7 @@ module _ (laws : LawsBelow) (port : Port) (low : port.0 < 4) (done : ℕ) where
     id_is : used.id ≡ id
     found : bit done slot ≡ true
 
-  had_slot : (requests : List BookEntry) (old new : ServerState) → InCallInvariant old → state_of (probe_result_of old.ports port.0) ≡ ReadyState → AreOver port done old.device → AnswersEach port done requests old new
+  had_slot : (requests : List BookEntry) (old new : ServerState) → InCallInvariant old → state_of (probe_result_of old.ports port.0) ≡ ReadyState → CommandsAreOver port done old.device → AnswersEach port done requests old new
       → (request : BookEntry) → Contains requests request → HadSlot old request.entry.id
   had_slot [] old new k ready over none request here = absurd (nowhere request here)
   had_slot (e ∷ requests) old new k ready over (mid, one, its, more) request here = ⊎_elim
@@ -78,7 +78,7 @@ module _ (laws : LawsBelow) (port : Port) (low : port.0 < 4) (done : ℕ) where
       (contains_cases e requests request here)
 
   -- and whose slot isn't used any more was answered
-  was_told : (requests : List BookEntry) (old new : ServerState) → InCallInvariant old → state_of (probe_result_of old.ports port.0) ≡ ReadyState → AreOver port done old.device → AnswersEach port done requests old new
+  was_told : (requests : List BookEntry) (old new : ServerState) → InCallInvariant old → state_of (probe_result_of old.ports port.0) ≡ ReadyState → CommandsAreOver port done old.device → AnswersEach port done requests old new
       → (slot : ℕ) (used : SlotUse) → used_for old.slots port.0 slot ≡ Some used → used_for new.slots port.0 slot ≡ None → (request : BookEntry) × Contains requests request × (request.entry.id ≡ used.id)
   was_told [] old new k ready over none slot used is unused = let z : None ≡ Some used = sym unused ∙ ap (λ (n : ServerState). used_for n.slots port.0 slot) none ∙ is in absurd cc
   was_told (e ∷ requests) old new k ready over (mid, one, its, more) slot used is unused = ⊎_elim
@@ -99,7 +99,7 @@ module _ (laws : LawsBelow) (port : Port) (low : port.0 < 4) (done : ℕ) where
 
 -- ---- the whole
 
-module _ (laws : LawsBelow) (port : Port) (replies : List Reply) (old new : ServerState) (k : InCallInvariant old) (ready : state_of (probe_result_of old.ports port.0) ≡ ReadyState) (r : HandlesPortError port replies old new)
+module _ (laws : PrerequisiteLaws) (port : Port) (replies : List Reply) (old new : ServerState) (k : InCallInvariant old) (ready : state_of (probe_result_of old.ports port.0) ≡ ReadyState) (r : HandlesPortError port replies old new)
     (looks : IsSimulated (IsLooking port) AnyUse old.device r.settled.error_handled.seen) (kept : InCallInvariant r.mid) (evident : IsEvident port replies old new r) (m : Machine) (reached : IsReachable m) (is : MachineRelation old m)
     (d : DecidesTurn port replies old new r (evidence_by r.settled) m) where
   abbrev a : HasResolved port r.later old r.mid

@@ -9,16 +9,16 @@ use Rattle.adapter.specs.Access.Access.{Reading}
 use Rattle.adapter.specs.Device.{Device}
 use Rattle.adapter.specs.Rules.{IsOn}
 use Rattle.refinement.specs.Driven.{RelatesWith, AnyUse, IsSimulated}
-use Rattle.refinement.specs.Facts.{IsFaulted}
+use Rattle.refinement.specs.PortFacts.{IsFaulted}
 use Rattle.error_recovery.specs.Recovery.{PlainUsesSlot0, PlainIsSlot0, MayRecover}
-use Rattle.driver_history.specs.Holds.{EngineRuns}
-use Rattle.host_boot.specs.Taken.{StillStandsBehind, probe_result_of, wanted_of}
+use Rattle.driver_history.specs.PortInvariants.{EngineRuns}
+use Rattle.host_boot.specs.TakeOver.{StillBacksProbeResult, probe_result_of, wanted_of}
 use Rattle.host_boot.specs.declared.ProbeResult.{ProbeResult}
 use Rattle.commands.specs.Masks.{ReadsDone}
 use Rattle.port_control.specs.Looks.{IsLooking, LooksAt}
 use Rattle.port_control.specs.declared.events.PortEvent.TheVariants.{TaskFileError}
 use Rattle.slots.specs.declared.SlotUse.{SlotUse}
-use Rattle.server_history.specs.Below.{LawsBelow}
+use Rattle.server_history.specs.Prerequisites.{PrerequisiteLaws}
 use Rattle.server_history.specs.Server.{ServerState, InCallInvariant, StandsAlone, slots_at, state_of, used_for}
 use Rattle.server_history.specs.ErrorHandling.{AreAllQueuedAs}
 use Rattle.server_history.specs.Served.{IsMaskOf}
@@ -30,9 +30,9 @@ use Rattle.server_history.proofs.state.PortSlots.{busy_used, free_unused, ready_
 released : (s : ServerState) (port : Port) → InCallInvariant s → state_of (probe_result_of s.ports port.0) ≡ ReadyState → (s.device.port port.0).sctl_det ≡ 0
 released s port k ready =
     let r = ready_found s port.0 k ready in
-    (subst (λ (f : ProbeResult). StillStandsBehind (wanted_of s.wanted port.0) f port.0 s.device) r.1.1 (k.behind port.0 r.0).behind).1.det
+    (subst (λ (f : ProbeResult). StillBacksProbeResult (wanted_of s.wanted port.0) f port.0 s.device) r.1.1 (k.behind port.0 r.0).behind).1.det
 
-module _ (laws : LawsBelow) (s : ServerState) (seen found : Device) (port : Port) (mask done : ℕ) (k : InCallInvariant s) (ready : state_of (probe_result_of s.ports port.0) ≡ ReadyState)
+module _ (laws : PrerequisiteLaws) (s : ServerState) (seen found : Device) (port : Port) (mask done : ℕ) (k : InCallInvariant s) (ready : state_of (probe_result_of s.ports port.0) ≡ ReadyState)
     (l : LooksAt port TaskFileError s.device seen) (looks : IsSimulated (IsLooking port) AnyUse s.device seen) (finds : ReadsDone port mask done seen found) where
   low : port.0 < 4
   low = (ready_found s port.0 k ready).0

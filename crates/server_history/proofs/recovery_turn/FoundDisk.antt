@@ -14,12 +14,12 @@ use Rattle.adapter.specs.Access.{Access, DoesAll, Writes}
 use Rattle.adapter.specs.Access.Access.{Reading, Writing}
 use Rattle.adapter.specs.Device.{Device, DevicePort}
 use Rattle.adapter.specs.Rules.{IsOn}
-use Rattle.refinement.specs.Driven.{Grows, OnPortWriting, IsDrivenBy, SparesOtherPorts}
+use Rattle.refinement.specs.Driven.{TapeGrows, OnPortWriting, IsDrivenBy, SparesOtherPorts}
 use Rattle.refinement.specs.Driver.{IsBacked}
 use Rattle.block_machine.specs.Events.{ShowsDisk, changes_disk}
 use Rattle.block_machine.specs.State.{Machine}
 use Rattle.block_machine.specs.Steps.{Step}
-use Rattle.host_boot.specs.Again.{RebootsPort, BootsStopped, IsSurveyOrBoot}
+use Rattle.host_boot.specs.Again.{RebootsPort, BootsStopped, IsCapPiOrBootAccess}
 use Rattle.host_boot.specs.declared.Booted.{Booted}
 use Rattle.host_boot.specs.declared.ProbeResult.{ProbeResult}
 use Rattle.host_boot.specs.declared.ProbeResult.TheVariants.{Ready, Unready, Unserved}
@@ -29,7 +29,7 @@ use Rattle.identify.specs.Wanted.{serial_of}
 use Rattle.port_control.specs.Ports.{FindsLink, HasLink, IsPlacingRegister, SeesResetFault, ReadsUntil}
 use Rattle.port_control.specs.declared.PortFault.{PortFault}
 use Rattle.port_control.specs.declared.PortFault.TheVariants.{NoDevice, Busy, EngineStuck, NotAta}
-use Rattle.server_history.specs.Below.{LawsBelow}
+use Rattle.server_history.specs.Prerequisites.{PrerequisiteLaws}
 use Rattle.server_history.specs.Server.{MachineRelation, ServerState, state_of}
 use Rattle.server_history.proofs.state.DrivenAccesses.{driven_as}
 use Rattle.server_history.proofs.recovery_turn.LinkResets.{IsBeside, cleared_then, late_then, linked_then, placing_boots, ready_then, resetting, started_then, until, without}
@@ -44,7 +44,7 @@ pub record SeesDevice (port : Port) (old new : Device) : Type 0 where
   pub own : HasDiskIfShown (seen.port port.0)
   pub late : IsDrivenBy (IsBeside port) seen new
 
-module _ (laws : LawsBelow) (port : Port) where
+module _ (laws : PrerequisiteLaws) (port : Port) where
   -- once COMRESET was sent, a disk is in where a device shows
   own_then : (placed sent ended seen : Device) → IsOn placed → Writes (Px port Sctl) 1 placed sent → Writes (Px port Sctl) 0 sent ended → ReadsUntil port Ssts HasLink ended seen → HasDiskIfShown (seen.port port.0)
   own_then placed sent ended seen on sends ends sees =
@@ -119,11 +119,11 @@ pub record SeesOver (port : Port) (old asked new : Device) : Type 0 where
   pub does : DoesAll accesses old seen
   pub shows : (seen.port port.0).ssts_det ≡ 3
   pub own : HasDiskIfShown (seen.port port.0)
-  pub before : Grows old asked
-  pub since : Grows asked new
-  pub later : Grows seen new
+  pub before : TapeGrows old asked
+  pub since : TapeGrows asked new
+  pub later : TapeGrows seen new
 
-pub booted_sees : (laws : LawsBelow) (port : Port) (wanted : Wanted) (booted : Booted) (accesses : List Access) (old d new : Device) → IsOn old → DoesAll accesses old d → All (SparesOtherPorts port) accesses
+pub booted_sees : (laws : PrerequisiteLaws) (port : Port) (wanted : Wanted) (booted : Booted) (accesses : List Access) (old d new : Device) → IsOn old → DoesAll accesses old d → All (SparesOtherPorts port) accesses
     → (b : RebootsPort wanted port booted d new) → ShowsDisk (state_of booted.found) → SeesOver port old b.asked new
 booted_sees laws port wanted booted accesses old d new on does of b shows = record {
   seen = sees.seen;
@@ -136,7 +136,7 @@ booted_sees laws port wanted booted accesses old d new on does of b shows = reco
   later = late;
 }
   where
-    made : IsDrivenBy (IsSurveyOrBoot port) d b.asked
+    made : IsDrivenBy (IsCapPiOrBootAccess port) d b.asked
     made = b.asks.driven
 
     until : List Access
@@ -147,15 +147,15 @@ booted_sees laws port wanted booted accesses old d new on does of b shows = reco
 
     sees : SeesDevice port b.asked new
     sees = boot_sees laws port wanted booted.found b.asked new
-        (laws.of_on port old b.asked on (record { accesses = until; all = asked; only = All-append (SparesOtherPorts port) accesses made.accesses of (All-weaker (IsSurveyOrBoot port) (SparesOtherPorts port) (laws.recovery.start_of port) made.accesses made.only) }))
+        (laws.of_on port old b.asked on (record { accesses = until; all = asked; only = All-append (SparesOtherPorts port) accesses made.accesses of (All-weaker (IsCapPiOrBootAccess port) (SparesOtherPorts port) (laws.recovery.start_of port) made.accesses made.only) }))
         b.boots shows
 
-    late : Grows sees.seen new
+    late : TapeGrows sees.seen new
     late = grows_over laws sees.late.accesses sees.seen new sees.late.all
 
 -- The machine had a disk in the port then, or one went or came, where the device went on after the boot.
-pub booted_had : (laws : LawsBelow) (port : Port) (s : ServerState) (wanted : Wanted) (booted : Booted) (accesses : List Access) (d new end : Device) → IsOn s.device → DoesAll accesses s.device d → All (SparesOtherPorts port) accesses
-    → (b : RebootsPort wanted port booted d new) → ShowsDisk (state_of booted.found) → Grows new end → (m : Machine) → MachineRelation s m → (steps : List Step) → IsBacked s.device end m steps
+pub booted_had : (laws : PrerequisiteLaws) (port : Port) (s : ServerState) (wanted : Wanted) (booted : Booted) (accesses : List Access) (d new end : Device) → IsOn s.device → DoesAll accesses s.device d → All (SparesOtherPorts port) accesses
+    → (b : RebootsPort wanted port booted d new) → ShowsDisk (state_of booted.found) → TapeGrows new end → (m : Machine) → MachineRelation s m → (steps : List Step) → IsBacked s.device end m steps
     → (m.present port ≡ true) ⊎ (list_any (changes_disk port) steps ≡ true)
 booted_had laws port s wanted booted accesses d new end on does of b shows later m stands steps backed =
     let sees = booted_sees laws port wanted booted accesses s.device d new on does of b shows in

@@ -13,9 +13,9 @@ use Rattle.adapter.specs.Access.{Access, DoesAll, named_causes}
 use Rattle.adapter.specs.Access.Access.{Writing}
 use Rattle.adapter.specs.Device.{Device, DevicePort}
 use Rattle.adapter.specs.Rules.{IsOn}
-use Rattle.refinement.specs.Driven.{AnyUse, Grows, IsDrivenBy, IsSimulated}
+use Rattle.refinement.specs.Driven.{AnyUse, TapeGrows, IsDrivenBy, IsSimulated}
 use Rattle.refinement.specs.Errors.{IsFatalOf}
-use Rattle.refinement.specs.Facts.{IsFaultOf, RunsWell, Undisturbed}
+use Rattle.refinement.specs.PortFacts.{IsFaultOf, RunsWell, Undisturbed}
 use Rattle.refinement.specs.Links.{NoPlugEvents, DoesNotWrite}
 use Rattle.refinement.specs.Recovering.{IsLinked, WorksPlainly}
 use Rattle.block_machine.specs.State.{Machine}
@@ -24,7 +24,7 @@ use Rattle.driver_history.specs.Trace.{ResetsLink}
 use Rattle.error_recovery.specs.Evidence.{GainsSinceStart}
 use Rattle.error_recovery.specs.declared.Next.{Next}
 use Rattle.error_recovery.specs.declared.Next.TheVariants as next
-use Rattle.host_boot.specs.Taken.{StillStandsBehind, probe_result_of, wanted_of}
+use Rattle.host_boot.specs.TakeOver.{StillBacksProbeResult, probe_result_of, wanted_of}
 use Rattle.host_boot.specs.Again.{RebootsPort}
 use Rattle.host_boot.specs.declared.Booted.{Booted}
 use Rattle.host_boot.specs.declared.ProbeResult.{ProbeResult}
@@ -36,7 +36,7 @@ use Rattle.port_control.specs.Looks.{IsLooking}
 use Rattle.port_control.specs.declared.events.PortError.{PortError}
 use Rattle.port_control.specs.declared.events.PortError.TheVariants.{TaskFileError}
 use Rattle.block_machine.specs.Events.{Service}
-use Rattle.server_history.specs.Below.{LawsBelow}
+use Rattle.server_history.specs.Prerequisites.{PrerequisiteLaws}
 use Rattle.server_history.specs.ErrorHandling.{IsErrorHandled, HasResolved, HandlesPortError}
 use Rattle.server_history.specs.Server.{ServerState, InCallInvariant, ports_of, state_of}
 use Rattle.server_history.specs.Turns.{joint_state_of}
@@ -62,7 +62,7 @@ record ShowsLink (p : DevicePort) : Type 0 where
   fresh : p.fresh ≡ true
   undue : p.link_due ≡ false
 
-module _ (laws : LawsBelow) (port : Port) where
+module _ (laws : PrerequisiteLaws) (port : Port) where
   -- the access writes neither PxSCTL nor GHC
   abbrev LeavesLinked : Access → Type 0
   LeavesLinked access = DoesNotWrite (Px port Sctl) access × DoesNotWrite Ghc access
@@ -95,8 +95,8 @@ module _ (laws : LawsBelow) (port : Port) where
   well_over old new on driven calm well = all_well driven.accesses old new on driven.only driven.all calm well
 
 -- one that got ready runs well, where no disk went or came, and nothing went wrong since ST was set
-module _ (laws : LawsBelow) (port : Port) (old asked mid new : Device) (on : IsOn asked) (way : BringsReady port asked mid) (later : IsDrivenBy (LeavesTrouble port) mid new) (mid_on : IsOn mid)
-    (first : Grows old asked) where
+module _ (laws : PrerequisiteLaws) (port : Port) (old asked mid new : Device) (on : IsOn asked) (way : BringsReady port asked mid) (later : IsDrivenBy (LeavesTrouble port) mid new) (mid_on : IsOn mid)
+    (first : TapeGrows old asked) where
   pub ready_well : NoPlugEvents port.0 old new → (GainsSinceStart (IsFaultOf port.0) port.0 old new → ⊥) → (GainsSinceStart (IsFatalOf port.0) port.0 old new → ⊥) → RunsWell (new.port port.0)
   ready_well none unfailed unbroken =
       let since = ready_since laws port old asked mid new on way later in
@@ -113,8 +113,8 @@ module _ (laws : LawsBelow) (port : Port) (old asked mid new : Device) (on : IsO
       well_over laws port mid new mid_on later parts.1 (way.well plugs.0 parts.0)
 
 -- and so does one that was booted
-module _ (laws : LawsBelow) (port : Port) (low : port.0 < 4) (wanted : Wanted) (info : DiskInfo) (booted : Booted) (old d mid new : Device) (on : IsOn d) (b : RebootsPort wanted port booted d mid) (found : booted.found ≡ Ready info)
-    (later : IsDrivenBy (LeavesTrouble port) mid new) (mid_on : IsOn mid) (until : Grows old d) where
+module _ (laws : PrerequisiteLaws) (port : Port) (low : port.0 < 4) (wanted : Wanted) (info : DiskInfo) (booted : Booted) (old d mid new : Device) (on : IsOn d) (b : RebootsPort wanted port booted d mid) (found : booted.found ≡ Ready info)
+    (later : IsDrivenBy (LeavesTrouble port) mid new) (mid_on : IsOn mid) (until : TapeGrows old d) where
   pub booted_well : NoPlugEvents port.0 old new → (GainsSinceStart (IsFaultOf port.0) port.0 old new → ⊥) → (GainsSinceStart (IsFatalOf port.0) port.0 old new → ⊥) → RunsWell (new.port port.0)
   booted_well = ready_well laws port old b.asked mid new (boot_asked_on laws port low wanted info booted old d mid new on b found later) (boot_ends laws port low wanted info booted old d mid new on b found later).way later mid_on
       (laws.looks.tape.grows_more old d b.asked until (grows_over laws b.asks.driven.accesses d b.asked b.asks.driven.all))
@@ -128,7 +128,7 @@ never_reset port accesses all r = All-contains (DoesNotWrite (Px port Sctl)) acc
 
 -- ---- the whole
 
-module _ (laws : LawsBelow) (port : Port) (replies : List Reply) (old new : ServerState) (k : InCallInvariant old) (ready : state_of (probe_result_of old.ports port.0) ≡ ReadyState) (r : HandlesPortError port replies old new)
+module _ (laws : PrerequisiteLaws) (port : Port) (replies : List Reply) (old new : ServerState) (k : InCallInvariant old) (ready : state_of (probe_result_of old.ports port.0) ≡ ReadyState) (r : HandlesPortError port replies old new)
     (looks : IsSimulated (IsLooking port) AnyUse old.device r.settled.error_handled.seen) (kept : InCallInvariant r.mid) (evident : IsEvident port replies old new r)
     (plainly : r.settled.error_handled.queued ≡ false → WorksPlainly (r.settled.mid.device.port port.0)) where
   abbrev a : HasResolved port r.later old r.mid
@@ -149,13 +149,13 @@ module _ (laws : LawsBelow) (port : Port) (replies : List Reply) (old new : Serv
   then_ready : state_of (probe_result_of a.mid.ports port.0) ≡ ReadyState
   then_ready = mid_ready laws port r.later old r.mid k ready a looks
 
-  early_grows : Grows old.device a.mid.device
+  early_grows : TapeGrows old.device a.mid.device
   early_grows = grows_over laws t.early.accesses old.device a.mid.device t.early.all
 
-  part_grows : Grows a.mid.device a.device
+  part_grows : TapeGrows a.mid.device a.device
   part_grows = grows_over laws x.handling.accesses a.mid.device a.device t.does
 
-  late_grows : Grows a.device new.device
+  late_grows : TapeGrows a.device new.device
   late_grows = grows_over laws t.late.accesses a.device new.device t.late.all
 
   -- ---- a port that runs again
@@ -182,7 +182,7 @@ module _ (laws : LawsBelow) (port : Port) (replies : List Reply) (old new : Serv
       released = λ one. let z : 0 ≡ 1 = sym released ∙ one in absurd cc;
     }
       where
-        rest : Grows a.mid.device new.device
+        rest : TapeGrows a.mid.device new.device
         rest = laws.looks.tape.grows_more a.mid.device a.device new.device part_grows late_grows
 
         up : ShowsLink (a.mid.device.port port.0)
@@ -193,7 +193,7 @@ module _ (laws : LawsBelow) (port : Port) (replies : List Reply) (old new : Serv
         released : (a.mid.device.port port.0).sctl_det ≡ 0
         released =
             let f = ready_found a.mid port.0 then_kept then_ready in
-            (subst (λ (f : ProbeResult). StillStandsBehind (wanted_of a.mid.wanted port.0) f port.0 a.mid.device) f.1.1 (then_kept.behind port.0 low).behind).1.det
+            (subst (λ (f : ProbeResult). StillBacksProbeResult (wanted_of a.mid.wanted port.0) f port.0 a.mid.device) f.1.1 (then_kept.behind port.0 low).behind).1.det
 
     runs_well : NoPlugEvents port.0 old.device new.device → (old.device.port port.0).ssts_det ≡ 3 → (GainsSinceStart (IsFaultOf port.0) port.0 old.device new.device → ⊥) → (GainsSinceStart (IsFatalOf port.0) port.0 old.device new.device → ⊥)
         → ResetsLink port evident.accesses ⊎ ((old.device.port port.0).fresh ≡ true) → RunsWell (new.device.port port.0)

@@ -15,15 +15,15 @@ use Rattle.ata_types.specs.declared.request.Reply.{Reply}
 use Rattle.ata_types.specs.declared.request.RequestId.{RequestId}
 use Rattle.adapter.specs.Device.{DevicePort}
 use Rattle.refinement.specs.Driven.{AnyUse, IsSimulated}
-use Rattle.block_machine.specs.Events.{IsIssuedIn, NoneKeepsIssue, answers_of, issues_it}
+use Rattle.block_machine.specs.Events.{IsIssuedIn, NoneStaysIssued, answers_of, issues_it}
 use Rattle.block_machine.specs.Histories.{IsReachable}
-use Rattle.block_machine.specs.Left.{after}
+use Rattle.block_machine.specs.Expected.{after}
 use Rattle.block_machine.specs.State.{Machine, Pending}
 use Rattle.block_machine.specs.Steps.{Answer, Issue, Step, at, newly_issued}
 use Rattle.block_machine.specs.declared.due.QueueMode.{QueueMode}
 use Rattle.driver_history.specs.Heeding.{IsDisturbed, ServesReady, tells_fault}
 use Rattle.server_history.proofs.state.ListMembers.{at_cases, contains_cases, contains_here, contains_there, map_in}
-use Rattle.host_boot.specs.Taken.{probe_result_of}
+use Rattle.host_boot.specs.TakeOver.{probe_result_of}
 use Rattle.port_control.specs.Looks.{IsLooking}
 use Rattle.port_control.specs.declared.events.PortError.{PortError}
 use Rattle.port_control.specs.declared.events.PortError.TheVariants.{FatalError, TaskFileError, TimedOut, LinkChanged}
@@ -33,7 +33,7 @@ use Rattle.request_queue.specs.Machine.{EntryRelation}
 use Rattle.request_queue.specs.declared.disposition.FailedRequest as failed_request
 use Rattle.request_queue.specs.declared.disposition.Disposition.TheVariants.{Complete}
 use Rattle.slots.specs.Uses.{PortSlots, use_at}
-use Rattle.server_history.specs.Below.{LawsBelow}
+use Rattle.server_history.specs.Prerequisites.{PrerequisiteLaws}
 use Rattle.server_history.specs.ErrorHandling.{HasResolved, HandlesPortError, requests_of}
 use Rattle.server_history.specs.Served.{AllByDeviceOrIssue, ok_answers_of}
 use Rattle.server_history.specs.Server.{ServerState, InCallInvariant, MachineRelation, mode_in, no_slots, state_of, used_for}
@@ -59,7 +59,7 @@ use Rattle.server_history.proofs.state.FirstMembers.{nowhere, first_here}
 -- ---- requests that are issued
 
 -- Who is issued after steps that issue requests was issued by them, or was before.
-issued_before : LawsBelow → (mode : QueueMode) (port : Port) (m : Machine) (steps : List Step) → AllByDeviceOrIssue mode port steps → (e : Pending) → Contains (after m steps).book e → e.issued ≡ true
+issued_before : PrerequisiteLaws → (mode : QueueMode) (port : Port) (m : Machine) (steps : List Step) → AllByDeviceOrIssue mode port steps → (e : Pending) → Contains (after m steps).book e → e.issued ≡ true
     → IsIssuedIn e.request.id steps ⊎ ((was : Pending) × Contains m.book was × (was.request ≡ e.request) × (was.issued ≡ true))
 issued_before laws mode port m [] only e here issued = inr (e, here, refl, issued)
 issued_before laws mode port m (Issue its x ∷ steps) only e here issued =
@@ -159,7 +159,7 @@ abbrev failed_id : Option failed_request.FailedRequest → ℕ
 failed_id None = 0
 failed_id (Some failed) = failed.id.0
 
-module _ (laws : LawsBelow) (port : Port) (replies : List Reply) (old new : ServerState) (k : InCallInvariant old) (ready : state_of (probe_result_of old.ports port.0) ≡ ReadyState) (r : HandlesPortError port replies old new)
+module _ (laws : PrerequisiteLaws) (port : Port) (replies : List Reply) (old new : ServerState) (k : InCallInvariant old) (ready : state_of (probe_result_of old.ports port.0) ≡ ReadyState) (r : HandlesPortError port replies old new)
     (looks : IsSimulated (IsLooking port) AnyUse old.device r.settled.error_handled.seen) (kept : InCallInvariant r.mid) (evident : IsEvident port replies old new r) (m : Machine) (reached : IsReachable m) (is : MachineRelation old m)
     (d : DecidesTurn port replies old new r (evidence_by r.settled) m) where
   abbrev a : HasResolved port r.later old r.mid
@@ -189,7 +189,7 @@ module _ (laws : LawsBelow) (port : Port) (replies : List Reply) (old new : Serv
       let h : HasSlot r.mid port e.request.id = issued_has r.mid (after m base) port d.dispositions.stands kept is_ready e here own issued in
       let z : None ≡ Some h.used = sym (unused h.slot) ∙ h.used_is in absurd cc
 
-  pub anew : NoneKeepsIssue d.steps (after m d.steps) port
+  pub anew : NoneStaysIssued d.steps (after m d.steps) port
   anew e here own issued =
       let all : after m d.steps ≡ after (after m base) d.issuing.steps = ap (after m) d.steps_are ∙ laws.basic.joined m d.issuing.steps base in
       subst (IsIssuedIn e.request.id) (sym d.steps_are) (⊎_elim

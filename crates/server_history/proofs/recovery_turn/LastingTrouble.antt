@@ -20,10 +20,10 @@ use Rattle.error_recovery.specs.Evidence.{HidesNoTrouble}
 use Rattle.error_recovery.specs.Recovery.{EndsAsNext, RunsAgain}
 use Rattle.error_recovery.specs.declared.Next.{Next}
 use Rattle.error_recovery.specs.declared.Next.TheVariants as next
-use Rattle.host_boot.specs.Again.{RebootsPort, BootsStopped, IsSurveyOrBoot}
+use Rattle.host_boot.specs.Again.{RebootsPort, BootsStopped, IsCapPiOrBootAccess}
 use Rattle.identify.specs.Wanted.{serial_of}
 use Rattle.port_boot.specs.Outcomes.{EndsReady}
-use Rattle.host_boot.specs.Taken.{probe_result_of, wanted_of}
+use Rattle.host_boot.specs.TakeOver.{probe_result_of, wanted_of}
 use Rattle.host_boot.specs.declared.Booted.{Booted}
 use Rattle.host_boot.specs.declared.ProbeResult.{ProbeResult}
 use Rattle.host_boot.specs.declared.ProbeResult.TheVariants.{Ready, Unready}
@@ -32,9 +32,9 @@ use Rattle.port_boot.specs.States.{BringsReady, IsOfBoot}
 use Rattle.port_control.specs.Looks.{IsLooking}
 use Rattle.request_queue.specs.Entries.{asks_of, due_ids}
 use Rattle.identify.specs.declared.wanted.Wanted.{Wanted}
-use Rattle.server_history.specs.Below.{LawsBelow}
+use Rattle.server_history.specs.Prerequisites.{PrerequisiteLaws}
 use Rattle.server_history.specs.ErrorHandling.{IsRevalidated, IsErrorHandled, HasResolved, HandlesPortError}
-use Rattle.commands.specs.Batches.{IsIssuingOn}
+use Rattle.commands.specs.Batches.{IsBatchAccess}
 use Rattle.server_history.specs.Server.{ServerState, InCallInvariant, mode_in, ports_of, state_of}
 use Rattle.server_history.specs.Turns.{joint_state_of}
 use Rattle.server_history.proofs.recovery_turn.MendedPort.{interrupted, next_dead, ready_info, state_new}
@@ -77,7 +77,7 @@ ie_apart port v = (
 )
 
 -- of any port
-pub issuing_leaves : (at port : Port) (access : Access) → IsIssuingOn at access → LeavesTrouble port access
+pub issuing_leaves : (at port : Port) (access : Access) → IsBatchAccess at access → LeavesTrouble port access
 issuing_leaves at port (Reading r v) is = (tt, tt, tt, tt, stays_on (Reading r v) tt)
 issuing_leaves at port (Writing r v) is = ⊎_elim
     (λ (same : r ≡ Px at Sact). subst (λ (x : Reg). LeavesTrouble port (Writing x v)) (sym same) (sact_apart port at v))
@@ -94,7 +94,7 @@ asking_leaves port (Storing at bytes) is = (tt, tt, tt, tt, stays_on (Storing at
 
 -- ---- a port that got ready
 
-module _ (laws : LawsBelow) (port : Port) (old asked mid new : Device) (on : IsOn asked) (way : BringsReady port asked mid) (later : IsDrivenBy (LeavesTrouble port) mid new) where
+module _ (laws : PrerequisiteLaws) (port : Port) (old asked mid new : Device) (on : IsOn asked) (way : BringsReady port asked mid) (later : IsDrivenBy (LeavesTrouble port) mid new) where
   pub ready_up_on : IsOn way.up
   ready_up_on = laws.of_on port asked way.up on (driven_as (IsOfBoot port) (SparesOtherPorts port) asked way.up (λ access x. laws.booting_of port access x) (up_driven laws port asked way.up way.first))
 
@@ -111,10 +111,10 @@ module _ (laws : LawsBelow) (port : Port) (old asked mid new : Device) (on : IsO
 
 -- ---- a port that is ready once it was booted
 
-module _ (laws : LawsBelow) (port : Port) (low : port.0 < 4) (wanted : Wanted) (info : DiskInfo) (booted : Booted) (old d mid new : Device) (on : IsOn d) (b : RebootsPort wanted port booted d mid) (found : booted.found ≡ Ready info)
+module _ (laws : PrerequisiteLaws) (port : Port) (low : port.0 < 4) (wanted : Wanted) (info : DiskInfo) (booted : Booted) (old d mid new : Device) (on : IsOn d) (b : RebootsPort wanted port booted d mid) (found : booted.found ≡ Ready info)
     (later : IsDrivenBy (LeavesTrouble port) mid new) where
   pub boot_asked_on : IsOn b.asked
-  boot_asked_on = laws.of_on port d b.asked on (driven_as (IsSurveyOrBoot port) (SparesOtherPorts port) d b.asked (λ access s. (start_part laws port low access s).1) b.asks.driven)
+  boot_asked_on = laws.of_on port d b.asked on (driven_as (IsCapPiOrBootAccess port) (SparesOtherPorts port) d b.asked (λ access s. (start_part laws port low access s).1) b.asks.driven)
 
   pub boot_ends : EndsReady (serial_of wanted) port info b.asked mid
   boot_ends = subst (λ (f : ProbeResult). BootsStopped wanted port f b.asked mid) found b.boots
@@ -127,7 +127,7 @@ module _ (laws : LawsBelow) (port : Port) (low : port.0 < 4) (wanted : Wanted) (
 
 -- ---- the whole
 
-module _ (laws : LawsBelow) (port : Port) (replies : List Reply) (old new : ServerState) (k : InCallInvariant old) (ready : state_of (probe_result_of old.ports port.0) ≡ ReadyState) (r : HandlesPortError port replies old new)
+module _ (laws : PrerequisiteLaws) (port : Port) (replies : List Reply) (old new : ServerState) (k : InCallInvariant old) (ready : state_of (probe_result_of old.ports port.0) ≡ ReadyState) (r : HandlesPortError port replies old new)
     (looks : IsSimulated (IsLooking port) AnyUse old.device r.settled.error_handled.seen) (kept : InCallInvariant r.mid) (t : TurnParts port replies old new r) where
   abbrev a : HasResolved port r.later old r.mid
   a = r.settled
@@ -140,7 +140,7 @@ module _ (laws : LawsBelow) (port : Port) (replies : List Reply) (old new : Serv
 
   -- what is issued leaves what the port shows
   pub issuing : IsDrivenBy (LeavesTrouble port) r.mid.device new.device
-  issuing = driven_as (IsIssuingOn port) (LeavesTrouble port) r.mid.device new.device (issuing_leaves port port) (each_driven laws port (due_ids (mode_in r.mid port) port (asks_of r.mid.book)) r.mid new r.issued)
+  issuing = driven_as (IsBatchAccess port) (LeavesTrouble port) r.mid.device new.device (issuing_leaves port port) (each_driven laws port (due_ids (mode_in r.mid port) port (asks_of r.mid.book)) r.mid new r.issued)
 
   -- the adapter is on when the port was recovered
   pub recovered_driven : IsDrivenBy (SparesOtherPorts port) old.device a.device

@@ -23,7 +23,7 @@ use Rattle.port_boot.specs.States.{EndsBeforeStart, EndsAfterStart, BringsReady,
 use Rattle.port_control.specs.Ports.{ClearsErrors, FindsLink, FindsSignature, IsPlacingRegister, SeesResetFault, IsVainReading, ReadsUntil, ReadsInVain, IsCommandRegister}
 use Rattle.port_control.specs.declared.PortFault.{PortFault}
 use Rattle.port_control.specs.declared.PortFault.TheVariants.{NoDevice, Busy, EngineStuck, NotAta}
-use Rattle.server_history.specs.Below.{LawsBelow}
+use Rattle.server_history.specs.Prerequisites.{PrerequisiteLaws}
 
 -- By these accesses, of a boot, the link was reset.
 pub record ResetsBy (port : Port) (old new : Device) : Type 0 where
@@ -61,7 +61,7 @@ IsBeside port access = IsOfBoot port access × DoesNotWrite (Px port Sctl) acces
 apart : (port at : Port) (r other : PortReg) → r ≢ other → Px at r ≢ Px port other
 apart port at r other ne same = ne cc
 
-module _ (laws : LawsBelow) (port : Port) where
+module _ (laws : PrerequisiteLaws) (port : Port) where
   control_beside : (Such : PortReg → Type 0) → ((r : PortReg) → Such r → IsBootRegister r × (r ≢ Sctl)) → (access : Access) → OnPortWriting Such port access → IsBeside port access
   control_beside Such each (Reading (Px at r) v) is = (inl is, tt)
   control_beside Such each (Reading r v) is = absurd is

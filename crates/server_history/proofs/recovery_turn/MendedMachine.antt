@@ -19,20 +19,20 @@ use Rattle.refinement.specs.Slots.{Serves}
 use Rattle.refinement.specs.Spares.{SparesBook}
 use Rattle.block_machine.specs.Events.{AllByDevice, AllMay}
 use Rattle.block_machine.specs.Histories.{IsReachable}
-use Rattle.block_machine.specs.Left.{after}
+use Rattle.block_machine.specs.Expected.{after}
 use Rattle.block_machine.specs.State.{Machine, Pending}
 use Rattle.block_machine.specs.Steps.{Step, Accept, after_step, Revoke}
 use Rattle.block_machine.specs.declared.due.QueueMode.{QueueMode}
 use Rattle.dma_frames.specs.Loan.{Lending}
 use Rattle.error_recovery.specs.declared.Next.{Next}
 use Rattle.error_recovery.specs.declared.Next.TheVariants.{Running, Restart, Dead as Stuck}
-use Rattle.host_boot.specs.Taken.{probe_result_of, wanted_of}
+use Rattle.host_boot.specs.TakeOver.{probe_result_of, wanted_of}
 use Rattle.host_boot.specs.declared.ProbeResult.{ProbeResult}
 use Rattle.host_boot.specs.declared.ProbeResult.TheVariants.{Unserved, Ready, Unready}
 use Rattle.identify.specs.declared.DiskInfo.{DiskInfo}
 use Rattle.port_control.specs.Looks.{IsLooking}
-use Rattle.request_queue.specs.Entries.{BookEntry, IsEarlier, is_of}
-use Rattle.request_queue.specs.Dispositions.{KeepsOrEndsLoan, Holdings, AreResolved, IsResolved, disposition_of, disposition_of_unfailed, keeps_loan}
+use Rattle.request_queue.specs.Entries.{BookEntry, IsEarlier, is_of_port}
+use Rattle.request_queue.specs.Dispositions.{KeepsOrEndsLoan, BookAndLoans, AreResolved, IsResolved, disposition_of, disposition_of_unfailed, keeps_loan}
 use Rattle.request_queue.specs.Machine.{EntryRelation}
 use Rattle.request_queue.specs.declared.PendingRequest.{PendingRequest}
 use Rattle.request_queue.specs.declared.disposition.FailedRequest.{FailedRequest}
@@ -41,9 +41,9 @@ use Rattle.request_queue.specs.declared.disposition.Disposition.TheVariants.{Com
 use Rattle.request_queue.specs.declared.disposition.Revalidation.{Revalidation}
 use Rattle.request_queue.specs.declared.disposition.Revalidation.TheVariants.{SameDisk, DiskLost, Dead as NoEnd}
 use Rattle.slots.specs.Uses.{PortSlots}
-use Rattle.server_history.specs.Below.{LawsBelow}
+use Rattle.server_history.specs.Prerequisites.{PrerequisiteLaws}
 use Rattle.server_history.specs.Dispositions.{IsResolveStep, AreResolvable, AreResolvedInMachine, keeps_frames_lent}
-use Rattle.server_history.specs.ErrorHandling.{AreEmptySlots, IsFailedRequest, IsRevalidated, IsRevalidation, HasResolved, holdings_of, requests_of, with_port_found}
+use Rattle.server_history.specs.ErrorHandling.{HasNoUsedSlot, IsFailedRequest, IsRevalidated, IsRevalidation, HasResolved, book_and_loans_of, requests_of, with_port_found}
 use Rattle.server_history.specs.Served.{ok_answers_of}
 use Rattle.server_history.specs.Server.{QuarantineRelation, AreUsesOf, InCallInvariant, MachineRelation, ServerState, is_served, quarantined_at, slots_at, state_of, RevokedMarkInvariant}
 use Rattle.server_history.proofs.state.HistorySteps.{book_on, still_kept}
@@ -56,7 +56,7 @@ use Rattle.server_history.proofs.recovery_turn.TurnParts.{AddsFates}
 use Rattle.server_history.proofs.recovery_turn.ReplacedPort.{is_listed}
 use Rattle.server_history.proofs.healthy_turn.ServedPort.{finds_serve, followed_steps, looks_serve}
 use Rattle.server_history.proofs.healthy_turn.AnswersAndIssues.{AreAnswered, answers_kept, answers_settings, each_answered}
-use Rattle.server_history.proofs.state.PortSlots.{AreOver, not_dead, ready_found, served_request}
+use Rattle.server_history.proofs.state.PortSlots.{CommandsAreOver, not_dead, ready_found, served_request}
 use Rattle.server_history.proofs.state.PairedLists.{at_left}
 use Rattle.server_history.proofs.dispositions.MoreKeptLoans.{more_kept}
 use Rattle.server_history.proofs.state.FirstMembers.{nowhere}
@@ -86,17 +86,17 @@ deciding_leaves port m (step ∷ steps) own =
     (x.0 ∙ y.0, λ frame. x.1 frame ∙ y.1 frame, x.2 ∙ y.2)
 
 -- and fates the owners
-fate_owners : (request : BookEntry) (f : Disposition) (replies : List Reply) (old new : Holdings) → IsResolved request f replies old new → new.table.owners ≡ old.table.owners
-fate_owners request Wait replies old new meets = ap (λ (h : Holdings). h.table.owners) meets.1
-fate_owners request Requeue replies old new meets = ap (λ (h : Holdings). h.table.owners) meets.1
+fate_owners : (request : BookEntry) (f : Disposition) (replies : List Reply) (old new : BookAndLoans) → IsResolved request f replies old new → new.table.owners ≡ old.table.owners
+fate_owners request Wait replies old new meets = ap (λ (h : BookAndLoans). h.table.owners) meets.1
+fate_owners request Requeue replies old new meets = ap (λ (h : BookAndLoans). h.table.owners) meets.1
 fate_owners request (Complete o) replies old new meets = by (keeps_loan o request.entry) meets.2
   where
     by : (b : Bool) → KeepsOrEndsLoan b request old new → new.table.owners ≡ old.table.owners
     by true loan = ap (λ t. t.owners) loan.1
     by false loan = loan.1.owners
 
-pub fates_owners : (disposition : PendingRequest → Disposition) (requests : List BookEntry) (replies : List Reply) (old new : Holdings) → AreResolved disposition requests replies old new → new.table.owners ≡ old.table.owners
-fates_owners disposition [] replies old new meets = ap (λ (h : Holdings). h.table.owners) meets.1
+pub fates_owners : (disposition : PendingRequest → Disposition) (requests : List BookEntry) (replies : List Reply) (old new : BookAndLoans) → AreResolved disposition requests replies old new → new.table.owners ≡ old.table.owners
+fates_owners disposition [] replies old new meets = ap (λ (h : BookAndLoans). h.table.owners) meets.1
 fates_owners disposition (request ∷ requests) replies old new (mid, its, later, split, meets, more) = fates_owners disposition requests later mid new more ∙ fate_owners request (disposition request.entry) its old mid meets
 
 -- ---- the port's requests meet their fates
@@ -107,7 +107,7 @@ dead_end port_error was found SameDisk (_, (info, is, same)) dead = let z : Read
 dead_end port_error was found DiskLost x dead = absurd (x.0 dead)
 dead_end port_error was found NoEnd x dead = refl
 
-module _ (laws : LawsBelow) (port : Port) (mid : ServerState) (k : InCallInvariant mid) (ready : state_of (probe_result_of mid.ports port.0) ≡ ReadyState) (n : Machine) (reached : IsReachable n) (is : MachineRelation mid n)
+module _ (laws : PrerequisiteLaws) (port : Port) (mid : ServerState) (k : InCallInvariant mid) (ready : state_of (probe_result_of mid.ports port.0) ≡ ReadyState) (n : Machine) (reached : IsReachable n) (is : MachineRelation mid n)
     (way : Next) (found : ProbeResult) (device : Device) (passed : IsPassed port.0 way found mid.device device (record { uses = is.uses; parked = is.parked }) n)
     (failed : Option FailedRequest) (revalidation : Revalidation) (port_error : PortError) (was : DiskInfo) (expects : IsRevalidation port_error was found revalidation) (unnamed : way ≡ Stuck → (found ≡ Unready Dead) × (failed ≡ None)) where
   abbrev t : DriverSlots
@@ -135,12 +135,12 @@ module _ (laws : LawsBelow) (port : Port) (mid : ServerState) (k : InCallInvaria
   spares = laws.basic.spares n passed.passes.steps passed.passes.only
 
   in_its : (e : BookEntry) → Contains mid.book e → e.entry.port.0 ≡ port.0 → Contains its e
-  in_its e here same = in_filter (λ (x : BookEntry). is_of port x.entry) mid.book e here (eq-eqb e.entry.port.0 port.0 same)
+  in_its e here same = in_filter (λ (x : BookEntry). is_of_port port x.entry) mid.book e here (eq-eqb e.entry.port.0 port.0 same)
 
   of_its : (e : BookEntry) → Contains its e → Contains mid.book e × (e.entry.port ≡ port)
   of_its e here = (
-    All-contains (Contains mid.book) its e (All-filter (λ (x : BookEntry). is_of port x.entry) (Contains mid.book) mid.book (All-contains_itself mid.book)) here,
-    ap (λ (q : ℕ). record { 0 = q }) (eqb-true e.entry.port.0 port.0 (All-contains (λ (x : BookEntry). is_of port x.entry ≡ true) its e (filter_passes (λ (x : BookEntry). is_of port x.entry) mid.book) here)),
+    All-contains (Contains mid.book) its e (All-filter (λ (x : BookEntry). is_of_port port x.entry) (Contains mid.book) mid.book (All-contains_itself mid.book)) here,
+    ap (λ (q : ℕ). record { 0 = q }) (eqb-true e.entry.port.0 port.0 (All-contains (λ (x : BookEntry). is_of_port port x.entry ≡ true) its e (filter_passes (λ (x : BookEntry). is_of_port port x.entry) mid.book) here)),
   )
 
   -- one whose loan isn't kept has no slot
@@ -181,7 +181,7 @@ module _ (laws : LawsBelow) (port : Port) (mid : ServerState) (k : InCallInvaria
       (λ there. absurd (nowhere id (subst (λ (ids : List RequestId). Contains ids id) (is.unparked port.0 alive) there)))
       (Contains-append_cases _ (is.parked port.0) id (passed.left.its id here))
 
-  may_meet : AreResolvable port disposition its (holdings_of port mid) (driver_state t device) w
+  may_meet : AreResolvable port disposition its (book_and_loans_of port mid) (driver_state t device) w
   may_meet = record {
     reached = w_reached;
     knows = passed.passes.knows;
@@ -191,13 +191,13 @@ module _ (laws : LawsBelow) (port : Port) (mid : ServerState) (k : InCallInvaria
     accepted = k.accepted;
     here = of_its;
     marked = λ e here. tells_of w.rows mid.grants e.entry (spares.rows ∙ is.rows) (All-contains (RevokedMarkInvariant mid.grants) mid.book e k.marked (of_its e here).0).tells;
-    earlier = AllPairs-filter IsEarlier (λ (x : BookEntry). is_of port x.entry) mid.book k.ordered.ordered;
+    earlier = AllPairs-filter IsEarlier (λ (x : BookEntry). is_of_port port x.entry) mid.book k.ordered.ordered;
     unserved = unserved;
   }
 
-  module _ (later : List Reply) (now : Holdings) (meets : AreResolved disposition its later (holdings_of port mid) now) where
-    pub met : AreResolvedInMachine port disposition its later (holdings_of port mid) now (driver_state t device) w
-    met = meet laws port disposition its (fits_each failed revalidation its) later (holdings_of port mid) now (driver_state t device) w may_meet meets
+  module _ (later : List Reply) (now : BookAndLoans) (meets : AreResolved disposition its later (book_and_loans_of port mid) now) where
+    pub met : AreResolvedInMachine port disposition its later (book_and_loans_of port mid) now (driver_state t device) w
+    met = meet laws port disposition its (fits_each failed revalidation its) later (book_and_loans_of port mid) now (driver_state t device) w may_meet meets
 
     abbrev z : Machine
     z = after w met.steps
@@ -222,9 +222,9 @@ module _ (laws : LawsBelow) (port : Port) (mid : ServerState) (k : InCallInvaria
     quiet other e = kept_dead_alone failed revalidation e (λ dead. other (subst (IsRevalidation port_error was found) dead expects))
 
     none_left : found ≢ Unready Dead → met.parked port.0 ≡ []
-    none_left other = none_parked port disposition its (fits_each failed revalidation its) later (holdings_of port mid) now (driver_state t device) w met (quiet other) parked_by
+    none_left other = none_parked port disposition its (fits_each failed revalidation its) later (book_and_loans_of port mid) now (driver_state t device) w met (quiet other) parked_by
 
-    module _ (mode : QueueMode) (slots : PortSlots) (unused : AreEmptySlots mode slots) where
+    module _ (mode : QueueMode) (slots : PortSlots) (unused : HasNoUsedSlot mode slots) where
       abbrev new : ServerState
       new = with_port_found port device found was mode slots now mid
 
@@ -285,14 +285,14 @@ module _ (laws : LawsBelow) (port : Port) (mid : ServerState) (k : InCallInvaria
         kept = are_kept;
         rows = leaves.0 ∙ spares.rows ∙ is.rows;
         owner = λ frame. leaves.1 frame ∙ ap (λ f. f frame) spares.owner ∙ is.owner frame
-            ∙ ap (λ (owners : List (Option ClientId)). get_or owners frame.0 None) (sym (fates_owners disposition its later (holdings_of port mid) now meets));
+            ∙ ap (λ (owners : List (Option ClientId)). get_or owners frame.0 None) (sym (fates_owners disposition its later (book_and_loans_of port mid) now meets));
         lent = met.lent;
         next = leaves.2 ∙ spares.next ∙ is.next;
       }
 
 -- ---- the whole
 
-module _ (laws : LawsBelow) (port : Port) (later : List Reply) (old new : ServerState) (k : InCallInvariant old) (ready : state_of (probe_result_of old.ports port.0) ≡ ReadyState) (a : HasResolved port later old new)
+module _ (laws : PrerequisiteLaws) (port : Port) (later : List Reply) (old new : ServerState) (k : InCallInvariant old) (ready : state_of (probe_result_of old.ports port.0) ≡ ReadyState) (a : HasResolved port later old new)
     (looks : IsSimulated (IsLooking port) AnyUse old.device a.error_handled.seen) where
   abbrev from : ServerState
   from = record old { device = a.error_handled.found }
@@ -303,7 +303,7 @@ module _ (laws : LawsBelow) (port : Port) (later : List Reply) (old new : Server
   pub found_kept : InCallInvariant from
   found_kept = finding_kept (record old { device = a.error_handled.seen }) a.error_handled.found port seen_kept ready laws a.error_handled.mask a.error_handled.done a.error_handled.reads
 
-  pub over : AreOver port a.error_handled.done a.error_handled.found
+  pub over : CommandsAreOver port a.error_handled.done a.error_handled.found
   over = found_over (record old { device = a.error_handled.seen }) a.error_handled.found port seen_kept ready laws a.error_handled.mask a.error_handled.done a.error_handled.reads a.error_handled.its
 
   pub mid_kept : InCallInvariant a.mid
@@ -388,7 +388,7 @@ module _ (laws : LawsBelow) (port : Port) (later : List Reply) (old new : Server
       p = passed laws (wanted_of old.wanted port.0) port a.error_handled.port_error a.was a.error_handled.result.next a.error_handled.handling.accesses a.mid.device a.device new.device a.found a.error_handled.handling.does.slots a.is
           (record { uses = is_mid.uses; parked = is_mid.parked }) n n_reached is_mid.knows
 
-      f : AreResolvedInMachine port (disposition_of a.failed a.revalidation) (requests_of port a.mid.book) later (holdings_of port a.mid) a.now (driver_state p.slots new.device) (after n p.passes.steps)
+      f : AreResolvedInMachine port (disposition_of a.failed a.revalidation) (requests_of port a.mid.book) later (book_and_loans_of port a.mid) a.now (driver_state p.slots new.device) (after n p.passes.steps)
       f = met laws port a.mid mid_kept mid_ready n n_reached is_mid a.error_handled.result.next a.found new.device p a.failed a.revalidation a.error_handled.port_error a.was a.expects unnamed later a.now a.meets
 
       then_is : after m (p.passes.steps ++ base) ≡ after n p.passes.steps

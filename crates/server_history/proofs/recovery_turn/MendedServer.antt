@@ -20,7 +20,7 @@ use Rattle.server_history.proofs.state.ListMembers.{contains_cases, contains_her
 use Rattle.error_recovery.specs.Recovery.{EndsAsNext}
 use Rattle.error_recovery.specs.declared.Next.{Next}
 use Rattle.error_recovery.specs.declared.Next.TheVariants as next
-use Rattle.host_boot.specs.Taken.{IsServed, StillStandsBehind, probe_result_of, wanted_of}
+use Rattle.host_boot.specs.TakeOver.{IsServed, StillBacksProbeResult, probe_result_of, wanted_of}
 use Rattle.host_boot.specs.declared.ProbeResult.{ProbeResult}
 use Rattle.host_boot.specs.declared.ProbeResult.TheVariants.{Ready}
 use Rattle.identify.specs.declared.wanted.Wanted.{Wanted}
@@ -29,12 +29,12 @@ use Rattle.port_control.specs.Ports.{IsStopped}
 use Rattle.port_control.specs.declared.Running as running_token
 use Rattle.port_control.specs.declared.Stopped.{Stopped}
 use Rattle.port_control.specs.Looks.{IsLooking}
-use Rattle.request_queue.specs.Entries.{BookEntry, is_of}
+use Rattle.request_queue.specs.Entries.{BookEntry, is_of_port}
 use Rattle.request_queue.specs.Dispositions.{disposition_of}
 use Rattle.request_queue.specs.declared.disposition.Revalidation.{Revalidation}
 use Rattle.request_queue.specs.declared.disposition.Revalidation.TheVariants.{SameDisk, DiskLost, Dead}
-use Rattle.server_history.specs.Below.{LawsBelow}
-use Rattle.server_history.specs.ErrorHandling.{AreAllQueuedAs, IsRevalidated, IsRevalidation, IsErrorHandled, HasResolved, holdings_of, requests_of}
+use Rattle.server_history.specs.Prerequisites.{PrerequisiteLaws}
+use Rattle.server_history.specs.ErrorHandling.{AreAllQueuedAs, IsRevalidated, IsRevalidation, IsErrorHandled, HasResolved, book_and_loans_of, requests_of}
 use Rattle.server_history.specs.Server.{ServerState, InCallInvariant, MachineRelation, is_served, quarantined_at, probed_mode, mode_in, slots_at, state_of, used_for}
 use Rattle.server_history.proofs.state.PortGrounds.{ready_on}
 use Rattle.server_history.proofs.recovery_turn.OtherPorts.{Passes, PassesTo, recovery_passes, after_passes, passes_none, slots_of}
@@ -66,7 +66,7 @@ kept_in {X} passes (y ∷ xs) x here is = ⊎_elim
 
 -- ---- a recovery
 
-module _ (laws : LawsBelow) (port : Port) (old mid : ServerState) (device : Device) (k : InCallInvariant old) (ready : state_of (probe_result_of old.ports port.0) ≡ ReadyState) (r : IsErrorHandled port old mid device)
+module _ (laws : PrerequisiteLaws) (port : Port) (old mid : ServerState) (device : Device) (k : InCallInvariant old) (ready : state_of (probe_result_of old.ports port.0) ≡ ReadyState) (r : IsErrorHandled port old mid device)
     (looks : IsSimulated (IsLooking port) AnyUse old.device r.seen) where
   seen_kept : InCallInvariant (record old { device = r.seen })
   seen_kept = looking_kept old r.seen port k ready laws looks
@@ -122,7 +122,7 @@ module _ (laws : LawsBelow) (port : Port) (old mid : ServerState) (device : Devi
 
 -- ---- what it is then
 
-module _ (laws : LawsBelow) (port : Port) (later : List Reply) (old new : ServerState) (k : InCallInvariant old) (ready : state_of (probe_result_of old.ports port.0) ≡ ReadyState) (a : HasResolved port later old new)
+module _ (laws : PrerequisiteLaws) (port : Port) (later : List Reply) (old new : ServerState) (k : InCallInvariant old) (ready : state_of (probe_result_of old.ports port.0) ≡ ReadyState) (a : HasResolved port later old new)
     (looks : IsSimulated (IsLooking port) AnyUse old.device a.error_handled.seen) where
   abbrev r : IsErrorHandled port old a.mid a.device
   r = a.error_handled
@@ -162,8 +162,8 @@ module _ (laws : LawsBelow) (port : Port) (later : List Reply) (old new : Server
 
   -- ---- the port
 
-  was_stands : StillStandsBehind wanted (Ready a.was) port.0 mid.device
-  was_stands = subst (λ (f : ProbeResult). StillStandsBehind wanted f port.0 mid.device) was_found (m.behind port.0 small).behind
+  was_stands : StillBacksProbeResult wanted (Ready a.was) port.0 mid.device
+  was_stands = subst (λ (f : ProbeResult). StillBacksProbeResult wanted f port.0 mid.device) was_found (m.behind port.0 small).behind
 
   recovered_same : SameAdapter mid.device a.device
   recovered_same = same_over laws port mid.device a.device done.1.driven
@@ -200,8 +200,8 @@ module _ (laws : LawsBelow) (port : Port) (later : List Reply) (old new : Server
 
   -- ---- the requests
 
-  left : IsLeft port (disposition_of a.failed a.revalidation) (requests_of port mid.book) (holdings_of port mid) a.now
-  left = fated laws port (disposition_of a.failed a.revalidation) (requests_of port mid.book) (fits_each a.failed a.revalidation (requests_of port mid.book)) later (holdings_of port mid) a.now (its_requests port mid m.ordered m.accepted) a.meets
+  left : IsLeft port (disposition_of a.failed a.revalidation) (requests_of port mid.book) (book_and_loans_of port mid) a.now
+  left = fated laws port (disposition_of a.failed a.revalidation) (requests_of port mid.book) (fits_each a.failed a.revalidation (requests_of port mid.book)) later (book_and_loans_of port mid) a.now (its_requests port mid m.ordered m.accepted) a.meets
 
   -- where one of the port is left, its port is ready
   still_ready : (e : BookEntry) → Contains a.now.book e → e.entry.port.0 ≡ port.0 → state_of a.found ≡ ReadyState
@@ -213,7 +213,7 @@ module _ (laws : LawsBelow) (port : Port) (later : List Reply) (old new : Server
       none : (a.revalidation ≡ SameDisk → ⊥) → ⊥
       none other =
           let end = ends_of a.failed a.revalidation other w.was.entry in
-          left.gone w.was end.0 (kept_in (λ (x : BookEntry). is_of port x.entry) mid.book w.was w.there (eq-eqb w.was.entry.port.0 port.0 (ap (λ (p : Port). p.0) (sym w.port) ∙ own))) end.1 e here w.id
+          left.gone w.was end.0 (kept_in (λ (x : BookEntry). is_of_port port x.entry) mid.book w.was w.there (eq-eqb w.was.entry.port.0 port.0 (ap (λ (p : Port). p.0) (sym w.port) ∙ own))) end.1 e here w.id
 
       by : (p : Revalidation) → a.revalidation ≡ p → IsRevalidation r.port_error a.was a.found p → state_of a.found ≡ ReadyState
       by SameDisk is x = ap state_of x.1.1

@@ -8,16 +8,16 @@ use Rattle.hba_regs.specs.declared.reg.Reg.TheVariants.{Px}
 use Rattle.adapter.specs.Access.Access.{Reading, Writing}
 use Rattle.adapter.specs.Device.{Device, DevicePort}
 use Rattle.adapter.specs.Rules.{IsOn}
-use Rattle.refinement.specs.Driven.{Grows}
+use Rattle.refinement.specs.Driven.{TapeGrows}
 use Rattle.refinement.specs.Errors.{IsFatalOf}
-use Rattle.refinement.specs.Facts.{IsFaultOf}
+use Rattle.refinement.specs.PortFacts.{IsFaultOf}
 use Rattle.refinement.specs.Links.{IsPlugEvent}
-use Rattle.driver_history.specs.Evidence.{Gains, ShowsChange, ShowsFailure, ShowsLoss}
+use Rattle.driver_history.specs.Evidence.{TapeGainsEntry, ShowsChange, ShowsFailure, ShowsLoss}
 use Rattle.error_recovery.specs.Evidence.{ShowsFatal}
 use Rattle.port_control.specs.Looks.{LooksAt}
 use Rattle.port_control.specs.declared.events.PortEvent.{PortEvent}
 use Rattle.port_control.specs.declared.events.PortEvent.TheVariants as look
-use Rattle.server_history.specs.Below.{LawsBelow}
+use Rattle.server_history.specs.Prerequisites.{PrerequisiteLaws}
 use Rattle.server_history.specs.ErrorHandling.{ErrorIsFound}
 use Rattle.port_control.specs.declared.events.PortError.{PortError}
 use Rattle.port_control.specs.declared.events.PortError.TheVariants.{FatalError, TaskFileError, TimedOut, LinkChanged}
@@ -26,12 +26,12 @@ use Rattle.server_history.proofs.state.FirstMembers.{first_here, nowhere}
 use Rattle.server_history.proofs.recovery_turn.TurnParts.{failed_of, fatal_of, gone_of, is_named_if, named_if_is}
 use Rattle.server_history.proofs.state.CallEvidence.{failure_shows, fatal_shows, loss_shows, shows_failure, shows_fatal, shows_loss, unfailed, unfatal, unlost}
 
-module _ (laws : LawsBelow) (port : Port) (old seen new : Device) (on : IsOn old) (undue : (old.port port.0).link_due ≡ false) (later : Grows seen new) where
+module _ (laws : PrerequisiteLaws) (port : Port) (old seen new : Device) (on : IsOn old) (undue : (old.port port.0).link_due ≡ false) (later : TapeGrows seen new) where
   abbrev p : DevicePort
   p = old.port port.0
 
   -- what came since PxIS was read
-  since_read : (told : PortEvent) (l : LooksAt port told old seen) → Grows l.seen new
+  since_read : (told : PortEvent) (l : LooksAt port told old seen) → TapeGrows l.seen new
   since_read told l =
       laws.looks.tape.grows_more l.seen l.cleared new (laws.looks.tape.access_grows (Writing (Px port Is) l.causes) l.seen l.cleared l.clears)
       (laws.looks.tape.grows_more l.cleared l.acknowledged new (laws.looks.tape.access_grows (Writing reg.Is l.own) l.cleared l.acknowledged l.acknowledges)
@@ -46,7 +46,7 @@ module _ (laws : LawsBelow) (port : Port) (old seen new : Device) (on : IsOn old
   failed_all TimedOut shows = is_named_if (shows_failure p) port (failure_shows p shows)
 
   pub failed_only : (t : PortError) → ErrorIsFound port t old seen → Contains (failed_of port t p) port
-      → ShowsFailure p ⊎ (Gains (IsFaultOf port.0) old new ⊎ Gains (IsFatalOf port.0) old new)
+      → ShowsFailure p ⊎ (TapeGainsEntry (IsFaultOf port.0) old new ⊎ TapeGainsEntry (IsFatalOf port.0) old new)
   failed_only TaskFileError l here = errors_shown laws port look.TaskFileError old seen l on (inl refl) new (since_read look.TaskFileError l)
   failed_only FatalError l here = errors_shown laws port look.FatalError old seen l on (inr refl) new (since_read look.FatalError l)
   failed_only LinkChanged l here = inl (unfailed p (named_if_is (shows_failure p) port here))
@@ -60,7 +60,7 @@ module _ (laws : LawsBelow) (port : Port) (old seen new : Device) (on : IsOn old
   fatal_all LinkChanged l fatal = is_named_if (shows_fatal p) port (fatal_shows p fatal)
   fatal_all TimedOut same fatal = is_named_if (shows_fatal p) port (fatal_shows p fatal)
 
-  pub fatal_only : (t : PortError) → ErrorIsFound port t old seen → Contains (fatal_of port t p) port → ShowsFatal p ⊎ Gains (IsFatalOf port.0) old new
+  pub fatal_only : (t : PortError) → ErrorIsFound port t old seen → Contains (fatal_of port t p) port → ShowsFatal p ⊎ TapeGainsEntry (IsFatalOf port.0) old new
   fatal_only TaskFileError l here = absurd (nowhere port here)
   fatal_only FatalError l here = fatal_shown laws port look.FatalError old seen l on refl new (since_read look.FatalError l)
   fatal_only LinkChanged l here = inl (unfatal p (named_if_is (shows_fatal p) port here))
@@ -83,7 +83,7 @@ module _ (laws : LawsBelow) (port : Port) (old seen new : Device) (on : IsOn old
 
   -- a change that was there to tell, a missing device, or a disk that went or came
   abbrev pub IsLoss : Type 0
-  IsLoss = ShowsChange p ⊎ ((p.ssts_det ≢ 3) ⊎ Gains (IsPlugEvent port.0) old new)
+  IsLoss = ShowsChange p ⊎ ((p.ssts_det ≢ 3) ⊎ TapeGainsEntry (IsPlugEvent port.0) old new)
 
   pub loss : (t : PortError) → ErrorIsFound port t old seen → t ≡ LinkChanged → IsLoss
   loss TaskFileError l lost = let z : TaskFileError ≡ LinkChanged = lost in absurd cc

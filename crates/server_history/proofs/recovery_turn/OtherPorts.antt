@@ -26,7 +26,7 @@ use Rattle.refinement.specs.Slots.{Own, SlotState, SlotStates, op_of, put}
 use Rattle.server_history.proofs.state.FollowedAccesses.{followed_silent}
 use Rattle.server_history.proofs.state.DrivenAccesses.{by_none, by_then}
 use Rattle.block_machine.specs.Histories.{IsReachable}
-use Rattle.block_machine.specs.Left.{after}
+use Rattle.block_machine.specs.Expected.{after}
 use Rattle.block_machine.specs.State.{Machine}
 use Rattle.command_table.specs.Written.{IsTableStore}
 use Rattle.disk_page.specs.Asking.{IsPageAccess}
@@ -34,8 +34,8 @@ use Rattle.error_recovery.specs.Recovery.{IsRecoveryRegister, IsRecoveryAccess, 
 use Rattle.error_recovery.specs.declared.Next.{Next}
 use Rattle.error_recovery.specs.declared.Next.TheVariants as next
 use Rattle.error_recovery.specs.declared.Recovered.{Recovered}
-use Rattle.host_boot.specs.Again.{RebootsPort, BootsStopped, IsSurveyOrBoot}
-use Rattle.host_boot.specs.Taken.{IsSurvey, probe_result_of}
+use Rattle.host_boot.specs.Again.{RebootsPort, BootsStopped, IsCapPiOrBootAccess}
+use Rattle.host_boot.specs.TakeOver.{ReadsCapOrPi, probe_result_of}
 use Rattle.host_boot.specs.declared.Booted.{Booted}
 use Rattle.host_boot.specs.declared.ProbeResult.{ProbeResult}
 use Rattle.host_boot.specs.declared.ProbeResult.TheVariants.{Unserved, Ready, Unready}
@@ -44,7 +44,7 @@ use Rattle.identify.specs.declared.wanted.Wanted.{Wanted}
 use Rattle.port_boot.specs.States.{IsBootTo, IsBootRegister, IsOfBoot, StopsOnWay}
 use Rattle.port_control.specs.Looks.{IsLooking}
 use Rattle.slots.specs.declared.SlotUse.{SlotUse}
-use Rattle.server_history.specs.Below.{LawsBelow}
+use Rattle.server_history.specs.Prerequisites.{PrerequisiteLaws}
 use Rattle.server_history.specs.ErrorHandling.{IsRevalidated}
 use Rattle.port_control.specs.declared.events.PortError.{PortError}
 use Rattle.server_history.specs.Server.{HasStoredCommand, ServerState, InCallInvariant, used_for}
@@ -63,10 +63,10 @@ stored_in : (Written : PortReg → Type 0) (port : Port) (at : ℕ) (bytes : Lis
 stored_in Written port at bytes (inl none) = absurd none
 stored_in Written port at bytes (inr its) = its
 
-survey_mild : (port : Port) (access : Access) → IsSurvey access → IsMild port access
-survey_mild port access is = (by access is, λ at bytes e. absurd (subst IsSurvey e is))
+survey_mild : (port : Port) (access : Access) → ReadsCapOrPi access → IsMild port access
+survey_mild port access is = (by access is, λ at bytes e. absurd (subst ReadsCapOrPi e is))
   where
-    by : (a : Access) → IsSurvey a → SparesOtherPorts port a
+    by : (a : Access) → ReadsCapOrPi a → SparesOtherPorts port a
     by (Reading Cap v) its = tt
     by (Reading Pi v) its = tt
     by (Reading r v) its = absurd its
@@ -77,7 +77,7 @@ survey_mild port access is = (by access is, λ at bytes e. absurd (subst IsSurve
 looking_stores : (port : Port) (access : Access) → IsLooking port access → (at : ℕ) (bytes : List ℕ) → access ≡ Storing at bytes → IsTableStore port.0 0 (Storing at bytes)
 looking_stores port access is at bytes e = absurd (subst (IsLooking port) e is)
 
-module _ (laws : LawsBelow) where
+module _ (laws : PrerequisiteLaws) where
   recovering_mild : (port : Port) (access : Access) → IsRecoveryAccess port access → IsMild port access
   recovering_mild port access is = (laws.recovering_of port access is, λ at bytes e. stored_in IsRecoveryRegister port at bytes (subst (IsRecoveryAccess port) e is))
 
@@ -126,7 +126,7 @@ passes_none s port k = record {
   commands = λ q slot used other is. k.commands q slot used is;
 }
 
-module _ (laws : LawsBelow) (s : ServerState) (port : Port) (k : InCallInvariant s) (low : port.0 < 4) where
+module _ (laws : PrerequisiteLaws) (s : ServerState) (port : Port) (k : InCallInvariant s) (low : port.0 < 4) where
   -- ---- acts
 
   module _ (slots then : DriverSlots) (d new : Device) (p : Passes s port slots d) where
@@ -240,9 +240,9 @@ module _ (laws : LawsBelow) (s : ServerState) (port : Port) (k : InCallInvariant
         (slots, passes_followed slots d new p (IsOfBoot port) (λ uses. AllFree uses port.0) (λ uses. uses) (booting_mild laws port) free (λ q other. refl) b.boots.followed)
     stopped_passes wanted (Unready state) b = boot_to (StopsOnWay port state) state b.boots
 
-  pub start_passes : (slots : DriverSlots) (d new : Device) → Passes s port slots d → AllFree slots.uses port.0 → IsSimulated (IsSurveyOrBoot port) (λ uses. AllFree uses port.0) d new → Passes s port slots new
+  pub start_passes : (slots : DriverSlots) (d new : Device) → Passes s port slots d → AllFree slots.uses port.0 → IsSimulated (IsCapPiOrBootAccess port) (λ uses. AllFree uses port.0) d new → Passes s port slots new
   start_passes slots d new p free asks =
-      passes_followed slots d new p (IsSurveyOrBoot port) (λ uses. AllFree uses port.0) (λ uses. uses) (λ access is. ⊎_elim (survey_mild port access) (booting_mild laws port access) is) free (λ q other. refl) asks
+      passes_followed slots d new p (IsCapPiOrBootAccess port) (λ uses. AllFree uses port.0) (λ uses. uses) (λ access is. ⊎_elim (survey_mild port access) (booting_mild laws port access) is) free (λ q other. refl) asks
 
   pub again_passes : (slots : DriverSlots) (d new : Device) → Passes s port slots d → AllFree slots.uses port.0 → (wanted : Wanted) (booted : Booted) → RebootsPort wanted port booted d new
       → (then : DriverSlots) × Passes s port then new

@@ -17,27 +17,27 @@ use Rattle.refinement.specs.Acts.{AnySlots, ByDeviceAlone, DriverSlots, Performs
 use Rattle.refinement.specs.Relation.{ServeApart}
 use Rattle.refinement.specs.Driven.{IsSimulated, IsSimulatedTo}
 use Rattle.refinement.specs.Driver.{AllFree, HasNoSlot, IsBacked, DriverState, DriverRelation}
-use Rattle.refinement.specs.GivingUp.{given_up, served_ids}
+use Rattle.refinement.specs.GivingUp.{given_up, ids_in_slots}
 use Rattle.refinement.specs.Slots.{Own, Serves, SlotState, SlotStates, put}
 use Rattle.server_history.proofs.state.FollowedAccesses.{followed_adds}
 use Rattle.block_machine.specs.Events.{AllByDevice, AllMay}
 use Rattle.block_machine.specs.Histories.{IsReachable}
-use Rattle.block_machine.specs.Left.{after}
+use Rattle.block_machine.specs.Expected.{after}
 use Rattle.block_machine.specs.State.{Machine}
 use Rattle.block_machine.specs.Steps.{Step}
 use Rattle.error_recovery.specs.Recovery.{SlotsAfterRecovery, with_own}
 use Rattle.error_recovery.specs.declared.Next.{Next}
 use Rattle.error_recovery.specs.declared.Next.TheVariants.{Running, Restart, Dead as Stuck}
-use Rattle.host_boot.specs.Again.{RebootsPort, BootsStopped, IsSurveyOrBoot}
-use Rattle.host_boot.specs.Taken.{probe_result_of}
+use Rattle.host_boot.specs.Again.{RebootsPort, BootsStopped, IsCapPiOrBootAccess}
+use Rattle.host_boot.specs.TakeOver.{probe_result_of}
 use Rattle.host_boot.specs.declared.ProbeResult.{ProbeResult}
 use Rattle.host_boot.specs.declared.ProbeResult.TheVariants.{Unserved, Ready, Unready}
 use Rattle.identify.specs.declared.DiskInfo.{DiskInfo}
 use Rattle.identify.specs.declared.wanted.Wanted.{Wanted}
 use Rattle.port_boot.specs.States.{IsBoot, IsBootTo, IsOfBoot, StopsOnWay}
-use Rattle.port_control.specs.Engines.{Sticks}
+use Rattle.port_control.specs.Engines.{EngineSticks}
 use Rattle.slots.specs.Uses.{PortSlots, use_at}
-use Rattle.server_history.specs.Below.{LawsBelow}
+use Rattle.server_history.specs.Prerequisites.{PrerequisiteLaws}
 use Rattle.server_history.specs.ErrorHandling.{IsRevalidated}
 use Rattle.server_history.specs.Server.{IsUsedAs, no_slots, slot_state_of, used_for}
 use Rattle.port_control.specs.declared.events.PortError.{PortError}
@@ -57,7 +57,7 @@ pub devices_both : (late early : List Step) → AllByDevice late → AllByDevice
 devices_both [] early a b = b
 devices_both (step ∷ late) early a b = (devices_both late early a.0 b, a.1)
 
-passes_then : LawsBelow → (a b c : DriverState) (m : Machine) (x : Passes a b m) → Passes b c (after m x.steps) → Passes a c m
+passes_then : PrerequisiteLaws → (a b c : DriverState) (m : Machine) (x : Passes a b m) → Passes b c (after m x.steps) → Passes a c m
 passes_then laws a b c m x y = record {
   steps = y.steps ++ x.steps;
   only = devices_both y.steps x.steps y.only x.only;
@@ -67,14 +67,14 @@ passes_then laws a b c m x y = record {
 }
 
 -- what was followed
-passes_followed : LawsBelow → (May : Access → Type 0) (Fits : SlotStates → Type 0) (next : SlotStates → SlotStates) (old new : Device) → IsSimulatedTo May Fits next old new → (s : DriverSlots) (m : Machine) → Fits s.uses → IsReachable m → DriverRelation m (driver_state s old)
+passes_followed : PrerequisiteLaws → (May : Access → Type 0) (Fits : SlotStates → Type 0) (next : SlotStates → SlotStates) (old new : Device) → IsSimulatedTo May Fits next old new → (s : DriverSlots) (m : Machine) → Fits s.uses → IsReachable m → DriverRelation m (driver_state s old)
     → Passes (driver_state s old) (driver_state (record s { uses = next s.uses }) new) m
 passes_followed laws May Fits next old new followed s m fits reached knows =
     let x = (followed_adds laws followed s.uses s.parked fits).adds m reached knows in
     record { steps = x.0; only = x.3.only; may = x.1; backed = x.3.backed; knows = x.2 }
 
 -- a part of a call
-passes_performs : LawsBelow → (accesses : List Access) (next : DriverSlots → DriverSlots) (old new : Device) → Performs accesses AnySlots next ByDeviceAlone old new → (s : DriverSlots) (m : Machine) → IsReachable m → DriverRelation m (driver_state s old)
+passes_performs : PrerequisiteLaws → (accesses : List Access) (next : DriverSlots → DriverSlots) (old new : Device) → Performs accesses AnySlots next ByDeviceAlone old new → (s : DriverSlots) (m : Machine) → IsReachable m → DriverRelation m (driver_state s old)
     → Passes (driver_state s old) (driver_state (next s) new) m
 passes_performs laws accesses next old new p s m reached knows =
     let c = p.comes s m reached knows tt in
@@ -88,7 +88,7 @@ passes_performs laws accesses next old new p s m reached knows =
 pub record LeavesIn (port : ℕ) (way : Next) (found : ProbeResult) (s t : DriverSlots) : Type 0 where
   pub uses : (q : ℕ) → q ≢ port → t.uses q ≡ s.uses q
   pub parked : (q : ℕ) → q ≢ port → t.parked q ≡ s.parked q
-  pub its : (id : RequestId) → Contains (t.parked port) id → Contains (served_ids s.uses port 32 ++ s.parked port) id
+  pub its : (id : RequestId) → Contains (t.parked port) id → Contains (ids_in_slots s.uses port 32 ++ s.parked port) id
   pub unserved : way ≢ Stuck → ServeApart s.uses → (slot : ℕ) (id : RequestId) → s.uses port slot ≡ Serves id → HasNoSlot t.uses id
   pub free : found ≢ Unready Dead → AllFree t.uses port
 
@@ -111,11 +111,11 @@ pub record IsPassed (port : ℕ) (way : Next) (found : ProbeResult) (old new : D
   pub left : LeavesIn port way found s slots
   pub passes : Passes (driver_state s old) (driver_state slots new) m
 
-module _ (laws : LawsBelow) (port : ℕ) (s : DriverSlots) (d : Device) where
+module _ (laws : PrerequisiteLaws) (port : ℕ) (s : DriverSlots) (d : Device) where
   free_then : AllFree (given_up port s).uses port
   free_then = laws.slots.given_free (driver_state s d) port
 
-  its_then : (id : RequestId) → Contains ((given_up port s).parked port) id → Contains (served_ids s.uses port 32 ++ s.parked port) id
+  its_then : (id : RequestId) → Contains ((given_up port s).parked port) id → Contains (ids_in_slots s.uses port 32 ++ s.parked port) id
   its_then id here = subst (λ (ids : List RequestId). Contains ids id) (laws.slots.given_parked (driver_state s d) port) here
 
   left_given : (way : Next) (found : ProbeResult) → LeavesIn port way found s (given_up port s)
@@ -143,14 +143,14 @@ module _ (laws : LawsBelow) (port : ℕ) (s : DriverSlots) (d : Device) where
   left_stuck found dead = record {
     uses = λ q ne. refl;
     parked = λ q ne. refl;
-    its = λ id here. Contains-append_right (served_ids s.uses port 32) (s.parked port) id here;
+    its = λ id here. Contains-append_right (ids_in_slots s.uses port 32) (s.parked port) id here;
     unserved = λ lives. absurd (lives refl);
     free = λ lives. absurd (lives dead);
   }
 
 -- ---- recovery, and then a boot
 
-module _ (laws : LawsBelow) (wanted : Wanted) (port : Port) (old mid new : Device) (s : DriverSlots) (m : Machine) (reached : IsReachable m) (knows : DriverRelation m (driver_state s old)) where
+module _ (laws : PrerequisiteLaws) (wanted : Wanted) (port : Port) (old mid new : Device) (s : DriverSlots) (m : Machine) (reached : IsReachable m) (knows : DriverRelation m (driver_state s old)) where
   abbrev given : DriverSlots
   given = given_up port.0 s
 
@@ -178,7 +178,7 @@ module _ (laws : LawsBelow) (wanted : Wanted) (port : Port) (old mid new : Devic
         }
 
         by : (state : PortState) → IsBootTo (StopsOnWay port state) port state mid new → IsPassed port.0 way (Unready state) old new s m
-        by Dead (inl boots) = plainly (Sticks port) boots Dead
+        by Dead (inl boots) = plainly (EngineSticks port) boots Dead
         by Dead (inr boots) = record {
           slots = with_own port.0 Identify given;
           left = left_own laws port.0 s old way (Unready Dead) Identify refl;
@@ -190,7 +190,7 @@ module _ (laws : LawsBelow) (wanted : Wanted) (port : Port) (old mid new : Devic
         by Foreign boots = plainly (StopsOnWay port Foreign) boots Foreign
         by (Unfit cause) boots = plainly (StopsOnWay port (Unfit cause)) boots (Unfit cause)
 
-pub passed : LawsBelow → (wanted : Wanted) (port : Port) (port_error : PortError) (was : DiskInfo) (way : Next) (accesses : List Access) (old mid new : Device) (found : ProbeResult) → SlotsAfterRecovery port.0 way accesses old mid → IsRevalidated wanted port port_error was way mid new found
+pub passed : PrerequisiteLaws → (wanted : Wanted) (port : Port) (port_error : PortError) (was : DiskInfo) (way : Next) (accesses : List Access) (old mid new : Device) (found : ProbeResult) → SlotsAfterRecovery port.0 way accesses old mid → IsRevalidated wanted port port_error was way mid new found
     → (s : DriverSlots) (m : Machine) → IsReachable m → DriverRelation m (driver_state s old) → IsPassed port.0 way found old new s m
 passed laws wanted port port_error was (Running token) accesses old mid new found performs (is, same) s m reached knows = record {
   slots = given_up port.0 s;
@@ -210,10 +210,10 @@ passed laws wanted port port_error was (Restart token) accesses old mid new foun
     x : Passes (driver_state s old) (driver_state (given_up port.0 s) mid) m
     x = passes_performs laws accesses (given_up port.0) old mid performs s m reached knows
 
-    started : (d : Device) → IsSimulated (IsSurveyOrBoot port) (λ uses. AllFree uses port.0) mid d → Passes (driver_state s old) (driver_state (given_up port.0 s) d) m
+    started : (d : Device) → IsSimulated (IsCapPiOrBootAccess port) (λ uses. AllFree uses port.0) mid d → Passes (driver_state s old) (driver_state (given_up port.0 s) d) m
     started d asks =
         passes_then laws (driver_state s old) (driver_state (given_up port.0 s) mid) (driver_state (given_up port.0 s) d) m x
-        (passes_followed laws (IsSurveyOrBoot port) (λ uses. AllFree uses port.0) (λ uses. uses) mid d asks (given_up port.0 s) (after m x.steps) (free_then laws port.0 s old) (laws.basic.reached m x.steps reached x.may) x.knows)
+        (passes_followed laws (IsCapPiOrBootAccess port) (λ uses. AllFree uses port.0) (λ uses. uses) mid d asks (given_up port.0 s) (after m x.steps) (free_then laws port.0 s old) (laws.basic.reached m x.steps reached x.may) x.knows)
 passed laws wanted port port_error was Stuck accesses old mid new found (inl performs) (is, same) s m reached knows = record {
   slots = s;
   left = left_stuck laws port.0 s old found is;

@@ -22,26 +22,26 @@ use Rattle.refinement.specs.Links.{DoesNotWrite}
 use Rattle.refinement.specs.Slots.{Own, SlotStates, op_of, put}
 use Rattle.server_history.proofs.state.FollowedAccesses.{followed_adds, followed_silent}
 use Rattle.block_machine.specs.Histories.{IsReachable}
-use Rattle.block_machine.specs.Left.{after}
+use Rattle.block_machine.specs.Expected.{after}
 use Rattle.block_machine.specs.State.{Machine}
 use Rattle.disk_page.specs.Asking.{IsPageAccess}
 use Rattle.driver_history.specs.Trace.{IsDriversOwn, DoesNotWriteCmd, ResetsLink}
 use Rattle.error_recovery.specs.Recovery.{IsRecoveryAccess}
 use Rattle.error_recovery.specs.declared.Next.{Next}
 use Rattle.error_recovery.specs.declared.Next.TheVariants as next
-use Rattle.host_boot.specs.Again.{RebootsPort, BootsStopped, IsSurveyOrBoot}
+use Rattle.host_boot.specs.Again.{RebootsPort, BootsStopped, IsCapPiOrBootAccess}
 use Rattle.identify.specs.Wanted.{serial_of}
 use Rattle.port_boot.specs.Outcomes.{EndsUnready}
-use Rattle.host_boot.specs.Taken.{IsSurvey}
+use Rattle.host_boot.specs.TakeOver.{ReadsCapOrPi}
 use Rattle.host_boot.specs.declared.Booted.{Booted}
 use Rattle.host_boot.specs.declared.ProbeResult.{ProbeResult}
 use Rattle.host_boot.specs.declared.ProbeResult.TheVariants.{Ready, Unready, Unserved}
 use Rattle.identify.specs.declared.DiskInfo.{DiskInfo}
 use Rattle.identify.specs.declared.wanted.Wanted.{Wanted}
 use Rattle.port_boot.specs.States.{IsBoot, IsOfBoot}
-use Rattle.port_control.specs.Engines.{Sticks}
+use Rattle.port_control.specs.Engines.{EngineSticks}
 use Rattle.port_control.specs.declared.Stopped.{Stopped}
-use Rattle.server_history.specs.Below.{LawsBelow}
+use Rattle.server_history.specs.Prerequisites.{PrerequisiteLaws}
 use Rattle.server_history.specs.ErrorHandling.{IsRevalidated}
 use Rattle.server_history.proofs.state.TurnAccesses.{table_own}
 use Rattle.server_history.proofs.recovery_turn.LinkResets.{ResetsBy, early_resets, late_resets, ready_resets, resets_since}
@@ -60,7 +60,7 @@ IsPart port access = IsDriversOwn access × SparesOtherPorts port access
 abbrev pub IsEarlyPart : Port → Access → Type 0
 IsEarlyPart port access = IsPart port access × DoesNotWriteCmd port access
 
-module _ (laws : LawsBelow) (port : Port) (low : port.0 < 4) where
+module _ (laws : PrerequisiteLaws) (port : Port) (low : port.0 < 4) where
   pub recovering_part : (access : Access) → IsRecoveryAccess port access → IsPart port access
   recovering_part access here = (own access here, laws.recovering_of port access here)
     where
@@ -87,7 +87,7 @@ module _ (laws : LawsBelow) (port : Port) (low : port.0 < 4) where
   pub booting_part : (access : Access) → IsOfBoot port access → IsPart port access
   booting_part access is = (booting_own access is, laws.booting_of port access is)
 
-pub survey_part : (port : Port) (access : Access) → IsSurvey access → IsPart port access
+pub survey_part : (port : Port) (access : Access) → ReadsCapOrPi access → IsPart port access
 survey_part port (Reading (Px q r) v) is = absurd is
 survey_part port (Reading r v) is = (tt, tt)
 survey_part port (Writing r v) is = absurd is
@@ -95,7 +95,7 @@ survey_part port (Loading at bytes) is = absurd is
 survey_part port (Storing at bytes) is = absurd is
 
 -- what comes before a boot, and the boot
-pub start_part : LawsBelow → (port : Port) → port.0 < 4 → (access : Access) → IsSurveyOrBoot port access → IsPart port access
+pub start_part : PrerequisiteLaws → (port : Port) → port.0 < 4 → (access : Access) → IsCapPiOrBootAccess port access → IsPart port access
 start_part laws port low access is = ⊎_elim (survey_part port access) (booting_part laws port low access) is
 
 -- ---- a port that is booted anew, where it has to be
@@ -113,14 +113,14 @@ pub record IsGivenUp (port : Port) (d : Device) : Type 0 where
 -- stuck. Another boot has reset the link. Another port is sent no page by a command that its slot 0 hadn't.
 pub record AfterList (port : Port) (port_error : PortError) (then : Next) (found : ProbeResult) (old new : Device) : Type 0 where
   pub driven : IsDrivenBy (IsPart port) old new
-  pub sticks : found ≡ Unready DeadState → then ≢ next.Dead → Sticks port driven.accesses
+  pub sticks : found ≡ Unready DeadState → then ≢ next.Dead → EngineSticks port driven.accesses
   pub stuck : found ≡ Unready DeadState → then ≢ next.Dead → (new.port port.0).notes.engine_count ≡ MOST_READINGS
   pub resets : (token : Stopped) → then ≡ next.Restart token → found ≢ Unready DeadState → ((port_error ≡ LinkChanged) × (found ≡ Unready shown.Absent)) ⊎ ResetsLink port driven.accesses
   pub unreset : ((token : Stopped) → then ≢ next.Restart token) → All (DoesNotWrite (Px port Sctl)) driven.accesses
   pub silent : (q : Port) (o : Operation) → q.0 ≢ port.0 → op_of o ≡ None → ((token : Stopped) → then ≡ next.Restart token → (g : IsGivenUp port old) × (g.uses q.0 0 ≡ Own o → ⊥)) → GainsNoMove q.0 o old new
 
-module _ (laws : LawsBelow) (port : Port) (low : port.0 < 4) (wanted : Wanted) (port_error : PortError) where
-  module _ (token : Stopped) (old asked new : Device) (asks : IsSimulated (IsSurveyOrBoot port) (λ uses. AllFree uses port.0) old asked) (then : SlotStates → SlotStates) (boots : IsSimulatedTo (IsOfBoot port) (λ uses. AllFree uses port.0) then asked new) where
+module _ (laws : PrerequisiteLaws) (port : Port) (low : port.0 < 4) (wanted : Wanted) (port_error : PortError) where
+  module _ (token : Stopped) (old asked new : Device) (asks : IsSimulated (IsCapPiOrBootAccess port) (λ uses. AllFree uses port.0) old asked) (then : SlotStates → SlotStates) (boots : IsSimulatedTo (IsOfBoot port) (λ uses. AllFree uses port.0) then asked new) where
     boot_silent : (q : Port) (o : Operation) → q.0 ≢ port.0 → op_of o ≡ None → (g : IsGivenUp port old) → (g.uses q.0 0 ≡ Own o → ⊥) → GainsNoMove q.0 o old new
     boot_silent q o other own g none =
         let x = (followed_adds laws asks g.uses g.parked g.free).adds g.machine g.reached g.knows in
@@ -129,13 +129,13 @@ module _ (laws : LawsBelow) (port : Port) (low : port.0 < 4) (wanted : Wanted) (
         (followed_silent laws boots g.uses g.parked (after g.machine x.0) g.free (laws.basic.reached g.machine x.0 g.reached x.1) x.2 q o own
         (λ access is. laws.of_spares port q Ci other access (laws.booting_of port access is)) (λ access is. laws.of_spares port q Sact other access (laws.booting_of port access is)) none)
 
-    boot_list : (found : ProbeResult) (by : IsDrivenBy (IsOfBoot port) asked new) → (found ≡ Unready DeadState → Sticks port by.accesses) → (found ≡ Unready DeadState → (new.port port.0).notes.engine_count ≡ MOST_READINGS)
+    boot_list : (found : ProbeResult) (by : IsDrivenBy (IsOfBoot port) asked new) → (found ≡ Unready DeadState → EngineSticks port by.accesses) → (found ≡ Unready DeadState → (new.port port.0).notes.engine_count ≡ MOST_READINGS)
         → (found ≢ Unready DeadState → ResetsLink port by.accesses) → AfterList port port_error (next.Restart token) found old new
     boot_list found by sticks stuck resets = record {
       driven = record {
         accesses = asks.driven.accesses ++ by.accesses;
         all = laws.basic.does_append asks.driven.accesses by.accesses old asked new asks.driven.all by.all;
-        only = All-append (IsPart port) asks.driven.accesses by.accesses (All-weaker (IsSurveyOrBoot port) (IsPart port) (start_part laws port low) asks.driven.accesses asks.driven.only)
+        only = All-append (IsPart port) asks.driven.accesses by.accesses (All-weaker (IsCapPiOrBootAccess port) (IsPart port) (start_part laws port low) asks.driven.accesses asks.driven.only)
             (All-weaker (IsOfBoot port) (IsPart port) (booting_part laws port low) by.accesses by.only);
       };
       sticks = λ dead _. laws.sticks_since asks.driven.accesses by.accesses port (sticks dead);
@@ -152,7 +152,7 @@ module _ (laws : LawsBelow) (port : Port) (low : port.0 < 4) (wanted : Wanted) (
   -- no device showed
   absent_list : (token : Stopped) (found : ProbeResult) (old new : Device) → IsFoundAbsent wanted port port_error found old new → AfterList port port_error (next.Restart token) found old new
   absent_list token found old new absent = record {
-    driven = record { accesses = made.accesses; all = made.all; only = All-weaker (IsSurveyOrBoot port) (IsPart port) (start_part laws port low) made.accesses made.only };
+    driven = record { accesses = made.accesses; all = made.all; only = All-weaker (IsCapPiOrBootAccess port) (IsPart port) (start_part laws port low) made.accesses made.only };
     sticks = λ dead _. absurd (lives dead);
     stuck = λ dead _. absurd (lives dead);
     resets = λ _ _ _. inl (absent.lost, absent.is);
@@ -163,7 +163,7 @@ module _ (laws : LawsBelow) (port : Port) (low : port.0 < 4) (wanted : Wanted) (
         (λ access is. laws.of_spares port q Ci other access (start_part laws port low access is).1) (λ access is. laws.of_spares port q Sact other access (start_part laws port low access is).1) g.1;
   }
     where
-      made : IsDrivenBy (IsSurveyOrBoot port) old new
+      made : IsDrivenBy (IsCapPiOrBootAccess port) old new
       made = absent.starts.driven
 
       lives : found ≡ Unready DeadState → ⊥
@@ -177,8 +177,8 @@ module _ (laws : LawsBelow) (port : Port) (low : port.0 < 4) (wanted : Wanted) (
 
       unready : (state : Shown) → EndsUnready (serial_of wanted) port state b.asked new → AfterList port port_error (next.Restart token) (Unready state) old new
       unready shown.Dead x = ⊎_elim
-          (λ (told : IsBoot (Sticks port) port b.asked new). boot_list token old b.asked new b.asks (λ uses. uses) told.followed (Unready DeadState) told.followed.driven (λ _. told.tells) (λ _. x.ended.1) (λ lives. absurd (lives refl)))
-          (λ (told : IsSimulatedAlongTo (Sticks port) (IsOfBoot port) (λ uses. AllFree uses port.0) (λ uses. put uses port.0 0 (Own Identify)) b.asked new).
+          (λ (told : IsBoot (EngineSticks port) port b.asked new). boot_list token old b.asked new b.asks (λ uses. uses) told.followed (Unready DeadState) told.followed.driven (λ _. told.tells) (λ _. x.ended.1) (λ lives. absurd (lives refl)))
+          (λ (told : IsSimulatedAlongTo (EngineSticks port) (IsOfBoot port) (λ uses. AllFree uses port.0) (λ uses. put uses port.0 0 (Own Identify)) b.asked new).
           boot_list token old b.asked new b.asks (λ uses. put uses port.0 0 (Own Identify)) told.followed (Unready DeadState) told.followed.driven (λ _. told.tells) (λ _. x.ended.1) (λ lives. absurd (lives refl)))
           x.boots
       unready shown.Absent x = lives_list token old b.asked new b.asks (λ uses. uses) x.boots.followed (Unready shown.Absent) (lives shown.Absent (λ e. let z : shown.Absent ≡ DeadState = e in cc)) (early_resets laws port shown.Absent b.asked new (x.early tt))

@@ -26,12 +26,12 @@ use Rattle.block_machine.specs.State.{Machine}
 use Rattle.block_machine.specs.declared.due.QueueMode.{QueueMode}
 use Rattle.dma_frames.specs.Loan.{Lending}
 use Rattle.dma_frames.specs.Table.{Table}
-use Rattle.driver_history.specs.Holds.{EngineRuns}
+use Rattle.driver_history.specs.PortInvariants.{EngineRuns}
 use Rattle.error_recovery.specs.Recovery.{EndsAsNext}
 use Rattle.error_recovery.specs.declared.Next.{Next}
 use Rattle.error_recovery.specs.declared.Next.TheVariants as next
-use Rattle.host_boot.specs.Again.{RebootsPort, BootsStopped, IsSurveyOrBoot}
-use Rattle.host_boot.specs.Taken.{FoundBadDisk, IsServed, StillStandsBehind, probe_result_of, wanted_of}
+use Rattle.host_boot.specs.Again.{RebootsPort, BootsStopped, IsCapPiOrBootAccess}
+use Rattle.host_boot.specs.TakeOver.{FoundBadDisk, IsServed, StillBacksProbeResult, probe_result_of, wanted_of}
 use Rattle.host_boot.specs.declared.Booted.{Booted}
 use Rattle.host_boot.specs.declared.ProbeResult.{ProbeResult}
 use Rattle.host_boot.specs.declared.ProbeResult.TheVariants.{Unserved, Ready, Unready}
@@ -45,9 +45,9 @@ use Rattle.port_control.specs.declared.Running as running_token
 use Rattle.request_queue.specs.Entries.{BookEntry, IsAccepted, BookIsInOrder}
 use Rattle.slots.specs.Uses.{PortSlots, use_at}
 use Rattle.slots.specs.declared.SlotUse.{SlotUse}
-use Rattle.server_history.specs.Below.{LawsBelow}
-use Rattle.server_history.specs.ErrorHandling.{IsRevalidated, AreEmptySlots}
-use Rattle.server_history.specs.Server.{SlotsInvariant, ServerState, InCallInvariant, MachineRelation, PortInvariant, is_served, quarantined_at, mode_at, probed_mode, mode_in, no_slots, plain_mode, slots_at, state_of, usable_of, used_for, RevokedMarkInvariant}
+use Rattle.server_history.specs.Prerequisites.{PrerequisiteLaws}
+use Rattle.server_history.specs.ErrorHandling.{IsRevalidated, HasNoUsedSlot}
+use Rattle.server_history.specs.Server.{SlotsInvariant, ServerState, InCallInvariant, MachineRelation, PortInvariant, is_served, quarantined_at, mode_at, probed_mode, mode_in, no_slots, plain_mode, slots_at, state_of, usable_slots_of, used_for, RevokedMarkInvariant}
 use Rattle.port_control.specs.declared.events.PortError.{PortError}
 use Rattle.server_history.proofs.state.PortGrounds.{left_on}
 use Rattle.server_history.proofs.recovery_turn.OtherPorts.{Passes}
@@ -60,7 +60,7 @@ use Rattle.server_history.proofs.recovery_turn.BootOrAbsence.{IsFoundAbsent, boo
 
 -- What stands behind a port that was found so, as a server has it.
 pub record StandsAt (wanted : Wanted) (found : ProbeResult) (port : ℕ) (d : Device) : Type 0 where
-  pub behind : StillStandsBehind wanted found port d
+  pub behind : StillBacksProbeResult wanted found port d
   pub runs : state_of found ≡ ReadyState → EngineRuns port d
   pub shown : FoundBadDisk (state_of found) → ShowsDiskIfIn (d.port port)
   pub own : state_of found ≡ ReadyState → HasDiskIfShown (d.port port)
@@ -70,7 +70,7 @@ its_port : (wanted : List Wanted) (found : List ProbeResult) (port : ℕ) (d : D
 its_port wanted found port d s = record { behind = s.behind; runs = s.runs; shown = s.shown; own = s.own; halts = s.halts }
 
 -- another port is left to the device
-other_stands : LawsBelow → (port : Port) (wanted : Wanted) (found : ProbeResult) (q : ℕ) (old new : Device) → q ≢ port.0 → IsOn old → IsDrivenBy (SparesOtherPorts port) old new → SameAdapter old new
+other_stands : PrerequisiteLaws → (port : Port) (wanted : Wanted) (found : ProbeResult) (q : ℕ) (old new : Device) → q ≢ port.0 → IsOn old → IsDrivenBy (SparesOtherPorts port) old new → SameAdapter old new
     → (found ≢ Unready DeadState → GainsNoMove q Identify old new) → (HaltOfTakenIfSt (old.port q) → HaltOfTakenIfSt (new.port q)) → StandsAt wanted found q old → StandsAt wanted found q new
 other_stands laws port wanted found q old new other on driven same silent halts s = record {
   behind = left_on laws wanted found q old new same left silent s.behind;
@@ -93,7 +93,7 @@ other_stands laws port wanted found q old new other on driven same silent halts 
     left : LeavesPort (old.port q) (new.port q)
     left = laws.looks.other_left port q old new other on driven
 
-pub same_over : LawsBelow → (port : Port) (old new : Device) → IsDrivenBy (SparesOtherPorts port) old new → SameAdapter old new
+pub same_over : PrerequisiteLaws → (port : Port) (old new : Device) → IsDrivenBy (SparesOtherPorts port) old new → SameAdapter old new
 same_over laws port old new driven = laws.looks.same_over old new (driven_as (SparesOtherPorts port) AnyAccess old new (λ access is. tt) driven)
 
 pub still_there : (port : ℕ) (old new : Device) → SameAdapter old new → HasPort old port → HasPort new port
@@ -101,7 +101,7 @@ still_there port old new same there = (there.0, ap (λ (pi : ℕ). bit pi port) 
 
 -- ---- a port that was booted anew
 
-module _ (laws : LawsBelow) (wanted : Wanted) (port : Port) (d new : Device) (on : IsOn d) (served : IsServed wanted port.0 d) where
+module _ (laws : PrerequisiteLaws) (wanted : Wanted) (port : Port) (d new : Device) (on : IsOn d) (served : IsServed wanted port.0 d) where
   -- its engine was awaited in vain
   pub dies_then : (d.port port.0).st ≡ false → BacksFault EngineStuck (d.port port.0).notes → StandsAt wanted (Unready DeadState) port.0 d
   dies_then st stuck = record {
@@ -146,7 +146,7 @@ module _ (laws : LawsBelow) (wanted : Wanted) (port : Port) (d new : Device) (on
     shown_as (Unready state) is bad = laws.recovery.again_shown wanted port booted state d new on b bad is
 
     pub asked_on : IsOn b.asked
-    asked_on = laws.of_on port d b.asked on (driven_as (IsSurveyOrBoot port) (SparesOtherPorts port) d b.asked (laws.recovery.start_of port) b.asks.driven)
+    asked_on = laws.of_on port d b.asked on (driven_as (IsCapPiOrBootAccess port) (SparesOtherPorts port) d b.asked (laws.recovery.start_of port) b.asks.driven)
 
     own_as : state_of booted.found ≡ ReadyState → HasDiskIfShown (new.port port.0)
     own_as is =
@@ -204,9 +204,9 @@ pub record IsBookLeft (port : Port) (found : ProbeResult) (table : Table) (book 
   pub from : (e : BookEntry) → Contains book e → WasIn s.book e
   pub ready : (e : BookEntry) → Contains book e → e.entry.port.0 ≡ port.0 → state_of found ≡ ReadyState
 
-module _ (laws : LawsBelow) (port : Port) (s : ServerState) (k : InCallInvariant s) (low : port.0 < 4) (device : Device) (slots : DriverSlots) (whole : Passes s port slots device) (table : Table)
+module _ (laws : PrerequisiteLaws) (port : Port) (s : ServerState) (k : InCallInvariant s) (low : port.0 < 4) (device : Device) (slots : DriverSlots) (whole : Passes s port slots device) (table : Table)
     (found : ProbeResult) (remembered : List (Option DiskInfo)) (mode : QueueMode) (its : PortSlots) (kept : List (List Lending)) (book : List BookEntry)
-    (served : is_served (probe_result_of s.ports port.0) ≡ true) (stands : StandsAt (wanted_of s.wanted port.0) found port.0 device) (mode_is : mode ≡ probed_mode device.cap found) (unused : AreEmptySlots mode its)
+    (served : is_served (probe_result_of s.ports port.0) ≡ true) (stands : StandsAt (wanted_of s.wanted port.0) found port.0 device) (mode_is : mode ≡ probed_mode device.cap found) (unused : HasNoUsedSlot mode its)
     (left : IsBookLeft port found table book s) where
   abbrev then_is : ServerState
   then_is = with_found port device table found remembered mode its kept book s
@@ -278,8 +278,8 @@ module _ (laws : LawsBelow) (port : Port) (s : ServerState) (k : InCallInvariant
         usable = ap (λ (x : PortSlots). x.usable) (slots_other q other) ∙ was.usable ∙ ap (λ (m : QueueMode). m.usable) (sym (mode_other q other));
         unused = λ slot high.
             ap (λ (x : PortSlots). use_at x slot) (slots_other q other)
-            ∙ was.unused slot (subst (λ (f : ProbeResult). usable_of f (mode_at s.modes q) ≤ slot) (found_other q other)
-            (subst (λ (m : QueueMode). usable_of (probe_result_of then_is.ports q) m ≤ slot) (mode_other q other) high));
+            ∙ was.unused slot (subst (λ (f : ProbeResult). usable_slots_of f (mode_at s.modes q) ≤ slot) (found_other q other)
+            (subst (λ (m : QueueMode). usable_slots_of (probe_result_of then_is.ports q) m ≤ slot) (mode_other q other) high));
       })
       (cases_eq q port.0)
 

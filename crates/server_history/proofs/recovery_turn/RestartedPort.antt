@@ -9,10 +9,10 @@ use Rattle.block_machine.specs.Events.{AreStepsOfCall, UnpluggedLostDisk, Tick}
 use Rattle.block_machine.specs.Histories.{IsReachable}
 use Rattle.block_machine.specs.Ports.{SameDisk}
 use Rattle.block_machine.specs.State.{Machine}
-use Rattle.host_boot.specs.Taken.{probe_result_of}
+use Rattle.host_boot.specs.TakeOver.{probe_result_of}
 use Rattle.port_control.specs.Looks.{IsLooking}
 use Rattle.request_queue.specs.declared.disposition.Revalidation.TheVariants.{DiskLost}
-use Rattle.server_history.specs.Below.{LawsBelow}
+use Rattle.server_history.specs.Prerequisites.{PrerequisiteLaws}
 use Rattle.server_history.specs.ErrorHandling.{HasResolved, IsRevalidation, HandlesPortError}
 use Rattle.server_history.specs.Server.{InCallInvariant, MachineRelation, ServerState, ports_of, state_of}
 use Rattle.server_history.specs.Turns.{InRestart, MeetsTurnDuty, RestartsPort}
@@ -26,7 +26,7 @@ use Rattle.server_history.proofs.dispositions.FateReasons.{belong_tick}
 use Rattle.server_history.proofs.recovery_turn.RebootedPort.{restarts}
 use Rattle.server_history.proofs.recovery_turn.TurnParts.{evidence_by, faults_of}
 
-module _ (laws : LawsBelow) (port : Port) (replies : List Reply) (old new : ServerState) (k : InCallInvariant old) (ready : state_of (probe_result_of old.ports port.0) ≡ ReadyState) (r : HandlesPortError port replies old new)
+module _ (laws : PrerequisiteLaws) (port : Port) (replies : List Reply) (old new : ServerState) (k : InCallInvariant old) (ready : state_of (probe_result_of old.ports port.0) ≡ ReadyState) (r : HandlesPortError port replies old new)
     (looks : IsSimulated (IsLooking port) AnyUse old.device r.settled.error_handled.seen) (kept : InCallInvariant r.mid) (evident : IsEvident port replies old new r) (m : Machine) (reached : IsReachable m) (is : MachineRelation old m)
     (d : DecidesTurn port replies old new r (evidence_by r.settled) m) (hung : r.settled.error_handled.port_error ≡ TimedOut) where
   abbrev a : HasResolved port r.later old r.mid

@@ -10,11 +10,11 @@ use Rattle.adapter.specs.Device.{Device}
 use Rattle.adapter.specs.Rules.{IsOn}
 use Rattle.refinement.specs.Links.{DoesNotWrite}
 use Rattle.error_recovery.specs.Recovery.{IsRecoveryAccess}
-use Rattle.server_history.specs.Below.{LawsBelow}
+use Rattle.server_history.specs.Prerequisites.{PrerequisiteLaws}
 use Rattle.server_history.proofs.recovery_turn.LinkResets.{recovering_spares}
 use Rattle.server_history.proofs.state.RunningPorts.{link_still}
 
-pub saw_still : LawsBelow → (port : Port) (accesses : List Access) (old new : Device) → All (IsRecoveryAccess port) accesses → DoesAll accesses old new → IsOn old
+pub saw_still : PrerequisiteLaws → (port : Port) (accesses : List Access) (old new : Device) → All (IsRecoveryAccess port) accesses → DoesAll accesses old new → IsOn old
     → (old.port port.0).notes.link_count ≡ MOST_READINGS → (new.port port.0).notes.link_count ≡ MOST_READINGS
 saw_still laws port [] old new only is on saw = subst (λ (d : Device). (d.port port.0).notes.link_count ≡ MOST_READINGS) (sym is) saw
 saw_still laws port (access ∷ accesses) old new only (mid, does, rest) on saw =

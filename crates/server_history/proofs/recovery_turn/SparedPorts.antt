@@ -11,13 +11,13 @@ use Rattle.block_machine.specs.Due.{mark_waiting, of_port, without_request, with
 use Rattle.block_machine.specs.declared.due.Unanswered.{Unanswered}
 use Rattle.server_history.proofs.state.ListMembers.{map_in}
 use Rattle.host_boot.specs.declared.ProbeResult.TheVariants.{Unserved}
-use Rattle.request_queue.specs.Entries.{BookEntry, BookIsInOrder, asks, asks_of, due_ids, is_of}
-use Rattle.request_queue.specs.Dispositions.{Holdings, AreResolved, IsResolved, disposition_of}
+use Rattle.request_queue.specs.Entries.{BookEntry, BookIsInOrder, asks, asks_of, due_ids, is_of_port}
+use Rattle.request_queue.specs.Dispositions.{BookAndLoans, AreResolved, IsResolved, disposition_of}
 use Rattle.request_queue.specs.declared.PendingRequest.{PendingRequest}
 use Rattle.request_queue.specs.declared.disposition.Disposition.{Disposition}
 use Rattle.request_queue.specs.declared.disposition.Disposition.TheVariants.{Complete, Requeue, Wait}
-use Rattle.server_history.specs.Below.{LawsBelow}
-use Rattle.server_history.specs.ErrorHandling.{IsErrorHandled, HasResolved, HandlesPortError, holdings_of, requests_of}
+use Rattle.server_history.specs.Prerequisites.{PrerequisiteLaws}
+use Rattle.server_history.specs.ErrorHandling.{IsErrorHandled, HasResolved, HandlesPortError, book_and_loans_of, requests_of}
 use Rattle.server_history.specs.Server.{ServerState, InCallInvariant, mode_in, no_slots, plain_mode, slots_at}
 use Rattle.server_history.specs.Turns.{LeavesOthers}
 use Rattle.server_history.proofs.plain_calls.IssueRounds.{each_apart, each_settings, each_slots}
@@ -95,24 +95,24 @@ module _ (q : Port) (id : RequestId) where
   none_none : (other : RequestId) (list : List Unanswered) → IsNoneOf q other list → IsNoneOf q other (without_request id list)
   none_none other list none = All-filter stays (λ (r : Unanswered). r.port ≡ q → r.id ≢ other) list none
 
-module _ (laws : LawsBelow) (q : Port) where
+module _ (laws : PrerequisiteLaws) (q : Port) where
   -- one request met its fate
-  one_apart : (e : BookEntry) (disposition : Disposition) (replies : List Reply) (old new : Holdings) → IsResolved e disposition replies old new → IsNoneOf q e.entry.id (asks_of old.book)
+  one_apart : (e : BookEntry) (disposition : Disposition) (replies : List Reply) (old new : BookAndLoans) → IsResolved e disposition replies old new → IsNoneOf q e.entry.id (asks_of old.book)
       → (of_port q (asks_of new.book) ≡ of_port q (asks_of old.book)) × ((id : RequestId) → IsNoneOf q id (asks_of old.book) → IsNoneOf q id (asks_of new.book))
   one_apart e Wait replies old new meets none =
-      let same : asks_of new.book ≡ asks_of old.book = ap (λ (h : Holdings). asks_of h.book) meets.1 in
+      let same : asks_of new.book ≡ asks_of old.book = ap (λ (h : BookAndLoans). asks_of h.book) meets.1 in
       (ap (of_port q) same, λ id is. subst (IsNoneOf q id) (sym same) is)
   one_apart e Requeue replies old new meets none =
-      let same : asks_of new.book ≡ with_waiting e.entry.id (asks_of old.book) = ap (λ (h : Holdings). asks_of h.book) meets.1 ∙ laws.asks_requeued old.book e.entry.id in
+      let same : asks_of new.book ≡ with_waiting e.entry.id (asks_of old.book) = ap (λ (h : BookAndLoans). asks_of h.book) meets.1 ∙ laws.asks_requeued old.book e.entry.id in
       (ap (of_port q) same ∙ waiting_apart q e.entry.id (asks_of old.book) none, λ id is. subst (IsNoneOf q id) (sym same) (waiting_none q e.entry.id id (asks_of old.book) is))
   one_apart e (Complete outcome) replies old new meets none =
       let same : asks_of new.book ≡ without_request e.entry.id (asks_of old.book) = ap asks_of meets.1 ∙ laws.asks_answered old.book e.entry.id in
       (ap (of_port q) same ∙ none_apart q e.entry.id (asks_of old.book) none, λ id is. subst (IsNoneOf q id) (sym same) (none_none q e.entry.id id (asks_of old.book) is))
 
   -- and so did these
-  pub fates_apart : (disposition : PendingRequest → Disposition) (requests : List BookEntry) (replies : List Reply) (old new : Holdings) → AreResolved disposition requests replies old new → All (λ (e : BookEntry). IsNoneOf q e.entry.id (asks_of old.book)) requests
+  pub fates_apart : (disposition : PendingRequest → Disposition) (requests : List BookEntry) (replies : List Reply) (old new : BookAndLoans) → AreResolved disposition requests replies old new → All (λ (e : BookEntry). IsNoneOf q e.entry.id (asks_of old.book)) requests
       → of_port q (asks_of new.book) ≡ of_port q (asks_of old.book)
-  fates_apart disposition [] replies old new meets none = ap (λ (h : Holdings). of_port q (asks_of h.book)) meets.1
+  fates_apart disposition [] replies old new meets none = ap (λ (h : BookAndLoans). of_port q (asks_of h.book)) meets.1
   fates_apart disposition (e ∷ requests) replies old new (mid, its, later, split, one, more) none =
       let x = one_apart e (disposition e.entry) its old mid one (All-head (λ (e : BookEntry). IsNoneOf q e.entry.id (asks_of old.book)) e requests none) in
       fates_apart disposition requests later mid new more
@@ -133,14 +133,14 @@ module _ (laws : LawsBelow) (q : Port) where
       (All-contains_itself (requests_of port book))
     where
       its_port : (e : BookEntry) → Contains (requests_of port book) e → e.entry.port ≡ port
-      its_port e here = ap (λ (n : ℕ). record { 0 = n }) (eqb-true e.entry.port.0 port.0 (All-contains (λ (x : BookEntry). is_of port x.entry ≡ true) (requests_of port book) e (filter_passes (λ (x : BookEntry). is_of port x.entry) book) here))
+      its_port e here = ap (λ (n : ℕ). record { 0 = n }) (eqb-true e.entry.port.0 port.0 (All-contains (λ (x : BookEntry). is_of_port port x.entry ≡ true) (requests_of port book) e (filter_passes (λ (x : BookEntry). is_of_port port x.entry) book) here))
 
       booked : (e : BookEntry) → Contains (requests_of port book) e → Contains book e
-      booked e here = All-contains (Contains book) (requests_of port book) e (All-filter (λ (x : BookEntry). is_of port x.entry) (Contains book) book (All-contains_itself book)) here
+      booked e here = All-contains (Contains book) (requests_of port book) e (All-filter (λ (x : BookEntry). is_of_port port x.entry) (Contains book) book (All-contains_itself book)) here
 
 -- ---- the whole
 
-module _ (laws : LawsBelow) (port : Port) (replies : List Reply) (old new : ServerState) (k : InCallInvariant old) (r : HandlesPortError port replies old new) (kept : InCallInvariant r.mid) where
+module _ (laws : PrerequisiteLaws) (port : Port) (replies : List Reply) (old new : ServerState) (k : InCallInvariant old) (r : HandlesPortError port replies old new) (kept : InCallInvariant r.mid) where
   abbrev a : HasResolved port r.later old r.mid
   a = r.settled
 
@@ -177,6 +177,6 @@ module _ (laws : LawsBelow) (port : Port) (replies : List Reply) (old new : Serv
     book = λ q ne.
         each_apart laws port ids r.mid new kept.ordered r.issued q ne
         ∙ ap (λ (n : ServerState). of_port q (asks_of n.book)) a.server
-        ∙ fates_apart laws q (disposition_of a.failed a.revalidation) (requests_of port a.mid.book) r.later (holdings_of port a.mid) a.now a.meets (none_of_port laws q port a.mid.book ne (answers_order laws port x.done x.requests from a.mid k.ordered x.each))
+        ∙ fates_apart laws q (disposition_of a.failed a.revalidation) (requests_of port a.mid.book) r.later (book_and_loans_of port a.mid) a.now a.meets (none_of_port laws q port a.mid.book ne (answers_order laws port x.done x.requests from a.mid k.ordered x.each))
         ∙ answers_apart laws port x.done x.requests from a.mid k.ordered x.each q ne;
   }

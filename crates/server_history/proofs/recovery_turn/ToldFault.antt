@@ -15,11 +15,11 @@ use Rattle.hba_regs.specs.Bits.{bit}
 use Rattle.adapter.specs.Commands.{Meaning, is_queued}
 use Rattle.adapter.specs.Rules.{InUse}
 use Rattle.refinement.specs.Driven.{AnyUse, IsSimulated}
-use Rattle.refinement.specs.Facts.{ShowsFault}
+use Rattle.refinement.specs.PortFacts.{ShowsFault}
 use Rattle.refinement.specs.Slots.{IsEmptySlot, RelatesSlot, ServesRequest, SlotState}
 use Rattle.block_machine.specs.Events.{AllMay, answers_of, reply_of}
 use Rattle.block_machine.specs.Histories.{IsReachable}
-use Rattle.block_machine.specs.Left.{after}
+use Rattle.block_machine.specs.Expected.{after}
 use Rattle.block_machine.specs.State.{Machine, Pending}
 use Rattle.block_machine.specs.Steps.{Answer, May, Step}
 use Rattle.server_history.proofs.state.ListMembers.{contains_cases, contains_here, map_in, in_filter}
@@ -28,20 +28,20 @@ use Rattle.identify.specs.declared.error_log.FailedSlot.{FailedSlot}
 use Rattle.error_recovery.specs.Recovery.{MayRecover, BacksFailure, TellsRecovery}
 use Rattle.error_recovery.specs.declared.Next.{Next}
 use Rattle.error_recovery.specs.declared.Next.TheVariants as next
-use Rattle.host_boot.specs.Taken.{probe_result_of}
+use Rattle.host_boot.specs.TakeOver.{probe_result_of}
 use Rattle.port_control.specs.Looks.{IsLooking}
 use Rattle.port_control.specs.declared.events.PortError.{PortError}
 use Rattle.port_control.specs.declared.events.PortError.TheVariants.{TaskFileError}
-use Rattle.request_queue.specs.Entries.{BookEntry, is_of}
-use Rattle.request_queue.specs.Dispositions.{Holdings, AreResolved, IsResolved, disposition_of, disposition_of_unfailed, reply_to}
+use Rattle.request_queue.specs.Entries.{BookEntry, is_of_port}
+use Rattle.request_queue.specs.Dispositions.{BookAndLoans, AreResolved, IsResolved, disposition_of, disposition_of_unfailed, reply_to}
 use Rattle.request_queue.specs.declared.PendingRequest.{PendingRequest}
 use Rattle.request_queue.specs.declared.disposition.FailedRequest.{FailedRequest}
 use Rattle.request_queue.specs.declared.disposition.Disposition.{Disposition}
 use Rattle.request_queue.specs.declared.disposition.Disposition.TheVariants.{Complete}
 use Rattle.request_queue.specs.declared.disposition.Revalidation.{Revalidation}
 use Rattle.slots.specs.declared.SlotUse.{SlotUse}
-use Rattle.server_history.specs.Below.{LawsBelow}
-use Rattle.server_history.specs.ErrorHandling.{IsFailedRequest, ErrorIsFound, IsErrorHandled, HasResolved, HandlesPortError, holdings_of, requests_of, TellsErrorHandling}
+use Rattle.server_history.specs.Prerequisites.{PrerequisiteLaws}
+use Rattle.server_history.specs.ErrorHandling.{IsFailedRequest, ErrorIsFound, IsErrorHandled, HasResolved, HandlesPortError, book_and_loans_of, requests_of, TellsErrorHandling}
 use Rattle.server_history.specs.Served.{AnswersEach, is_used}
 use Rattle.server_history.specs.Server.{ServerState, InCallInvariant, MachineRelation, ports_of, slots_at, state_of, used_for}
 use Rattle.server_history.specs.Turns.{IsOfTurn}
@@ -56,14 +56,14 @@ use Rattle.server_history.proofs.any_turn.TurnSteps.{StandsIn, stood}
 use Rattle.server_history.proofs.state.PlacedSlots.{placed_other}
 use Rattle.server_history.proofs.recovery_turn.TurnParts.{evidence_by, until_issues}
 use Rattle.server_history.proofs.healthy_turn.AnswersAndIssues.{over_on, ready_on}
-use Rattle.server_history.proofs.state.PortSlots.{AreOver, HasSlot, IsServedBy, free_unused, issued_has, ready_found, served_request, serves_used}
+use Rattle.server_history.proofs.state.PortSlots.{CommandsAreOver, HasSlot, IsServedBy, free_unused, issued_has, ready_found, served_request, serves_used}
 use Rattle.server_history.proofs.recovery_turn.TurnStretches.{done_over, found_kept}
 use Rattle.server_history.proofs.state.FirstMembers.{nowhere}
 
 -- ---- what wasn't done
 
 -- a slot that wasn't found done is used still
-left_used : (laws : LawsBelow) (port : Port) → port.0 < 4 → (done : ℕ) (requests : List BookEntry) (old new : ServerState) → InCallInvariant old → state_of (probe_result_of old.ports port.0) ≡ ReadyState → AreOver port done old.device
+left_used : (laws : PrerequisiteLaws) (port : Port) → port.0 < 4 → (done : ℕ) (requests : List BookEntry) (old new : ServerState) → InCallInvariant old → state_of (probe_result_of old.ports port.0) ≡ ReadyState → CommandsAreOver port done old.device
     → AnswersEach port done requests old new → (slot : ℕ) (used : SlotUse) → bit done slot ≡ false → used_for old.slots port.0 slot ≡ Some used → used_for new.slots port.0 slot ≡ Some used
 left_used laws port low done [] old new k ready over none slot used clear is = ap (λ (n : ServerState). used_for n.slots port.0 slot) none ∙ is
 left_used laws port low done (e ∷ requests) old new k ready over (mid, one, its, more) slot used clear is =
@@ -77,7 +77,7 @@ left_used laws port low done (e ∷ requests) old new k ready over (mid, one, it
 -- ---- what is told
 
 -- who ends is told so
-fate_told : (disposition : PendingRequest → Disposition) (requests : List BookEntry) (replies : List Reply) (old new : Holdings) → AreResolved disposition requests replies old new → (e : BookEntry) (o : Outcome) → Contains requests e → disposition e.entry ≡ Complete o
+fate_told : (disposition : PendingRequest → Disposition) (requests : List BookEntry) (replies : List Reply) (old new : BookAndLoans) → AreResolved disposition requests replies old new → (e : BookEntry) (o : Outcome) → Contains requests e → disposition e.entry ≡ Complete o
     → Contains replies (reply_to e o)
 fate_told disposition [] replies old new none e o here ends = absurd (nowhere e here)
 fate_told disposition (request ∷ requests) replies old new (mid, its, later, split, meets, more) e o here ends = subst (λ (list : List Reply). Contains list (reply_to e o)) (sym split) (⊎_elim
@@ -88,7 +88,7 @@ fate_told disposition (request ∷ requests) replies old new (mid, its, later, s
     (contains_cases request requests e here))
 
 -- who is answered in a turn was unanswered when it began
-pub answer_stood : LawsBelow → (port : Port) (m : Machine) (steps : List Step) → AllMay m steps → All (IsOfTurn port) steps → (e : Pending) (o : Outcome) → Contains steps (Answer e o) → StandsIn m.book e
+pub answer_stood : PrerequisiteLaws → (port : Port) (m : Machine) (steps : List Step) → AllMay m steps → All (IsOfTurn port) steps → (e : Pending) (o : Outcome) → Contains steps (Answer e o) → StandsIn m.book e
 answer_stood laws port m [] may own e o here = absurd (nowhere (Answer e o) here)
 answer_stood laws port m (step ∷ steps) may own e o here = ⊎_elim
     (λ (is : Answer e o ≡ step). let may_answer : May (after m steps) (Answer e o) = subst (May (after m steps)) (sym is) may.1 in stood laws port m steps (All-tail (IsOfTurn port) step steps own) e may_answer.0)
@@ -103,7 +103,7 @@ failed_fate its failed revalidation e is same =
 
 -- ---- the whole
 
-module _ (laws : LawsBelow) (port : Port) (replies : List Reply) (old new : ServerState) (k : InCallInvariant old) (ready : state_of (probe_result_of old.ports port.0) ≡ ReadyState) (r : HandlesPortError port replies old new)
+module _ (laws : PrerequisiteLaws) (port : Port) (replies : List Reply) (old new : ServerState) (k : InCallInvariant old) (ready : state_of (probe_result_of old.ports port.0) ≡ ReadyState) (r : HandlesPortError port replies old new)
     (looks : IsSimulated (IsLooking port) AnyUse old.device r.settled.error_handled.seen) (kept : InCallInvariant r.mid) (m : Machine) (reached : IsReachable m) (is : MachineRelation old m)
     (d : DecidesTurn port replies old new r (evidence_by r.settled) m) where
   abbrev a : HasResolved port r.later old r.mid
@@ -181,7 +181,7 @@ module _ (laws : LawsBelow) (port : Port) (replies : List Reply) (old new : Serv
     request = served_request a.mid then_kept.machine port.0 slot then_kept.stands then_ready used.id (serves_used a.mid then_kept.machine port.0 then_kept.stands then_ready slot used still)
 
     in_its : Contains (requests_of port a.mid.book) request.request
-    in_its = in_filter (λ (y : BookEntry). is_of port y.entry) a.mid.book request.request request.there (eq-eqb request.request.entry.port.0 port.0 request.port_is)
+    in_its = in_filter (λ (y : BookEntry). is_of_port port y.entry) a.mid.book request.request request.there (eq-eqb request.request.entry.port.0 port.0 request.port_is)
 
     module _ (e : Pending) (here : Contains m.book e) (id_is : used.id ≡ e.request.id) where
       told : (its_failure : FailedSlot) → x.result.failed ≡ Some its_failure → IsAnsweredFaulty e d.steps
@@ -198,7 +198,7 @@ module _ (laws : LawsBelow) (port : Port) (replies : List Reply) (old new : Serv
               let failed : FailedRequest = record { id = other.id; status = its_failure.status; error = its_failure.error } in
               let o : Outcome = outcome.DeviceError its_failure.status its_failure.error in
               let disposition = failed_fate failed a.failed a.revalidation request.request.entry names (ap (λ (u : SlotUse). u.id) same ∙ sym request.id_is) in
-              let reply = fate_told (disposition_of a.failed a.revalidation) (requests_of port a.mid.book) r.later (holdings_of port a.mid) a.now a.meets request.request o in_its disposition in
+              let reply = fate_told (disposition_of a.failed a.revalidation) (requests_of port a.mid.book) r.later (book_and_loans_of port a.mid) a.now a.meets request.request o in_its disposition in
               let w = map_in reply_of d.dispositions.tells.answers (reply_to request.request o) (subst (λ (list : List Reply). Contains list (reply_to request.request o)) d.dispositions.tells.told reply) in
               let there = answers_there d.dispositions.dispositions w.0 (Contains-permutation d.dispositions.tells.answers (answers_of d.dispositions.dispositions) w.0 d.dispositions.tells.same w.1) in
               let o_is : w.0.1 ≡ o = ap (λ (y : Reply). y.outcome) (sym w.2) in

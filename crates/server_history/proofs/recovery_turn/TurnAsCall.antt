@@ -12,11 +12,11 @@ use Rattle.block_machine.specs.Events.{Service}
 use Rattle.block_machine.specs.Histories.{IsReachable}
 use Rattle.block_machine.specs.State.{Machine}
 use Rattle.driver_history.specs.Histories.{HasUnservedDisk, HasOnlyTaskFileError}
-use Rattle.host_boot.specs.Taken.{probe_result_of}
+use Rattle.host_boot.specs.TakeOver.{probe_result_of}
 use Rattle.port_control.specs.Looks.{IsLooking}
 use Rattle.port_control.specs.declared.events.PortError.{PortError}
 use Rattle.port_control.specs.declared.events.PortError.TheVariants.{FatalError, TaskFileError, TimedOut, LinkChanged}
-use Rattle.server_history.specs.Below.{LawsBelow}
+use Rattle.server_history.specs.Prerequisites.{PrerequisiteLaws}
 use Rattle.server_history.specs.ErrorHandling.{AreAllQueuedAs, HandlesPortError}
 use Rattle.server_history.specs.Server.{ServerState, InCallInvariant, MachineRelation, ports_of, slots_at, state_of}
 use Rattle.server_history.specs.Turns.{HandlesShownErrors, InService, TurnCorresponds, joint_state_of}
@@ -36,7 +36,7 @@ use Rattle.server_history.proofs.recovery_turn.HealthyPort.{going_well}
 use Rattle.server_history.proofs.state.FirstMembers.{first_here}
 use Rattle.refinement.specs.Links.{IsPlugEvent}
 
-module _ (laws : LawsBelow) (port : Port) (replies : List Reply) (old new : ServerState) (k : InCallInvariant old) (ready : state_of (probe_result_of old.ports port.0) ≡ ReadyState) (r : HandlesPortError port replies old new)
+module _ (laws : PrerequisiteLaws) (port : Port) (replies : List Reply) (old new : ServerState) (k : InCallInvariant old) (ready : state_of (probe_result_of old.ports port.0) ≡ ReadyState) (r : HandlesPortError port replies old new)
     (looks : IsSimulated (IsLooking port) AnyUse old.device r.settled.error_handled.seen) (kept : InCallInvariant r.mid) (evident : IsEvident port replies old new r)
     (m : Machine) (reached : IsReachable m) (is : MachineRelation old m)
     (d : DecidesTurn port replies old new r (evidence_by r.settled) m) where

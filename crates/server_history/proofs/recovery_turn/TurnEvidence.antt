@@ -13,12 +13,12 @@ use Rattle.adapter.specs.Access.{Access, DoesAll}
 use Rattle.adapter.specs.Device.{Device}
 use Rattle.adapter.specs.declared.command.Operation.TheVariants.{ReadLog}
 use Rattle.adapter.specs.declared.tape.Fault as tape_fault
-use Rattle.refinement.specs.Driven.{AnyUse, Grows, IsSimulated, SparesOtherPorts, GainsNoMove}
+use Rattle.refinement.specs.Driven.{AnyUse, TapeGrows, IsSimulated, SparesOtherPorts, GainsNoMove}
 use Rattle.refinement.specs.Driver.{IsBacked}
 use Rattle.refinement.specs.Links.{DoesNotWrite}
-use Rattle.block_machine.specs.Events.{AbstractCall, ShowsRealDisk, Served, ShowsDisk, changes_disk}
+use Rattle.block_machine.specs.Events.{AbstractCall, ShownDiskWasInOrCame, Served, ShowsDisk, changes_disk}
 use Rattle.adapter.specs.declared.access.DeviceStep.{DeviceStep}
-use Rattle.block_machine.specs.Left.{after}
+use Rattle.block_machine.specs.Expected.{after}
 use Rattle.block_machine.specs.Ports.{RequestFault, IsServiced}
 use Rattle.block_machine.specs.State.{Machine}
 use Rattle.block_machine.specs.Steps.{Step}
@@ -30,9 +30,9 @@ use Rattle.error_recovery.specs.Recovery.{EndsAsNext, BacksFailure, TellsEngine}
 use Rattle.error_recovery.specs.declared.Next.{Next}
 use Rattle.error_recovery.specs.declared.Next.TheVariants as next
 use Rattle.identify.specs.declared.error_log.FailedSlot.{FailedSlot}
-use Rattle.host_boot.specs.Taken.{probe_result_of, wanted_of}
+use Rattle.host_boot.specs.TakeOver.{probe_result_of, wanted_of}
 use Rattle.host_boot.specs.declared.ProbeResult.TheVariants.{Ready, Unready}
-use Rattle.port_control.specs.Engines.{Sticks, Stops}
+use Rattle.port_control.specs.Engines.{EngineSticks, Stops}
 use Rattle.port_control.specs.Looks.{IsLooking, LooksAt}
 use Rattle.port_control.specs.declared.events.PortEvent.{PortEvent}
 use Rattle.request_queue.specs.Entries.{BookEntry, asks_of, due_ids}
@@ -40,12 +40,12 @@ use Rattle.request_queue.specs.declared.disposition.FailedRequest as failed_requ
 use Rattle.request_queue.specs.declared.disposition.Revalidation.TheVariants.{DiskLost}
 use Rattle.slots.specs.Uses.{use_at}
 use Rattle.slots.specs.declared.SlotUse.{SlotUse}
-use Rattle.server_history.specs.Below.{LawsBelow}
+use Rattle.server_history.specs.Prerequisites.{PrerequisiteLaws}
 use Rattle.server_history.proofs.any_turn.ShownTrouble.{grows_over}
 use Rattle.server_history.specs.ErrorHandling.{IsFailedRequest, IsRevalidated, ErrorIsFound, IsRevalidation, IsErrorHandled, HasResolved, HandlesPortError}
 use Rattle.server_history.specs.Served.{AnswersEach}
 use Rattle.server_history.specs.Server.{ServerState, InCallInvariant, MachineRelation, ports_of, slots_at, state_of, used_for, mode_in}
-use Rattle.server_history.specs.Turns.{IsOfCommand, LeavesOthers, NamesOnly, TellsFault, joint_state_of, abstract_state_of}
+use Rattle.server_history.specs.Turns.{IsFaultOfCommand, LeavesOthers, NamesOnly, TellsFault, joint_state_of, abstract_state_of}
 use Rattle.server_history.proofs.healthy_turn.OneAnswer.{answer_kept}
 use Rattle.server_history.proofs.recovery_turn.SparedPorts.{leaves_others}
 use Rattle.server_history.proofs.recovery_turn.MendedPort.{becomes, dead_found, dead_prospect, disk_same, interrupted, its, lost_is, names, ready_info, state_new, stuck_is, next_dead}
@@ -58,7 +58,7 @@ use Rattle.server_history.proofs.recovery_turn.RecoveryAccesses.{IsEarlyPart, Is
 use Rattle.server_history.proofs.recovery_turn.TurnParts.{evidence_by, faults_of, stopped_of}
 use Rattle.server_history.proofs.healthy_turn.AnswersAndIssues.{over_on, ready_on}
 use Rattle.server_history.proofs.any_turn.ShownDevice.{had_disk, shows_device}
-use Rattle.server_history.proofs.state.PortSlots.{AreOver, ready_found}
+use Rattle.server_history.proofs.state.PortSlots.{CommandsAreOver, ready_found}
 use Rattle.server_history.proofs.recovery_turn.TurnStretches.{TurnParts, accesses_in, done_over, found_is, found_kept, mid_device, turn_parts}
 use Rattle.server_history.proofs.state.FirstMembers.{nowhere}
 use Rattle.port_control.specs.declared.events.PortEvent.TheVariants as look
@@ -72,14 +72,14 @@ use Rattle.server_history.proofs.plain_calls.IssueRounds.{each_driven}
 
 -- ---- what recovery tells of the port's engine
 
-module _ (laws : LawsBelow) (port : Port) (early part late : List Access) where
+module _ (laws : PrerequisiteLaws) (port : Port) (early part late : List Access) where
   pub engine_stops : (then : Next) → TellsEngine port then part → Contains (stopped_of port then) port → Stops port (early ++ (part ++ late))
   engine_stops (next.Running token) engine here = laws.falls_since early (part ++ late) 0 15 port (laws.falls_then part late 0 15 port engine)
   engine_stops (next.Restart token) engine here = laws.falls_since early (part ++ late) 0 15 port (laws.falls_then part late 0 15 port engine)
   engine_stops next.Dead engine here = absurd (nowhere port here)
 
   -- one that is stuck is so in recovery, or later
-  pub engine_sticks : (then : Next) → TellsEngine port then part → (then ≢ next.Dead → Sticks port late) → Sticks port (early ++ (part ++ late))
+  pub engine_sticks : (then : Next) → TellsEngine port then part → (then ≢ next.Dead → EngineSticks port late) → EngineSticks port (early ++ (part ++ late))
   engine_sticks (next.Running token) engine later = laws.sticks_since early (part ++ late) port (laws.sticks_since part late port (later (λ e. let z : next.Running token ≡ next.Dead = e in cc)))
   engine_sticks (next.Restart token) engine later = laws.sticks_since early (part ++ late) port (laws.sticks_since part late port (later (λ e. let z : next.Restart token ≡ next.Dead = e in cc)))
   engine_sticks next.Dead engine later = laws.sticks_since early (part ++ late) port (laws.sticks_then part late port engine)
@@ -92,7 +92,7 @@ module _ (laws : LawsBelow) (port : Port) (early part late : List Access) where
 -- ---- slots
 
 -- what a slot is used for once requests were answered, it was used for before
-pub slots_were : (laws : LawsBelow) (port : Port) → port.0 < 4 → (done : ℕ) (requests : List BookEntry) (old new : ServerState) → InCallInvariant old → state_of (probe_result_of old.ports port.0) ≡ ReadyState → AreOver port done old.device → AnswersEach port done requests old new
+pub slots_were : (laws : PrerequisiteLaws) (port : Port) → port.0 < 4 → (done : ℕ) (requests : List BookEntry) (old new : ServerState) → InCallInvariant old → state_of (probe_result_of old.ports port.0) ≡ ReadyState → CommandsAreOver port done old.device → AnswersEach port done requests old new
     → (slot : ℕ) (used : SlotUse) → used_for new.slots port.0 slot ≡ Some used → used_for old.slots port.0 slot ≡ Some used
 slots_were laws port low done [] old new k ready over none slot used is = ap (λ (n : ServerState). used_for n.slots port.0 slot) (sym none) ∙ is
 slots_were laws port low done (e ∷ requests) old new k ready over (mid, one, its, more) slot used is =
@@ -119,9 +119,9 @@ pub record IsEvident (port : Port) (replies : List Reply) (old new : ServerState
   pub evidenced : (ask : AbstractCall DeviceStep) (m : Machine) → IsEvidencedOf ask (Served replies) accesses (joint_state_of old m) (ports_of new) new.device (evidence_by r.settled) port
   pub faults : (told : RequestFault) → Contains (evidence_by r.settled).faults told → TellsFault port accesses old new told
   pub had : (m : Machine) → MachineRelation old m → (steps : List Step) → IsBacked old.device new.device m steps
-      → ShowsRealDisk (abstract_state_of old m) steps (abstract_state_of new (after m steps)) port
+      → ShownDiskWasInOrCame (abstract_state_of old m) steps (abstract_state_of new (after m steps)) port
 
-module _ (laws : LawsBelow) (port : Port) (replies : List Reply) (old new : ServerState) (k : InCallInvariant old) (ready : state_of (probe_result_of old.ports port.0) ≡ ReadyState) (r : HandlesPortError port replies old new)
+module _ (laws : PrerequisiteLaws) (port : Port) (replies : List Reply) (old new : ServerState) (k : InCallInvariant old) (ready : state_of (probe_result_of old.ports port.0) ≡ ReadyState) (r : HandlesPortError port replies old new)
     (looks : IsSimulated (IsLooking port) AnyUse old.device r.settled.error_handled.seen) (kept : InCallInvariant r.mid) where
   abbrev a : HasResolved port r.later old r.mid
   a = r.settled
@@ -140,13 +140,13 @@ module _ (laws : LawsBelow) (port : Port) (replies : List Reply) (old new : Serv
 
   -- ---- the tape grows
 
-  grown_late : Grows a.mid.device new.device
+  grown_late : TapeGrows a.mid.device new.device
   grown_late = laws.looks.tape.grows_more a.mid.device a.device new.device (grows_over laws part a.mid.device a.device t.does) (grows_over laws t.late.accesses a.device new.device t.late.all)
 
-  grown_seen : Grows x.seen new.device
+  grown_seen : TapeGrows x.seen new.device
   grown_seen =
       laws.looks.tape.grows_more x.seen x.found new.device (grows_over laws x.reads.driven.accesses x.seen x.found x.reads.driven.all)
-      (subst (λ (d : Device). Grows d new.device) (mid_device laws port replies old new k ready r looks kept) grown_late)
+      (subst (λ (d : Device). TapeGrows d new.device) (mid_device laws port replies old new k ready r looks kept) grown_late)
 
   -- ---- ports
 
@@ -221,7 +221,7 @@ module _ (laws : LawsBelow) (port : Port) (replies : List Reply) (old new : Serv
         (All-weaker (IsEarlyPart port) (DoesNotWrite (Px port Cmd)) (λ access is. is.1) t.early.accesses t.early.only) t.early.all t.late.all
 
     told_so : (queued : Bool) → x.queued ≡ queued → BacksFailure queued port x.outstanding part a.mid.device a.device (Some its_failure) → (id : RequestId)
-        → IsOfCommand queued port (accesses_in t) old.device new.device its_failure.slot.0 (record { id = id; status = its_failure.status; error = its_failure.error })
+        → IsFaultOfCommand queued port (accesses_in t) old.device new.device its_failure.slot.0 (record { id = id; status = its_failure.status; error = its_failure.error })
     told_so false is rests id = (rests.fault, stays_failed rests.fault rests.has_failed, rests.at ∙ sym rests.slot_is, rests.status_is, rests.error_is)
     told_so true is rests id = (
       (rests.fault, stays_failed rests.fault rests.has_failed),
@@ -236,7 +236,7 @@ module _ (laws : LawsBelow) (port : Port) (replies : List Reply) (old new : Serv
           used = used;
           served = slots_were laws port low x.done x.requests (record old { device = x.found }) a.mid (found_kept laws port replies old new k ready r looks kept) ready (done_over laws port replies old new k ready r looks kept) x.each its_failure.slot.0 used there;
           id_is = refl;
-          its = subst (λ (queued : Bool). IsOfCommand queued port (accesses_in t) old.device new.device its_failure.slot.0 (record { id = used.id; status = its_failure.status; error = its_failure.error })) (sym alike)
+          its = subst (λ (queued : Bool). IsFaultOfCommand queued port (accesses_in t) old.device new.device its_failure.slot.0 (record { id = used.id; status = its_failure.status; error = its_failure.error })) (sym alike)
               (told_so x.queued refl (subst (BacksFailure x.queued port x.outstanding part a.mid.device a.device) named x.handling.tells.rests) used.id);
           lives = λ queued. lives_then (sym alike ∙ queued);
         }
@@ -264,11 +264,11 @@ module _ (laws : LawsBelow) (port : Port) (replies : List Reply) (old new : Serv
   own_at : (accesses : List Access) (d : Device) → DoesAll accesses old.device d → (d.port port.0).ssts_det ≡ 3 → (d.port port.0).present ≡ true
   own_at accesses d does = laws.recovery.own_on port.0 accesses old.device d does ((k.behind port.0 low).own ready)
 
-  had_at : (accesses : List Access) (d : Device) → DoesAll accesses old.device d → (d.port port.0).ssts_det ≡ 3 → Grows d new.device → (m : Machine) → MachineRelation old m → (steps : List Step) → IsBacked old.device new.device m steps
+  had_at : (accesses : List Access) (d : Device) → DoesAll accesses old.device d → (d.port port.0).ssts_det ≡ 3 → TapeGrows d new.device → (m : Machine) → MachineRelation old m → (steps : List Step) → IsBacked old.device new.device m steps
       → (m.present port ≡ true) ⊎ (list_any (changes_disk port) steps ≡ true)
   had_at accesses d does shows grows m is steps backed = had_disk laws port old d new.device m accesses does (own_at accesses d does shows) is grows steps backed
 
-  grown_issuing : Grows r.mid.device new.device
+  grown_issuing : TapeGrows r.mid.device new.device
   grown_issuing = let issued = each_driven laws port (due_ids (mode_in r.mid port) port (asks_of r.mid.book)) r.mid new r.issued in grows_over laws issued.accesses r.mid.device new.device issued.all
 
   -- a boot that finds a disk sees a device; so did the look that told of an error
@@ -301,7 +301,7 @@ module _ (laws : LawsBelow) (port : Port) (replies : List Reply) (old new : Serv
             after : IsRevalidated (wanted_of old.wanted port.0) port x.port_error a.was (next.Restart token) a.device r.mid.device a.found
             after = subst (λ (n : Next). IsRevalidated (wanted_of old.wanted port.0) port x.port_error a.was n a.device r.mid.device a.found) is a.is
 
-    had : ShowsRealDisk (abstract_state_of old m) steps (abstract_state_of new (after m steps)) port
+    had : ShownDiskWasInOrCame (abstract_state_of old m) steps (abstract_state_of new (after m steps)) port
     had shows = by x.port_error refl x.finds
       where
         shows_found : ShowsDisk (state_of a.found)

@@ -7,7 +7,7 @@ use Rattle.ata_types.specs.declared.request.Reply.{Reply}
 use Rattle.adapter.specs.Device.{Device, DevicePort}
 use Rattle.refinement.specs.Driver.{IsBacked}
 use Rattle.block_machine.specs.Events.{AllByDevice, AllMay, RepliesMatch}
-use Rattle.block_machine.specs.Left.{after}
+use Rattle.block_machine.specs.Expected.{after}
 use Rattle.block_machine.specs.Ports.{Evidence, RequestFault}
 use Rattle.block_machine.specs.State.{Machine, Pending}
 use Rattle.block_machine.specs.Steps.{Step, Again, Answer}

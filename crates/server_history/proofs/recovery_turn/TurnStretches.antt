@@ -24,25 +24,25 @@ use Rattle.refinement.specs.GivingUp.{given_up}
 use Rattle.refinement.specs.Links.{DoesNotWrite}
 use Rattle.refinement.specs.Slots.{Free, Own, SlotState}
 use Rattle.block_machine.specs.Due.{due_of}
-use Rattle.block_machine.specs.Left.{after}
+use Rattle.block_machine.specs.Expected.{after}
 use Rattle.block_machine.specs.declared.due.Unanswered.{Unanswered}
 use Rattle.server_history.proofs.state.ListMembers.{map_in}
 use Rattle.driver_history.specs.Trace.{DoesNotWriteCmd, ReadsCiAndSact, ResetsLink}
 use Rattle.error_recovery.specs.Recovery.{IsRecoveryAccess, SlotsAfterRecovery}
 use Rattle.error_recovery.specs.declared.Next.{Next}
 use Rattle.error_recovery.specs.declared.Next.TheVariants as next
-use Rattle.host_boot.specs.Taken.{probe_result_of, wanted_of}
+use Rattle.host_boot.specs.TakeOver.{probe_result_of, wanted_of}
 use Rattle.host_boot.specs.declared.ProbeResult.TheVariants.{Unready, Unserved}
-use Rattle.port_control.specs.Engines.{Sticks}
+use Rattle.port_control.specs.Engines.{EngineSticks}
 use Rattle.port_control.specs.declared.Stopped.{Stopped}
 use Rattle.port_control.specs.Looks.{IsLooking, LooksAt}
 use Rattle.port_control.specs.declared.events.PortEvent.{PortEvent}
 use Rattle.port_control.specs.declared.events.PortEvent.TheVariants as look
 use Rattle.request_queue.specs.Entries.{BookEntry, asks, asks_of, due_ids}
-use Rattle.server_history.specs.Below.{LawsBelow}
+use Rattle.server_history.specs.Prerequisites.{PrerequisiteLaws}
 use Rattle.server_history.specs.ErrorHandling.{ErrorIsFound, IsErrorHandled, HasResolved, HandlesPortError}
-use Rattle.commands.specs.Batches.{IsIssuingOn}
-use Rattle.server_history.specs.Served.{IssuesBatchOf}
+use Rattle.commands.specs.Batches.{IsBatchAccess}
+use Rattle.server_history.specs.Served.{IssuesTogetherIfAny}
 use Rattle.server_history.specs.Server.{ServerState, InCallInvariant, mode_in, state_of, used_for}
 use Rattle.port_control.specs.declared.events.PortError.{PortError}
 use Rattle.port_control.specs.declared.events.PortError.TheVariants.{FatalError, TaskFileError, TimedOut, LinkChanged}
@@ -54,7 +54,7 @@ use Rattle.server_history.proofs.recovery_turn.LinkResets.{recovering_spares, re
 use Rattle.server_history.proofs.plain_calls.IssueRounds.{each_driven, each_silent}
 use Rattle.server_history.proofs.healthy_turn.AnswersAndIssues.{answers_kept, answers_settings}
 use Rattle.server_history.proofs.state.SilentOperations.{silent_more}
-use Rattle.server_history.proofs.state.PortSlots.{AreOver, not_own, of_ready, ready_found}
+use Rattle.server_history.proofs.state.PortSlots.{CommandsAreOver, not_own, of_ready, ready_found}
 use Rattle.server_history.proofs.state.FirstMembers.{first_here}
 
 -- recovery's accesses were made
@@ -71,7 +71,7 @@ pub record TurnParts (port : Port) (replies : List Reply) (old new : ServerState
   pub does : DoesAll r.settled.error_handled.handling.accesses r.settled.mid.device r.settled.device
   pub kinds : All (IsPart port) r.settled.error_handled.handling.accesses
   pub late : IsDrivenBy (IsPart port) r.settled.device new.device
-  pub sticks : r.settled.found ≡ Unready DeadState → r.settled.error_handled.result.next ≢ next.Dead → Sticks port late.accesses
+  pub sticks : r.settled.found ≡ Unready DeadState → r.settled.error_handled.result.next ≢ next.Dead → EngineSticks port late.accesses
   pub stuck : r.settled.found ≡ Unready DeadState → r.settled.error_handled.result.next ≢ next.Dead → (new.device.port port.0).notes.engine_count ≡ MOST_READINGS
   pub resets : (token : Stopped) → r.settled.error_handled.result.next ≡ next.Restart token → r.settled.found ≢ Unready DeadState
       → ((r.settled.error_handled.port_error ≡ LinkChanged) × (r.settled.found ≡ Unready AbsentState)) ⊎ ResetsLink port late.accesses
@@ -88,7 +88,7 @@ nobody : {X : Type 0} (xs : List X) → ((x : X) → Contains xs x → ⊥) → 
 nobody [] none = refl
 nobody (x ∷ xs) none = absurd (none x (first_here x xs))
 
-module _ (laws : LawsBelow) (port : Port) (replies : List Reply) (old new : ServerState) (k : InCallInvariant old) (ready : state_of (probe_result_of old.ports port.0) ≡ ReadyState) (r : HandlesPortError port replies old new)
+module _ (laws : PrerequisiteLaws) (port : Port) (replies : List Reply) (old new : ServerState) (k : InCallInvariant old) (ready : state_of (probe_result_of old.ports port.0) ≡ ReadyState) (r : HandlesPortError port replies old new)
     (looks : IsSimulated (IsLooking port) AnyUse old.device r.settled.error_handled.seen) (kept : InCallInvariant r.mid) where
   abbrev a : HasResolved port r.later old r.mid
   a = r.settled
@@ -114,7 +114,7 @@ module _ (laws : LawsBelow) (port : Port) (replies : List Reply) (old new : Serv
   answered_as = answers_settings laws port x.done x.requests from a.mid x.each
 
   -- the commands of slots that were found done are over
-  pub done_over : AreOver port x.done x.found
+  pub done_over : CommandsAreOver port x.done x.found
   done_over = found_over (record old { device = x.seen }) x.found port seen_kept ready laws x.mask x.done x.reads x.its
 
   pub mid_kept : InCallInvariant a.mid
@@ -189,19 +189,19 @@ module _ (laws : LawsBelow) (port : Port) (replies : List Reply) (old new : Serv
   afterwards : AfterList port x.port_error x.result.next a.found a.device r.mid.device
   afterwards = after_list laws port low (wanted_of old.wanted port.0) x.port_error a.was x.result.next a.device r.mid.device a.found a.is
 
-  each : IsDrivenBy (IsIssuingOn port) r.mid.device new.device
+  each : IsDrivenBy (IsBatchAccess port) r.mid.device new.device
   each = each_driven laws port (due_ids (mode_in r.mid port) port (asks_of r.mid.book)) r.mid new r.issued
 
   issuing : IsDrivenBy (IsPart port) r.mid.device new.device
-  issuing = record { accesses = each.accesses; all = each.all; only = All-weaker (IsIssuingOn port) (IsPart port) (λ access is. (issuing_turns laws port low access is).1) each.accesses each.only }
+  issuing = record { accesses = each.accesses; all = each.all; only = All-weaker (IsBatchAccess port) (IsPart port) (λ access is. (issuing_turns laws port low access is).1) each.accesses each.only }
 
   issuing_spares : All (DoesNotWrite (Px port Sctl)) issuing.accesses
   unfolding issuing
-  issuing_spares = All-weaker (IsIssuingOn port) (DoesNotWrite (Px port Sctl)) (λ access is. (issuing_leaves laws port port access is).1) each.accesses each.only
+  issuing_spares = All-weaker (IsBatchAccess port) (DoesNotWrite (Px port Sctl)) (λ access is. (issuing_leaves laws port port access is).1) each.accesses each.only
 
   -- nothing is issued on a dead port, of which there are no requests
   none_issued : state_of (probe_result_of r.mid.ports port.0) ≡ DeadState → new ≡ r.mid
-  none_issued dead = subst (λ (ids : List RequestId). IssuesBatchOf port ids r.mid new) (ap (λ (us : List Unanswered). map (λ (u : Unanswered). u.id) us) (nobody (due_of (mode_in r.mid port) port (asks_of r.mid.book)) none)) r.issued
+  none_issued dead = subst (λ (ids : List RequestId). IssuesTogetherIfAny port ids r.mid new) (ap (λ (us : List Unanswered). map (λ (u : Unanswered). u.id) us) (nobody (due_of (mode_in r.mid port) port (asks_of r.mid.book)) none)) r.issued
     where
       none : (u : Unanswered) → Contains (due_of (mode_in r.mid port) port (asks_of r.mid.book)) u → ⊥
       none u here =
@@ -282,7 +282,7 @@ module _ (laws : LawsBelow) (port : Port) (replies : List Reply) (old new : Serv
   dead_unissued : a.found ≡ Unready DeadState → new ≡ r.mid
   dead_unissued dead = none_issued (ap state_of (found_is ∙ dead))
 
-  late_sticks : a.found ≡ Unready DeadState → x.result.next ≢ next.Dead → Sticks port late.accesses
+  late_sticks : a.found ≡ Unready DeadState → x.result.next ≢ next.Dead → EngineSticks port late.accesses
   unfolding late
   late_sticks dead lives = laws.sticks_then afterwards.driven.accesses issuing.accesses port (afterwards.sticks dead lives)
 

@@ -11,15 +11,15 @@ use Rattle.adapter.specs.Access.Access.{Loading, Reading, Storing, Writing}
 use Rattle.adapter.specs.Device.{Device}
 use Rattle.refinement.specs.Relation.{port_at}
 use Rattle.refinement.specs.Driven.{OnPortWriting, IsDrivenBy}
-use Rattle.driver_history.specs.Parts.{HasTurnIn, IsOfOther, call_accesses}
+use Rattle.driver_history.specs.Parts.{HasTurnIn, IsOfOtherPort, call_accesses}
 use Rattle.driver_history.specs.Trace.{ResetsLink}
-use Rattle.host_boot.specs.Taken.{StopsAndBootsPort, FindsEachPort, probe_result_of}
+use Rattle.host_boot.specs.TakeOver.{StopsAndBootsPort, FindsEachPort, probe_result_of}
 use Rattle.host_boot.specs.declared.ProbeResult.{ProbeResult}
 use Rattle.host_boot.specs.declared.ProbeResult.TheVariants.{Unserved, Ready, Unready}
 use Rattle.port_boot.specs.States.{EndsBeforeStart, EndsAfterStart, BringsReady, IsBeforeStart, IsAfterStart, IsOfBoot}
-use Rattle.port_control.specs.Engines.{Sticks}
+use Rattle.port_control.specs.Engines.{EngineSticks}
 use Rattle.port_control.specs.Ports.{IsCommandRegister}
-use Rattle.server_history.specs.Below.{LawsBelow}
+use Rattle.server_history.specs.Prerequisites.{PrerequisiteLaws}
 use Rattle.server_history.proofs.any_turn.JoinedParts.{dead_or_not}
 use Rattle.server_history.proofs.recovery_turn.LinkResets.{ResetsBy, early_resets, late_resets, ready_resets, resets_since}
 
@@ -29,7 +29,7 @@ use Rattle.server_history.proofs.recovery_turn.LinkResets.{ResetsBy, early_reset
 abbrev pub DidBoot : Port → ProbeResult → List Access → Device → Device → Type 0
 DidBoot port Unserved accesses old new = Unit {0}
 DidBoot port (Ready info) accesses old new = ResetsLink port accesses × ((stopped : Device) × IsDrivenBy (OnPortWriting IsCommandRegister port) old stopped × BringsReady port stopped new)
-DidBoot port (Unready state) accesses old new = (state ≡ DeadState → Sticks port accesses) × (state ≢ DeadState → state ≢ ReadyState → ResetsLink port accesses)
+DidBoot port (Unready state) accesses old new = (state ≡ DeadState → EngineSticks port accesses) × (state ≢ DeadState → state ≢ ReadyState → ResetsLink port accesses)
 
 -- an access of the port's boot, if it is served
 abbrev pub IsBootOf : Port → ProbeResult → Access → Type 0
@@ -47,7 +47,7 @@ command_boots port (Writing r v) is = absurd is
 command_boots port (Loading at bytes) is = absurd is
 command_boots port (Storing at bytes) is = absurd is
 
-module _ (laws : LawsBelow) where
+module _ (laws : PrerequisiteLaws) where
   module _ (port : Port) (found : ProbeResult) (served : found ≢ Unserved) (old stopped new : Device) (stops : IsDrivenBy (OnPortWriting IsCommandRegister port) old stopped) where
     -- the stop, and then a boot
     then_boots : IsDrivenBy (IsOfBoot port) stopped new → IsDrivenBy (IsBootOf port found) old new
@@ -111,8 +111,8 @@ pub record WentBy (first : ℕ) (ports : List ProbeResult) (old new : Device) : 
   pub driven : IsDrivenBy (IsOfFound first ports) old new
   pub each : (port : Port) (k : ℕ) → port.0 ≡ first + k → k < length ports → TookTurn port (probe_result_of ports k) driven.accesses old new
 
-module _ (laws : LawsBelow) where
-  of_other : (port : Port) (first : ℕ) (ports : List ProbeResult) → port.0 < first → (access : Access) → IsOfFound first ports access → IsOfOther port access
+module _ (laws : PrerequisiteLaws) where
+  of_other : (port : Port) (first : ℕ) (ports : List ProbeResult) → port.0 < first → (access : Access) → IsOfFound first ports access → IsOfOtherPort port access
   of_other port first ports before access (q, k, at, its) = (q, (λ same. absurd (omega (arith, before, same, at))), laws.booting_of q access its.1)
 
   -- the first of them
@@ -141,8 +141,8 @@ module _ (laws : LawsBelow) where
         first = refl;
         then = one.0.all;
         last = more.driven.all;
-        others = All-nil (IsOfOther (port_at first));
-        others_later = All-weaker (IsOfFound (first + 1) rest) (IsOfOther (port_at first)) (of_other (port_at first) (first + 1) rest (omega arith)) more.driven.accesses more.driven.only;
+        others = All-nil (IsOfOtherPort (port_at first));
+        others_later = All-weaker (IsOfFound (first + 1) rest) (IsOfOtherPort (port_at first)) (of_other (port_at first) (first + 1) rest (omega arith)) more.driven.accesses more.driven.only;
       };
       all = refl;
       did = one.1;
@@ -160,8 +160,8 @@ module _ (laws : LawsBelow) where
         first = laws.basic.does_append one.0.accesses t.turn.before old mid t.turn.start one.0.all t.turn.first;
         then = t.turn.then;
         last = t.turn.last;
-        others = All-append (IsOfOther port) one.0.accesses t.turn.before
-            (All-weaker (IsBootOf (port_at first) found) (IsOfOther port) (λ access is. (port_at first, (λ same. absurd (omega (arith, at, same))), laws.booting_of (port_at first) access is.1)) one.0.accesses one.0.only)
+        others = All-append (IsOfOtherPort port) one.0.accesses t.turn.before
+            (All-weaker (IsBootOf (port_at first) found) (IsOfOtherPort port) (λ access is. (port_at first, (λ same. absurd (omega (arith, at, same))), laws.booting_of (port_at first) access is.1)) one.0.accesses one.0.only)
             t.turn.others;
         others_later = t.turn.others_later;
       };

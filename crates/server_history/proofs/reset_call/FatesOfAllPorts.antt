@@ -23,17 +23,17 @@ use Rattle.ata_types.specs.declared.request.RequestId.{RequestId}
 use Rattle.server_history.proofs.state.ListMembers.{contains_there, in_filter}
 use Rattle.block_machine.specs.Events.{AllMay, IsToldBefore, answers_of, reply_of}
 use Rattle.block_machine.specs.Histories.{IsReachable}
-use Rattle.block_machine.specs.Left.{after}
+use Rattle.block_machine.specs.Expected.{after}
 use Rattle.block_machine.specs.State.{Machine, Pending}
 use Rattle.block_machine.specs.Steps.{Again, Answer, Step}
 use Rattle.dma_frames.specs.Loan.{Lending}
 use Rattle.dma_frames.specs.Table.{lent_to, owner_of}
-use Rattle.host_boot.specs.Taken.{IsUnusedOrDead, probe_result_of}
+use Rattle.host_boot.specs.TakeOver.{IsUnusedOrDead, probe_result_of}
 use Rattle.host_boot.specs.declared.ProbeResult.{ProbeResult}
 use Rattle.host_boot.specs.declared.ProbeResult.TheVariants.{Unready}
 use Rattle.identify.specs.declared.DiskInfo.{DiskInfo}
-use Rattle.request_queue.specs.Entries.{BookEntry, IsAccepted, IsEarlier, BookIsInOrder, is_of, requeued_entry}
-use Rattle.request_queue.specs.Dispositions.{Holdings, AreResolved, IsResolved, disposition_of}
+use Rattle.request_queue.specs.Entries.{BookEntry, IsAccepted, IsEarlier, BookIsInOrder, is_of_port, requeued_entry}
+use Rattle.request_queue.specs.Dispositions.{BookAndLoans, AreResolved, IsResolved, disposition_of}
 use Rattle.request_queue.specs.Machine.{BookRelation, EntryRelation}
 use Rattle.request_queue.specs.declared.PendingRequest.{PendingRequest}
 use Rattle.request_queue.specs.declared.disposition.Disposition.{Disposition}
@@ -47,10 +47,10 @@ use Rattle.server_history.proofs.dispositions.MoreKeptLoans.{more_kept}
 use Rattle.server_history.proofs.dispositions.FittingFates.{fits_each, kept_dead_alone}
 use Rattle.server_history.proofs.dispositions.MetFates.{meet, none_parked}
 use Rattle.server_history.proofs.dispositions.RemainingBook.{IsLeft, WasIn, ends_of, fated, marked_from, was_itself, was_more}
-use Rattle.server_history.specs.Below.{LawsBelow}
+use Rattle.server_history.specs.Prerequisites.{PrerequisiteLaws}
 use Rattle.server_history.specs.Dispositions.{IsResolveStep, AreResolvable, AreResolvedInMachine, keeps_frames_lent}
-use Rattle.server_history.specs.ErrorHandling.{holdings_of, requests_of}
-use Rattle.server_history.specs.Resets.{IsResetRevalidation, ResolvePorts, ResolvesPort, with_holdings}
+use Rattle.server_history.specs.ErrorHandling.{book_and_loans_of, requests_of}
+use Rattle.server_history.specs.Resets.{IsResetRevalidation, ResolvePorts, ResolvesPort, with_book_and_loans}
 use Rattle.server_history.specs.Server.{QuarantineRelation, ServerState, quarantined_at, remembered_at, RevokedMarkInvariant}
 use Rattle.server_history.proofs.state.RevokedMarks.{tells_of}
 
@@ -58,17 +58,17 @@ use Rattle.server_history.proofs.state.RevokedMarks.{tells_of}
 
 pub of_requests : (port : Port) (book : List BookEntry) (e : BookEntry) → Contains (requests_of port book) e → Contains book e × (e.entry.port ≡ port)
 of_requests port book e here = (
-  All-contains (Contains book) (requests_of port book) e (All-filter (λ (x : BookEntry). is_of port x.entry) (Contains book) book (All-contains_itself book)) here,
-  ap port_at (eqb-true e.entry.port.0 port.0 (All-contains (λ (x : BookEntry). is_of port x.entry ≡ true) (requests_of port book) e (filter_passes (λ (x : BookEntry). is_of port x.entry) book) here)),
+  All-contains (Contains book) (requests_of port book) e (All-filter (λ (x : BookEntry). is_of_port port x.entry) (Contains book) book (All-contains_itself book)) here,
+  ap port_at (eqb-true e.entry.port.0 port.0 (All-contains (λ (x : BookEntry). is_of_port port x.entry ≡ true) (requests_of port book) e (filter_passes (λ (x : BookEntry). is_of_port port x.entry) book) here)),
 )
 
 pub in_requests : (port : Port) (book : List BookEntry) (e : BookEntry) → Contains book e → e.entry.port.0 ≡ port.0 → Contains (requests_of port book) e
-in_requests port book e here same = in_filter (λ (x : BookEntry). is_of port x.entry) book e here (eq-eqb e.entry.port.0 port.0 same)
+in_requests port book e here same = in_filter (λ (x : BookEntry). is_of_port port x.entry) book e here (eq-eqb e.entry.port.0 port.0 same)
 
 -- one that is none of those that meet their fates stays as it is
-fates_spare : LawsBelow → (disposition : PendingRequest → Disposition) (requests : List BookEntry) (replies : List Reply) (old new : Holdings) → AreResolved disposition requests replies old new → (e : BookEntry) → Contains old.book e
+fates_spare : PrerequisiteLaws → (disposition : PendingRequest → Disposition) (requests : List BookEntry) (replies : List Reply) (old new : BookAndLoans) → AreResolved disposition requests replies old new → (e : BookEntry) → Contains old.book e
     → ((r : BookEntry) → Contains requests r → e.entry.id ≢ r.entry.id) → Contains new.book e
-fates_spare laws disposition [] replies old new (none, is) e here apart = subst (λ (h : Holdings). Contains h.book e) (sym is) here
+fates_spare laws disposition [] replies old new (none, is) e here apart = subst (λ (h : BookAndLoans). Contains h.book e) (sym is) here
 fates_spare laws disposition (request ∷ requests) replies old new (mid, its, later, split, meets, more) e here apart =
     fates_spare laws disposition requests later mid new more e (spared (disposition request.entry) meets) (λ r there. apart r (contains_there request requests r there))
   where
@@ -76,8 +76,8 @@ fates_spare laws disposition (request ∷ requests) replies old new (mid, its, l
     differs = apart request (first_here request requests)
 
     spared : (f : Disposition) → IsResolved request f its old mid → Contains mid.book e
-    spared Wait m = subst (λ (h : Holdings). Contains h.book e) (sym m.1) here
-    spared Requeue m = subst (λ (h : Holdings). Contains h.book e) (sym m.1) (laws.others old.book request.entry.id requeued_entry e here differs)
+    spared Wait m = subst (λ (h : BookAndLoans). Contains h.book e) (sym m.1) here
+    spared Requeue m = subst (λ (h : BookAndLoans). Contains h.book e) (sym m.1) (laws.others old.book request.entry.id requeued_entry e here differs)
     spared (Complete o) m = subst (λ (book : List BookEntry). Contains book e) (sym m.1) ((laws.left old.book request.entry.id e).1 (here, differs))
 
 -- a slot that was left so serves no request
@@ -116,7 +116,7 @@ pub record IsFatedTo (n : ℕ) (c : ServerState) (m : Machine) : Type 0 where
 
 -- ---- one port
 
-module _ (laws : LawsBelow) (n : ℕ) (low : n < 4) (replies : List Reply) (old mid : ServerState) (m : Machine) (reached : IsReachable m) (s : ResolvesPort (port_at n) replies old mid) (at : IsFatedTo n old m) where
+module _ (laws : PrerequisiteLaws) (n : ℕ) (low : n < 4) (replies : List Reply) (old mid : ServerState) (m : Machine) (reached : IsReachable m) (s : ResolvesPort (port_at n) replies old mid) (at : IsFatedTo n old m) where
   abbrev port : Port
   port = port_at n
 
@@ -132,7 +132,7 @@ module _ (laws : LawsBelow) (n : ℕ) (low : n < 4) (replies : List Reply) (old 
   abbrev found : ProbeResult
   found = probe_result_of old.ports n
 
-  may_meet : AreResolvable port disposition its (holdings_of port old) (known at.uses at.parked old.device) m
+  may_meet : AreResolvable port disposition its (book_and_loans_of port old) (known at.uses at.parked old.device) m
   may_meet = record {
     reached = reached;
     knows = at.knows;
@@ -142,15 +142,15 @@ module _ (laws : LawsBelow) (n : ℕ) (low : n < 4) (replies : List Reply) (old 
     accepted = at.accepted;
     marked = λ e here. tells_of m.rows old.grants e.entry at.rows (All-contains (RevokedMarkInvariant old.grants) old.book e at.marked (of_requests port old.book e here).0).tells;
     here = of_requests port old.book;
-    earlier = AllPairs-filter IsEarlier (λ (x : BookEntry). is_of port x.entry) old.book at.ordered.ordered;
+    earlier = AllPairs-filter IsEarlier (λ (x : BookEntry). is_of_port port x.entry) old.book at.ordered.ordered;
     unserved = λ e here never q slot serves. serves_none old.ports at.uses q slot (at.left q slot) e.entry.id serves;
   }
 
-  pub met : AreResolvedInMachine port disposition its replies (holdings_of port old) s.now (known at.uses at.parked old.device) m
-  met = meet laws port disposition its (fits_each None s.revalidation its) replies (holdings_of port old) s.now (known at.uses at.parked old.device) m may_meet s.meets
+  pub met : AreResolvedInMachine port disposition its replies (book_and_loans_of port old) s.now (known at.uses at.parked old.device) m
+  met = meet laws port disposition its (fits_each None s.revalidation its) replies (book_and_loans_of port old) s.now (known at.uses at.parked old.device) m may_meet s.meets
 
-  pub left : IsLeft port disposition its (holdings_of port old) s.now
-  left = fated laws port disposition its (fits_each None s.revalidation its) replies (holdings_of port old) s.now
+  pub left : IsLeft port disposition its (book_and_loans_of port old) s.now
+  left = fated laws port disposition its (fits_each None s.revalidation its) replies (book_and_loans_of port old) s.now
       (record { here = of_requests port old.book; earlier = may_meet.earlier; ordered = at.ordered; accepted = at.accepted }) s.meets
 
   abbrev z : Machine
@@ -179,11 +179,11 @@ module _ (laws : LawsBelow) (n : ℕ) (low : n < 4) (replies : List Reply) (old 
   -- where no loan is kept, none is parked
   none_left : ((e : PendingRequest) → keeps_frames_lent (disposition e) e ≡ false) → met.parked n ≡ []
   none_left none =
-      none_parked port disposition its (fits_each None s.revalidation its) replies (holdings_of port old) s.now (known at.uses at.parked old.device) m met none
+      none_parked port disposition its (fits_each None s.revalidation its) replies (book_and_loans_of port old) s.now (known at.uses at.parked old.device) m met none
       (λ id here. let w = at.its n (omega arith) id here in (w.0, in_requests port old.book w.0 w.1 w.4, w.2, w.3))
 
   abbrev new : ServerState
-  new = with_holdings port s.now old
+  new = with_book_and_loans port s.now old
 
   are_kept : QuarantineRelation new.ports new.kept z.kept
   are_kept = subst (QuarantineRelation new.ports new.kept) (sym met.kept)
@@ -199,7 +199,7 @@ module _ (laws : LawsBelow) (n : ℕ) (low : n < 4) (replies : List Reply) (old 
       let other : q ≢ n = λ same. omega (arith, high, same) in
       let w = at.its q (omega (arith, high)) id (subst (λ (ids : List RequestId). Contains ids id) (met.others q other) here) in (
         w.0,
-        fates_spare laws disposition its replies (holdings_of port old) s.now s.meets w.0 w.1 (λ r there same.
+        fates_spare laws disposition its replies (book_and_loans_of port old) s.now s.meets w.0 w.1 (λ r there same.
             let o = of_requests port old.book r there in
             let one : w.0 ≡ r = laws.one old.book w.0 r at.ordered w.1 o.0 same in
             other (sym w.4 ∙ ap (λ (x : BookEntry). x.entry.port.0) one ∙ ap (λ (p : Port). p.0) o.1)),
@@ -288,9 +288,9 @@ pub record AreFated (n : ℕ) (found : List ProbeResult) (replies : List Reply) 
   pub owners : new.table.owners ≡ old.table.owners
   pub settings : new ≡ record old { table = new.table; kept = new.kept; book = new.book }
 
-module _ (laws : LawsBelow) (n : ℕ) (low : n < 4) (found : ProbeResult) (rest : List ProbeResult) (replies its later : List Reply) (split : replies ≡ its ++ later) (old mid new : ServerState) (m : Machine) (reached : IsReachable m)
+module _ (laws : PrerequisiteLaws) (n : ℕ) (low : n < 4) (found : ProbeResult) (rest : List ProbeResult) (replies its later : List Reply) (split : replies ≡ its ++ later) (old mid new : ServerState) (m : Machine) (reached : IsReachable m)
     (s : ResolvesPort (port_at n) its old mid) (at : IsFatedTo n old m) where
-  abbrev one : AreResolvedInMachine (port_at n) (disposition_of None s.revalidation) (requests_of (port_at n) old.book) its (holdings_of (port_at n) old) s.now (known at.uses at.parked old.device) m
+  abbrev one : AreResolvedInMachine (port_at n) (disposition_of None s.revalidation) (requests_of (port_at n) old.book) its (book_and_loans_of (port_at n) old) s.now (known at.uses at.parked old.device) m
   one = met laws n low its old mid m reached s at
 
   -- a request of the port has its fate
@@ -307,7 +307,7 @@ module _ (laws : LawsBelow) (n : ℕ) (low : n < 4) (found : ProbeResult) (rest 
         disposition = is;
       }
 
-  one_left : IsLeft (port_at n) (disposition_of None s.revalidation) (requests_of (port_at n) old.book) (holdings_of (port_at n) old) s.now
+  one_left : IsLeft (port_at n) (disposition_of None s.revalidation) (requests_of (port_at n) old.book) (book_and_loans_of (port_at n) old) s.now
   one_left = left laws n low its old mid m reached s at
 
   mid_from : (e : BookEntry) → Contains mid.book e → WasIn old.book e
@@ -356,7 +356,7 @@ module _ (laws : LawsBelow) (n : ℕ) (low : n < 4) (found : ProbeResult) (rest 
     settings = r.settings ∙ ap (λ (c : ServerState). record c { table = new.table; kept = new.kept; book = new.book }) s.server;
   }
 
-pub fate_all : LawsBelow → (found : List ProbeResult) (n : ℕ) → n + length found ≤ 4 → (replies : List Reply) (old new : ServerState) → ResolvePorts n found replies old new → (m : Machine) → IsReachable m → IsFatedTo n old m
+pub fate_all : PrerequisiteLaws → (found : List ProbeResult) (n : ℕ) → n + length found ≤ 4 → (replies : List Reply) (old new : ServerState) → ResolvePorts n found replies old new → (m : Machine) → IsReachable m → IsFatedTo n old m
     → AreFated n found replies old new m
 fate_all laws [] n few replies old new (none, same) m reached at = record {
   steps = [];

@@ -7,13 +7,13 @@ use Rattle.adapter.specs.Device.{Device}
 use Rattle.adapter.specs.Idle.{IsIdle}
 use Rattle.adapter.specs.Rules.{IsOn}
 use Rattle.refinement.specs.Relation.{port_at}
-use Rattle.refinement.specs.Driven.{Grows, OnPortWriting, IsDrivenBy, SparesOtherPorts}
+use Rattle.refinement.specs.Driven.{TapeGrows, OnPortWriting, IsDrivenBy, SparesOtherPorts}
 use Rattle.ata_types.specs.declared.Port.{Port}
 use Rattle.ata_types.specs.declared.PortState.{PortState as ShownState}
 use Rattle.ata_types.specs.declared.PortState.TheVariants.{Ready as ReadyState}
 use Rattle.block_machine.specs.Events.{ShowsDisk}
 use Rattle.hba_regs.specs.declared.reg.Reg.TheVariants.{Cap, Ghc, Pi}
-use Rattle.host_boot.specs.Taken.{FindsEachPort, SwitchesOnAndBoots, StopsAndBootsPort, IsSurvey, probe_result_of}
+use Rattle.host_boot.specs.TakeOver.{FindsEachPort, SwitchesOnAndBoots, StopsAndBootsPort, ReadsCapOrPi, probe_result_of}
 use Rattle.host_boot.specs.declared.ProbeResult.{ProbeResult}
 use Rattle.host_boot.specs.declared.ProbeResult.TheVariants.{Ready, Unready, Unserved}
 use Rattle.port_boot.specs.States.{IsOfBoot}
@@ -22,7 +22,7 @@ use Rattle.server_history.proofs.state.DrivenAccesses.{by_none, driven_as}
 use Rattle.server_history.proofs.recovery_turn.LinkResets.{IsBeside, commanding}
 use Rattle.server_history.proofs.any_turn.ShownTrouble.{grows_over}
 use Rattle.server_history.proofs.recovery_turn.FoundDisk.{SeesDevice, ready_sees, unready_sees}
-use Rattle.server_history.specs.Below.{LawsBelow}
+use Rattle.server_history.specs.Prerequisites.{PrerequisiteLaws}
 use Rattle.server_history.specs.Ended.{ResetLaws}
 use Rattle.server_history.specs.Server.{state_of}
 
@@ -32,9 +32,9 @@ pub record SawDisk (port : Port) (old new : Device) : Type 0 where
   pub accesses : List Access
   pub does : DoesAll accesses old seen
   pub present : (seen.port port.0).present ≡ true
-  pub later : Grows seen new
+  pub later : TapeGrows seen new
 
-module _ (laws : LawsBelow) where
+module _ (laws : PrerequisiteLaws) where
   -- with more before, or after
   pub saw_before : (port : Port) (accesses : List Access) (old mid new : Device) → DoesAll accesses old mid → SawDisk port mid new → SawDisk port old new
   saw_before port accesses old mid new does saw = record {
@@ -45,7 +45,7 @@ module _ (laws : LawsBelow) where
     later = saw.later;
   }
 
-  pub saw_after : (port : Port) (old mid new : Device) → Grows mid new → SawDisk port old mid → SawDisk port old new
+  pub saw_after : (port : Port) (old mid new : Device) → TapeGrows mid new → SawDisk port old mid → SawDisk port old new
   saw_after port old mid new grows saw = record { seen = saw.seen; accesses = saw.accesses; does = saw.does; present = saw.present; later = laws.looks.tape.grows_more saw.seen mid new saw.later grows }
 
   -- ---- one port's way
@@ -84,8 +84,8 @@ module _ (laws : LawsBelow) where
 
   -- ---- one port after another
 
-  go_grows : (first : ℕ) (ports : List ProbeResult) (old new : Device) → FindsEachPort first ports old new → Grows old new
-  go_grows first [] old new same = subst (Grows old) (sym same) (laws.looks.tape.grows_none old)
+  go_grows : (first : ℕ) (ports : List ProbeResult) (old new : Device) → FindsEachPort first ports old new → TapeGrows old new
+  go_grows first [] old new same = subst (TapeGrows old) (sym same) (laws.looks.tape.grows_none old)
   go_grows first (found ∷ rest) old new (mid, way, more) =
       let driven = through_of (port_at first) found old mid way in
       laws.looks.tape.grows_more old mid new (grows_over laws driven.accesses old mid driven.all) (go_grows (first + 1) rest mid new more)
@@ -104,7 +104,7 @@ module _ (laws : LawsBelow) where
 
   -- ---- the whole
 
-  survey_of : (port : Port) (access : Access) → IsSurvey access → SparesOtherPorts port access
+  survey_of : (port : Port) (access : Access) → ReadsCapOrPi access → SparesOtherPorts port access
   survey_of port (Reading Cap v) is = tt
   survey_of port (Reading Pi v) is = tt
   survey_of port (Reading r v) is = absurd is
@@ -115,9 +115,9 @@ module _ (laws : LawsBelow) where
 pub taken_saw : (laws : ResetLaws) (port : Port) (found : ProbeResult) → ((state : ShownState) → found ≡ Unready state → state ≢ ReadyState) → ShowsDisk (state_of found) → (ports : List ProbeResult) (old new : Device) → IsIdle old
     → probe_result_of ports port.0 ≡ found → SwitchesOnAndBoots ports old new → SawDisk port old new
 taken_saw laws port found other shows ports old new rest is way =
-    let below : LawsBelow = laws.below in
+    let below : PrerequisiteLaws = laws.below in
     let on = laws.below.switches_on 0x80000000 old way.switched rest.no_reset refl refl way.switches in
-    let surveys = driven_as IsSurvey (SparesOtherPorts port) way.switched way.surveyed (survey_of below port) way.surveys in
+    let surveys = driven_as ReadsCapOrPi (SparesOtherPorts port) way.switched way.surveyed (survey_of below port) way.surveys in
     saw_before below port (Writing Ghc 0x80000000 ∷ surveys.accesses) old way.surveyed new (way.switched, way.switches, surveys.all)
     (saw_after below port way.surveyed way.booted new (below.looks.tape.access_grows (Writing Ghc 0x80000002) way.booted new way.enables)
     (go_saw below port found other shows 0 ports port.0 way.surveyed way.booted (omega arith) is (below.of_on port way.switched way.surveyed on surveys) way.boots))

@@ -12,14 +12,14 @@ use Rattle.server_history.proofs.state.ListMembers.{map_in}
 use Rattle.block_machine.specs.Due.{NoneDue, due_of, of_port}
 use Rattle.block_machine.specs.Events.{AllMay, IsByDevice, IsIssuedIn, IssuesLast, issues_it}
 use Rattle.block_machine.specs.Histories.{IsReachable}
-use Rattle.block_machine.specs.Left.{after}
+use Rattle.block_machine.specs.Expected.{after}
 use Rattle.block_machine.specs.Ports.{Ports}
 use Rattle.block_machine.specs.State.{Machine, unanswered}
 use Rattle.block_machine.specs.Steps.{Issue, Step}
 use Rattle.block_machine.specs.declared.due.QueueMode.{QueueMode}
 use Rattle.block_machine.specs.declared.due.Unanswered.{Unanswered}
 use Rattle.driver_history.specs.Histories.{IssuesDue}
-use Rattle.host_boot.specs.Taken.{probe_result_of}
+use Rattle.host_boot.specs.TakeOver.{probe_result_of}
 use Rattle.host_boot.specs.declared.ProbeResult.{ProbeResult}
 use Rattle.host_boot.specs.declared.ProbeResult.TheVariants.{Ready, Unready, Unserved}
 use Rattle.identify.specs.declared.DiskInfo.{DiskInfo}
@@ -30,10 +30,10 @@ use Rattle.server_history.proofs.recovery_turn.CallPart.{none_due_unready}
 use Rattle.server_history.proofs.dispositions.RemainingBook.{WasIn, was_itself, was_more}
 use Rattle.server_history.proofs.plain_calls.IssueRounds.{AreIssued, ArePutInSlots, any_append, are_put, dues, dues_carried, each_apart, each_done, each_issued, each_kept, each_settings, issued_parts, last_on, or_none}
 use Rattle.server_history.proofs.state.PortSlots.{ready_found}
-use Rattle.server_history.specs.Below.{LawsBelow}
+use Rattle.server_history.specs.Prerequisites.{PrerequisiteLaws}
 use Rattle.server_history.specs.Resets.{IssuePorts}
-use Rattle.commands.specs.Batches.{SlotTask}
-use Rattle.server_history.specs.Served.{AllByDeviceOrIssue, IssuesAll, IssuesBatchOf, PutsInSlots}
+use Rattle.commands.specs.Batches.{PlacedTask}
+use Rattle.server_history.specs.Served.{AllByDeviceOrIssue, IssuesAll, IssuesTogetherIfAny, PutsInSlots}
 use Rattle.server_history.specs.Server.{InCallInvariant, MachineRelation, SettledInvariant, ServerState, mode_in, ports_of, state_of}
 
 -- the step is the device's, or issues a request of a ready port in the port's mode
@@ -62,21 +62,21 @@ issued_was id book e here =
     by x here true = record { was = x; there = here; id = refl; client = refl; grant = refl; port = refl; op = refl; revoked = refl; waiting = λ waits. absurd (false≢true (sym waits)) }
     by x here false = was_itself book x here
 
-puts_from : (port : Port) (ids : List RequestId) (tasks : List SlotTask) (old new : ServerState) → PutsInSlots port ids tasks old new → (e : BookEntry) → Contains new.book e → WasIn old.book e
+puts_from : (port : Port) (ids : List RequestId) (tasks : List PlacedTask) (old new : ServerState) → PutsInSlots port ids tasks old new → (e : BookEntry) → Contains new.book e → WasIn old.book e
 puts_from port [] [] old new none e here = was_itself old.book e (subst (λ (c : ServerState). Contains c.book e) none here)
 puts_from port (id ∷ ids) (t ∷ tasks) old new (mid, one, more) e here =
     was_more old.book mid.book e (λ x there. issued_was id old.book x (subst (λ (c : ServerState). Contains c.book x) one.server there)) (puts_from port ids tasks mid new more e here)
 puts_from port [] (t ∷ tasks) old new puts e here = absurd puts
 puts_from port (id ∷ ids) [] old new puts e here = absurd puts
 
-each_from : (port : Port) (ids : List RequestId) (old new : ServerState) → IssuesBatchOf port ids old new → (e : BookEntry) → Contains new.book e → WasIn old.book e
+each_from : (port : Port) (ids : List RequestId) (old new : ServerState) → IssuesTogetherIfAny port ids old new → (e : BookEntry) → Contains new.book e → WasIn old.book e
 each_from port ids old new issues e here =
     let x : ArePutInSlots port ids old new = are_put port ids old new issues in
     puts_from port ids x.tasks old x.taken x.puts e (subst (λ (c : ServerState). Contains c.book e) x.server here)
 
 -- ---- so far
 
-module _ (laws : LawsBelow) (old : ServerState) (k : InCallInvariant old) (m : Machine) (reached : IsReachable m) (is : MachineRelation old m) where
+module _ (laws : PrerequisiteLaws) (old : ServerState) (k : InCallInvariant old) (m : Machine) (reached : IsReachable m) (is : MachineRelation old m) where
   abbrev IsReady : Port → Type 0
   IsReady port = state_of (probe_result_of old.ports port.0) ≡ ReadyState
 

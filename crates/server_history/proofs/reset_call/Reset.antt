@@ -7,7 +7,7 @@ use Rattle.std.specs.List.{All, Contains, list_any}
 use Rattle.std.specs.List.Sorted.{IsPermutation}
 use Rattle.adapter.specs.Device.{Device}
 use Rattle.adapter.specs.declared.access.DeviceStep.{DeviceStep}
-use Rattle.refinement.specs.Driven.{Grows}
+use Rattle.refinement.specs.Driven.{TapeGrows}
 use Rattle.refinement.specs.Driver.{IsBacked}
 use Rattle.ata_types.specs.declared.Port.{Port}
 use Rattle.ata_types.specs.declared.PortState.{PortState as ShownState}
@@ -17,9 +17,9 @@ use Rattle.ata_types.specs.declared.request.Reply.{Reply}
 use Rattle.ata_types.specs.declared.request.RequestId.{RequestId}
 use Rattle.server_history.proofs.state.ListMembers.{contains_cases}
 use Rattle.block_machine.specs.Due.{of_port}
-use Rattle.block_machine.specs.Events.{AllLawful, AllMay, AnswersReset, AreStepsOfCall, UnpluggedLostDisk, EndsUndone, ShowsRealDisk, IsLawful, IssuesLast, UnansweredKeepDisk, AbstractState, NoneKeepsIssue, ReleasesOnce, Reset, ShowsDisk, RepliesMatch, AnswersAllUnplugged, WasIssued, WasReset, answers_of, issues_it, IsReadyAgain}
-use Rattle.block_machine.specs.Histories.{Happening, JointState, IsReachable, now}
-use Rattle.block_machine.specs.Left.{after}
+use Rattle.block_machine.specs.Events.{AllAnswersLawful, AllMay, AnswersReset, AreStepsOfCall, UnpluggedLostDisk, EndsUndone, ShownDiskWasInOrCame, IsLawfulAnswer, IssuesLast, UnansweredKeepDisk, AbstractState, NoneStaysIssued, ReleasesOnce, Reset, ShowsDisk, RepliesMatch, AnswersAllUnplugged, WasIssued, WasReset, answers_of, issues_it, IsReadyAgain}
+use Rattle.block_machine.specs.Histories.{JointEvent, JointState, IsReachable, now}
+use Rattle.block_machine.specs.Expected.{after}
 use Rattle.block_machine.specs.Ports.{MayBecome, Ports, SameDisk}
 use Rattle.block_machine.specs.State.{Machine, Pending, unanswered}
 use Rattle.block_machine.specs.Steps.{Again, Answer, Release, Step}
@@ -28,7 +28,7 @@ use Rattle.driver_history.specs.Evidence.{IsEvidenced, IsEvidencedOf}
 use Rattle.driver_history.specs.Histories.{BootsAnew, IssuesDue, LosesNoPortError, RunsWellAnew, IsPortServed, PortCorresponds}
 use Rattle.driver_history.specs.Trace.{IsOfPorts}
 use Rattle.hba_regs.specs.Bits.{bit}
-use Rattle.host_boot.specs.Taken.{IsServed, StandsBehind, StillStandsBehind, probe_result_of, wanted_of}
+use Rattle.host_boot.specs.TakeOver.{IsServed, BacksProbeResult, StillBacksProbeResult, probe_result_of, wanted_of}
 use Rattle.host_boot.specs.declared.ProbeResult.{ProbeResult}
 use Rattle.host_boot.specs.declared.ProbeResult.TheVariants.{Ready, Unready, Unserved}
 use Rattle.identify.specs.declared.DiskInfo.{DiskInfo}
@@ -81,7 +81,7 @@ remembers (Ready info) remembered other = absurd (other refl)
 remembers (Unready state) remembered other = refl
 
 module _ (laws : ResetLaws) (s taken settled new : ServerState) (replies : List Reply) (booked : ServerInvariant s) (takes : IsReinitialized s taken) (settles : ResolvePorts 0 taken.ports replies taken settled) (issues : IssuePorts 0 taken.ports settled new)
-    (by : IsRebootedBy s new replies) (first : JointState Device) (past : List (Happening Device DeviceStep)) (leads : LeadsToServer first past s) where
+    (by : IsRebootedBy s new replies) (first : JointState Device) (past : List (JointEvent Device DeviceStep)) (leads : LeadsToServer first past s) where
   abbrev was : AbstractState
   was = (now first past).abstract
 
@@ -198,7 +198,7 @@ module _ (laws : ResetLaws) (s taken settled new : ServerState) (replies : List 
               (λ (not_so : is_served (probe_result_of s.ports port) ≡ false). not_so)
               (cases_Bool (is_served (probe_result_of s.ports port)))
 
-          alike : (found : ProbeResult) → probe_result_of taken.ports port ≡ found → StandsBehind (wanted_of s.wanted port) found port taken.device → is_served (probe_result_of taken.ports port) ≡ is_served (probe_result_of s.ports port)
+          alike : (found : ProbeResult) → probe_result_of taken.ports port ≡ found → BacksProbeResult (wanted_of s.wanted port) found port taken.device → is_served (probe_result_of taken.ports port) ≡ is_served (probe_result_of s.ports port)
           alike Unserved update_if_id stood = ap is_served update_if_id ∙ sym (none stood.0)
           alike (Ready info) update_if_id stood = ap is_served update_if_id ∙ sym (over stood.0)
           alike (Unready state) update_if_id stood = ap is_served update_if_id ∙ sym (over stood.0)
@@ -247,8 +247,8 @@ module _ (laws : ResetLaws) (s taken settled new : ServerState) (replies : List 
         now_is : last_disk_in new port ≡ Some info
         now_is = ap (λ (x : ProbeResult). last_disk_of x (remembered_at new.remembered port.0)) found.1.1
 
-        fit : StillStandsBehind (wanted_of new.wanted port.0) (Ready info) port.0 new.device
-        fit = subst (λ (x : ProbeResult). StillStandsBehind (wanted_of new.wanted port.0) x port.0 new.device) found.1.1 (new_kept.behind port.0 found.0).behind
+        fit : StillBacksProbeResult (wanted_of new.wanted port.0) (Ready info) port.0 new.device
+        fit = subst (λ (x : ProbeResult). StillBacksProbeResult (wanted_of new.wanted port.0) x port.0 new.device) found.1.1 (new_kept.behind port.0 found.0).behind
 
         serials : info.serial ≡ last_serial_of (last_disk_in s port)
         serials = sym (ap last_serial_of now_is) ∙ alike.0
@@ -327,7 +327,7 @@ module _ (laws : ResetLaws) (s taken settled new : ServerState) (replies : List 
   was_issued : (e : Pending) (o : Outcome) → Contains f.steps (Answer e o) → e.issued ≡ true → WasIssued m e.request.id
   was_issued e o here = answered_issued laws.below (ports_of new) m base base_belong base_may base_none e o (Contains-append_left f.steps begun (Answer e o) here)
 
-  is_lawful : (e : Pending) (o : Outcome) → Contains f.steps (Answer e o) → IsLawful was by.evidence (ports_of new) e o
+  is_lawful : (e : Pending) (o : Outcome) → Contains f.steps (Answer e o) → IsLawfulAnswer was by.evidence (ports_of new) e o
   is_lawful e o here = because (why None has.revalidation has.request.entry o has.disposition)
     where
       has : HasFate taken e (Complete o)
@@ -346,21 +346,21 @@ module _ (laws : ResetLaws) (s taken settled new : ServerState) (replies : List 
         subst (λ (ports : Ports). SameDisk ports (ports_of new) e.request.port) (sym same) (same_disk e.request.port (expects Same as_before)),
       )
 
-      because : Why None has.revalidation has.request.entry o → IsLawful was by.evidence (ports_of new) e o
+      because : Why None has.revalidation has.request.entry o → IsLawfulAnswer was by.evidence (ports_of new) e o
       because (inl named) = let none : None ≡ Some named.0 = named.1 in absurd cc
-      because (inr (inl aborted)) = subst (IsLawful was by.evidence (ports_of new) e) (sym aborted.3) (
+      because (inr (inl aborted)) = subst (IsLawfulAnswer was by.evidence (ports_of new) e) (sym aborted.3) (
         was_issued e o here (has.entry.issued ∙ aborted.1),
         has.entry.issues ∙ aborted.2,
         goes_on aborted.0,
       )
-      because (inr (inr (inl gone))) = subst (IsLawful was by.evidence (ports_of new) e) (sym gone.1) (
+      because (inr (inr (inl gone))) = subst (IsLawfulAnswer was by.evidence (ports_of new) e) (sym gone.1) (
         by.lost_all e.request.port (of_served e (Complete o) has) (not_dead e.request.port (expects DiskLost gone.0)) (other_disk e.request.port (expects DiskLost gone.0)),
         stopped,
       )
-      because (inr (inr (inr (inl dead)))) = subst (IsLawful was by.evidence (ports_of new) e) (sym dead.1) (ap state_of (expects NoEnd dead.0))
-      because (inr (inr (inr (inr revoked)))) = subst (IsLawful was by.evidence (ports_of new) e) (sym revoked.3) (inr (goes_on revoked.0))
+      because (inr (inr (inr (inl dead)))) = subst (IsLawfulAnswer was by.evidence (ports_of new) e) (sym dead.1) (ap state_of (expects NoEnd dead.0))
+      because (inr (inr (inr (inr revoked)))) = subst (IsLawfulAnswer was by.evidence (ports_of new) e) (sym revoked.3) (inr (goes_on revoked.0))
 
-  lawful : AllLawful was by.evidence (ports_of new) steps
+  lawful : AllAnswersLawful was by.evidence (ports_of new) steps
   lawful = lawful_join was by.evidence (ports_of new) a.steps base (reissued_lawful (ports_of settled) was by.evidence (ports_of new) a.steps a.only)
       (lawful_join was by.evidence (ports_of new) f.steps begun
       (decided_lawful was by.evidence (ports_of new) f.steps f.decides is_lawful (λ e here. by.stopped e.request.port (of_served e Requeue (f.again e here))))
@@ -442,7 +442,7 @@ module _ (laws : ResetLaws) (s taken settled new : ServerState) (replies : List 
   finds e here = let lost = unplugged_expects e here in (not_dead e.request.port lost, other_disk e.request.port lost)
 
   -- no request keeps its issue
-  anew : (port : Port) → NoneKeepsIssue steps (after m steps) port
+  anew : (port : Port) → NoneStaysIssued steps (after m steps) port
   anew port e here own issued = ⊎_elim
       (λ late. issued_late e.request.id a.steps base late)
       (λ before. absurd (none_before before))
@@ -474,7 +474,7 @@ module _ (laws : ResetLaws) (s taken settled new : ServerState) (replies : List 
   -- ---- the disks that it shows
 
   -- a port that shows a disk had one in at some moment
-  had : (port : Port) → ShowsRealDisk (abstract_state_of s m) steps end port
+  had : (port : Port) → ShownDiskWasInOrCame (abstract_state_of s m) steps end port
   had port shows = had_disk laws.below port s saw.seen new.device m saw.accesses saw.does saw.present is (laws.below.looks.tape.grows_more saw.seen taken.device new.device saw.later grows) steps backed
     where
       found_is : probe_result_of new.ports port.0 ≡ probe_result_of takes.host.ports port.0
@@ -482,13 +482,13 @@ module _ (laws : ResetLaws) (s taken settled new : ServerState) (replies : List 
 
       never : (state : ShownState) → probe_result_of takes.host.ports port.0 ≡ Unready state → state ≢ ReadyState
       never state update_if_id ready = ⊎_elim
-          (λ (low : port.0 < 4). (subst (λ (x : ShownState). StandsBehind (wanted_of s.wanted port.0) (Unready x) port.0 taken.device) ready
-          (subst (λ (x : ProbeResult). StandsBehind (wanted_of s.wanted port.0) x port.0 taken.device) update_if_id (takes.takes.stands port.0 low))).1)
+          (λ (low : port.0 < 4). (subst (λ (x : ShownState). BacksProbeResult (wanted_of s.wanted port.0) (Unready x) port.0 taken.device) ready
+          (subst (λ (x : ProbeResult). BacksProbeResult (wanted_of s.wanted port.0) x port.0 taken.device) update_if_id (takes.takes.stands port.0 low))).1)
           (λ (high : 4 ≤ port.0). absurd (let four = takes.four in let y : Unserved ≡ Unready state = sym (none_past takes.host.ports port.0 (omega (arith, four, high))) ∙ update_if_id in cc))
           (cases_lt port.0 4)
 
-      grows : Grows taken.device new.device
-      grows = subst (λ (d : Device). Grows d new.device) device_same (a.backed.gained, a.backed.tape)
+      grows : TapeGrows taken.device new.device
+      grows = subst (λ (d : Device). TapeGrows d new.device) device_same (a.backed.gained, a.backed.tape)
 
       saw : SawDisk port s.device taken.device
       saw = saw_before laws.below port takes.resets.followed.driven.accesses s.device takes.idle taken.device takes.resets.followed.driven.all
@@ -542,7 +542,7 @@ module _ (laws : ResetLaws) (s taken settled new : ServerState) (replies : List 
       (λ u here own. sym (any_append (issues_it u.id) a.steps base ∙ ap (λ (b : Bool). list_any (issues_it u.id) a.steps || b) (base_none u.id) ∙ or_none (list_any (issues_it u.id) a.steps)))
       (a.dues port (ready_found settled port.0 kept there).0 there))
 
-  pub reset_event : (h : Happening Device DeviceStep) × (h.event.ask ≡ Reset) × (h.event.said ≡ WasReset (Some replies)) × LeadsToServer first (h ∷ past) new
+  pub reset_event : (h : JointEvent Device DeviceStep) × (h.event.ask ≡ Reset) × (h.event.said ≡ WasReset (Some replies)) × LeadsToServer first (h ∷ past) new
   reset_event =
       lead_with laws.below first past s new Reset (WasReset (Some replies)) by.evidence steps
       (ap (λ (c : ServerState). c.wanted) a.settings ∙ wanted_then laws s taken settled booked takes replies settles m reached is) leads (holding new a.kept) (kept_fit new a.kept)

@@ -14,26 +14,26 @@ use Rattle.adapter.specs.Device.{Device}
 use Rattle.adapter.specs.Rules.{IsOn}
 use Rattle.adapter.specs.Steps.{Steps}
 use Rattle.refinement.specs.Relation.{port_at}
-use Rattle.refinement.specs.Driven.{Grows, OnPortWriting, IsDrivenBy, SparesOtherPorts}
+use Rattle.refinement.specs.Driven.{TapeGrows, OnPortWriting, IsDrivenBy, SparesOtherPorts}
 use Rattle.refinement.specs.Errors.{IsFatalOf}
-use Rattle.refinement.specs.Facts.{IsFaultOf, RunsWell}
+use Rattle.refinement.specs.PortFacts.{IsFaultOf, RunsWell}
 use Rattle.refinement.specs.Links.{NoPlugEvents, DoesNotWrite}
 use Rattle.error_recovery.specs.Evidence.{GainsSinceStart, HidesNoTrouble}
 use Rattle.driver_history.specs.Histories.{HasAeAndIe, IsPortServed}
-use Rattle.driver_history.specs.Parts.{HasTurnIn, IsOfOther}
+use Rattle.driver_history.specs.Parts.{HasTurnIn, IsOfOtherPort}
 use Rattle.driver_history.specs.Trace.{IsDriversOwn, IsOfPorts, ResetsLink}
 use Rattle.host_boot.specs.Resets.{BeginsReset, IsOfReset}
-use Rattle.host_boot.specs.Taken.{SwitchesOnAndBoots, IsServed, IsSurvey, StandsBehind, probe_result_of, wanted_of}
+use Rattle.host_boot.specs.TakeOver.{SwitchesOnAndBoots, IsServed, ReadsCapOrPi, BacksProbeResult, probe_result_of, wanted_of}
 use Rattle.host_boot.specs.declared.ProbeResult.{ProbeResult}
 use Rattle.host_boot.specs.declared.ProbeResult.TheVariants.{Unserved, Ready, Unready}
 use Rattle.identify.specs.declared.DiskInfo.{DiskInfo}
 use Rattle.port_boot.specs.States.{BringsReady, IsOfBoot}
-use Rattle.port_control.specs.Engines.{Sticks}
+use Rattle.port_control.specs.Engines.{EngineSticks}
 use Rattle.port_control.specs.Ports.{IsCommandRegister}
 use Rattle.request_queue.specs.Entries.{asks_of, due_ids}
-use Rattle.server_history.specs.Below.{LawsBelow}
+use Rattle.server_history.specs.Prerequisites.{PrerequisiteLaws}
 use Rattle.server_history.specs.Resets.{IsReinitialized, IssuePorts, ResetsServer, ResolvePorts}
-use Rattle.commands.specs.Batches.{IsIssuingOn}
+use Rattle.commands.specs.Batches.{IsBatchAccess}
 use Rattle.server_history.specs.Server.{ServerState, is_served, mode_in, ports_of}
 use Rattle.server_history.specs.StuckServer.{ServerInvariant}
 use Rattle.server_history.proofs.reset_call.BootedPorts.{DidBoot, IsOfFound, TookTurn, WentBy, command_boots, went_by}
@@ -57,12 +57,12 @@ settles_as port (found ∷ rest) replies old new (mid, its, later, are, one, mor
 
 -- an access that issues requests of one of these ports, which is ready; the first of them has this number
 abbrev pub IsOfReady : ℕ → List ProbeResult → Access → Type 0
-IsOfReady first ports access = (port : Port) × (k : ℕ) × (info : DiskInfo) × (port.0 ≡ first + k) × (probe_result_of ports k ≡ Ready info) × IsIssuingOn port access
+IsOfReady first ports access = (port : Port) × (k : ℕ) × (info : DiskInfo) × (port.0 ≡ first + k) × (probe_result_of ports k ≡ Ready info) × IsBatchAccess port access
 
 ready_later : (first : ℕ) (found : ProbeResult) (rest : List ProbeResult) (access : Access) → IsOfReady (first + 1) rest access → IsOfReady first (found ∷ rest) access
 ready_later first found rest access (port, k, info, at, is, its) = (port, suc k, info, (omega (arith, at)), is, its)
 
-module _ (laws : LawsBelow) where
+module _ (laws : PrerequisiteLaws) where
   -- while what is due is issued
   pub issues_as : (port : ℕ) (found : List ProbeResult) (old new : ServerState) → IssuePorts port found old new → new ≡ record old { device = new.device; slots = new.slots; book = new.book }
   issues_as port [] old new none = none ∙ ap (λ (n : ServerState). record old { device = n.device; slots = n.slots; book = n.book }) (sym none)
@@ -82,7 +82,7 @@ module _ (laws : LawsBelow) where
         accesses = early.accesses ++ late.accesses;
         all = laws.basic.does_append early.accesses late.accesses old.device mid.device new.device early.all late.all;
         only = All-append (IsOfReady first (Ready info ∷ rest)) early.accesses late.accesses
-            (All-weaker (IsIssuingOn (port_at first)) (IsOfReady first (Ready info ∷ rest)) (λ access is. (port_at first, 0, info, (omega arith), refl, is)) early.accesses early.only)
+            (All-weaker (IsBatchAccess (port_at first)) (IsOfReady first (Ready info ∷ rest)) (λ access is. (port_at first, 0, info, (omega arith), refl, is)) early.accesses early.only)
             (All-weaker (IsOfReady (first + 1) rest) (IsOfReady first (Ready info ∷ rest)) (ready_later first (Ready info) rest) late.accesses late.only);
       }
   issues_driven first (Unserved ∷ rest) old new more = driven_as (IsOfReady (first + 1) rest) (IsOfReady first (Unserved ∷ rest)) old.device new.device (ready_later first Unserved rest) (issues_driven (first + 1) rest old new more)
@@ -111,7 +111,7 @@ written_same Vs v d other = refl
 written_same Cap2 v d other = refl
 written_same Bohc v d other = refl
 
-module _ (laws : LawsBelow) where
+module _ (laws : PrerequisiteLaws) where
   steps_same : (old new : Device) → old.hr ≡ false → Steps old new → new.ie ≡ old.ie
   steps_same old new off steps = ((laws.basic.keeps old new steps).on off).ie
 
@@ -137,13 +137,13 @@ reset_own (Writing r v) is = tt
 reset_own (Loading at bytes) is = absurd is
 reset_own (Storing at bytes) is = absurd is
 
-survey_own : (access : Access) → IsSurvey access → IsDriversOwn access
+survey_own : (access : Access) → ReadsCapOrPi access → IsDriversOwn access
 survey_own (Reading r v) is = tt
 survey_own (Writing r v) is = tt
 survey_own (Loading at bytes) is = absurd is
 survey_own (Storing at bytes) is = absurd is
 
-survey_spares : (access : Access) → IsSurvey access → DoesNotWrite Ghc access
+survey_spares : (access : Access) → ReadsCapOrPi access → DoesNotWrite Ghc access
 survey_spares (Reading r v) is = tt
 survey_spares (Writing r v) is = absurd is
 survey_spares (Loading at bytes) is = tt
@@ -158,7 +158,7 @@ module _ (Such : Port → Type 0) where
   reset_of (Loading at bytes) is = tt
   reset_of (Storing at bytes) is = tt
 
-  survey_of : (access : Access) → IsSurvey access → IsOfPorts Such access
+  survey_of : (access : Access) → ReadsCapOrPi access → IsOfPorts Such access
   survey_of (Reading (Px port r) v) is = absurd is
   survey_of (Reading r v) is = tt
   survey_of (Writing r v) is = absurd is
@@ -184,7 +184,7 @@ enabling_leaves port = (
 )
 
 -- those of another port leave this one
-other_leaves : LawsBelow → (port : Port) (access : Access) → IsOfOther port access → LeavesTrouble port access
+other_leaves : PrerequisiteLaws → (port : Port) (access : Access) → IsOfOtherPort port access → LeavesTrouble port access
 other_leaves laws port access (at, apart, is) = (
   laws.of_spares at port PortIs apart access is,
   laws.of_spares at port Serr apart access is,
@@ -200,7 +200,7 @@ served_if Unserved other = absurd (other refl)
 served_if (Ready info) other = refl
 served_if (Unready state) other = refl
 
-module _ (laws : LawsBelow) (s new : ServerState) (replies : List Reply) (k : ServerInvariant s) (r : ResetsServer replies s new) where
+module _ (laws : PrerequisiteLaws) (s new : ServerState) (replies : List Reply) (k : ServerInvariant s) (r : ResetsServer replies s new) where
   abbrev t : IsReinitialized s r.taken
   t = r.takes
 
@@ -259,12 +259,12 @@ module _ (laws : LawsBelow) (s new : ServerState) (replies : List Reply) (k : Se
         (laws.basic.does_append went.driven.accesses last way.surveyed way.booted new.device went.driven.all last_does),
   )
 
-  each : (P : Access → Type 0) → ((access : Access) → IsOfReset access → P access) → P (Writing Ghc 0x80000000) → ((access : Access) → IsSurvey access → P access)
+  each : (P : Access → Type 0) → ((access : Access) → IsOfReset access → P access) → P (Writing Ghc 0x80000000) → ((access : Access) → ReadsCapOrPi access → P access)
       → ((access : Access) → IsOfFound 0 ports access → P access) → P (Writing Ghc 0x80000002) → ((access : Access) → IsOfReady 0 ports access → P access) → All P accesses
   each P resets on surveys boots enables issuing =
       All-append P first (Writing Ghc 0x80000000 ∷ (survey ++ (went.driven.accesses ++ last))) (All-weaker IsOfReset P resets first t.resets.followed.driven.only)
       (All-cons P (Writing Ghc 0x80000000) (survey ++ (went.driven.accesses ++ last)) on
-      (All-append P survey (went.driven.accesses ++ last) (All-weaker IsSurvey P surveys survey way.surveys.only)
+      (All-append P survey (went.driven.accesses ++ last) (All-weaker ReadsCapOrPi P surveys survey way.surveys.only)
       (All-append P went.driven.accesses last (All-weaker (IsOfFound 0 ports) P boots went.driven.accesses went.driven.only)
       (All-cons P (Writing Ghc 0x80000002) issues.accesses enables (All-weaker (IsOfReady 0 ports) P issuing issues.accesses issues.only)))))
 
@@ -273,7 +273,7 @@ module _ (laws : LawsBelow) (s new : ServerState) (replies : List Reply) (k : Se
   pub low_of : (port : Port) (n : ℕ) → port.0 ≡ 0 + n → probe_result_of ports n ≢ Unserved → port.0 < 4
   low_of port n at other = let listed = is_listed ports n (served_if (probe_result_of ports n) other) in let four = t.four in omega (arith, at, listed, four)
 
-  served_then : (port : ℕ) → port < 4 → (found : ProbeResult) → found ≢ Unserved → StandsBehind (wanted_of s.wanted port) found port r.taken.device → IsServed (wanted_of s.wanted port) port s.device
+  served_then : (port : ℕ) → port < 4 → (found : ProbeResult) → found ≢ Unserved → BacksProbeResult (wanted_of s.wanted port) found port r.taken.device → IsServed (wanted_of s.wanted port) port s.device
   served_then port low Unserved other stands = absurd (other refl)
   served_then port low (Ready info) other stands = (stands.0.0, ap (λ (pi : ℕ). bit pi port) (sym t.resets.same.pi) ∙ ap (λ (pi : ℕ). bit pi port) (sym t.takes.same.pi) ∙ stands.0.1)
   served_then port low (Unready state) other stands = (stands.0.0, ap (λ (pi : ℕ). bit pi port) (sym t.resets.same.pi) ∙ ap (λ (pi : ℕ). bit pi port) (sym t.takes.same.pi) ∙ stands.0.1)
@@ -287,7 +287,7 @@ module _ (laws : LawsBelow) (s new : ServerState) (replies : List Reply) (k : Se
   is_found port served unserved =
       let low = k.few port served in
       let its = (k.served port low).0 served in
-      (subst (λ (f : ProbeResult). StandsBehind (wanted_of s.wanted port) f port r.taken.device) unserved (t.takes.stands port low)).0
+      (subst (λ (f : ProbeResult). BacksProbeResult (wanted_of s.wanted port) f port r.taken.device) unserved (t.takes.stands port low)).0
       (its.0, ap (λ (pi : ℕ). bit pi port) t.takes.same.pi ∙ ap (λ (pi : ℕ). bit pi port) t.resets.same.pi ∙ its.1)
 
   number_is : (port : Port) (n : ℕ) → port.0 ≡ 0 + n → n ≡ port.0
@@ -327,7 +327,7 @@ module _ (laws : LawsBelow) (s new : ServerState) (replies : List Reply) (k : Se
   surveyed_on : IsOn way.surveyed
   surveyed_on =
       let switched = laws.switches_on 0x80000000 t.idle way.switched t.resets.idle.no_reset refl refl way.switches in
-      on_over laws survey way.switched way.surveyed switched (All-weaker IsSurvey StaysOn (λ access is. stays_on access (survey_spares access is)) survey way.surveys.only) way.surveys.all
+      on_over laws survey way.switched way.surveyed switched (All-weaker ReadsCapOrPi StaysOn (λ access is. stays_on access (survey_spares access is)) survey way.surveys.only) way.surveys.all
 
   last_leaves : (port : Port) → All (LeavesTrouble port) last
   last_leaves port = All-cons (LeavesTrouble port) (Writing Ghc 0x80000002) issues.accesses (enabling_leaves port)
@@ -345,15 +345,15 @@ module _ (laws : LawsBelow) (s new : ServerState) (replies : List Reply) (k : Se
     -- what resets its link in its part does so in the whole
     pub resets : ResetsLink port turn.turn.turn → ResetsLink port accesses
     resets is =
-        let later = All-weaker (IsOfOther port) (DoesNotWrite (Px port Sctl)) (λ access other. (other_leaves laws port access other).3) its.later its.others_later in
+        let later = All-weaker (IsOfOtherPort port) (DoesNotWrite (Px port Sctl)) (λ access other. (other_leaves laws port access other).3) its.later its.others_later in
         let part = subst (ResetsLink port) turn.all (resets_more port its.before its.turn its.later is later) in
         resets_since port first (Writing Ghc 0x80000000 ∷ (survey ++ (went.driven.accesses ++ last))) (resets_since port (Writing Ghc 0x80000000 ∷ []) (survey ++ (went.driven.accesses ++ last))
         (resets_more port survey went.driven.accesses last part (All-weaker (LeavesTrouble port) (DoesNotWrite (Px port Sctl)) (λ access leaves. leaves.3) last (last_leaves port))))
 
     -- and what tells of an engine that is stuck
-    pub sticks : Sticks port turn.turn.turn → Sticks port accesses
+    pub sticks : EngineSticks port turn.turn.turn → EngineSticks port accesses
     sticks is =
-        let part = subst (Sticks port) turn.all (laws.sticks_since its.before (its.turn ++ its.later) port (laws.sticks_then its.turn its.later port is)) in
+        let part = subst (EngineSticks port) turn.all (laws.sticks_since its.before (its.turn ++ its.later) port (laws.sticks_then its.turn its.later port is)) in
         laws.sticks_since first (Writing Ghc 0x80000000 ∷ (survey ++ (went.driven.accesses ++ last))) port (laws.sticks_since (Writing Ghc 0x80000000 ∷ []) (survey ++ (went.driven.accesses ++ last)) port
         (laws.sticks_since survey (went.driven.accesses ++ last) port (laws.sticks_then went.driven.accesses last port part)))
 
@@ -369,7 +369,7 @@ module _ (laws : LawsBelow) (s new : ServerState) (replies : List Reply) (k : Se
       gets = did.1.2
 
       start_on : IsOn its.start
-      start_on = on_over laws its.before way.surveyed its.start surveyed_on (All-weaker (IsOfOther port) StaysOn (λ access other. (other_leaves laws port access other).4) its.before its.others) its.first
+      start_on = on_over laws its.before way.surveyed its.start surveyed_on (All-weaker (IsOfOtherPort port) StaysOn (λ access other. (other_leaves laws port access other).4) its.before its.others) its.first
 
       stopped_on : IsOn stopped
       stopped_on = laws.of_on port its.start stopped start_on (driven_as (OnPortWriting IsCommandRegister port) (SparesOtherPorts port) its.start stopped (λ access x. laws.booting_of port access (command_boots port access x)) did.1.1)
@@ -377,7 +377,7 @@ module _ (laws : LawsBelow) (s new : ServerState) (replies : List Reply) (k : Se
       end_on : IsOn its.end
       end_on = laws.of_on port stopped its.end stopped_on (driven_as (IsOfBoot port) (SparesOtherPorts port) stopped its.end (laws.booting_of port) (ready_resets laws port stopped its.end gets).driven)
 
-      early : Grows s.device stopped
+      early : TapeGrows s.device stopped
       early =
           laws.looks.tape.grows_more s.device t.idle stopped (grows_over laws first s.device t.idle t.resets.followed.driven.all)
           (laws.looks.tape.grows_more t.idle way.switched stopped (laws.looks.tape.access_grows (Writing Ghc 0x80000000) t.idle way.switched way.switches)
@@ -388,7 +388,7 @@ module _ (laws : LawsBelow) (s new : ServerState) (replies : List Reply) (k : Se
       later = record {
         accesses = its.later ++ last;
         all = laws.basic.does_append its.later last its.end way.booted new.device its.last last_does;
-        only = All-append (LeavesTrouble port) its.later last (All-weaker (IsOfOther port) (LeavesTrouble port) (other_leaves laws port) its.later its.others_later) (last_leaves port);
+        only = All-append (LeavesTrouble port) its.later last (All-weaker (IsOfOtherPort port) (LeavesTrouble port) (other_leaves laws port) its.later its.others_later) (last_leaves port);
       }
 
       -- what came since ST was set is shown

@@ -17,14 +17,14 @@ use Rattle.block_machine.specs.Ports.{Evidence, Ports, SameDisk}
 use Rattle.block_machine.specs.State.{Machine}
 use Rattle.driver_history.specs.Evidence.{IsEvidencedOf}
 use Rattle.driver_history.specs.Histories.{LosesNoPortError, RunsWellAnew, IsPortServed}
-use Rattle.driver_history.specs.Parts.{IsOfOther}
+use Rattle.driver_history.specs.Parts.{IsOfOtherPort}
 use Rattle.driver_history.specs.Trace.{IsOfPorts, LeavesEngine, ResetsLink}
-use Rattle.host_boot.specs.Taken.{StandsBehind, probe_result_of, wanted_of}
+use Rattle.host_boot.specs.TakeOver.{BacksProbeResult, probe_result_of, wanted_of}
 use Rattle.host_boot.specs.declared.ProbeResult.{ProbeResult}
 use Rattle.host_boot.specs.declared.ProbeResult.TheVariants.{Unserved, Ready, Unready}
 use Rattle.identify.specs.declared.DiskInfo.{DiskInfo}
-use Rattle.port_control.specs.Engines.{Sticks}
-use Rattle.server_history.specs.Below.{LawsBelow}
+use Rattle.port_control.specs.Engines.{EngineSticks}
+use Rattle.server_history.specs.Prerequisites.{PrerequisiteLaws}
 use Rattle.server_history.proofs.reset_call.ResetDevice.{IsRebootedBy}
 use Rattle.server_history.specs.Resets.{IsReinitialized, ResetsServer}
 use Rattle.server_history.specs.Server.{ServerState, is_served, ports_of, state_of}
@@ -83,17 +83,17 @@ unserved_leaves Such port none (Loading at bytes) is = (tt, tt)
 unserved_leaves Such port none (Storing at bytes) is = (tt, tt)
 
 -- what was noted of a port stays so over accesses of others
-notes_over : LawsBelow → (port : Port) (list : List Access) (old new : Device) → IsOn old → All (IsOfOther port) list → DoesAll list old new → (new.port port.0).notes ≡ (old.port port.0).notes
+notes_over : PrerequisiteLaws → (port : Port) (list : List Access) (old new : Device) → IsOn old → All (IsOfOtherPort port) list → DoesAll list old new → (new.port port.0).notes ≡ (old.port port.0).notes
 notes_over laws port [] old new on all is = ap (λ (d : Device). (d.port port.0).notes) is
 notes_over laws port (access ∷ list) old new on all (mid, does, rest) =
-    let other = All-head (IsOfOther port) access list all in
+    let other = All-head (IsOfOtherPort port) access list all in
     let driven = by_one _ access old mid other.2 does in
-    notes_over laws port list mid new (laws.of_on other.0 old mid on driven) (All-tail (IsOfOther port) access list all) rest
+    notes_over laws port list mid new (laws.of_on other.0 old mid on driven) (All-tail (IsOfOtherPort port) access list all) rest
     ∙ (laws.looks.other_left other.0 port.0 old mid other.1 on driven).notes
 
 -- ---- the whole
 
-module _ (laws : LawsBelow) (s new : ServerState) (replies : List Reply) (k : ServerInvariant s) (r : ResetsServer replies s new) where
+module _ (laws : PrerequisiteLaws) (s new : ServerState) (replies : List Reply) (k : ServerInvariant s) (r : ResetsServer replies s new) where
   abbrev t : IsReinitialized s r.taken
   t = r.takes
 
@@ -126,7 +126,7 @@ module _ (laws : LawsBelow) (s new : ServerState) (replies : List Reply) (k : Se
   -- no port is found unready in the state of a ready one
   never_ready : (port : Port) → probe_result_of ports port.0 ≡ Unready ReadyState → ⊥
   never_ready port is =
-      (subst (λ (f : ProbeResult). StandsBehind (wanted_of s.wanted port.0) f port.0 r.taken.device) is
+      (subst (λ (f : ProbeResult). BacksProbeResult (wanted_of s.wanted port.0) f port.0 r.taken.device) is
       (t.takes.stands port.0 (low_found port (λ unserved. let z : Unready ReadyState ≡ Unserved = sym is ∙ unserved in cc)))).1
 
   ready_info : (port : Port) → new_ports.state port ≡ ReadyState → (info : DiskInfo) × (probe_result_of ports port.0 ≡ Ready info)
@@ -197,13 +197,13 @@ module _ (laws : LawsBelow) (s new : ServerState) (replies : List Reply) (k : Se
   -- ---- a dead port
 
   module _ (port : Port) (dead : new_ports.state port ≡ DeadState) where
-    its_sticks : Sticks port list
+    its_sticks : EngineSticks port list
     its_sticks =
         let part = turn laws s new replies k r port (dead_low port dead) in
         sticks laws s new replies k r port (dead_low port dead) ((subst (λ (f : ProbeResult). DidBoot port f part.turn.turn part.turn.start part.turn.end) (dead_found port dead) part.did).0 refl)
 
     -- what is issued is of other ports
-    others : (access : Access) → IsOfReady 0 ports access → IsOfOther port access
+    others : (access : Access) → IsOfReady 0 ports access → IsOfOtherPort port access
     others access (q, n, info, at, is, its) = (
       q,
       (λ same.
@@ -216,8 +216,8 @@ module _ (laws : LawsBelow) (s new : ServerState) (replies : List Reply) (k : Se
     counted : (new.device.port port.0).notes.engine_count ≡ MOST_READINGS
     counted =
         let issuing = issues laws s new replies k r in
-        ap (λ (n : Notes). n.engine_count) (notes_over laws port issuing.accesses r.taken.device new.device t.takes.on (All-weaker (IsOfReady 0 ports) (IsOfOther port) others issuing.accesses issuing.only) issuing.all)
-        ∙ (subst (λ (f : ProbeResult). StandsBehind (wanted_of s.wanted port.0) f port.0 r.taken.device) (dead_found port dead) (t.takes.stands port.0 (dead_low port dead))).1.1
+        ap (λ (n : Notes). n.engine_count) (notes_over laws port issuing.accesses r.taken.device new.device t.takes.on (All-weaker (IsOfReady 0 ports) (IsOfOtherPort port) others issuing.accesses issuing.only) issuing.all)
+        ∙ (subst (λ (f : ProbeResult). BacksProbeResult (wanted_of s.wanted port.0) f port.0 r.taken.device) (dead_found port dead) (t.takes.stands port.0 (dead_low port dead))).1.1
 
   -- ---- what is vouched for
 

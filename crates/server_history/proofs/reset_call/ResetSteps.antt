@@ -8,8 +8,8 @@ use Rattle.ata_types.specs.declared.PortState.TheVariants.{Ready as ReadyState}
 use Rattle.ata_types.specs.declared.request.Outcome.{Outcome}
 use Rattle.ata_types.specs.declared.request.RequestId.{RequestId}
 use Rattle.server_history.proofs.state.ListMembers.{at_cases, contains_cases, contains_there, map_in, without_in}
-use Rattle.block_machine.specs.Events.{AllByDevice, AllLawful, AllMay, AreStepsOfCall, EndsUndone, IsByDevice, IsIssuedIn, IsLawful, IssuesLast, AbstractState, Reset, WasIssued, answers_of, is_release, issues_it}
-use Rattle.block_machine.specs.Left.{after}
+use Rattle.block_machine.specs.Events.{AllByDevice, AllAnswersLawful, AllMay, AreStepsOfCall, EndsUndone, IsByDevice, IsIssuedIn, IsLawfulAnswer, IssuesLast, AbstractState, Reset, WasIssued, answers_of, is_release, issues_it}
+use Rattle.block_machine.specs.Expected.{after}
 use Rattle.block_machine.specs.Ports.{Evidence, Ports}
 use Rattle.block_machine.specs.State.{Machine, Pending}
 use Rattle.block_machine.specs.Steps.{Again, Answer, Issue, May, Release, Step, at, newly_issued, requeued}
@@ -17,7 +17,7 @@ use Rattle.server_history.proofs.reset_call.FatesOfAllPorts.{Decides}
 use Rattle.server_history.proofs.state.FirstMembers.{first_here, nowhere}
 use Rattle.server_history.proofs.reset_call.IssuesOfAllPorts.{IsReissue}
 use Rattle.server_history.proofs.plain_calls.IssueRounds.{issued_parts}
-use Rattle.server_history.specs.Below.{LawsBelow}
+use Rattle.server_history.specs.Prerequisites.{PrerequisiteLaws}
 
 -- ---- steps that decide
 
@@ -41,8 +41,8 @@ module _ (ports : Ports) where
   )
   decided_belong (step ∷ steps) all answer again = absurd (All-head Decides step steps all).1
 
-pub decided_lawful : (old : AbstractState) (evidence : Evidence) (ports : Ports) (steps : List Step) → All Decides steps → ((e : Pending) (o : Outcome) → Contains steps (Answer e o) → IsLawful old evidence ports e o)
-    → ((e : Pending) → Contains steps (Again e) → Contains evidence.stopped e.request.port) → AllLawful old evidence ports steps
+pub decided_lawful : (old : AbstractState) (evidence : Evidence) (ports : Ports) (steps : List Step) → All Decides steps → ((e : Pending) (o : Outcome) → Contains steps (Answer e o) → IsLawfulAnswer old evidence ports e o)
+    → ((e : Pending) → Contains steps (Again e) → Contains evidence.stopped e.request.port) → AllAnswersLawful old evidence ports steps
 decided_lawful old evidence ports [] all answer again = tt
 decided_lawful old evidence ports (Again e ∷ steps) all answer again = (
   decided_lawful old evidence ports steps (All-tail Decides (Again e) steps all) (λ x o there. answer x o (contains_there (Again e) steps (Answer x o) there)) (λ x there. again x (contains_there (Again e) steps (Again x) there)),
@@ -62,7 +62,7 @@ module _ (ports : Ports) where
   reissued_belong (Issue mode e ∷ steps) all = (reissued_belong steps (All-tail (IsReissue ports) (Issue mode e) steps all), inr (All-head (IsReissue ports) (Issue mode e) steps all))
   reissued_belong (step ∷ steps) all = (reissued_belong steps (All-tail (IsReissue ports) step steps all), inl (All-head (IsReissue ports) step steps all))
 
-  pub reissued_lawful : (old : AbstractState) (evidence : Evidence) (later : Ports) (steps : List Step) → All (IsReissue ports) steps → AllLawful old evidence later steps
+  pub reissued_lawful : (old : AbstractState) (evidence : Evidence) (later : Ports) (steps : List Step) → All (IsReissue ports) steps → AllAnswersLawful old evidence later steps
   reissued_lawful old evidence later [] all = tt
   reissued_lawful old evidence later (Again e ∷ steps) all = absurd (All-head (IsReissue ports) (Again e) steps all)
   reissued_lawful old evidence later (Answer e o ∷ steps) all = absurd (All-head (IsReissue ports) (Answer e o) steps all)
@@ -100,7 +100,7 @@ reissue_keeps ports step is = tt
 -- ---- who is issued
 
 -- one that is issued after such steps was issued in them, or before
-module _ (laws : LawsBelow) (ports : Ports) (m : Machine) where
+module _ (laws : PrerequisiteLaws) (ports : Ports) (m : Machine) where
   pub issued_from : (steps : List Step) → AreStepsOfCall {D = DeviceStep} Reset ports steps → (z : Pending) → Contains (after m steps).book z → z.issued ≡ true → IsIssuedIn z.request.id steps ⊎ WasIssued m z.request.id
   issued_from [] b z here is = inr (record { pending = z; here = here; id_is = refl; issued = is })
   issued_from (Issue mode e ∷ steps) b z here is =

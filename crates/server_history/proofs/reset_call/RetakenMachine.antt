@@ -20,12 +20,12 @@ use Rattle.server_history.proofs.state.ListMembers.{into_map, map_in, none_of, i
 use Rattle.block_machine.specs.Confined.{WithinLimits}
 use Rattle.block_machine.specs.Events.{AllByDevice, AllMay}
 use Rattle.block_machine.specs.Histories.{IsReachable}
-use Rattle.block_machine.specs.Left.{after}
+use Rattle.block_machine.specs.Expected.{after}
 use Rattle.block_machine.specs.State.{Machine, Pending}
 use Rattle.block_machine.specs.Steps.{Release, Step, after_step, is_lent_to}
 use Rattle.dma_frames.specs.Loan.{Lending}
 use Rattle.dma_frames.specs.Table.{Table, lent_to, owner_of}
-use Rattle.host_boot.specs.Taken.{unused}
+use Rattle.host_boot.specs.TakeOver.{unused_slots}
 use Rattle.host_boot.specs.declared.ProbeResult.{ProbeResult}
 use Rattle.request_queue.specs.Entries.{BookEntry, IsAccepted, BookIsInOrder}
 use Rattle.request_queue.specs.Machine.{BookRelation, EntryRelation}
@@ -33,7 +33,7 @@ use Rattle.server_history.proofs.plain_calls.Acceptances.{any_in}
 use Rattle.server_history.proofs.state.HistorySteps.{book_on, still_kept}
 use Rattle.server_history.proofs.state.FirstMembers.{nowhere}
 use Rattle.server_history.proofs.state.PairedLists.{at_left}
-use Rattle.server_history.specs.Below.{LawsBelow}
+use Rattle.server_history.specs.Prerequisites.{PrerequisiteLaws}
 use Rattle.server_history.specs.Ended.{ResetLaws}
 use Rattle.server_history.specs.Kept.{IsKeptIn, TakesBack}
 use Rattle.server_history.specs.ErrorHandling.{requests_of}
@@ -51,7 +51,7 @@ pub record IsStretch (k later : DriverState) (m : Machine) : Type 0 where
   pub backed : IsBacked k.device later.device m steps
   pub knows : DriverRelation (after m steps) later
 
-pub stretch : {May : Access → Type 0} {Fits : SlotStates → Type 0} {next : SlotStates → SlotStates} {old new : Device} → LawsBelow → IsSimulatedTo May Fits next old new → (uses : SlotStates) (parked : ℕ → List RequestId) → Fits uses → (m : Machine) → IsReachable m
+pub stretch : {May : Access → Type 0} {Fits : SlotStates → Type 0} {next : SlotStates → SlotStates} {old new : Device} → PrerequisiteLaws → IsSimulatedTo May Fits next old new → (uses : SlotStates) (parked : ℕ → List RequestId) → Fits uses → (m : Machine) → IsReachable m
     → DriverRelation m (known uses parked old) → IsStretch (known uses parked old) (known (next uses) parked new) m
 stretch {May} {Fits} {next} {old} {new} laws a uses parked fits m reached knows =
     let c = a.comes (record { uses = uses; parked = parked }) m reached knows fits in
@@ -87,7 +87,7 @@ abbrev all_ids : Machine → ℕ → List RequestId
 all_ids m port = map (λ (e : Pending). e.request.id) m.book ++ map (λ (e : Pending). e.request.id) m.kept
 
 -- Where the adapter is idle, every slot was given up.
-gives_up : (k : DriverState) (m : Machine) → DriverRelation m k → IsIdle k.device → DriverRelation m (known unused (all_ids m) k.device)
+gives_up : (k : DriverState) (m : Machine) → DriverRelation m k → IsIdle k.device → DriverRelation m (known unused_slots (all_ids m) k.device)
 gives_up k m knows rest = record {
   agrees = record {
     slot = λ port slot. let p = rest.port port in record { issued = p.ci slot; free = p.taken slot; unarmed = p.sact slot };
@@ -196,12 +196,12 @@ module _ (laws : ResetLaws) (s taken : ServerState) (takes : IsReinitialized s t
   free_reached : IsReachable free
   free_reached = laws.below.basic.reached idle (Release ∷ []) idle_reached (tt, tt)
 
-  free_knows : DriverRelation free (known unused (all_ids idle) takes.idle)
-  free_knows = laws.released (known unused (all_ids idle) takes.idle) idle (all_ids idle) idle_reached (gives_up (known is.uses is.parked takes.idle) idle down.knows takes.resets.idle)
+  free_knows : DriverRelation free (known unused_slots (all_ids idle) takes.idle)
+  free_knows = laws.released (known unused_slots (all_ids idle) takes.idle) idle (all_ids idle) idle_reached (gives_up (known is.uses is.parked takes.idle) idle down.knows takes.resets.idle)
       (λ e here port slot serves. let z : Free ≡ Serves e.request.id = serves in absurd cc) (λ port other here lives. here)
 
-  abbrev up : IsStretch (known unused (all_ids idle) takes.idle) (known takes.takes.uses (all_ids idle) taken.device) free
-  up = stretch laws.below takes.takes.followed unused (all_ids idle) refl free free_reached free_knows
+  abbrev up : IsStretch (known unused_slots (all_ids idle) takes.idle) (known takes.takes.uses (all_ids idle) taken.device) free
+  up = stretch laws.below takes.takes.followed unused_slots (all_ids idle) refl free free_reached free_knows
 
   abbrev last : Machine
   last = after free up.steps

@@ -11,10 +11,10 @@ use Rattle.ata_types.specs.declared.request.ClientId.{ClientId}
 use Rattle.ata_types.specs.declared.request.Reply.{Reply}
 use Rattle.ata_types.specs.declared.request.RequestId.{RequestId}
 use Rattle.block_machine.specs.Histories.{IsReachable}
-use Rattle.block_machine.specs.Left.{IsValidRow, after}
+use Rattle.block_machine.specs.Expected.{IsValidRow, after}
 use Rattle.block_machine.specs.State.{Machine}
 use Rattle.block_machine.specs.Steps.{Release, Step}
-use Rattle.host_boot.specs.Taken.{IsUnusedOrDead, IsUnusedOrDead, TakesOver, probe_result_of, wanted_of}
+use Rattle.host_boot.specs.TakeOver.{IsUnusedOrDead, IsUnusedOrDead, TakesOver, probe_result_of, wanted_of}
 use Rattle.host_boot.specs.declared.ProbeResult.{ProbeResult}
 use Rattle.host_boot.specs.declared.ProbeResult.TheVariants.{Unready}
 use Rattle.identify.specs.declared.wanted.Wanted.{Wanted}

@@ -18,7 +18,7 @@ use Rattle.refinement.specs.Links.{DoesNotWrite}
 use Rattle.block_machine.specs.Due.{NoneDue}
 use Rattle.block_machine.specs.Events.{AnswersRevoke, AbstractState, RevokeOf, WasRevoked, answers_of, issues_it}
 use Rattle.block_machine.specs.Histories.{JointState, IsReachable, now}
-use Rattle.block_machine.specs.Left.{IsValidRow, after}
+use Rattle.block_machine.specs.Expected.{IsValidRow, after}
 use Rattle.block_machine.specs.Ports.{Ports}
 use Rattle.block_machine.specs.Rules.{without_row}
 use Rattle.block_machine.specs.State as machine
@@ -28,13 +28,13 @@ use Rattle.block_machine.specs.declared.due.QueueMode.{QueueMode}
 use Rattle.driver_history.specs.Histories.{IssuesDue, IsIssuingAccess}
 use Rattle.driver_history.specs.Trace.{ClearsNoError, LeavesEngine}
 use Rattle.hba_regs.specs.declared.reg.Reg.TheVariants.{Ghc}
-use Rattle.host_boot.specs.Taken.{probe_result_of}
+use Rattle.host_boot.specs.TakeOver.{probe_result_of}
 use Rattle.request_queue.specs.Entries.{asks_of, due_ids}
-use Rattle.server_history.specs.Below.{LawsBelow}
+use Rattle.server_history.specs.Prerequisites.{PrerequisiteLaws}
 use Rattle.server_history.specs.Histories.{ExtendsSettled, ExtendsHistory}
 use Rattle.server_history.specs.Revoked.{RevokesGrant}
-use Rattle.commands.specs.Batches.{IsIssuingOn}
-use Rattle.server_history.specs.Served.{IssuesAll, IssuesBatchOf}
+use Rattle.commands.specs.Batches.{IsBatchAccess}
+use Rattle.server_history.specs.Served.{IssuesAll, IssuesTogetherIfAny}
 use Rattle.server_history.specs.Server.{InCallInvariant, MachineRelation, SettledInvariant, ServerState, mode_in, ports_of, state_of}
 use Rattle.server_history.proofs.any_turn.JoinedParts.{ready_or_not}
 use Rattle.server_history.proofs.plain_calls.Acceptances.{issuing_clears_none, issuing_spares_host}
@@ -52,7 +52,7 @@ use Rattle.server_history.proofs.state.FirstMembers.{nowhere}
 use Rattle.server_history.proofs.state.HistorySteps.{IsHolding, holding, lead_by, ports_same, with_device}
 use Rattle.server_history.proofs.state.TurnAccesses.{issuing_is, issuing_leaves}
 
-module _ (laws : LawsBelow) (s : ServerState) (client : ClientId) (number : ℕ) (replies : List Reply) (mid : ServerState) (r : RevokesEach client number replies s mid) where
+module _ (laws : PrerequisiteLaws) (s : ServerState) (client : ClientId) (number : ℕ) (replies : List Reply) (mid : ServerState) (r : RevokesEach client number replies s mid) where
   abbrev port : Port
   port = r.has.0.port
 
@@ -153,7 +153,7 @@ module _ (laws : LawsBelow) (s : ServerState) (client : ClientId) (number : ℕ)
       -- nothing is due where it isn't ready
       with_issue_undone : state_of (probe_result_of s.ports port.0) ≢ ReadyState → new ≡ then_is
       with_issue_undone other =
-          subst (λ (list : List RequestId). IssuesBatchOf port list then_is new)
+          subst (λ (list : List RequestId). IssuesTogetherIfAny port list then_is new)
           (unready_undue laws then_is kept port (λ info found. other (ap state_of found))) issues
 
       quiet : state_of (probe_result_of s.ports port.0) ≢ ReadyState → ExtendsHistory s new (RevokeOf client number) (WasRevoked (Some replies))
@@ -162,7 +162,7 @@ module _ (laws : LawsBelow) (s : ServerState) (client : ClientId) (number : ℕ)
           (quiet_event (holding then_is kept) (stays laws s k) other (λ q ready. (subst SettledInvariant (with_issue_undone other) settles).issued q) may)
 
       module _ (ready : state_of (probe_result_of s.ports port.0) ≡ ReadyState) where
-        driven : IsDrivenBy (IsIssuingOn port) s.device new.device
+        driven : IsDrivenBy (IsBatchAccess port) s.device new.device
         driven = each_driven laws port ids then_is new issues
 
         event : ExtendsHistory s new (RevokeOf client number) (WasRevoked (Some replies))
@@ -175,8 +175,8 @@ module _ (laws : LawsBelow) (s : ServerState) (client : ClientId) (number : ℕ)
             (answers new (ap ports_of same) (ap (λ (n : ServerState). n.grants) same) old.abstract leads.stands.ports_are h x.steps (no_answer_issuing mode port x.steps x.only) (issuing_answers mode port x.steps early x.only) stands (λ q on. settles.issued q))
             tt
             driven.accesses
-            (driven.all, (revoked.has_row laws s client number replies mid r m h, All-weaker (IsIssuingOn port) (IsIssuingAccess port) (λ access here. issuing_is port port_low access here) driven.accesses driven.only, λ other. absurd (other its_state)))
-            (λ q. All-weaker (IsIssuingOn port) (LeavesEngine q) (issuing_leaves laws port q) driven.accesses driven.only)
+            (driven.all, (revoked.has_row laws s client number replies mid r m h, All-weaker (IsBatchAccess port) (IsIssuingAccess port) (λ access here. issuing_is port port_low access here) driven.accesses driven.only, λ other. absurd (other its_state)))
+            (λ q. All-weaker (IsBatchAccess port) (LeavesEngine q) (issuing_leaves laws port q) driven.accesses driven.only)
             (λ q is_ready. due_now q)
             (λ q. record {
               finds = tt;
@@ -184,7 +184,7 @@ module _ (laws : LawsBelow) (s : ServerState) (client : ClientId) (number : ℕ)
               probes = tt;
               boots = tt;
               port_error = laws.calls.ordinary q (with_device s.device old) new.device driven.accesses (told_by s.device old.abstract.ports) (ports_of new) k.on driven.all
-                  (All-weaker (IsIssuingOn port) (DoesNotWrite Ghc) (issuing_spares_host port) driven.accesses driven.only) (All-weaker (IsIssuingOn port) (ClearsNoError q) (issuing_clears_none port q) driven.accesses driven.only);
+                  (All-weaker (IsBatchAccess port) (DoesNotWrite Ghc) (issuing_spares_host port) driven.accesses driven.only) (All-weaker (IsBatchAccess port) (ClearsNoError q) (issuing_clears_none port q) driven.accesses driven.only);
               well = λ i. absurd (uninterrupted s.device old.abstract.ports q i);
               heeds = uninterrupted s.device old.abstract.ports q;
             })
@@ -235,13 +235,13 @@ module _ (laws : LawsBelow) (s : ServerState) (client : ClientId) (number : ℕ)
       pub adds : ExtendsHistory s new (RevokeOf client number) (WasRevoked (Some replies))
       adds = ⊎_elim event quiet (ready_or_not (state_of (probe_result_of s.ports port.0)))
 
-revocation_by : (laws : LawsBelow) (s mid new : ServerState) (client : ClientId) (number : ℕ) (replies : List Reply) → SettledInvariant s → (each : RevokesEach client number replies s mid) → IssuesAll each.has.0.port mid new
+revocation_by : (laws : PrerequisiteLaws) (s mid new : ServerState) (client : ClientId) (number : ℕ) (replies : List Reply) → SettledInvariant s → (each : RevokesEach client number replies s mid) → IssuesAll each.has.0.port mid new
     → ExtendsSettled s new (RevokeOf client number) (WasRevoked (Some replies))
 revocation_by laws s mid new client number replies t each i = record { settled = settles laws s client number replies mid each t new issues; adds = adds laws s client number replies mid each t new issues }
   where
     issues : IssuesAll each.has.0.port (with_revoked client number mid.table each.now.book s) new
     issues = subst (λ (n : ServerState). IssuesAll each.has.0.port n new) each.server i
 
-pub revocation : LawsBelow → (s mid new : ServerState) (client : ClientId) (number : ℕ) (replies : List Reply) → SettledInvariant s → (r : RevokesGrant client number replies s mid) → IssuesAll r.has.0.port mid new
+pub revocation : PrerequisiteLaws → (s mid new : ServerState) (client : ClientId) (number : ℕ) (replies : List Reply) → SettledInvariant s → (r : RevokesGrant client number replies s mid) → IssuesAll r.has.0.port mid new
     → ExtendsSettled s new (RevokeOf client number) (WasRevoked (Some replies))
 revocation laws s mid new client number replies t r i = revocation_by laws s mid new client number replies t (revokes_each laws s mid client number replies t.kept.ordered t.kept.accepted r) i

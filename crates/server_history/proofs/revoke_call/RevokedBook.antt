@@ -15,7 +15,7 @@ use Rattle.server_history.proofs.plain_calls.IssueRounds.{not_true}
 use Rattle.server_history.proofs.revoke_call.RevokedEach.{ends_revoked, waiting_under}
 use Rattle.server_history.proofs.state.ListMembers.{filter_in, in_filter, map_in}
 use Rattle.server_history.proofs.state.RevokedGrants.{marked_one, tells_then}
-use Rattle.block_machine.specs.Rules.{is_under}
+use Rattle.block_machine.specs.Rules.{is_same_grant_name}
 
 -- What a mark changes: nothing but itself.
 pub record IsMarkOf (was e : BookEntry) : Type 0 where
@@ -32,15 +32,15 @@ module _ (client : ClientId) (number : ℕ) where
   mark e = record e { entry = marked_under client number e.entry }
 
   mark_of : (e : BookEntry) → IsMarkOf e (mark e)
-  mark_of e = by (is_under client number e.entry.client e.entry.grant)
+  mark_of e = by (is_same_grant_name client number e.entry.client e.entry.grant)
     where
       by : (b : Bool) → IsMarkOf e (record e { entry = cond b (record (e.entry) { revoked = true }) (e.entry) })
       by true = record { id = refl; client = refl; grant = refl; port = refl; op = refl; issued = refl }
       by false = record { id = refl; client = refl; grant = refl; port = refl; op = refl; issued = refl }
 
   -- who is under it is marked
-  marked_is : (e : BookEntry) → is_under client number e.entry.client e.entry.grant ≡ true → (mark e).entry.revoked ≡ true
-  marked_is e is = ap (λ (x : PendingRequest). x.revoked) (cond-true (is_under client number e.entry.client e.entry.grant) (record (e.entry) { revoked = true }) e.entry is)
+  marked_is : (e : BookEntry) → is_same_grant_name client number e.entry.client e.entry.grant ≡ true → (mark e).entry.revoked ≡ true
+  marked_is e is = ap (λ (x : PendingRequest). x.revoked) (cond-true (is_same_grant_name client number e.entry.client e.entry.grant) (record (e.entry) { revoked = true }) e.entry is)
 
   -- what a waiting request of the grant is
   pub record WaitsUnder (e : PendingRequest) : Type 0 where
@@ -50,13 +50,13 @@ module _ (client : ClientId) (number : ℕ) where
 
   pub waits_as : (e : PendingRequest) → waits_under client number e ≡ true → WaitsUnder e
   waits_as e is =
-      let a = and_parts (not e.issued) (is_under client number e.client e.grant) is in
+      let a = and_parts (not e.issued) (is_same_grant_name client number e.client e.grant) is in
       let b = and_parts (e.client.0 == client.0) (e.grant == number) a.1 in
       record { waits = not_true e.issued a.0; client_is = ap (λ (n : ℕ). record { 0 = n }) (eqb-true e.client.0 client.0 b.0); grant_is = eqb-true e.grant number b.1 }
 
   pub as_waits : (e : PendingRequest) → e.issued ≡ false → e.client ≡ client → e.grant ≡ number → waits_under client number e ≡ true
   as_waits e waits its_client its_grant =
-      and_from (not e.issued) (is_under client number e.client e.grant) (ap not waits)
+      and_from (not e.issued) (is_same_grant_name client number e.client e.grant) (ap not waits)
       (and_from (e.client.0 == client.0) (e.grant == number) (eq-eqb e.client.0 client.0 (ap (λ (c : ClientId). c.0) its_client)) (eq-eqb e.grant number its_grant))
 
   module _ (s : ServerState) where
@@ -80,7 +80,7 @@ module _ (client : ClientId) (number : ℕ) where
     pub in_requests : (e : BookEntry) → Contains old.book e → WaitsUnder e.entry → Contains requests e
     in_requests e here w = in_filter (λ (x : BookEntry). waits_under client number x.entry) old.book e here (as_waits e.entry w.waits w.client_is w.grant_is)
 
-    under_was : (e : BookEntry) → Contains requests e → (here : Contains old.book e) → is_under client number (was_there e here).0.entry.client (was_there e here).0.entry.grant ≡ true
+    under_was : (e : BookEntry) → Contains requests e → (here : Contains old.book e) → is_same_grant_name client number (was_there e here).0.entry.client (was_there e here).0.entry.grant ≡ true
     under_was e there here =
         let w = (of_requests e there).1 in
         let m = mark_is e here in

@@ -7,12 +7,12 @@ use Rattle.ata_types.specs.declared.request.Reply.{Reply}
 use Rattle.block_machine.specs.Rules.{HasRow}
 use Rattle.dma_frames.specs.Table.{LendsOnly, Table}
 use Rattle.request_queue.specs.Entries.{BookEntry, IsAccepted, BookIsInOrder, waits_under}
-use Rattle.request_queue.specs.Dispositions.{Holdings, AreResolved}
+use Rattle.request_queue.specs.Dispositions.{BookAndLoans, AreResolved}
 use Rattle.request_queue.specs.declared.PendingRequest.{PendingRequest}
 use Rattle.request_queue.specs.declared.disposition.Disposition.{Disposition}
 use Rattle.request_queue.specs.declared.disposition.Disposition.TheVariants.{Complete}
-use Rattle.server_history.specs.Below.{LawsBelow}
-use Rattle.server_history.specs.ErrorHandling.{holdings_of}
+use Rattle.server_history.specs.Prerequisites.{PrerequisiteLaws}
+use Rattle.server_history.specs.ErrorHandling.{book_and_loans_of}
 use Rattle.server_history.specs.Revoked.{RevokesGrant, with_grant_revoked}
 use Rattle.server_history.specs.Server.{ServerState}
 
@@ -31,15 +31,15 @@ with_revoked client number table book s = record (with_grant_revoked client numb
 -- They met that fate one after another, and the table that this led to has the same lent as the server's.
 pub record RevokesEach (client : ClientId) (number : ℕ) (replies : List Reply) (s new : ServerState) : Type 0 where
   pub has : HasRow client number s.grants
-  pub now : Holdings
-  pub meets : AreResolved ends_revoked (waiting_under client number (with_grant_revoked client number s).book) replies (holdings_of has.0.port (with_grant_revoked client number s)) now
+  pub now : BookAndLoans
+  pub meets : AreResolved ends_revoked (waiting_under client number (with_grant_revoked client number s).book) replies (book_and_loans_of has.0.port (with_grant_revoked client number s)) now
   pub lends : LendsOnly now.table new.table [] None
   pub server : new ≡ with_revoked client number new.table now.book s
 
-abbrev pub revokes_each : LawsBelow → (s new : ServerState) (client : ClientId) (number : ℕ) (replies : List Reply) → BookIsInOrder s.book → All (IsAccepted s.table) s.book → RevokesGrant client number replies s new → RevokesEach client number replies s new
+abbrev pub revokes_each : PrerequisiteLaws → (s new : ServerState) (client : ClientId) (number : ℕ) (replies : List Reply) → BookIsInOrder s.book → All (IsAccepted s.table) s.book → RevokesGrant client number replies s new → RevokesEach client number replies s new
 revokes_each laws s new client number replies ordered accepted r =
     let old = with_grant_revoked client number s in
-    let each = laws.answered_each (waits_under client number) Revoked (λ e. refl) (holdings_of r.has.0.port old) (laws.marked s.book client number ordered) (laws.still_marked s.table s.book client number accepted) replies (holdings_of r.has.0.port new) r.answers in
+    let each = laws.answered_each (waits_under client number) Revoked (λ e. refl) (book_and_loans_of r.has.0.port old) (laws.marked s.book client number ordered) (laws.still_marked s.table s.book client number accepted) replies (book_and_loans_of r.has.0.port new) r.answers in
     record {
       has = r.has;
       now = each.0;

@@ -16,20 +16,20 @@ use Rattle.ata_types.specs.declared.request.RequestId.{RequestId}
 use Rattle.adapter.specs.declared.access.DeviceStep.{DeviceStep}
 use Rattle.refinement.specs.Driven.{known}
 use Rattle.refinement.specs.Driver.{HasNoSlot, IsBacked, DriverState}
-use Rattle.block_machine.specs.Events.{AllLawful, AllMay, AreStepsOfCall, IsLawful, IssuesLast, AbstractState, RevokeOf, RepliesMatch, answers_of, issues_it}
+use Rattle.block_machine.specs.Events.{AllAnswersLawful, AllMay, AreStepsOfCall, IsLawfulAnswer, IssuesLast, AbstractState, RevokeOf, RepliesMatch, answers_of, issues_it}
 use Rattle.block_machine.specs.Histories.{IsReachable}
-use Rattle.block_machine.specs.Left.{after}
+use Rattle.block_machine.specs.Expected.{after}
 use Rattle.block_machine.specs.Ports.{Evidence, Ports}
-use Rattle.block_machine.specs.Rules.{HasRow, IsUnder, without_row}
+use Rattle.block_machine.specs.Rules.{HasRow, IsSameGrantName, without_row}
 use Rattle.block_machine.specs.State.{Machine, Pending}
 use Rattle.block_machine.specs.Steps.{Step, Again, Answer, Revoke, after_step}
-use Rattle.host_boot.specs.Taken.{probe_result_of}
+use Rattle.host_boot.specs.TakeOver.{probe_result_of}
 use Rattle.request_queue.specs.Entries.{BookEntry, IsAccepted, BookIsInOrder, asks_of}
 use Rattle.request_queue.specs.Machine.{BookRelation, EntryRelation}
 use Rattle.request_queue.specs.declared.disposition.Disposition.TheVariants.{Complete, Requeue}
-use Rattle.server_history.specs.Below.{LawsBelow}
+use Rattle.server_history.specs.Prerequisites.{PrerequisiteLaws}
 use Rattle.server_history.specs.Dispositions.{IsResolveStep, AreResolvable, AreResolvedInMachine}
-use Rattle.server_history.specs.ErrorHandling.{holdings_of}
+use Rattle.server_history.specs.ErrorHandling.{book_and_loans_of}
 use Rattle.server_history.specs.Revoked.{with_grant_revoked}
 use Rattle.server_history.specs.Server.{QuarantineRelation, RevokedMarkInvariant, MachineRelation, ServerState}
 use Rattle.server_history.proofs.any_turn.JoinedParts.{answers_append}
@@ -63,7 +63,7 @@ pub record MayRevoke (s : ServerState) (m : Machine) : Type 0 where
   pub reached : IsReachable m
   pub stands : MachineRelation s m
 
-module _ (laws : LawsBelow) (s : ServerState) (client : ClientId) (number : ℕ) (replies : List Reply) (mid : ServerState) (r : RevokesEach client number replies s mid) (m : Machine) (may_revoke : MayRevoke s m) where
+module _ (laws : PrerequisiteLaws) (s : ServerState) (client : ClientId) (number : ℕ) (replies : List Reply) (mid : ServerState) (r : RevokesEach client number replies s mid) (m : Machine) (may_revoke : MayRevoke s m) where
   abbrev is : MachineRelation s m
   is = may_revoke.stands
 
@@ -136,7 +136,7 @@ module _ (laws : LawsBelow) (s : ServerState) (client : ClientId) (number : ℕ)
       let p = at_left EntryRelation old.book n.book n_book e w.0 in
       subst (HasNoSlot is.uses) p.2.id (laws.slots.waiting is.uses m s.device reached is.knows.agrees p.0 p.1 (p.2.issued ∙ w.1.waits))
 
-  may_meet : AreResolvable port ends_revoked requests (holdings_of port old) k n
+  may_meet : AreResolvable port ends_revoked requests (book_and_loans_of port old) k n
   may_meet = record {
     reached = n_reached;
     knows = laws.slots.revoked_agrees k m client number is.knows;
@@ -150,14 +150,14 @@ module _ (laws : LawsBelow) (s : ServerState) (client : ClientId) (number : ℕ)
     unserved = λ e there never. unserved e there;
   }
 
-  pub met : AreResolvedInMachine port ends_revoked requests replies (holdings_of port old) r.now k n
-  met = meet laws port ends_revoked requests (fit client number s) replies (holdings_of port old) r.now k n may_meet r.meets
+  pub met : AreResolvedInMachine port ends_revoked requests replies (book_and_loans_of port old) r.now k n
+  met = meet laws port ends_revoked requests (fit client number s) replies (book_and_loans_of port old) r.now k n may_meet r.meets
 
   abbrev z : Machine
   z = after n met.steps
 
-  pub left : IsLeft port ends_revoked requests (holdings_of port old) r.now
-  left = fated laws port ends_revoked requests (fit client number s) replies (holdings_of port old) r.now
+  pub left : IsLeft port ends_revoked requests (book_and_loans_of port old) r.now
+  left = fated laws port ends_revoked requests (fit client number s) replies (book_and_loans_of port old) r.now
       (record { here = here; earlier = earlier client number s old_ordered; ordered = old_ordered; accepted = old_accepted }) r.meets
 
   -- each request that is left was in the book before
@@ -209,7 +209,7 @@ module _ (laws : LawsBelow) (s : ServerState) (client : ClientId) (number : ℕ)
     book = met.book;
     kept = subst (QuarantineRelation s.ports s.kept) (sym same_kept) is.kept;
     rows = leaves.0 ∙ n_rows;
-    owner = λ frame. leaves.1 frame ∙ is.owner frame ∙ ap (λ (owners : List (Option ClientId)). get_or owners frame.0 None) (sym (r.lends.owners ∙ fates_owners ends_revoked requests replies (holdings_of port old) r.now r.meets));
+    owner = λ frame. leaves.1 frame ∙ is.owner frame ∙ ap (λ (owners : List (Option ClientId)). get_or owners frame.0 None) (sym (r.lends.owners ∙ fates_owners ends_revoked requests replies (book_and_loans_of port old) r.now r.meets));
     lent = λ frame. met.lent frame ∙ sym (r.lends.others frame (nowhere frame));
     next = leaves.2 ∙ is.next;
   }
@@ -246,7 +246,7 @@ module _ (laws : LawsBelow) (s : ServerState) (client : ClientId) (number : ℕ)
   -- what is asked of another port is as it was
   pub apart : (q : Port) → q ≢ port → of_port q (asks_of r.now.book) ≡ of_port q (asks_of s.book)
   apart q ne =
-      fates_apart laws q ends_revoked requests replies (holdings_of port old) r.now r.meets
+      fates_apart laws q ends_revoked requests replies (book_and_loans_of port old) r.now r.meets
       (All-weaker (Contains requests) (λ (e : BookEntry). IsNoneOf q e.entry.id (asks_of old.book)) (λ e there. none_of_one laws q port old.book ne old_ordered e (here e there)) requests (All-contains_itself requests))
       ∙ ap (of_port q) (laws.asks_marked s.book client number)
 
@@ -263,12 +263,12 @@ module _ (laws : LawsBelow) (s : ServerState) (client : ClientId) (number : ℕ)
   pub last : IssuesLast steps
   last = none_last steps issue_none
 
-  pub lawful : (then_at : AbstractState) (evidence : Evidence) (ports : Ports) → AllLawful then_at evidence ports steps
+  pub lawful : (then_at : AbstractState) (evidence : Evidence) (ports : Ports) → AllAnswersLawful then_at evidence ports steps
   lawful then_at evidence ports = lawful_join then_at evidence ports met.steps (Revoke client number ∷ [])
       (answers_lawful IsRevoked then_at evidence ports (λ e o told. told_lawful e o told.0 told.1) met.steps all_answers) tt
     where
-      told_lawful : (e : Pending) (o : Outcome) → o ≡ Revoked → e.issued ≡ false → IsLawful then_at evidence ports e o
-      told_lawful e o is waits = subst (IsLawful then_at evidence ports e) (sym is) (inl waits)
+      told_lawful : (e : Pending) (o : Outcome) → o ≡ Revoked → e.issued ≡ false → IsLawfulAnswer then_at evidence ports e o
+      told_lawful e o is waits = subst (IsLawfulAnswer then_at evidence ports e) (sym is) (inl waits)
 
   pub tells_replies : RepliesMatch steps replies
   tells_replies = record { answers = met.tells.answers; same = subst (IsPermutation met.tells.answers) (sym (answers_append met.steps (Revoke client number ∷ []) ∙ append-nil (answers_of met.steps))) met.tells.same; ordered = met.tells.ordered; told = met.tells.told }
@@ -284,7 +284,7 @@ module _ (laws : LawsBelow) (s : ServerState) (client : ClientId) (number : ℕ)
       (contains_cases (Revoke client number) [] (Answer e o) revoke))
       (Contains-append_cases met.steps (Revoke client number ∷ []) (Answer e o) there)
 
-  pub only : (e : Pending) (o : Outcome) → Contains steps (Answer e o) → Contains m.book e × (e.issued ≡ false) × IsUnder client number e.request.asked.client e.request.asked.grant
+  pub only : (e : Pending) (o : Outcome) → Contains steps (Answer e o) → Contains m.book e × (e.issued ≡ false) × IsSameGrantName client number e.request.asked.client e.request.asked.grant
   only e o there =
       let first = answered_first e o there in
       let x = met.answered e o first in
@@ -294,7 +294,7 @@ module _ (laws : LawsBelow) (s : ServerState) (client : ClientId) (number : ℕ)
         (x.2.client ∙ w.client_is, x.2.grant ∙ w.grant_is),
       )
 
-  pub all : (e : Pending) → Contains m.book e → e.issued ≡ false → IsUnder client number e.request.asked.client e.request.asked.grant → Contains steps (Answer e Revoked)
+  pub all : (e : Pending) → Contains m.book e → e.issued ≡ false → IsSameGrantName client number e.request.asked.client e.request.asked.grant → Contains steps (Answer e Revoked)
   all e there waits its = Contains-append_left met.steps (Revoke client number ∷ []) (Answer e Revoked) (⊎_elim told never (answered_or_left IsRevoked n met.steps all_answers e there))
     where
       told : (x : Pending) × (o : Outcome) × Contains met.steps (Answer x o) × (x.request.id.0 ≡ e.request.id.0) → Contains met.steps (Answer e Revoked)

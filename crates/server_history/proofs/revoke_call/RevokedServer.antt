@@ -10,12 +10,12 @@ use Rattle.ata_types.specs.declared.request.Op.{Op}
 use Rattle.ata_types.specs.declared.request.Reply.{Reply}
 use Rattle.ata_types.specs.declared.request.RequestId.{RequestId}
 use Rattle.block_machine.specs.Due.{NoneDue, is_plain}
-use Rattle.block_machine.specs.Left.{IsValidRow, after}
-use Rattle.block_machine.specs.Rules.{is_under, without_row}
-use Rattle.host_boot.specs.Taken.{probe_result_of}
+use Rattle.block_machine.specs.Expected.{IsValidRow, after}
+use Rattle.block_machine.specs.Rules.{is_same_grant_name, without_row}
+use Rattle.host_boot.specs.TakeOver.{probe_result_of}
 use Rattle.request_queue.specs.Entries.{BookEntry, all_marked_under, asks_of, IsAccepted}
-use Rattle.server_history.specs.Below.{LawsBelow}
-use Rattle.server_history.specs.ErrorHandling.{holdings_of}
+use Rattle.server_history.specs.Prerequisites.{PrerequisiteLaws}
+use Rattle.server_history.specs.ErrorHandling.{book_and_loans_of}
 use Rattle.server_history.specs.Revoked.{with_grant_revoked}
 use Rattle.server_history.specs.Server.{InCallInvariant, ServerState, is_served, quarantined_at, mode_in, state_of}
 use Rattle.server_history.specs.StuckServer.{StuckInvariant, ServerInvariant}
@@ -29,10 +29,10 @@ use Rattle.server_history.proofs.state.LoanCounts.{issued_of, marked_issued}
 use Rattle.dma_frames.specs.Table.{lent_to}
 use Rattle.ata_types.specs.declared.request.Frame.{Frame}
 
-module _ (laws : LawsBelow) (s : ServerState) (client : ClientId) (number : ℕ) (replies : List Reply) (mid : ServerState) (r : RevokesEach client number replies s mid) where
+module _ (laws : PrerequisiteLaws) (s : ServerState) (client : ClientId) (number : ℕ) (replies : List Reply) (mid : ServerState) (r : RevokesEach client number replies s mid) where
   -- grants are as a configuration may give them still
   rows_then : All IsValidRow s.grants → All IsValidRow (without_row client number s.grants)
-  rows_then rows = All-filter (λ (row : GrantRow). not (is_under client number row.client row.number)) IsValidRow s.grants rows
+  rows_then rows = All-filter (λ (row : GrantRow). not (is_same_grant_name client number row.client row.number)) IsValidRow s.grants rows
 
   -- and requests as they were accepted
   still_accepted : All (IsAccepted r.now.table) r.now.book → All (IsAccepted mid.table) r.now.book
@@ -66,7 +66,7 @@ module _ (laws : LawsBelow) (s : ServerState) (client : ClientId) (number : ℕ)
         (after k.machine (revoked.steps laws s client number replies mid r k.machine may_revoke)) (revoked.reached_then laws s client number replies mid r k.machine may_revoke)
         (revoked.stands laws s client number replies mid r k.machine may_revoke)
       where
-        left : IsLeft r.has.0.port ends_revoked (waiting_under client number (with_grant_revoked client number s).book) (holdings_of r.has.0.port (with_grant_revoked client number s)) r.now
+        left : IsLeft r.has.0.port ends_revoked (waiting_under client number (with_grant_revoked client number s).book) (book_and_loans_of r.has.0.port (with_grant_revoked client number s)) r.now
         left = revoked.left laws s client number replies mid r k.machine may_revoke
 
     pub none_other : ((q : Port) → NoneDue (mode_in s q) (asks_of s.book) q) → (q : Port) → q ≢ r.has.0.port → NoneDue (mode_in s q) (asks_of r.now.book) q
@@ -104,5 +104,5 @@ module _ (laws : LawsBelow) (s : ServerState) (client : ClientId) (number : ℕ)
       dead = t.dead;
     }
       where
-        left : IsLeft r.has.0.port ends_revoked (waiting_under client number (with_grant_revoked client number s).book) (holdings_of r.has.0.port (with_grant_revoked client number s)) r.now
+        left : IsLeft r.has.0.port ends_revoked (waiting_under client number (with_grant_revoked client number s).book) (book_and_loans_of r.has.0.port (with_grant_revoked client number s)) r.now
         left = revoked.left laws s client number replies mid r b.machine may_revoke_off

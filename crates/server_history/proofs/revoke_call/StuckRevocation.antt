@@ -3,7 +3,7 @@ use Rattle.std.proofs.Common.{ℕ, List, Some, sym, subst}
 use Rattle.ata_types.specs.declared.request.ClientId.{ClientId}
 use Rattle.ata_types.specs.declared.request.Reply.{Reply}
 use Rattle.block_machine.specs.Events.{RevokeOf, WasRevoked}
-use Rattle.server_history.specs.Below.{LawsBelow}
+use Rattle.server_history.specs.Prerequisites.{PrerequisiteLaws}
 use Rattle.server_history.specs.Histories.{ExtendsStuck}
 use Rattle.server_history.specs.Revoked.{RevokesGrant}
 use Rattle.server_history.specs.Server.{ServerState}
@@ -14,7 +14,7 @@ use Rattle.server_history.proofs.revoke_call.Revocation.{quiet_event}
 use Rattle.server_history.proofs.revoke_call.RevokedEach.{RevokesEach, revokes_each, with_revoked}
 use Rattle.server_history.proofs.revoke_call.RevokedServer.{revoked_stalled}
 
-pub stalled_revocation : LawsBelow → (s new : ServerState) (client : ClientId) (number : ℕ) (replies : List Reply) → StuckInvariant s → RevokesGrant client number replies s new
+pub stalled_revocation : PrerequisiteLaws → (s new : ServerState) (client : ClientId) (number : ℕ) (replies : List Reply) → StuckInvariant s → RevokesGrant client number replies s new
     → ExtendsStuck s new (RevokeOf client number) (WasRevoked (Some replies))
 stalled_revocation laws s new client number replies t r = subst (λ (n : ServerState). ExtendsStuck s n (RevokeOf client number) (WasRevoked (Some replies))) (sym each.server) (record {
   stalled = off;

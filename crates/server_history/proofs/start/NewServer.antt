@@ -19,13 +19,13 @@ use Rattle.refinement.specs.Driver.{DriverRelation, idle}
 use Rattle.refinement.specs.Slots.{Free, SlotStates}
 use Rattle.refinement.specs.Spares.{AllFurther, SparesBook}
 use Rattle.block_machine.specs.Histories.{IsReachable}
-use Rattle.block_machine.specs.Left.{after, IsValidRow, IsInitial}
+use Rattle.block_machine.specs.Expected.{after, IsValidRow, IsInitial}
 use Rattle.block_machine.specs.Ports.{PortsWellFormed, IsValidMode}
 use Rattle.block_machine.specs.State.{DiskBytes, Machine, Pending}
 use Rattle.block_machine.specs.Rules.{DifferInName}
 use Rattle.dma_frames.specs.Loan.{Lending}
 use Rattle.dma_frames.specs.Table.{owner_of}
-use Rattle.host_boot.specs.Taken.{StillStandsBehind, IsUnusedOrDead, StandsBehind, TakesOver, probe_result_of, wanted_of}
+use Rattle.host_boot.specs.TakeOver.{StillBacksProbeResult, IsUnusedOrDead, BacksProbeResult, TakesOver, probe_result_of, wanted_of}
 use Rattle.host_boot.specs.declared.ProbeResult.{ProbeResult}
 use Rattle.host_boot.specs.declared.ProbeResult.TheVariants.{Unserved, Ready, Unready}
 use Rattle.host_boot.specs.declared.Host.{Host}
@@ -35,10 +35,10 @@ use Rattle.identify.specs.declared.Unfit.TheVariants as fault
 use Rattle.identify.specs.Wanted.{serial_of}
 use Rattle.identify.specs.declared.wanted.Wanted.{Wanted}
 use Rattle.port_boot.specs.States.{BacksState, IsUnfit}
-use Rattle.refinement.specs.Facts.{RunsWell, Undisturbed}
+use Rattle.refinement.specs.PortFacts.{RunsWell, Undisturbed}
 use Rattle.server_history.proofs.state.PortSlots.{its_mode, ready_found, stood_mode}
 use Rattle.server_history.proofs.state.ServerInstant.{holds_with, slots}
-use Rattle.server_history.specs.Below.{LawsBelow}
+use Rattle.server_history.specs.Prerequisites.{PrerequisiteLaws}
 use Rattle.server_history.specs.Ended.{TakeOverLaws}
 use Rattle.server_history.specs.Histories.{StartsHistory}
 use Rattle.block_machine.specs.Due.{NoneDue}
@@ -74,7 +74,7 @@ machine_of d rows owner = record {
   next = 1;
 }
 
-machine_knows : LawsBelow → (d : Device) (rows : List GrantRow) (owner : Frame → Option ClientId) → IsInitial (machine_of d rows owner) → IsIdle d
+machine_knows : PrerequisiteLaws → (d : Device) (rows : List GrantRow) (owner : Frame → Option ClientId) → IsInitial (machine_of d rows owner) → IsIdle d
     → TellsDisks d → DriverRelation (machine_of d rows owner) (idle d)
 machine_knows laws d rows owner start is told =
     laws.idle_agrees (machine_of d rows owner) d start is (λ q. record { present = refl; id = refl; size = refl }) (λ f b low small. refl) sectors (λ _ port k. refl)
@@ -117,7 +117,7 @@ unfit_numbered n port d (inr (inr (inl (is, saw, count)))) = (omega (arith, is),
 unfit_numbered n port d (inr (inr (inr (page, has, (f, first, is))))) = let b = numbered f in (omega (arith, is, b.0), omega (arith, is, b.1))
 
 -- a cause to be unfit is one that there is
-cause_is : (wanted : Wanted) (found : ProbeResult) (port cause : ℕ) (d : Device) → StandsBehind wanted found port d → state_of found ≡ Unfit cause → (1 ≤ cause) × (cause ≤ 9)
+cause_is : (wanted : Wanted) (found : ProbeResult) (port cause : ℕ) (d : Device) → BacksProbeResult wanted found port d → state_of found ≡ Unfit cause → (1 ≤ cause) × (cause ≤ 9)
 cause_is wanted Unserved port cause d s is = absurd (let z : Absent ≡ Unfit cause = is in cc)
 cause_is wanted (Ready info) port cause d s is = absurd (let z : ReadyState ≡ Unfit cause = is in cc)
 cause_is wanted (Unready state) port cause d s is = unfit_numbered cause port d ((subst (λ (x : PortState). BacksState (serial_of wanted) x port d) is s.1).1)
@@ -141,7 +141,7 @@ kept_fit s k = record {
     caused (Ready info) port cause is e = absurd (let z : ReadyState ≡ Unfit cause = is in cc)
     caused (Unready state) port cause is e =
         cause_is (wanted_of s.wanted port.0) (Unready state) port.0 cause s.device
-        (subst (λ (f : ProbeResult). StillStandsBehind (wanted_of s.wanted port.0) f port.0 s.device) e (k.behind port.0 (k.there port.0 (ap is_served e)).0).behind) is
+        (subst (λ (f : ProbeResult). StillBacksProbeResult (wanted_of s.wanted port.0) f port.0 s.device) e (k.behind port.0 (k.there port.0 (ap is_served e)).0).behind) is
 
 -- ---- slots
 
@@ -174,11 +174,11 @@ none_in_order = record {
 
 -- ---- the whole
 
-module _ (below : LawsBelow) (laws : TakeOverLaws) (s : ServerState) (host : Host) (d : Device) (is : IsIdle d) (told : TellsDisks d) (taken : TakesOver s.wanted host d s.device) (n : IsNewServer host s) where
+module _ (below : PrerequisiteLaws) (laws : TakeOverLaws) (s : ServerState) (host : Host) (d : Device) (is : IsIdle d) (told : TellsDisks d) (taken : TakesOver s.wanted host d s.device) (n : IsNewServer host s) where
   ports_as : (port : ℕ) → port < 4 → PortInvariant s.wanted s.ports port s.device
   ports_as port low = ports_on laws s host d is taken n.ports n.four below port low
 
-  stood : (port : ℕ) → port < 4 → StandsBehind (wanted_of s.wanted port) (probe_result_of s.ports port) port s.device
+  stood : (port : ℕ) → port < 4 → BacksProbeResult (wanted_of s.wanted port) (probe_result_of s.ports port) port s.device
   stood port low = behind laws s host d is taken n.ports n.four port low
 
   found_as : (port : ℕ) → probe_result_of s.ports port ≡ probe_result_of host.ports port

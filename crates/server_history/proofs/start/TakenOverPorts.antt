@@ -3,14 +3,14 @@ use Rattle.std.proofs.Common.{List, [], ap, arith, false, length, refl, subst, s
 use Rattle.std.proofs.lemmas.Bool.{false≢true, cases_lt}
 use Rattle.adapter.specs.Device.{Device}
 use Rattle.adapter.specs.Idle.{IsIdle}
-use Rattle.refinement.specs.Facts.{FaultsOnRecord}
+use Rattle.refinement.specs.PortFacts.{FaultsOnRecord}
 use Rattle.refinement.specs.Halting.{HaltIsOfTaken}
 use Rattle.refinement.specs.Links.{ShowsDiskIfIn}
 use Rattle.ata_types.specs.declared.PortState.{PortState}
 use Rattle.ata_types.specs.declared.PortState.TheVariants.{Absent, Ready as ReadyState}
-use Rattle.driver_history.specs.Holds.{EngineRuns}
+use Rattle.driver_history.specs.PortInvariants.{EngineRuns}
 use Rattle.hba_regs.specs.Bits.{bit}
-use Rattle.host_boot.specs.Taken.{FoundBadDisk, StandsBehind, TakesOver, probe_result_of, wanted_of}
+use Rattle.host_boot.specs.TakeOver.{FoundBadDisk, BacksProbeResult, TakesOver, probe_result_of, wanted_of}
 use Rattle.host_boot.specs.declared.ProbeResult.{ProbeResult}
 use Rattle.host_boot.specs.declared.ProbeResult.TheVariants.{Ready, Unready, Unserved}
 use Rattle.host_boot.specs.declared.Host.{Host}
@@ -18,7 +18,7 @@ use Rattle.identify.specs.Wanted.{serial_of}
 use Rattle.identify.specs.declared.DiskInfo.{DiskInfo}
 use Rattle.identify.specs.declared.wanted.Wanted.{Wanted}
 use Rattle.port_boot.specs.States.{BacksState, HasDiskIfShown}
-use Rattle.server_history.specs.Below.{LawsBelow}
+use Rattle.server_history.specs.Prerequisites.{PrerequisiteLaws}
 use Rattle.server_history.specs.Ended.{TakeOverLaws}
 use Rattle.server_history.specs.Server.{PortInvariant, ServerState, is_served, state_of}
 
@@ -29,7 +29,7 @@ none_past (f ∷ rest) zero long = absurd (omega (arith, long))
 none_past (f ∷ rest) (suc n) long = none_past rest n (omega (arith, long))
 
 -- what a ready port's boot leaves runs, with nothing queued
-ready_runs : (wanted : Wanted) (found : ProbeResult) (port : ℕ) (d : Device) → StandsBehind wanted found port d → ((info : DiskInfo) → found ≡ Ready info → FaultsOnRecord d.tape (d.port port) port) → state_of found ≡ ReadyState
+ready_runs : (wanted : Wanted) (found : ProbeResult) (port : ℕ) (d : Device) → BacksProbeResult wanted found port d → ((info : DiskInfo) → found ≡ Ready info → FaultsOnRecord d.tape (d.port port) port) → state_of found ≡ ReadyState
     → EngineRuns port d × ((slot : ℕ) → (d.port port).sact slot ≡ false)
 ready_runs wanted Unserved port d s recorded is = absurd (let z : Absent ≡ ReadyState = is in cc)
 ready_runs wanted (Ready info) port d s recorded is = (
@@ -46,7 +46,7 @@ ready_runs wanted (Ready info) port d s recorded is = (
 ready_runs wanted (Unready state) port d s recorded is = absurd (subst (λ (x : PortState). BacksState (serial_of wanted) x port d) is s.1)
 
 -- a port that is served is there
-pub served_there : (wanted : Wanted) (found : ProbeResult) (port : ℕ) (d : Device) → StandsBehind wanted found port d → is_served found ≡ true → bit d.pi port ≡ true
+pub served_there : (wanted : Wanted) (found : ProbeResult) (port : ℕ) (d : Device) → BacksProbeResult wanted found port d → is_served found ≡ true → bit d.pi port ≡ true
 served_there wanted Unserved port d s served = absurd (false≢true served)
 served_there wanted (Ready info) port d s served = s.0.1
 served_there wanted (Unready state) port d s served = s.0.1
@@ -58,8 +58,8 @@ module _ (laws : TakeOverLaws) (s : ServerState) (host : Host) (d : Device) (is 
   pub found_is : (port : ℕ) → probe_result_of s.ports port ≡ probe_result_of host.ports port
   found_is port = ap (λ (ports : List ProbeResult). probe_result_of ports port) same
 
-  pub behind : (port : ℕ) → port < 4 → StandsBehind (wanted_of s.wanted port) (probe_result_of s.ports port) port s.device
-  behind port below = subst (λ (f : ProbeResult). StandsBehind (wanted_of s.wanted port) f port s.device) (sym (found_is port)) (taken.stands port below)
+  pub behind : (port : ℕ) → port < 4 → BacksProbeResult (wanted_of s.wanted port) (probe_result_of s.ports port) port s.device
+  behind port below = subst (λ (f : ProbeResult). BacksProbeResult (wanted_of s.wanted port) f port s.device) (sym (found_is port)) (taken.stands port below)
 
   pub four : (port : ℕ) → is_served (probe_result_of s.ports port) ≡ true → port < 4
   four port served = ⊎_elim
@@ -75,24 +75,24 @@ module _ (laws : TakeOverLaws) (s : ServerState) (host : Host) (d : Device) (is 
   own_as : (port : ℕ) (f : ProbeResult) → probe_result_of s.ports port ≡ f → state_of f ≡ ReadyState → HasDiskIfShown (s.device.port port)
   own_as port Unserved e ready = let z : Absent ≡ ReadyState = ready in absurd cc
   own_as port (Ready info) e ready = laws.own s.wanted host port info d s.device is taken (sym (found_is port) ∙ e)
-  own_as port (Unready state) e ready = absurd (not_ready state ready (subst (λ (f : ProbeResult). StandsBehind (wanted_of s.wanted port) f port s.device) e (behind port (four port (ap is_served e)))))
+  own_as port (Unready state) e ready = absurd (not_ready state ready (subst (λ (f : ProbeResult). BacksProbeResult (wanted_of s.wanted port) f port s.device) e (behind port (four port (ap is_served e)))))
     where
-      not_ready : (state : PortState) → state ≡ ReadyState → StandsBehind (wanted_of s.wanted port) (Unready state) port s.device → ⊥
-      not_ready state same stands = (subst (λ (t : PortState). StandsBehind (wanted_of s.wanted port) (Unready t) port s.device) same stands).1
+      not_ready : (state : PortState) → state ≡ ReadyState → BacksProbeResult (wanted_of s.wanted port) (Unready state) port s.device → ⊥
+      not_ready state same stands = (subst (λ (t : PortState). BacksProbeResult (wanted_of s.wanted port) (Unready t) port s.device) same stands).1
 
   halts_as : (port : ℕ) → port < 4 → (f : ProbeResult) → probe_result_of s.ports port ≡ f → state_of f ≡ ReadyState → HaltIsOfTaken (s.device.port port)
   halts_as port below Unserved e ready = let z : Absent ≡ ReadyState = ready in absurd cc
   halts_as port below (Ready info) e ready = taken.halts port below info (sym (found_is port) ∙ e)
-  halts_as port below (Unready state) e ready = absurd (not_ready state ready (subst (λ (f : ProbeResult). StandsBehind (wanted_of s.wanted port) f port s.device) e (behind port below)))
+  halts_as port below (Unready state) e ready = absurd (not_ready state ready (subst (λ (f : ProbeResult). BacksProbeResult (wanted_of s.wanted port) f port s.device) e (behind port below)))
     where
-      not_ready : (state : PortState) → state ≡ ReadyState → StandsBehind (wanted_of s.wanted port) (Unready state) port s.device → ⊥
-      not_ready state same stands = (subst (λ (t : PortState). StandsBehind (wanted_of s.wanted port) (Unready t) port s.device) same stands).1
+      not_ready : (state : PortState) → state ≡ ReadyState → BacksProbeResult (wanted_of s.wanted port) (Unready state) port s.device → ⊥
+      not_ready state same stands = (subst (λ (t : PortState). BacksProbeResult (wanted_of s.wanted port) (Unready t) port s.device) same stands).1
 
   running : (port : ℕ) → port < 4 → state_of (probe_result_of s.ports port) ≡ ReadyState → EngineRuns port s.device × ((slot : ℕ) → (s.device.port port).sact slot ≡ false)
   running port below =
       ready_runs (wanted_of s.wanted port) (probe_result_of s.ports port) port s.device (behind port below) (λ info found. laws.recorded s.wanted host port info d s.device is taken (sym (found_is port) ∙ found))
 
-  pub ports_on : LawsBelow → (port : ℕ) → port < 4 → PortInvariant s.wanted s.ports port s.device
+  pub ports_on : PrerequisiteLaws → (port : ℕ) → port < 4 → PortInvariant s.wanted s.ports port s.device
   ports_on laws_below port below = record {
     behind = laws_below.recovery.stands_begin (wanted_of s.wanted port) (probe_result_of s.ports port) port s.device (behind port below);
     runs = λ ready. (running port below ready).0;

@@ -10,21 +10,21 @@ use Rattle.ata_types.specs.declared.request.Reply.{Reply}
 use Rattle.ata_types.specs.declared.request.RequestId.{RequestId}
 use Rattle.adapter.specs.declared.access.DeviceStep.{DeviceStep}
 use Rattle.block_machine.specs.declared.due.QueueMode.{QueueMode}
-use Rattle.block_machine.specs.Events.{AllByDevice, AllLawful, AllMay, AbstractCall, AreStepsOfCall, IsByDevice, IsLawful, IsByServer, AbstractState, answers_of, issues_it, reply_of}
-use Rattle.block_machine.specs.Left.{after}
+use Rattle.block_machine.specs.Events.{AllByDevice, AllAnswersLawful, AllMay, AbstractCall, AreStepsOfCall, IsByDevice, IsLawfulAnswer, IsByServer, AbstractState, answers_of, issues_it, reply_of}
+use Rattle.block_machine.specs.Expected.{after}
 use Rattle.block_machine.specs.Ports.{Evidence, Ports}
 use Rattle.block_machine.specs.State.{Pending, Machine}
 use Rattle.block_machine.specs.Steps.{Step, Issue, Answer, May, after_step}
 use Rattle.server_history.proofs.state.ListMembers.{contains_cases, contains_here, contains_there, in_filter, without_in}
 use Rattle.request_queue.specs.Entries.{BookEntry}
 use Rattle.server_history.specs.Served.{HasEnded, AllByDeviceOrIssue, ok_answers_of, done_reply}
-use Rattle.server_history.specs.Below.{LawsBelow}
+use Rattle.server_history.specs.Prerequisites.{PrerequisiteLaws}
 use Rattle.server_history.proofs.state.FirstMembers.{nowhere}
 
 -- ---- steps
 
 -- steps that may come may come in two parts
-pub may_parts : LawsBelow → (m : Machine) (late early : List Step) → AllMay m (late ++ early) → AllMay m early × AllMay (after m early) late
+pub may_parts : PrerequisiteLaws → (m : Machine) (late early : List Step) → AllMay m (late ++ early) → AllMay m early × AllMay (after m early) late
 may_parts laws m [] early may = (may, tt)
 may_parts laws m (step ∷ late) early may =
     let x = may_parts laws m late early may.0 in
@@ -82,7 +82,7 @@ told_so port (e ∷ requests) (p ∷ ended) each =
     ∙ ap (λ (replies : List Reply). reply_of (p, Ok) ∷ replies) (told_so port requests ended each.1)
 
 -- who is answered was unanswered before
-pub ended_stood : LawsBelow → (m : Machine) (ended : List Pending) → AllMay m (ok_answers_of ended) → (p : Pending) → Contains ended p → Contains m.book p
+pub ended_stood : PrerequisiteLaws → (m : Machine) (ended : List Pending) → AllMay m (ok_answers_of ended) → (p : Pending) → Contains ended p → Contains m.book p
 ended_stood laws m [] may p here = absurd (nowhere p here)
 ended_stood laws m (x ∷ ended) may p here = ⊎_elim
     (λ (is : p ≡ x). subst (Contains m.book) (sym is) parts.0.1.0)
@@ -121,8 +121,8 @@ module _ (Told : Pending → Outcome → Type 0) where
   answers_issue_none id (Answer e o ∷ steps) all = answers_issue_none id steps (All-tail (IsAnswerOf Told) (Answer e o) steps all)
   answers_issue_none id (step ∷ steps) all = absurd (All-head (IsAnswerOf Told) step steps all)
 
-  pub answers_lawful : (old : AbstractState) (evidence : Evidence) (ports : Ports) → ((e : Pending) (o : Outcome) → Told e o → IsLawful old evidence ports e o) → (steps : List Step) → All (IsAnswerOf Told) steps
-      → AllLawful old evidence ports steps
+  pub answers_lawful : (old : AbstractState) (evidence : Evidence) (ports : Ports) → ((e : Pending) (o : Outcome) → Told e o → IsLawfulAnswer old evidence ports e o) → (steps : List Step) → All (IsAnswerOf Told) steps
+      → AllAnswersLawful old evidence ports steps
   answers_lawful old evidence ports lawful [] all = tt
   answers_lawful old evidence ports lawful (Answer e o ∷ steps) all =
       (answers_lawful old evidence ports lawful steps (All-tail (IsAnswerOf Told) (Answer e o) steps all), lawful e o (All-head (IsAnswerOf Told) (Answer e o) steps all))

@@ -5,7 +5,7 @@ use Rattle.std.specs.List.{All}
 use Rattle.adapter.specs.Access.{Access, Does, DoesAll}
 use Rattle.adapter.specs.Device.{Device}
 use Rattle.refinement.specs.Driven.{IsDrivenBy}
-use Rattle.server_history.specs.Below.{LawsBelow}
+use Rattle.server_history.specs.Prerequisites.{PrerequisiteLaws}
 
 -- what is of one kind is of a wider one
 pub driven_as : (May More : Access → Type 0) (old new : Device) → ((access : Access) → May access → More access) → IsDrivenBy May old new → IsDrivenBy More old new
@@ -20,7 +20,7 @@ pub by_one : (May : Access → Type 0) (access : Access) (old new : Device) → 
 by_one May access old new may does = record { accesses = access ∷ []; all = (new, does, refl); only = All-cons May access [] may (All-nil May) }
 
 -- one stretch of accesses, and then another
-pub by_then : LawsBelow → {May : Access → Type 0} {old mid new : Device} → IsDrivenBy May old mid → IsDrivenBy May mid new → IsDrivenBy May old new
+pub by_then : PrerequisiteLaws → {May : Access → Type 0} {old mid new : Device} → IsDrivenBy May old mid → IsDrivenBy May mid new → IsDrivenBy May old new
 by_then laws {May} {old} {mid} {new} a b = record {
   accesses = a.accesses ++ b.accesses;
   all = laws.basic.does_append a.accesses b.accesses old mid new a.all b.all;

@@ -14,9 +14,9 @@ use Rattle.refinement.specs.Driver.{ByDevice, DriverRelation}
 use Rattle.refinement.specs.Slots.{Own, SlotState, SlotStates, op_of}
 use Rattle.block_machine.specs.Histories.{IsReachable, IsSimulatedBySteps}
 use Rattle.block_machine.specs.State.{Machine}
-use Rattle.server_history.specs.Below.{LawsBelow}
+use Rattle.server_history.specs.Prerequisites.{PrerequisiteLaws}
 
-module _ (laws : LawsBelow) {May : Access → Type 0} {Fits : SlotStates → Type 0} {next : SlotStates → SlotStates} {old new : Device} (followed : IsSimulatedTo May Fits next old new) (uses : SlotStates) (parked : ℕ → List RequestId) where
+module _ (laws : PrerequisiteLaws) {May : Access → Type 0} {Fits : SlotStates → Type 0} {next : SlotStates → SlotStates} {old new : Device} (followed : IsSimulatedTo May Fits next old new) (uses : SlotStates) (parked : ℕ → List RequestId) where
   -- the device alone makes steps
   pub followed_adds : Fits uses → IsSimulatedBySteps DriverRelation (known uses parked old) (known (next uses) parked new) (ByDevice old new)
   followed_adds fits = record {

@@ -15,21 +15,21 @@ use Rattle.refinement.specs.Driven.{known}
 use Rattle.refinement.specs.Driver.{DriverRelation, IsBacked}
 use Rattle.refinement.specs.Links.{SameAdapter}
 use Rattle.refinement.specs.Spares.{AllFurther, IsFurther, SparesBook}
-use Rattle.block_machine.specs.Events.{AbstractCall, CallResult, AllMay, AllByDevice, AreStepsOfCall, IssuesLast, AllLawful, IsAnswered, UnansweredKeepDisk}
-use Rattle.block_machine.specs.Histories.{JointState, Happening, IsHistory, IsReachable, now}
-use Rattle.block_machine.specs.Left.{IsValidRow, after}
+use Rattle.block_machine.specs.Events.{AbstractCall, CallResult, AllMay, AllByDevice, AreStepsOfCall, IssuesLast, AllAnswersLawful, IsAnswered, UnansweredKeepDisk}
+use Rattle.block_machine.specs.Histories.{JointState, JointEvent, IsHistory, IsReachable, now}
+use Rattle.block_machine.specs.Expected.{IsValidRow, after}
 use Rattle.block_machine.specs.Ports.{Ports, PortsWellFormed, Evidence, SamePorts, SameDisk}
 use Rattle.block_machine.specs.State.{Machine, Pending}
 use Rattle.block_machine.specs.Steps.{Step}
 use Rattle.dma_frames.specs.Loan.{Lending}
 use Rattle.dma_frames.specs.Table.{Table}
-use Rattle.host_boot.specs.Taken.{probe_result_of}
+use Rattle.host_boot.specs.TakeOver.{probe_result_of}
 use Rattle.host_boot.specs.declared.ProbeResult.{ProbeResult}
 use Rattle.driver_history.specs.Evidence.{IsEvidenced}
 use Rattle.driver_history.specs.Heeding.{OnlyFailedPortsRequeueIn}
 use Rattle.driver_history.specs.Histories.{IsFirstInstant, ExplainsAccesses, IssuesAllDue, CallCorresponds, PortCorresponds}
 use Rattle.driver_history.specs.Trace.{LeavesEngine}
-use Rattle.driver_history.specs.Holds.{DriverInvariant}
+use Rattle.driver_history.specs.PortInvariants.{DriverInvariant}
 use Rattle.server_history.specs.Histories.{LeadsToServer}
 use Rattle.request_queue.specs.Entries.{BookEntry, IsAccepted, BookIsInOrder}
 use Rattle.request_queue.specs.Machine.{BookRelation, EntryRelation, range_of}
@@ -39,7 +39,7 @@ use Rattle.slots.specs.declared.SlotUse.{SlotUse}
 use Rattle.block_machine.specs.Due.{is_plain}
 use Rattle.server_history.proofs.state.ServerInstant.{holds_with, slots}
 use Rattle.server_history.proofs.state.CallEvidence.{evidenced, lawful_told, no_evidence, told_by}
-use Rattle.server_history.specs.Below.{LawsBelow}
+use Rattle.server_history.specs.Prerequisites.{PrerequisiteLaws}
 
 -- ---- the book
 
@@ -67,7 +67,7 @@ book_on (e ∷ es) (old ∷ olds) [] further all = absurd further
 book_on (e ∷ es) (old ∷ olds) (new ∷ news) further all = (entry_on e old new further.0 all.0, book_on es olds news further.1 all.1)
 
 -- and so do kept requests, with their loans
-pub still_kept : LawsBelow → (found : List ProbeResult) (kept : List (List Lending)) (olds news : List Pending) → AllFurther olds news → QuarantineRelation found kept olds → QuarantineRelation found kept news
+pub still_kept : PrerequisiteLaws → (found : List ProbeResult) (kept : List (List Lending)) (olds news : List Pending) → AllFurther olds news → QuarantineRelation found kept olds → QuarantineRelation found kept news
 still_kept laws found kept olds news further are = record {
   dead = λ e here. let o = laws.basic.found_before olds news e further here in ap (λ r. probe_result_of found r.port.0) o.2.request ∙ are.dead o.0 o.1;
   loan = λ e here.
@@ -83,7 +83,7 @@ still_kept laws found kept olds news further are = record {
 
 -- ---- the machine that stands for a server
 
-pub machine_with : LawsBelow → (s : ServerState) (new : Device) (m later : Machine) → (is : MachineRelation s m) → SparesBook m later
+pub machine_with : PrerequisiteLaws → (s : ServerState) (new : Device) (m later : Machine) → (is : MachineRelation s m) → SparesBook m later
     → DriverRelation later (known is.uses is.parked new)
     → MachineRelation (record s { device = new }) later
 machine_with laws s new m later is spares knows = record {
@@ -101,7 +101,7 @@ machine_with laws s new m later is spares knows = record {
 }
 
 -- it goes on over steps of the device
-pub machine_on : LawsBelow → (s : ServerState) (new : Device) (m : Machine) (steps : List Step) → (is : MachineRelation s m) → AllByDevice steps
+pub machine_on : PrerequisiteLaws → (s : ServerState) (new : Device) (m : Machine) (steps : List Step) → (is : MachineRelation s m) → AllByDevice steps
     → DriverRelation (after m steps) (known is.uses is.parked new)
     → MachineRelation (record s { device = new }) (after m steps)
 machine_on laws s new m steps is own knows = machine_with laws s new m (after m steps) is (laws.basic.spares m steps own) knows
@@ -147,7 +147,7 @@ kept_then s device grants table used_now book last k rows on same behind owners 
 }
 
 -- the same with another device alone
-pub kept_on : LawsBelow → (s : ServerState) (new : Device) → (k : InCallInvariant s) → IsOn new → SameAdapter s.device new
+pub kept_on : PrerequisiteLaws → (s : ServerState) (new : Device) → (k : InCallInvariant s) → IsOn new → SameAdapter s.device new
     → ((port : ℕ) → port < 4 → PortInvariant s.wanted s.ports port new) → ((port slot : ℕ) (used : SlotUse) → used_for s.slots port slot ≡ Some used → HasStoredCommand used.queued new port slot) → (steps : List Step) → AllMay k.machine steps
     → MachineRelation (record s { device = new }) (after k.machine steps) → InCallInvariant (record s { device = new })
 kept_on laws s new k on same behind commands steps may is =
@@ -163,11 +163,11 @@ pub disks_same : (old new : Ports) → old ≡ new → (port : Port) → SameDis
 disks_same old new is port = subst (λ (ports : Ports). SameDisk old ports port) is (refl, refl)
 
 -- what a call does, with this evidence
-abbrev pub happening_with : Evidence → Device → AbstractCall DeviceStep → CallResult → List Step → Ports → Happening Device DeviceStep
+abbrev pub happening_with : Evidence → Device → AbstractCall DeviceStep → CallResult → List Step → Ports → JointEvent Device DeviceStep
 happening_with evidence new ask said steps ports = record { event = record { ask = ask; said = said; evidence = evidence; steps = steps; ports = ports }; device = new }
 
 -- with the evidence of one in which no port is stopped
-abbrev pub happening : JointState Device → Device → AbstractCall DeviceStep → CallResult → List Step → Ports → Happening Device DeviceStep
+abbrev pub happening : JointState Device → Device → AbstractCall DeviceStep → CallResult → List Step → Ports → JointEvent Device DeviceStep
 happening old new ask said steps ports = happening_with (told_by old.device old.abstract.ports) new ask said steps ports
 
 -- the instant, with this device
@@ -182,10 +182,10 @@ pub holding : (s : ServerState) → InCallInvariant s → IsHolding s
 holding s k m reached is = (slots s k m reached is, holds_with s k m reached is)
 
 -- a call, with what its event needs
-pub lead_with : LawsBelow → (first : JointState Device) (past : List (Happening Device DeviceStep)) (s new : ServerState) (ask : AbstractCall DeviceStep) (said : CallResult) (evidence : Evidence) (steps : List Step)
+pub lead_with : PrerequisiteLaws → (first : JointState Device) (past : List (JointEvent Device DeviceStep)) (s new : ServerState) (ask : AbstractCall DeviceStep) (said : CallResult) (evidence : Evidence) (steps : List Step)
     → new.wanted ≡ s.wanted → LeadsToServer first past s → IsHolding new → PortsWellFormed (ports_of new)
     → AllMay (now first past).abstract.machine steps → AreStepsOfCall ask (ports_of new) steps → IssuesLast steps
-    → AllLawful (now first past).abstract evidence (ports_of new) steps
+    → AllAnswersLawful (now first past).abstract evidence (ports_of new) steps
     → UnansweredKeepDisk (now first past).abstract (record { machine = after (now first past).abstract.machine steps; ports = ports_of new })
     → IsAnswered ask said (now first past).abstract evidence steps (record { machine = after (now first past).abstract.machine steps; ports = ports_of new })
     → OnlyFailedPortsRequeueIn ask evidence steps
@@ -195,7 +195,7 @@ pub lead_with : LawsBelow → (first : JointState Device) (past : List (Happenin
     → ((port : Port) → PortCorresponds (with_device s.device (now first past)) (happening_with evidence new.device ask said steps (ports_of new)) accesses port)
     → IsBacked s.device new.device (now first past).abstract.machine steps
     → MachineRelation new (after (now first past).abstract.machine steps)
-    → (h : Happening Device DeviceStep) × (h.event.ask ≡ ask) × (h.event.said ≡ said) × LeadsToServer first (h ∷ past) new
+    → (h : JointEvent Device DeviceStep) × (h.event.ask ≡ ask) × (h.event.said ≡ said) × LeadsToServer first (h ∷ past) new
 lead_with laws first past s new ask said evidence steps wanted_is leads holds fit may belong last lawful disks answered grounded accesses came evidenced issues parts backed stands = (
   h,
   refl,
@@ -213,7 +213,7 @@ lead_with laws first past s new ask said evidence steps wanted_is leads holds fi
     old : JointState Device
     old = now first past
 
-    h : Happening Device DeviceStep
+    h : JointEvent Device DeviceStep
     h = happening_with evidence new.device ask said steps (ports_of new)
 
     later : Machine
@@ -235,10 +235,10 @@ lead_with laws first past s new ask said evidence steps wanted_is leads holds fi
     }
 
 -- one in which no port is stopped, and each is what it was
-pub lead_by : LawsBelow → (first : JointState Device) (past : List (Happening Device DeviceStep)) (s new : ServerState) (ask : AbstractCall DeviceStep) (said : CallResult) (steps : List Step)
+pub lead_by : PrerequisiteLaws → (first : JointState Device) (past : List (JointEvent Device DeviceStep)) (s new : ServerState) (ask : AbstractCall DeviceStep) (said : CallResult) (steps : List Step)
     → new.wanted ≡ s.wanted → ports_of new ≡ ports_of s → LeadsToServer first past s → IsHolding new
     → AllMay (now first past).abstract.machine steps → AreStepsOfCall ask (ports_of new) steps → IssuesLast steps
-    → AllLawful (now first past).abstract no_evidence (ports_of new) steps
+    → AllAnswersLawful (now first past).abstract no_evidence (ports_of new) steps
     → IsAnswered ask said (now first past).abstract (told_by s.device (now first past).abstract.ports) steps (record { machine = after (now first past).abstract.machine steps; ports = ports_of new })
     → OnlyFailedPortsRequeueIn ask (told_by s.device (now first past).abstract.ports) steps
     → (accesses : List Access) → ExplainsAccesses (now first past).abstract ask said accesses s.device new.device
@@ -247,7 +247,7 @@ pub lead_by : LawsBelow → (first : JointState Device) (past : List (Happening 
     → ((port : Port) → PortCorresponds (with_device s.device (now first past)) (happening (with_device s.device (now first past)) new.device ask said steps (ports_of new)) accesses port)
     → IsBacked s.device new.device (now first past).abstract.machine steps
     → MachineRelation new (after (now first past).abstract.machine steps)
-    → (h : Happening Device DeviceStep) × (h.event.ask ≡ ask) × (h.event.said ≡ said) × LeadsToServer first (h ∷ past) new
+    → (h : JointEvent Device DeviceStep) × (h.event.ask ≡ ask) × (h.event.said ≡ said) × LeadsToServer first (h ∷ past) new
 lead_by laws first past s new ask said steps wanted_is ports_is leads holds may belong last lawful answered grounded accesses came leaves issues parts backed stands =
     lead_with laws first past s new ask said (told_by s.device old.abstract.ports) steps wanted_is leads holds (subst PortsWellFormed ports fit) may belong last
     (lawful_told s.device old.abstract.ports old.abstract (ports_of new) steps lawful)

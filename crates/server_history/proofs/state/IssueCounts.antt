@@ -9,10 +9,10 @@ use Rattle.refinement.specs.Relation.{HaveSlots}
 use Rattle.refinement.specs.Slots.{SlotStates, is_serving, serving_count}
 use Rattle.block_machine.specs.Due.{issued_count}
 use Rattle.block_machine.specs.declared.due.Unanswered.{Unanswered}
-use Rattle.host_boot.specs.Taken.{probe_result_of}
+use Rattle.host_boot.specs.TakeOver.{probe_result_of}
 use Rattle.host_boot.specs.declared.ProbeResult.TheVariants.{Unready}
-use Rattle.request_queue.specs.Entries.{BookEntry, asks, asks_of, is_of}
-use Rattle.server_history.specs.Below.{LawsBelow}
+use Rattle.request_queue.specs.Entries.{BookEntry, asks, asks_of, is_of_port}
+use Rattle.server_history.specs.Prerequisites.{PrerequisiteLaws}
 use Rattle.server_history.specs.ErrorHandling.{requests_of}
 use Rattle.server_history.specs.Server.{ServerState, InCallInvariant, quarantined_at, state_of}
 use Rattle.server_history.proofs.state.DueRequests.{same_book}
@@ -30,14 +30,14 @@ few_serve uses port (suc n) = by (is_serving (uses port n)) (few_serve uses port
 -- those that are issued of the port's, and those of the port that are issued
 same_count : (port : Port) (book : List BookEntry) → count_by (λ (e : BookEntry). e.entry.issued) (requests_of port book) ≡ issued_count (asks_of book) port
 same_count port [] = refl
-same_count port (e ∷ book) = by (is_of port e.entry) (same_count port book) ∙ sym (sum_by-cons (λ (u : Unanswered). cond (u.port.0 == port.0 && u.issued) 1 0) (asks e.entry) (asks_of book))
+same_count port (e ∷ book) = by (is_of_port port e.entry) (same_count port book) ∙ sym (sum_by-cons (λ (u : Unanswered). cond (u.port.0 == port.0 && u.issued) 1 0) (asks e.entry) (asks_of book))
   where
     by : (own : Bool) → count_by (λ (x : BookEntry). x.entry.issued) (requests_of port book) ≡ issued_count (asks_of book) port
         → count_by (λ (x : BookEntry). x.entry.issued) (cond own (e ∷ requests_of port book) (requests_of port book)) ≡ cond (own && e.entry.issued) 1 0 + issued_count (asks_of book) port
     by true same = sum_by-cons (λ (x : BookEntry). cond x.entry.issued 1 0) e (requests_of port book) ∙ ap (λ (n : ℕ). cond e.entry.issued 1 0 + n) same
     by false same = omega (arith, same)
 
-pub places : LawsBelow → (s : ServerState) (port : Port) → InCallInvariant s → state_of (probe_result_of s.ports port.0) ≡ ReadyState
+pub places : PrerequisiteLaws → (s : ServerState) (port : Port) → InCallInvariant s → state_of (probe_result_of s.ports port.0) ≡ ReadyState
     → (quarantined_at s.kept port.0 ≡ []) × (count_by (λ (e : BookEntry). e.entry.issued) (requests_of port s.book) ≤ 32)
 places laws s port k ready = (none_alive s k port.0 alive (quarantined_at s.kept port.0) refl, subst (λ (n : ℕ). n ≤ 32) (sym counts) (few_serve k.stands.uses port.0 32))
   where

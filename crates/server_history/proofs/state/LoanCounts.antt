@@ -10,12 +10,12 @@ use Rattle.ata_types.specs.declared.request.Outcome.{Outcome}
 use Rattle.ata_types.specs.declared.request.Outcome.TheVariants as outcome
 use Rattle.ata_types.specs.declared.request.RequestId.{RequestId}
 use Rattle.server_history.proofs.state.ListMembers.{contains_cases}
-use Rattle.request_queue.specs.Entries.{BookEntry, all_marked_under, update_if_id, has_id, is_of, marked_under, requeued_entry}
+use Rattle.request_queue.specs.Entries.{BookEntry, all_marked_under, update_if_id, has_id, is_of_port, marked_under, requeued_entry}
 use Rattle.request_queue.specs.Dispositions.{keeps_loan}
 use Rattle.request_queue.specs.declared.PendingRequest.{PendingRequest}
 use Rattle.server_history.specs.ErrorHandling.{requests_of}
 use Rattle.server_history.proofs.state.FirstMembers.{nowhere}
-use Rattle.block_machine.specs.Rules.{is_under}
+use Rattle.block_machine.specs.Rules.{is_same_grant_name}
 
 -- how many requests of the port are issued
 abbrev pub issued_of : Port → List BookEntry → ℕ
@@ -23,11 +23,11 @@ issued_of port book = count_by (λ (e : BookEntry). e.entry.issued) (requests_of
 
 -- one, if it is an issued one of the port
 abbrev pub counts : Port → BookEntry → ℕ
-counts port e = cond (is_of port e.entry) (cond e.entry.issued 1 0) 0
+counts port e = cond (is_of_port port e.entry) (cond e.entry.issued 1 0) 0
 
 -- the first, and the others
 pub issued_first : (port : Port) (e : BookEntry) (book : List BookEntry) → issued_of port (e ∷ book) ≡ counts port e + issued_of port book
-issued_first port e book = by (is_of port e.entry)
+issued_first port e book = by (is_of_port port e.entry)
   where
     by : (own : Bool) → count_by (λ (x : BookEntry). x.entry.issued) (cond own (e ∷ requests_of port book) (requests_of port book)) ≡ cond own (cond e.entry.issued 1 0) 0 + issued_of port book
     by true = sum_by-cons (λ (x : BookEntry). cond x.entry.issued 1 0) e (requests_of port book)
@@ -78,7 +78,7 @@ requeued_issued port id (x ∷ book) =
     own false = le_refl 0
 
     by : (b : Bool) → counts port (if b then record x { entry = requeued_entry x.entry } else x) ≤ counts port x
-    by true = own (is_of port x.entry)
+    by true = own (is_of_port port x.entry)
     by false = le_refl (counts port x)
 
 -- and where requests are marked, as many are
@@ -86,7 +86,7 @@ pub marked_issued : (port : Port) (client : ClientId) (grant : ℕ) (book : List
 marked_issued port client grant [] = refl
 marked_issued port client grant (x ∷ book) =
     let rest = marked_issued port client grant book in
-    let one = by (is_under client grant x.entry.client x.entry.grant) in
+    let one = by (is_same_grant_name client grant x.entry.client x.entry.grant) in
     let left = issued_first port (record x { entry = marked_under client grant x.entry }) (all_marked_under client grant book) in
     let right = issued_first port x book in
     omega (arith, rest, one, left, right)

@@ -4,12 +4,12 @@ use Rattle.std.proofs.lemmas.Bool.{cases_eq}
 use Rattle.std.proofs.lemmas.List.{get_or-set_same, get_or-set_other, length-set}
 use Rattle.refinement.specs.Slots.{SlotState, SlotStates, put}
 use Rattle.block_machine.specs.declared.due.QueueMode.{QueueMode}
-use Rattle.host_boot.specs.Taken.{probe_result_of}
+use Rattle.host_boot.specs.TakeOver.{probe_result_of}
 use Rattle.host_boot.specs.declared.ProbeResult.{ProbeResult}
-use Rattle.server_history.specs.Below.{LawsBelow}
+use Rattle.server_history.specs.Prerequisites.{PrerequisiteLaws}
 use Rattle.slots.specs.Uses.{PortSlots, with_use}
 use Rattle.slots.specs.declared.SlotUse.{SlotUse}
-use Rattle.server_history.specs.Server.{SlotsInvariant, IsUsedAs, mode_at, no_slots, usable_of, slot_state_of, used_for, with_slot}
+use Rattle.server_history.specs.Server.{SlotsInvariant, IsUsedAs, mode_at, no_slots, usable_slots_of, slot_state_of, used_for, with_slot}
 
 -- it is this slot, or another
 pub its_or_other : (port slot q k : ℕ) → ((q ≡ port) × (k ≡ slot)) ⊎ (q ≡ port → k ≡ slot → ⊥)
@@ -37,7 +37,7 @@ module _ (slots : List PortSlots) (port slot : ℕ) (used : Option SlotUse) (low
       (cases_eq q port)
 
   -- where its uses are what they were but for this slot
-  pub placed_uses : LawsBelow → (found : List ProbeResult) (uses : SlotStates) → ((q k : ℕ) → IsUsedAs (probe_result_of found q) (used_for slots q k) (uses q k))
+  pub placed_uses : PrerequisiteLaws → (found : List ProbeResult) (uses : SlotStates) → ((q k : ℕ) → IsUsedAs (probe_result_of found q) (used_for slots q k) (uses q k))
       → (q k : ℕ) → IsUsedAs (probe_result_of found q) (used_for (with_slot slots port slot used) q k) (put uses port slot (slot_state_of used) q k)
   placed_uses laws found uses was q k = ⊎_elim
       (λ (at : (q ≡ port) × (k ≡ slot)).
@@ -64,8 +64,8 @@ freed_was slots port slot low small q k u is = ⊎_elim
     (its_or_other port slot q k)
 
 -- the four ports have their slots still
-module _ (found : List ProbeResult) (modes : List QueueMode) (slots : List PortSlots) (port slot : ℕ) (used : Option SlotUse) (four : length slots ≡ 4) (low : port < 4) (slot_low : slot < usable_of (probe_result_of found port) (mode_at modes port))
-    (few : usable_of (probe_result_of found port) (mode_at modes port) ≤ 32) (has : (q : ℕ) → q < 4 → SlotsInvariant found modes slots q) where
+module _ (found : List ProbeResult) (modes : List QueueMode) (slots : List PortSlots) (port slot : ℕ) (used : Option SlotUse) (four : length slots ≡ 4) (low : port < 4) (slot_low : slot < usable_slots_of (probe_result_of found port) (mode_at modes port))
+    (few : usable_slots_of (probe_result_of found port) (mode_at modes port) ≤ 32) (has : (q : ℕ) → q < 4 → SlotsInvariant found modes slots q) where
   in_list : port < length slots
   in_list = omega (arith, four, low)
 
@@ -90,7 +90,7 @@ module _ (found : List ProbeResult) (modes : List QueueMode) (slots : List PortS
         (λ (n : q ≢ port). ap (λ (u : PortSlots). u.usable) (other q n) ∙ (has q small).usable)
         (cases_eq q port);
     unused = λ k high.
-        placed_other slots port slot used in_list in_places q k (λ e s. let h = subst (λ (p : ℕ). usable_of (probe_result_of found p) (mode_at modes p) ≤ k) e high in absurd (omega (arith, h, s, slot_low)))
+        placed_other slots port slot used in_list in_places q k (λ e s. let h = subst (λ (p : ℕ). usable_slots_of (probe_result_of found p) (mode_at modes p) ≤ k) e high in absurd (omega (arith, h, s, slot_low)))
         ∙ (has q small).unused k high;
   }
     where

@@ -20,8 +20,8 @@ use Rattle.refinement.specs.Recovering.{WorksPlainly}
 use Rattle.refinement.specs.Slots.{IsEmptySlot, RelatesSlot, Stage, SlotState}
 use Rattle.block_machine.specs.State.{Pending}
 use Rattle.error_recovery.specs.Recovery.{RunsAgain}
-use Rattle.host_boot.specs.Taken.{probe_result_of}
-use Rattle.server_history.specs.Below.{LawsBelow}
+use Rattle.host_boot.specs.TakeOver.{probe_result_of}
+use Rattle.server_history.specs.Prerequisites.{PrerequisiteLaws}
 use Rattle.server_history.specs.ErrorHandling.{AreAllQueuedAs}
 use Rattle.server_history.specs.Server.{ServerState, InCallInvariant, slots_at, state_of, used_for}
 use Rattle.server_history.proofs.state.PortSlots.{IsServedBy, free_unused, served_request, serves_used, used_or_not}
@@ -45,7 +45,7 @@ plain_stage memory p port slot e c places (inr (inl taken)) plain = (
 plain_stage memory p port slot e c places (inr (inr (inl ended))) plain = (ended.sact, λ t is. let z : None ≡ Some t = sym ended.free ∙ is in absurd cc)
 plain_stage memory p port slot e c places (inr (inr (inr dropped))) plain = (dropped.sact, λ t is. let z : None ≡ Some t = sym dropped.free ∙ is in absurd cc)
 
-module _ (laws : LawsBelow) (s : ServerState) (k : InCallInvariant s) (port : Port) (ready : state_of (probe_result_of s.ports port.0) ≡ ReadyState) (alike : AreAllQueuedAs false (slots_at s.slots port.0)) where
+module _ (laws : PrerequisiteLaws) (s : ServerState) (k : InCallInvariant s) (port : Port) (ready : state_of (probe_result_of s.ports port.0) ≡ ReadyState) (alike : AreAllQueuedAs false (slots_at s.slots port.0)) where
   -- each slot is free, or has a plain command
   each : (slot : ℕ) → ((s.device.port port.0).sact slot ≡ false) × ((t : FetchedCommand) → (s.device.port port.0).taken slot ≡ Some t → is_queued t.meaning.operation ≡ false)
   each slot = ⊎_elim
@@ -73,7 +73,7 @@ module _ (laws : LawsBelow) (s : ServerState) (k : InCallInvariant s) (port : Po
 -- ---- where a halt is of a taken command
 
 -- so it stays over what was followed, without a write of PxCMD
-pub followed_halts : LawsBelow → (port : Port) (May : Access → Type 0) (s : ServerState) (k : InCallInvariant s) (new : Device) → (f : IsSimulated May AnyUse s.device new) → ((access : Access) → May access → DoesNotWrite (Px port Cmd) access)
+pub followed_halts : PrerequisiteLaws → (port : Port) (May : Access → Type 0) (s : ServerState) (k : InCallInvariant s) (new : Device) → (f : IsSimulated May AnyUse s.device new) → ((access : Access) → May access → DoesNotWrite (Px port Cmd) access)
     → HaltOfTakenIfSt (s.device.port port.0) → HaltOfTakenIfSt (new.port port.0)
 followed_halts laws port May s k new f spares h =
     let slots : DriverSlots = record { uses = k.stands.uses; parked = k.stands.parked } in
@@ -82,6 +82,6 @@ followed_halts laws port May s k new f spares h =
     (subst (All (DoesNotWrite (Px port Cmd))) (sym c.accesses_are) (All-weaker May (DoesNotWrite (Px port Cmd)) spares f.driven.accesses f.driven.only)) h
 
 -- and so it is once a port was recovered
-pub again_halts : LawsBelow → (queued : Bool) (port : ℕ) (old new : Device) → RunsAgain queued port old new → (queued ≡ false → WorksPlainly (old.port port)) → HaltIsOfTaken (new.port port)
+pub again_halts : PrerequisiteLaws → (queued : Bool) (port : ℕ) (old new : Device) → RunsAgain queued port old new → (queued ≡ false → WorksPlainly (old.port port)) → HaltIsOfTaken (new.port port)
 again_halts laws true port old new again plainly = laws.port_error.halts_calm (new.port port) (again.ended refl)
 again_halts laws false port old new again plainly = laws.port_error.halts_plain (new.port port) (again.plain refl (plainly refl))

@@ -21,7 +21,7 @@ use Rattle.block_machine.specs.State.{Machine, Pending}
 use Rattle.block_machine.specs.Steps.{MayStillMove, NoneQuarantined}
 use Rattle.block_machine.specs.declared.due.QueueMode.{QueueMode}
 use Rattle.refinement.specs.Slots.{Free, Own, Serves, SlotState, IsDropped, IsEnded, IsOver, RelatesSlot, ServesRequest, Stage}
-use Rattle.host_boot.specs.Taken.{StillStandsBehind, probe_result_of, wanted_of}
+use Rattle.host_boot.specs.TakeOver.{StillBacksProbeResult, probe_result_of, wanted_of}
 use Rattle.host_boot.specs.declared.ProbeResult.{ProbeResult}
 use Rattle.host_boot.specs.declared.ProbeResult.TheVariants.{Unserved, Ready, Unready}
 use Rattle.identify.specs.declared.DiskInfo.{DiskInfo}
@@ -31,7 +31,7 @@ use Rattle.std.proofs.lemmas.List.{get_or_past}
 use Rattle.slots.specs.Uses.{PortSlots, use_at}
 use Rattle.slots.specs.declared.SlotUse.{SlotUse}
 use Rattle.server_history.specs.Served.{is_used}
-use Rattle.server_history.specs.Server.{ServerState, InCallInvariant, MachineRelation, IsUsedAs, is_served, mode_at, probed_mode, no_slots, slots_at, state_of, usable_of, slot_state_of, used_for}
+use Rattle.server_history.specs.Server.{ServerState, InCallInvariant, MachineRelation, IsUsedAs, is_served, mode_at, probed_mode, no_slots, slots_at, state_of, usable_slots_of, slot_state_of, used_for}
 use Rattle.server_history.proofs.state.PairedLists.{at_right}
 use Rattle.server_history.proofs.state.FirstMembers.{nowhere}
 
@@ -49,7 +49,7 @@ ready_found s port k ready = by (probe_result_of s.ports port) refl
     by (Ready info) is = (low (ap is_served is), (info, is))
     by (Unready state) is =
         let state_is : state ≡ ReadyState = sym (ap state_of is) ∙ ready in
-        let P : ProbeResult → Type 0 = λ f. StillStandsBehind (wanted_of s.wanted port) f port s.device in
+        let P : ProbeResult → Type 0 = λ f. StillBacksProbeResult (wanted_of s.wanted port) f port s.device in
         absurd (subst P (is ∙ ap Unready state_is) (k.behind port (low (ap is_served is))).behind).1
 
 -- it isn't dead
@@ -67,7 +67,7 @@ abbrev TakesSome : ProbeResult → Type 0
 TakesSome (Ready info) = 1 ≤ info.depth
 TakesSome _ = Unit {0}
 
-takes_some : (wanted : Wanted) (found : ProbeResult) (port : ℕ) (d : Device) → StillStandsBehind wanted found port d → TakesSome found
+takes_some : (wanted : Wanted) (found : ProbeResult) (port : ℕ) (d : Device) → StillBacksProbeResult wanted found port d → TakesSome found
 takes_some wanted Unserved port d behind = tt
 takes_some wanted (Ready info) port d behind = let depth = behind.1.fit.tells.depth in omega (arith, depth)
 takes_some wanted (Unready state) port d behind = tt
@@ -100,7 +100,7 @@ mode_fit cap (Ready info) some = by (bit cap 30 && info.ncq)
     by false = ((omega arith, omega arith, λ plain. refl), omega arith)
 mode_fit cap (Unready state) some = ((omega arith, omega arith, λ plain. refl), omega arith)
 
-pub stood_mode : (wanted : Wanted) (found : ProbeResult) (port : ℕ) (d : Device) → StillStandsBehind wanted found port d → IsValidMode (probed_mode d.cap found) × ((probed_mode d.cap found).usable ≤ d.cap / 256 % 32 + 1)
+pub stood_mode : (wanted : Wanted) (found : ProbeResult) (port : ℕ) (d : Device) → StillBacksProbeResult wanted found port d → IsValidMode (probed_mode d.cap found) × ((probed_mode d.cap found).usable ≤ d.cap / 256 % 32 + 1)
 stood_mode wanted found port d behind = mode_fit d.cap found (takes_some wanted found port d behind)
 
 pub its_mode : (s : ServerState) (port : ℕ) → InCallInvariant s → port < 4 → IsValidMode (mode_at s.modes port) × ((mode_at s.modes port).usable ≤ s.device.cap / 256 % 32 + 1)
@@ -108,8 +108,8 @@ its_mode s port k low =
     subst (λ (m : QueueMode). IsValidMode m × (m.usable ≤ s.device.cap / 256 % 32 + 1)) (sym (k.modes port low)) (stood_mode (wanted_of s.wanted port) (probe_result_of s.ports port) port s.device (k.behind port low).behind)
 
 -- a ready port may use the slots of its mode
-pub usable_ready : (s : ServerState) (port : ℕ) (k : InCallInvariant s) → state_of (probe_result_of s.ports port) ≡ ReadyState → usable_of (probe_result_of s.ports port) (mode_at s.modes port) ≡ (mode_at s.modes port).usable
-usable_ready s port k ready = ap (λ (f : ProbeResult). usable_of f (mode_at s.modes port)) (ready_found s port k ready).1.1
+pub usable_ready : (s : ServerState) (port : ℕ) (k : InCallInvariant s) → state_of (probe_result_of s.ports port) ≡ ReadyState → usable_slots_of (probe_result_of s.ports port) (mode_at s.modes port) ≡ (mode_at s.modes port).usable
+usable_ready s port k ready = ap (λ (f : ProbeResult). usable_slots_of f (mode_at s.modes port)) (ready_found s port k ready).1.1
 
 pub not_true : (b : Bool) → not b ≡ true → b ≡ false
 not_true false is = refl
@@ -143,9 +143,9 @@ used_or_not None = inr refl
 used_or_not (Some u) = inl (u, refl)
 
 -- a used slot is one that the port may use
-pub used_low : (s : ServerState) (port slot : ℕ) (u : SlotUse) → InCallInvariant s → port < 4 → used_for s.slots port slot ≡ Some u → slot < usable_of (probe_result_of s.ports port) (mode_at s.modes port)
+pub used_low : (s : ServerState) (port slot : ℕ) (u : SlotUse) → InCallInvariant s → port < 4 → used_for s.slots port slot ≡ Some u → slot < usable_slots_of (probe_result_of s.ports port) (mode_at s.modes port)
 used_low s port slot u k low used =
-    let usable = usable_of (probe_result_of s.ports port) (mode_at s.modes port) in ⊎_elim
+    let usable = usable_slots_of (probe_result_of s.ports port) (mode_at s.modes port) in ⊎_elim
     (λ (less : slot < usable). less)
     (λ (high : usable ≤ slot). let z : None ≡ Some u = sym ((k.slots port low).unused slot high) ∙ used in absurd cc)
     (cases_lt slot usable)
@@ -175,13 +175,13 @@ used_there s port slot u k used = (
 pub used_ready : (s : ServerState) (port slot : ℕ) (u : SlotUse) → InCallInvariant s → used_for s.slots port slot ≡ Some u → state_of (probe_result_of s.ports port) ≡ ReadyState
 used_ready s port slot u k used = by (probe_result_of s.ports port) refl
   where
-    unused : usable_of (probe_result_of s.ports port) (mode_at s.modes port) ≡ 0 → ⊥
+    unused : usable_slots_of (probe_result_of s.ports port) (mode_at s.modes port) ≡ 0 → ⊥
     unused none = let low = used_low s port slot u k (used_there s port slot u k used).0 used in omega (arith, low, none)
 
     by : (f : ProbeResult) → probe_result_of s.ports port ≡ f → state_of f ≡ ReadyState
-    by Unserved is = absurd (unused (ap (λ (f : ProbeResult). usable_of f (mode_at s.modes port)) is))
+    by Unserved is = absurd (unused (ap (λ (f : ProbeResult). usable_slots_of f (mode_at s.modes port)) is))
     by (Ready info) is = refl
-    by (Unready state) is = absurd (unused (ap (λ (f : ProbeResult). usable_of f (mode_at s.modes port)) is))
+    by (Unready state) is = absurd (unused (ap (λ (f : ProbeResult). usable_slots_of f (mode_at s.modes port)) is))
 
 pub busy_used : (used : Option SlotUse) → is_used used ≡ true → (u : SlotUse) × (used ≡ Some u)
 busy_used None busy = absurd (false≢true busy)
@@ -276,8 +276,8 @@ issued_has s m port is k ready e here own issued = ⊎_elim
 -- ---- a slot is given up
 
 -- the commands of these slots are over
-abbrev pub AreOver : Port → ℕ → Device → Type 0
-AreOver port done d = (slot : ℕ) → slot < 32 → bit done slot ≡ true → IsOver (d.port port.0) slot
+abbrev pub CommandsAreOver : Port → ℕ → Device → Type 0
+CommandsAreOver port done d = (slot : ℕ) → slot < 32 → bit done slot ≡ true → IsOver (d.port port.0) slot
 
 -- a command that is over has ended, or was dropped
 pub stage_over : (memory : ℕ → ℕ) (p : DevicePort) (port slot : ℕ) (e : Pending) (c : Meaning) (places : List ℕ) → Stage memory p port slot e c places → IsOver p slot → IsEnded p slot e ⊎ IsDropped p slot e

@@ -12,12 +12,12 @@ use Rattle.refinement.specs.Driven.{IsDrivenBy, SparesOtherPorts, LeavesPort, Ga
 use Rattle.refinement.specs.Halting.{HaltOfTakenIfSt}
 use Rattle.refinement.specs.Links.{SameAdapter}
 use Rattle.server_history.proofs.state.DrivenAccesses.{by_one}
-use Rattle.host_boot.specs.Taken.{StillStandsBehind, probe_result_of, wanted_of}
+use Rattle.host_boot.specs.TakeOver.{StillBacksProbeResult, probe_result_of, wanted_of}
 use Rattle.host_boot.specs.declared.ProbeResult.{ProbeResult}
 use Rattle.host_boot.specs.declared.ProbeResult.TheVariants.{Unserved, Ready, Unready}
 use Rattle.identify.specs.declared.wanted.Wanted.{Wanted}
 use Rattle.port_control.specs.Services.{IsService}
-use Rattle.server_history.specs.Below.{LawsBelow}
+use Rattle.server_history.specs.Prerequisites.{PrerequisiteLaws}
 use Rattle.server_history.specs.Server.{PortInvariant, state_of}
 use Rattle.server_history.proofs.state.PortGrounds.{left_on, ready_on}
 use Rattle.server_history.proofs.state.RunningPorts.{runs_on, shown_on}
@@ -43,7 +43,7 @@ bytes_serve (Reading r v) is = absurd is
 bytes_serve (Writing r v) is = absurd is
 
 -- they leave every port to the device
-pub bytes_leave : LawsBelow → (access : Access) (old new : Device) → IsOfBytes access → IsOn old → Does access old new → (port : ℕ) → LeavesPort (old.port port) (new.port port)
+pub bytes_leave : PrerequisiteLaws → (access : Access) (old new : Device) → IsOfBytes access → IsOn old → Does access old new → (port : ℕ) → LeavesPort (old.port port) (new.port port)
 bytes_leave laws access old new is on does port =
     laws.looks.other_left (port_at (suc port)) port old new (λ same. absurd (omega (arith, same))) on
     (by_one (SparesOtherPorts (port_at (suc port))) access old new (bytes_of (port_at (suc port)) access is) does)
@@ -51,7 +51,7 @@ bytes_leave laws access old new is on does port =
 -- ---- what stands behind a port
 
 -- over accesses that serve ports, where the port is left to the device, unless it is ready, and a halt is of a taken command still
-pub port_on : LawsBelow → (wanted : List Wanted) (found : List ProbeResult) (port : ℕ) (old new : Device) → SameAdapter old new → IsOn old → IsDrivenBy IsService old new
+pub port_on : PrerequisiteLaws → (wanted : List Wanted) (found : List ProbeResult) (port : ℕ) (old new : Device) → SameAdapter old new → IsOn old → IsDrivenBy IsService old new
     → (state_of (probe_result_of found port) ≢ ReadyState → LeavesPort (old.port port) (new.port port))
     → (probe_result_of found port ≢ Unready Dead → GainsNoMove port Identify old new) → (HaltOfTakenIfSt (old.port port) → HaltOfTakenIfSt (new.port port)) → PortInvariant wanted found port old → PortInvariant wanted found port new
 port_on laws wanted found port old new same on by left silent halts is =
@@ -64,7 +64,7 @@ port_on laws wanted found port old new same on by left silent halts is =
     }
   where
     behind : (f : ProbeResult) → (state_of f ≢ ReadyState → LeavesPort (old.port port) (new.port port)) → (f ≢ Unready Dead → GainsNoMove port Identify old new)
-        → StillStandsBehind (wanted_of wanted port) f port old → StillStandsBehind (wanted_of wanted port) f port new
+        → StillBacksProbeResult (wanted_of wanted port) f port old → StillBacksProbeResult (wanted_of wanted port) f port new
     behind Unserved left silent stays = left_on laws (wanted_of wanted port) Unserved port old new same (left (λ e. let z : Absent ≡ ReadyState = e in cc)) silent stays
     behind (Ready info) left silent stays =
         let c = laws.looking.services_controls port old new on by in

@@ -3,7 +3,7 @@ use Rattle.std.proofs.Common.{ℕ, ◌≡◌, ◌∙◌, ◌&&◌, ◌==◌, Boo
 use Rattle.std.proofs.lemmas.Bool.{false≢true}
 use Rattle.ata_types.specs.declared.grant.GrantRow.{GrantRow}
 use Rattle.ata_types.specs.declared.request.ClientId.{ClientId}
-use Rattle.block_machine.specs.Rules.{Names, is_under, without_row}
+use Rattle.block_machine.specs.Rules.{Names, is_same_grant_name, without_row}
 use Rattle.request_queue.specs.Entries.{BookEntry, marked_under, waits_under}
 use Rattle.request_queue.specs.declared.PendingRequest.{PendingRequest}
 use Rattle.server_history.specs.Server.{RevokedMarkInvariant, RevokedMarkAgrees}
@@ -11,16 +11,16 @@ use Rattle.server_history.proofs.state.ListMembers.{filter_in, in_filter}
 
 module _ (rows : List GrantRow) (client : ClientId) (number : ℕ) where
   abbrev stays : GrantRow → Bool
-  stays row = not (is_under client number row.client row.number)
+  stays row = not (is_same_grant_name client number row.client row.number)
 
   -- a row is the one that goes just if a request is under that grant that names it
-  row_under : (r : PendingRequest) (row : GrantRow) → Names r.client r.grant row → is_under client number row.client row.number ≡ is_under client number r.client r.grant
+  row_under : (r : PendingRequest) (row : GrantRow) → Names r.client r.grant row → is_same_grant_name client number row.client row.number ≡ is_same_grant_name client number r.client r.grant
   row_under r row named = λ i. (named.0 i).0 == client.0 && named.1 i == number
 
   pub tells_then : (r : PendingRequest) → RevokedMarkAgrees rows r → RevokedMarkAgrees (without_row client number rows) (marked_under client number r)
-  tells_then r tells = by (is_under client number r.client r.grant) refl
+  tells_then r tells = by (is_same_grant_name client number r.client r.grant) refl
     where
-      by : (b : Bool) → is_under client number r.client r.grant ≡ b → RevokedMarkAgrees (without_row client number rows) (cond b (record r { revoked = true }) r)
+      by : (b : Bool) → is_same_grant_name client number r.client r.grant ≡ b → RevokedMarkAgrees (without_row client number rows) (cond b (record r { revoked = true }) r)
       by true is = (
         λ plain. absurd (false≢true (sym plain)),
         λ has. absurd (false≢true (sym (ap not (row_under r has.0 has.2 ∙ is)) ∙ (filter_in stays rows has.0 has.1).1)),
@@ -32,9 +32,9 @@ module _ (rows : List GrantRow) (client : ClientId) (number : ℕ) where
 
   -- one that isn't answered, and waits, isn't under it
   waits_then : (r : PendingRequest) → waits_under client number r ≡ false → (r.issued ≡ false → r.revoked ≡ false) → (marked_under client number r).issued ≡ false → (marked_under client number r).revoked ≡ false
-  waits_then r left waiting = by (is_under client number r.client r.grant) refl
+  waits_then r left waiting = by (is_same_grant_name client number r.client r.grant) refl
     where
-      by : (b : Bool) → is_under client number r.client r.grant ≡ b → (cond b (record r { revoked = true }) r).issued ≡ false → (cond b (record r { revoked = true }) r).revoked ≡ false
+      by : (b : Bool) → is_same_grant_name client number r.client r.grant ≡ b → (cond b (record r { revoked = true }) r).issued ≡ false → (cond b (record r { revoked = true }) r).revoked ≡ false
       by true is waits = absurd (false≢true (sym left ∙ (λ i. not (waits i) && is i)))
       by false is waits = waiting waits
 

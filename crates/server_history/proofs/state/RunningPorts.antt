@@ -17,8 +17,8 @@ use Rattle.refinement.specs.Noted.{DoesNotRead}
 use Rattle.port_control.specs.Ports.{programmed}
 use Rattle.refinement.specs.Relation.{port_at}
 use Rattle.port_control.specs.Services.{IsService}
-use Rattle.driver_history.specs.Holds.{EngineRuns}
-use Rattle.server_history.specs.Below.{LawsBelow}
+use Rattle.driver_history.specs.PortInvariants.{EngineRuns}
+use Rattle.server_history.specs.Prerequisites.{PrerequisiteLaws}
 use Rattle.server_history.proofs.state.DrivenAccesses.{kept_over}
 
 -- the engine runs, and its areas and its device were found
@@ -38,7 +38,7 @@ counts_on v p is = by (nat_eq p.sctl_det 0) (nat_eq (v % 16) 3) p.notes.link_cou
     by true true n e = refl
     by true false n e = ap (λ (k : ℕ). min MOST_READINGS (k + 1)) e
 
-pub link_still : LawsBelow → (port : Port) (access : Access) (old new : Device) → IsOn old → DoesNotWrite (Px port Sctl) access → Does access old new → (old.port port.0).notes.link_count ≡ MOST_READINGS → (new.port port.0).notes.link_count ≡ MOST_READINGS
+pub link_still : PrerequisiteLaws → (port : Port) (access : Access) (old new : Device) → IsOn old → DoesNotWrite (Px port Sctl) access → Does access old new → (old.port port.0).notes.link_count ≡ MOST_READINGS → (new.port port.0).notes.link_count ≡ MOST_READINGS
 link_still laws port access old new on spares does saw = by access spares does
   where
     spared : (a : Access) → DoesNotWrite (Px port Sctl) a → Does a old new → DoesNotRead (Px port Ssts) a → (new.port port.0).notes.link_count ≡ MOST_READINGS
@@ -59,7 +59,7 @@ link_still laws port access old new on spares does saw = by access spares does
     by (Storing at bytes) its did = spared (Storing at bytes) its did tt
     by (Reading r v) its did = read r v did
 
-each : LawsBelow → (port : Port) (access : Access) (old new : Device) → IsOn old → IsService access → Does access old new → Holds port.0 old → Holds port.0 new
+each : PrerequisiteLaws → (port : Port) (access : Access) (old new : Device) → IsOn old → IsService access → Does access old new → Holds port.0 old → Holds port.0 new
 each laws port access old new on is does h =
     let left : LeavesControls access port (old.port port.0) (new.port port.0) = laws.looks.access_controls port access old new on.no_reset does in
     let command = left.command (laws.looking.services_spare port Cmd (λ e. cc) (λ e. cc) (λ e. cc) access is) in
@@ -76,7 +76,7 @@ each laws port access old new on is does h =
     }
 
 -- over accesses that serve ports the adapter stays on, with what each of them keeps
-on_over : LawsBelow → (Kept : Device → Type 0) → ((access : Access) (old new : Device) → IsOn old → IsService access → Does access old new → Kept old → Kept new)
+on_over : PrerequisiteLaws → (Kept : Device → Type 0) → ((access : Access) (old new : Device) → IsOn old → IsService access → Does access old new → Kept old → Kept new)
     → (old new : Device) → IsOn old → IsDrivenBy IsService old new → Kept old → Kept new
 on_over laws Kept keeps old new on driven here =
     (kept_over (λ d. IsOn d × Kept d) IsService
@@ -84,12 +84,12 @@ on_over laws Kept keeps old new on driven here =
     old new driven (on, here)).1
 
 -- a device shows still, or none is in
-pub shown_on : LawsBelow → (port : Port) (old new : Device) → IsOn old → IsDrivenBy IsService old new → ShowsDiskIfIn (old.port port.0) → ShowsDiskIfIn (new.port port.0)
+pub shown_on : PrerequisiteLaws → (port : Port) (old new : Device) → IsOn old → IsDrivenBy IsService old new → ShowsDiskIfIn (old.port port.0) → ShowsDiskIfIn (new.port port.0)
 shown_on laws port old new on driven =
     on_over laws (λ d. ShowsDiskIfIn (d.port port.0))
     (λ access a b ready is does. laws.looking.shown_stays port access a b ready.no_reset (laws.looking.services_spare port Sctl (λ e. cc) (λ e. cc) (λ e. cc) access is) does) old new on driven
 
-pub runs_on : LawsBelow → (port : Port) (old new : Device) → IsOn old → IsDrivenBy IsService old new → EngineRuns port.0 old → EngineRuns port.0 new
+pub runs_on : PrerequisiteLaws → (port : Port) (old new : Device) → IsOn old → IsDrivenBy IsService old new → EngineRuns port.0 old → EngineRuns port.0 new
 runs_on laws port old new on driven r = record {
   st = h.st;
   cr = h.cr;

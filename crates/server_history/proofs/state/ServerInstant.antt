@@ -14,8 +14,8 @@ use Rattle.block_machine.specs.Due.{is_plain}
 use Rattle.block_machine.specs.declared.due.QueueMode.{QueueMode}
 use Rattle.block_machine.specs.Histories.{JointState, IsReachable}
 use Rattle.block_machine.specs.State.{Machine, Pending}
-use Rattle.driver_history.specs.Holds.{HasNothing, ReadySlotsInvariant, PortStateInvariant, DriverInvariantWith, IsFreeOrServes, IsQueuedAsAsked, HasNoUnanswered, EngineRuns, ServesIn}
-use Rattle.host_boot.specs.Taken.{FoundBadDisk, IsServed as IsServedPort, StillStandsBehind, probe_result_of, wanted_of}
+use Rattle.driver_history.specs.PortInvariants.{HasNothingInSlots, ReadySlotsInvariant, PortStateInvariant, DriverInvariantWith, IsFreeOrServes, IsQueuedAsAsked, HasNoUnanswered, EngineRuns, ServesIn}
+use Rattle.host_boot.specs.TakeOver.{FoundBadDisk, IsServed as IsServedPort, StillBacksProbeResult, probe_result_of, wanted_of}
 use Rattle.host_boot.specs.declared.ProbeResult.{ProbeResult}
 use Rattle.host_boot.specs.declared.ProbeResult.TheVariants.{Unserved, Ready, Unready}
 use Rattle.identify.specs.declared.DiskInfo.{DiskInfo}
@@ -23,7 +23,7 @@ use Rattle.identify.specs.declared.wanted.Wanted.{Wanted}
 use Rattle.request_queue.specs.Entries.{BookEntry}
 use Rattle.request_queue.specs.Machine.{EntryRelation}
 use Rattle.slots.specs.declared.SlotUse.{SlotUse}
-use Rattle.server_history.specs.Server.{StandsAlone, ServerState, InCallInvariant, MachineRelation, is_served, mode_at, probed_mode, mode_in, ports_of, last_disk_in, last_disk_of, remembered_at, last_sectors_of, last_serial_of, state_of, trims_of, usable_of, slot_state_of, used_for}
+use Rattle.server_history.specs.Server.{StandsAlone, ServerState, InCallInvariant, MachineRelation, is_served, mode_at, probed_mode, mode_in, ports_of, last_disk_in, last_disk_of, remembered_at, last_sectors_of, last_serial_of, state_of, trims_of, usable_slots_of, slot_state_of, used_for}
 use Rattle.server_history.proofs.state.PortSlots.{free_unused, none_kept, not_dead, of_ready, ready_use, usable_ready, used_serves}
 use Rattle.server_history.proofs.state.PairedLists.{at_right}
 
@@ -33,7 +33,7 @@ clients None = inl refl
 clients (Some used) = inr (used.id, refl)
 
 -- the port is served where it was found so
-pub served_is : (wanted : Wanted) (found : ProbeResult) (port : ℕ) (d : Device) → StillStandsBehind wanted found port d → (is_served found ≡ true) ↔ IsServedPort wanted port d
+pub served_is : (wanted : Wanted) (found : ProbeResult) (port : ℕ) (d : Device) → StillBacksProbeResult wanted found port d → (is_served found ≡ true) ↔ IsServedPort wanted port d
 served_is wanted Unserved port d s = ((λ yes. absurd (false≢true yes)), (λ served. absurd (s.0 served)))
 served_is wanted (Ready info) port d s = ((λ yes. s.0), (λ served. refl))
 served_is wanted (Unready state) port d s = ((λ yes. s.0), (λ served. refl))
@@ -56,11 +56,11 @@ module _ (s : ServerState) (k : InCallInvariant s) (m : Machine) (reached : IsRe
     alive f e other dead = other (sym e ∙ dead)
 
     -- a port that isn't ready uses no slot
-    nothing : (f : ProbeResult) → probe_result_of s.ports port.0 ≡ f → usable_of f (mode_at s.modes port.0) ≡ 0 → f ≢ Unready Dead → HasNothing slots port.0
+    nothing : (f : ProbeResult) → probe_result_of s.ports port.0 ≡ f → usable_slots_of f (mode_at s.modes port.0) ≡ 0 → f ≢ Unready Dead → HasNothingInSlots slots port.0
     nothing f e none other = record {
       free = λ slot.
           is.used port.0 slot (alive f e other)
-          ∙ ap slot_state_of ((k.slots port.0 low).unused slot (subst (λ (n : ℕ). n ≤ slot) (sym (ap (λ (x : ProbeResult). usable_of x (mode_at s.modes port.0)) e ∙ none)) (omega arith)));
+          ∙ ap slot_state_of ((k.slots port.0 low).unused slot (subst (λ (n : ℕ). n ≤ slot) (sym (ap (λ (x : ProbeResult). usable_slots_of x (mode_at s.modes port.0)) e ∙ none)) (omega arith)));
       unparked = is.unparked port.0 (alive f e other);
     }
 
@@ -121,7 +121,7 @@ module _ (s : ServerState) (k : InCallInvariant s) (m : Machine) (reached : IsRe
     shown_as : (f : ProbeResult) → probe_result_of s.ports port.0 ≡ f → FoundBadDisk (state_of f) → ShowsDiskIfIn (s.device.port port.0)
     shown_as f e bad = (k.behind port.0 low).shown (subst (λ (x : ProbeResult). FoundBadDisk (state_of x)) (sym e) bad)
 
-    of : (f : ProbeResult) → probe_result_of s.ports port.0 ≡ f → StillStandsBehind (wanted_of s.wanted port.0) f port.0 s.device → (state_of f ≡ ReadyState → EngineRuns port.0 s.device)
+    of : (f : ProbeResult) → probe_result_of s.ports port.0 ≡ f → StillBacksProbeResult (wanted_of s.wanted port.0) f port.0 s.device → (state_of f ≡ ReadyState → EngineRuns port.0 s.device)
         → PortStateInvariant (wanted_of s.wanted port.0) slots instant port (is_served f) (state_of f)
     of Unserved e behind runs = record {
       absent = ap state_of e;

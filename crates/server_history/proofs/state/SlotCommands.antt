@@ -15,11 +15,11 @@ use Rattle.adapter.specs.Commands.{Meaning}
 use Rattle.block_machine.specs.Rules.{IsAllowedCount, frame_count_for}
 use Rattle.block_machine.specs.State.{Accepted, Machine, Pending, frame_at}
 use Rattle.dma_frames.specs.Table.{lent_to}
-use Rattle.host_boot.specs.Taken.{probe_result_of}
+use Rattle.host_boot.specs.TakeOver.{probe_result_of}
 use Rattle.request_queue.specs.Entries.{BookEntry, IsAccepted}
 use Rattle.request_queue.specs.Machine.{EntryRelation}
 use Rattle.slots.specs.declared.SlotUse.{SlotUse}
-use Rattle.server_history.specs.Below.{LawsBelow}
+use Rattle.server_history.specs.Prerequisites.{PrerequisiteLaws}
 use Rattle.server_history.specs.Server.{StandsAlone, ServerState, InCallInvariant, MachineRelation, mode_in, state_of, used_for}
 use Rattle.server_history.proofs.state.PortSlots.{HasSlot, IsServedBy, issued_has, not_true, queued_op, served_request, serves_used, still_booked}
 use Rattle.server_history.proofs.state.PairedLists.{at_right}
@@ -29,7 +29,7 @@ first_place : (op : Op) → (op ≡ Read) ⊎ (op ≡ Write) → (port : ℕ) (r
 first_place op (inl reads) port r places are some = (subst (λ (o : Op). ArePlaces o port r places) reads are).1 0 some
 first_place op (inr writes) port r places are some = (subst (λ (o : Op). ArePlaces o port r places) writes are).1 0 some
 
-module _ (laws : LawsBelow) (s : ServerState) (k : InCallInvariant s) (m : Machine) (is : MachineRelation s m) where
+module _ (laws : PrerequisiteLaws) (s : ServerState) (k : InCallInvariant s) (m : Machine) (is : MachineRelation s m) where
   -- a transfer of the book has a first frame, which is lent to it
   record HasFirst (p : Pending) : Type 0 where
     some : 1 ≤ p.request.asked.count

@@ -7,9 +7,9 @@ use Rattle.ata_types.specs.declared.request.RequestId.{RequestId}
 use Rattle.refinement.specs.Slots.{IsEmptySlot, RelatesSlot, Serves, ServesRequest, Stage, SlotState}
 use Rattle.block_machine.specs.Histories.{IsReachable}
 use Rattle.block_machine.specs.State.{Machine, Pending}
-use Rattle.host_boot.specs.Taken.{probe_result_of}
+use Rattle.host_boot.specs.TakeOver.{probe_result_of}
 use Rattle.slots.specs.declared.SlotUse.{SlotUse}
-use Rattle.server_history.specs.Below.{LawsBelow}
+use Rattle.server_history.specs.Prerequisites.{PrerequisiteLaws}
 use Rattle.server_history.specs.Server.{ServerState, InCallInvariant, MachineRelation, state_of, used_for}
 use Rattle.server_history.proofs.state.SlotCommands.{one_said}
 use Rattle.server_history.proofs.state.PortSlots.{free_unused, ready_found, serves_used, still_booked, used_or_not}
@@ -17,7 +17,7 @@ use Rattle.server_history.proofs.state.PortSlots.{free_unused, ready_found, serv
 -- ---- bytes of another slot
 
 -- Where a slot of a ready port serves a request, bytes of another slot may say its command still: then it has ended, and that slot isn't used.
-module _ (laws : LawsBelow) (s : ServerState) (k : InCallInvariant s) (m : Machine) (reached : IsReachable m) (is : MachineRelation s m) (n : ℕ) (ready : state_of (probe_result_of s.ports n) ≡ ReadyState) (e : Pending) (here : Contains m.book e)
+module _ (laws : PrerequisiteLaws) (s : ServerState) (k : InCallInvariant s) (m : Machine) (reached : IsReachable m) (is : MachineRelation s m) (n : ℕ) (ready : state_of (probe_result_of s.ports n) ≡ ReadyState) (e : Pending) (here : Contains m.book e)
     (its : ℕ) (used : SlotUse) (used_is : used_for s.slots n its ≡ Some used) (id_is : used.id ≡ e.request.id) (slot : ℕ) (apart : slot ≢ its)
     (says : ServesRequest m s.device.memory (s.device.port n) n slot e.request.id) where
   pub unused : used_for s.slots n slot ≡ None

@@ -16,10 +16,10 @@ use Rattle.refinement.specs.Links.{DoesNotWrite}
 use Rattle.refinement.specs.Places.{IsTableByte}
 use Rattle.refinement.specs.Readying.{LeavesStored}
 use Rattle.command_table.specs.Written.{IsBlockStore, IsStoreWithBlock, IsTableStore}
-use Rattle.commands.specs.Batches.{IsIssuingOn, IsStoreForBatch, SlotTask, StoresThenWritesAll}
-use Rattle.commands.specs.Tasks.{IsStoreFor, writes_of}
+use Rattle.commands.specs.Batches.{IsBatchAccess, IsStoreForBatch, PlacedTask, StoresThenWritesAll}
+use Rattle.commands.specs.Tasks.{IsStoreFor, issuing_writes}
 use Rattle.port_control.specs.Services.{IsService}
-use Rattle.server_history.specs.Below.{LawsBelow}
+use Rattle.server_history.specs.Prerequisites.{PrerequisiteLaws}
 use Rattle.server_history.proofs.state.TransferAccesses.{issuing_serves}
 
 -- the slots are two
@@ -65,7 +65,7 @@ never_both port slot other k place a b c d apart x y = ⊎_elim
     other_port ne (inr h) (inr i) = omega (arith, a, b, c, d, ne, h.0, h.1, i.0, i.1)
 
 -- an access that serves ports leaves what is stored for a slot, if its store misses header and table
-pub service_leaves_stored : LawsBelow → (other : Port) (k : ℕ) (access : Access) → IsService access
+pub service_leaves_stored : PrerequisiteLaws → (other : Port) (k : ℕ) (access : Access) → IsService access
     → ((at : ℕ) (bytes : List ℕ) (place : ℕ) → access ≡ Storing at bytes → IsTableByte other.0 k place → at ≤ place → place < at + length bytes → ⊥) → LeavesStored other k access
 service_leaves_stored laws other k access is misses = record {
   host = laws.looking.services_spare_host access is;
@@ -86,27 +86,27 @@ never_beyond port other k place a b c block (inr h) = ⊎_elim
     (cases_lt other port)
 
 -- An access that issues a batch: it stores what one of its tasks needs, or writes PxSACT or PxCI.
-abbrev pub IsOfBatch : Port → List SlotTask → Access → Type 0
+abbrev pub IsOfBatch : Port → List PlacedTask → Access → Type 0
 IsOfBatch port tasks access = IsStoreForBatch port.0 tasks access ⊎ ((r : Reg) × (v : ℕ) × (access ≡ Writing r v))
 
 -- so are all that issue it
-pub of_batch : (port : Port) (queued : Bool) (tasks : List SlotTask) (accesses : List Access) → StoresThenWritesAll port queued tasks accesses → All (IsOfBatch port tasks) accesses
+pub of_batch : (port : Port) (queued : Bool) (tasks : List PlacedTask) (accesses : List Access) → StoresThenWritesAll port queued tasks accesses → All (IsOfBatch port tasks) accesses
 of_batch port queued tasks accesses order =
     subst (All (IsOfBatch port tasks)) (sym order.order)
-    (All-append (IsOfBatch port tasks) order.stores (writes_of port queued order.mask) (All-weaker (IsStoreForBatch port.0 tasks) (IsOfBatch port tasks) (λ access is. inl is) order.stores order.only) (writes queued))
+    (All-append (IsOfBatch port tasks) order.stores (issuing_writes port queued order.mask) (All-weaker (IsStoreForBatch port.0 tasks) (IsOfBatch port tasks) (λ access is. inl is) order.stores order.only) (writes queued))
   where
     write : (r : Reg) (v : ℕ) → IsOfBatch port tasks (Writing r v)
     write r v = inr (r, v, refl)
 
-    writes : (b : Bool) → All (IsOfBatch port tasks) (writes_of port b order.mask)
+    writes : (b : Bool) → All (IsOfBatch port tasks) (issuing_writes port b order.mask)
     writes true =
         All-cons (IsOfBatch port tasks) (Writing (Px port Sact) order.mask) (Writing (Px port Ci) order.mask ∷ []) (write (Px port Sact) order.mask)
         (All-cons (IsOfBatch port tasks) (Writing (Px port Ci) order.mask) [] (write (Px port Ci) order.mask) (All-nil (IsOfBatch port tasks)))
     writes false = All-cons (IsOfBatch port tasks) (Writing (Px port Ci) order.mask) [] (write (Px port Ci) order.mask) (All-nil (IsOfBatch port tasks))
 
 -- what issues in some slots leaves what is stored for another
-pub batch_leaves_stored : LawsBelow → (port other : Port) (tasks : List SlotTask) (k : ℕ) → port.0 < 4 → other.0 < 4 → k < 32 → ((t : SlotTask) → Contains tasks t → (t.slot < 32) × AreApart port.0 t.slot other.0 k)
-    → (access : Access) → IsIssuingOn port access → IsOfBatch port tasks access → LeavesStored other k access
+pub batch_leaves_stored : PrerequisiteLaws → (port other : Port) (tasks : List PlacedTask) (k : ℕ) → port.0 < 4 → other.0 < 4 → k < 32 → ((t : PlacedTask) → Contains tasks t → (t.slot < 32) × AreApart port.0 t.slot other.0 k)
+    → (access : Access) → IsBatchAccess port access → IsOfBatch port tasks access → LeavesStored other k access
 batch_leaves_stored laws port other tasks k a c d apart access is (inr (r, v, same)) =
     service_leaves_stored laws other k access (issuing_serves port access is) (λ at bytes place e t from to. let z : Writing r v ≡ Storing at bytes = sym same ∙ e in cc)
 batch_leaves_stored laws port other tasks k a c d apart access is (inl (task, there, store)) = service_leaves_stored laws other k access (issuing_serves port access is) (λ at bytes place e t from to.

@@ -18,12 +18,12 @@ use Rattle.adapter.specs.Memory as memory
 use Rattle.adapter.specs.Rules.{IsOn}
 use Rattle.adapter.specs.Steps.{Steps}
 use Rattle.refinement.specs.Driven.{IsSoleBit, IsDrivenBy, SparesOtherPorts}
-use Rattle.refinement.specs.Facts.{RunsWell, Undisturbed}
+use Rattle.refinement.specs.PortFacts.{RunsWell, Undisturbed}
 use Rattle.command_table.specs.Written.{IsStoreWithBlock, IsTableStore}
 use Rattle.driver_history.specs.Histories.{IsIssuingAccess}
-use Rattle.commands.specs.Batches.{IsIssuingOn}
+use Rattle.commands.specs.Batches.{IsBatchAccess}
 use Rattle.driver_history.specs.Trace.{IsDriversOwn, DoesNotWriteCmd, LeavesEngine, ReadsCiAndSact}
-use Rattle.server_history.specs.Below.{LawsBelow}
+use Rattle.server_history.specs.Prerequisites.{PrerequisiteLaws}
 use Rattle.server_history.specs.Served.{PollsSlots, IsEmptyMask, HasTurnWithoutError, IsMaskOf, is_used}
 use Rattle.slots.specs.Uses.{PortSlots, use_at}
 use Rattle.server_history.proofs.state.TransferAccesses.{both_read, issuing_serves}
@@ -55,13 +55,13 @@ stored_own : (port slot at : ℕ) (bytes : List ℕ) → port < 4 → slot < 32 
 stored_own port slot at bytes low small (inl table) = table_own port slot at bytes low small table
 stored_own port slot at bytes low small (inr block) = let here = block.1 in let size = block.2 in omega (arith, low, here, size)
 
-pub issuing_is : (port : Port) → port.0 < 4 → (access : Access) → IsIssuingOn port access → IsIssuingAccess port access
+pub issuing_is : (port : Port) → port.0 < 4 → (access : Access) → IsBatchAccess port access → IsIssuingAccess port access
 issuing_is port low (Writing r v) here = here
 issuing_is port low (Storing at bytes) (slot, small, is) = stored_own port.0 slot at bytes low small is
 issuing_is port low (Reading r v) here = absurd here
 issuing_is port low (Loading at bytes) here = absurd here
 
-pub issuing_turns : LawsBelow → (port : Port) → port.0 < 4 → (access : Access) → IsIssuingOn port access → IsTurn port access
+pub issuing_turns : PrerequisiteLaws → (port : Port) → port.0 < 4 → (access : Access) → IsBatchAccess port access → IsTurn port access
 issuing_turns laws port low access here = (issuing_serves port access here, (own access (issuing_is port low access here), laws.issuing_of port access here))
   where
     own : (access : Access) → IsIssuingAccess port access → IsDriversOwn access
@@ -71,13 +71,13 @@ issuing_turns laws port low access here = (issuing_serves port access here, (own
     own (Loading at bytes) on = absurd on
 
 -- what serves ports writes neither PxCMD nor PxSCTL, nor GHC
-service_leaves : LawsBelow → (port : Port) (access : Access) → IsService access → LeavesEngine port access
+service_leaves : PrerequisiteLaws → (port : Port) (access : Access) → IsService access → LeavesEngine port access
 service_leaves laws port access here = (laws.looking.services_spare port Cmd (λ e. cc) (λ e. cc) (λ e. cc) access here, laws.looking.services_spare port Sctl (λ e. cc) (λ e. cc) (λ e. cc) access here)
 
-pub issuing_leaves : LawsBelow → (port other : Port) (access : Access) → IsIssuingOn port access → LeavesEngine other access
+pub issuing_leaves : PrerequisiteLaws → (port other : Port) (access : Access) → IsBatchAccess port access → LeavesEngine other access
 issuing_leaves laws port other access here = service_leaves laws other access (issuing_serves port access here)
 
-pub turn_leaves : LawsBelow → (port other : Port) (access : Access) → IsTurn port access → LeavesEngine other access
+pub turn_leaves : PrerequisiteLaws → (port other : Port) (access : Access) → IsTurn port access → LeavesEngine other access
 turn_leaves laws port other access here = service_leaves laws other access here.0
 
 -- ---- a port's turn
@@ -132,7 +132,7 @@ module _ (port : Port) where
     pub calm : IsOn old → RunsWell (old.port port.0) → Undisturbed port.0 old new → t.look ≡ NoEvent
     pub masks : t.look ≡ NoEvent → IsBusy slots → (mask : ℕ) × IsMaskOf slots mask × ((c : PollsSlots port slots mask replies t.seen new) × ReadsCiAndSact port c.reads.issued c.reads.active driven.accesses)
 
-  module _ (laws : LawsBelow) (low : port.0 < 4) (slots : PortSlots) (replies : List Reply) (old new : Device) (t : HasTurnWithoutError port slots replies old new) where
+  module _ (laws : PrerequisiteLaws) (low : port.0 < 4) (slots : PortSlots) (replies : List Reply) (old new : Device) (t : HasTurnWithoutError port slots replies old new) where
     of_all : (driven : IsDrivenBy (IsTurn port) old new) → All (SparesOtherPorts port) driven.accesses
     of_all driven = All-weaker (IsTurn port) (SparesOtherPorts port) (λ access is. is.1.1) driven.accesses driven.only
 

@@ -21,7 +21,7 @@ use Rattle.error_recovery.specs.Recovery.{EndsAsNext, StopsForReset, IsRecoveryA
 use Rattle.error_recovery.specs.declared.Next.{Next}
 use Rattle.error_recovery.specs.declared.Next.TheVariants as next
 use Rattle.error_recovery.specs.declared.Recovered.{Recovered}
-use Rattle.host_boot.specs.Taken.{IsServed, StillStandsBehind, probe_result_of, wanted_of}
+use Rattle.host_boot.specs.TakeOver.{IsServed, StillBacksProbeResult, probe_result_of, wanted_of}
 use Rattle.host_boot.specs.declared.ProbeResult.{ProbeResult}
 use Rattle.host_boot.specs.declared.ProbeResult.TheVariants.{Ready, Unready, Unserved}
 use Rattle.identify.specs.declared.DiskInfo.{DiskInfo}
@@ -30,7 +30,7 @@ use Rattle.port_boot.specs.States.{IsBootable}
 use Rattle.port_control.specs.Ports.{IsStopped}
 use Rattle.port_control.specs.declared.Stopped.{Stopped}
 use Rattle.port_control.specs.Looks.{IsLooking}
-use Rattle.server_history.specs.Below.{LawsBelow}
+use Rattle.server_history.specs.Prerequisites.{PrerequisiteLaws}
 use Rattle.server_history.specs.ErrorHandling.{IsRevalidated}
 use Rattle.server_history.specs.Server.{InCallInvariant, ServerState, last_disk_in, last_disk_of, is_served, no_slots, plain_mode, ports_of, remembered_at, last_sectors_of, last_serial_of, state_of}
 use Rattle.server_history.specs.Probing.{BootsUnreadyPort, IsProbedAnew}
@@ -53,14 +53,14 @@ use Rattle.server_history.proofs.dispositions.RemainingBook.{was_itself}
 -- where it isn't dead, it is no ready one either
 pub never_ready : (s : ServerState) (port : Port) (state : PortState) → InCallInvariant s → probe_result_of s.ports port.0 ≡ Unready state → state ≢ ReadyState
 never_ready s port state k is ready =
-    absurd (subst (λ (f : ProbeResult). StillStandsBehind (wanted_of s.wanted port.0) f port.0 s.device) (is ∙ ap Unready ready) (k.behind port.0 (k.there port.0 (ap is_served is)).0).behind).1
+    absurd (subst (λ (f : ProbeResult). StillBacksProbeResult (wanted_of s.wanted port.0) f port.0 s.device) (is ∙ ap Unready ready) (k.behind port.0 (k.there port.0 (ap is_served is)).0).behind).1
 
 -- it is served
 pub its_service : (s : ServerState) (port : Port) (state : PortState) → InCallInvariant s → probe_result_of s.ports port.0 ≡ Unready state → IsServed (wanted_of s.wanted port.0) port.0 s.device
-its_service s port state k is = (subst (λ (f : ProbeResult). StillStandsBehind (wanted_of s.wanted port.0) f port.0 s.device) is (k.behind port.0 (k.there port.0 (ap is_served is)).0).behind).0
+its_service s port state k is = (subst (λ (f : ProbeResult). StillBacksProbeResult (wanted_of s.wanted port.0) f port.0 s.device) is (k.behind port.0 (k.there port.0 (ap is_served is)).0).behind).0
 
 -- the accesses of a look
-pub looking_part : LawsBelow → (port : Port) (access : Access) → IsLooking port access → IsPart port access
+pub looking_part : PrerequisiteLaws → (port : Port) (access : Access) → IsLooking port access → IsPart port access
 looking_part laws port access is = (own access is, laws.looking.looking_of port access is)
   where
     own : (access : Access) → IsLooking port access → IsDriversOwn access
@@ -69,7 +69,7 @@ looking_part laws port access is = (own access is, laws.looking.looking_of port 
     own (Loading at bytes) is = absurd is
     own (Storing at bytes) is = absurd is
 
-module _ (laws : LawsBelow) (s : ServerState) (seen : Device) (port : Port) (state : PortState) (k : InCallInvariant s) (is : probe_result_of s.ports port.0 ≡ Unready state) (lives : state ≢ DeadState)
+module _ (laws : PrerequisiteLaws) (s : ServerState) (seen : Device) (port : Port) (state : PortState) (k : InCallInvariant s) (is : probe_result_of s.ports port.0 ≡ Unready state) (lives : state ≢ DeadState)
     (looks : IsSimulated (IsLooking port) AnyUse s.device seen) where
   pub low : port.0 < 4
   low = (k.there port.0 (ap is_served is)).0
@@ -146,7 +146,7 @@ interrupted wanted port (next.Running token) old new found none = absurd none
 interrupted wanted port (next.Restart token) old new found is = inl (first_here port [])
 interrupted wanted port next.Dead old new found is = inr (stuck_all port found is.0)
 
-module _ (laws : LawsBelow) (s new : ServerState) (seen : Device) (port : Port) (state : PortState) (k : InCallInvariant s) (is : probe_result_of s.ports port.0 ≡ Unready state) (lives : state ≢ DeadState)
+module _ (laws : PrerequisiteLaws) (s new : ServerState) (seen : Device) (port : Port) (state : PortState) (k : InCallInvariant s) (is : probe_result_of s.ports port.0 ≡ Unready state) (lives : state ≢ DeadState)
     (looks : IsSimulated (IsLooking port) AnyUse s.device seen) (b : BootsUnreadyPort port (record s { device = seen }) new) where
   abbrev g : StopsForReset port 0 true b.anew.result seen b.anew.stopped
   g = b.anew.gives_up
@@ -203,7 +203,7 @@ module _ (laws : LawsBelow) (s new : ServerState) (seen : Device) (port : Port) 
 
   -- a dead port's engine was awaited in vain
   counted : b.found ≡ Unready DeadState → (new.device.port port.0).notes.engine_count ≡ MOST_READINGS
-  counted dead = (subst (λ (f : ProbeResult). StillStandsBehind wanted f port.0 new.device) dead its_stand.behind).1.1
+  counted dead = (subst (λ (f : ProbeResult). StillBacksProbeResult wanted f port.0 new.device) dead its_stand.behind).1.1
 
   -- ---- the accesses
 

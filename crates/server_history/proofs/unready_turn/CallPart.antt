@@ -18,23 +18,23 @@ use Rattle.refinement.specs.Driver.{IsBacked}
 use Rattle.refinement.specs.Slots.{Free, Serves}
 use Rattle.refinement.specs.Spares.{SparesBook}
 use Rattle.block_machine.specs.Due.{NoneDue}
-use Rattle.block_machine.specs.Events.{AllByDevice, AllMay, ShowsRealDisk, ShowsDisk, changes_disk}
+use Rattle.block_machine.specs.Events.{AllByDevice, AllMay, ShownDiskWasInOrCame, ShowsDisk, changes_disk}
 use Rattle.block_machine.specs.Histories.{IsReachable}
-use Rattle.block_machine.specs.Left.{after}
+use Rattle.block_machine.specs.Expected.{after}
 use Rattle.block_machine.specs.State.{Machine, Pending}
 use Rattle.block_machine.specs.Steps.{Step}
 use Rattle.block_machine.specs.declared.due.QueueMode.{QueueMode}
 use Rattle.driver_history.specs.Trace.{IsDriversOwn, LeavesEngine}
 use Rattle.error_recovery.specs.declared.Next.{Next}
 use Rattle.error_recovery.specs.declared.Next.TheVariants as next
-use Rattle.host_boot.specs.Taken.{StillStandsBehind, probe_result_of, wanted_of}
+use Rattle.host_boot.specs.TakeOver.{StillBacksProbeResult, probe_result_of, wanted_of}
 use Rattle.host_boot.specs.declared.ProbeResult.{ProbeResult}
 use Rattle.host_boot.specs.declared.ProbeResult.TheVariants.{Unready, Unserved}
 use Rattle.port_control.specs.Looks.{IsLooking}
 use Rattle.port_control.specs.Services.{IsService}
 use Rattle.request_queue.specs.Entries.{asks_of}
-use Rattle.server_history.specs.Below.{LawsBelow}
-use Rattle.server_history.specs.Server.{QuarantineRelation, InCallInvariant, MachineRelation, PortInvariant, SettledInvariant, ServerState, is_served, mode_at, mode_in, plain_mode, state_of, usable_of, slot_state_of}
+use Rattle.server_history.specs.Prerequisites.{PrerequisiteLaws}
+use Rattle.server_history.specs.Server.{QuarantineRelation, InCallInvariant, MachineRelation, PortInvariant, SettledInvariant, ServerState, is_served, mode_at, mode_in, plain_mode, state_of, usable_slots_of, slot_state_of}
 use Rattle.server_history.specs.Probing.{BootsUnreadyPort, IsProbedAnew, IsLookedAt, ProbesPort}
 use Rattle.server_history.specs.Turns.{IsPortTurn, InProbe, ProbesUnready, abstract_state_of}
 use Rattle.port_control.specs.declared.events.PortError.TheVariants.{TimedOut}
@@ -60,7 +60,7 @@ use Rattle.server_history.proofs.unready_turn.TriedPort.{AddsTried, TellsTried, 
 
 -- ---- it was booted
 
-module _ (laws : LawsBelow) (s new : ServerState) (seen : Device) (port : Port) (state : PortState) (t : SettledInvariant s) (is : probe_result_of s.ports port.0 ≡ Unready state) (lives : state ≢ DeadState)
+module _ (laws : PrerequisiteLaws) (s new : ServerState) (seen : Device) (port : Port) (state : PortState) (t : SettledInvariant s) (is : probe_result_of s.ports port.0 ≡ Unready state) (lives : state ≢ DeadState)
     (looks : IsSimulated (IsLooking port) AnyUse s.device seen) (b : BootsUnreadyPort port (record s { device = seen }) new) where
   abbrev k : InCallInvariant s
   k = t.kept
@@ -102,7 +102,7 @@ module _ (laws : LawsBelow) (s new : ServerState) (seen : Device) (port : Port) 
     -- no slot of it served a request, and none was parked
     none_served : (slot : ℕ) (id : RequestId) → at.uses port.0 slot ≡ Serves id → ⊥
     none_served slot id serves =
-        let none = (k.slots port.0 small).unused slot (subst (λ (f : ProbeResult). usable_of f (mode_at s.modes port.0) ≤ slot) (sym is) (omega arith)) in
+        let none = (k.slots port.0 small).unused slot (subst (λ (f : ProbeResult). usable_slots_of f (mode_at s.modes port.0) ≤ slot) (sym is) (omega arith)) in
         let z : Free ≡ Serves id = sym (ap slot_state_of none) ∙ sym (at.used port.0 slot alive) ∙ serves in absurd cc
 
     unparked : (q : ℕ) → probe_result_of then.ports q ≢ Unready DeadState → p.slots.parked q ≡ []
@@ -163,7 +163,7 @@ module _ (laws : LawsBelow) (s new : ServerState) (seen : Device) (port : Port) 
     devices = devices_both p.passes.steps looked.0 p.passes.only looked.4
 
     -- where it shows a disk then, one was in
-    had : ShowsRealDisk (abstract_state_of s m) steps (abstract_state_of then (after m steps)) port
+    had : ShownDiskWasInOrCame (abstract_state_of s m) steps (abstract_state_of then (after m steps)) port
     had shows = by b.anew.result.next b.anew.is (subst (λ (f : ProbeResult). ShowsDisk (state_of f)) (found_then laws s new seen port state k is lives looks b) shows)
       where
         by : (after_it : Next) → IsProbedAnew (wanted_of s.wanted port.0) port after_it b.anew.stopped new.device b.found → ShowsDisk (state_of b.found) → (m.present port ≡ true) ⊎ (list_any (changes_disk port) steps ≡ true)
@@ -218,7 +218,7 @@ module _ (laws : LawsBelow) (s new : ServerState) (seen : Device) (port : Port) 
 leaving : (port q : Port) (access : Access) → IsLooking port access → LeavesEngine q access
 leaving port q access its = (looking_spares port q Cmd (λ e. let z : Is ≡ Cmd = e in cc) access its, looking_spares port q Sctl (λ e. let z : Is ≡ Sctl = e in cc) access its)
 
-module _ (laws : LawsBelow) (s : ServerState) (seen : Device) (port : Port) (state : PortState) (t : SettledInvariant s) (is : probe_result_of s.ports port.0 ≡ Unready state) (looks : IsSimulated (IsLooking port) AnyUse s.device seen) where
+module _ (laws : PrerequisiteLaws) (s : ServerState) (seen : Device) (port : Port) (state : PortState) (t : SettledInvariant s) (is : probe_result_of s.ports port.0 ≡ Unready state) (looks : IsSimulated (IsLooking port) AnyUse s.device seen) where
   abbrev rest : ServerState
   rest = record s { device = seen }
 
@@ -248,10 +248,10 @@ module _ (laws : LawsBelow) (s : ServerState) (seen : Device) (port : Port) (sta
     its_port =
         let was = t.kept.behind port.0 (low laws s seen port state t.kept is lives looks) in
         record {
-          behind = subst (λ (f : ProbeResult). StillStandsBehind (wanted_of s.wanted port.0) f port.0 seen) (sym is)
+          behind = subst (λ (f : ProbeResult). StillBacksProbeResult (wanted_of s.wanted port.0) f port.0 seen) (sym is)
               (looked_stands laws (wanted_of s.wanted port.0) port state result s.device seen t.kept.on lives l none (laws.looking.services_same s.device seen serves)
               (looking_silent s seen port t.kept laws looks port.0 Identify refl (λ dead. lives (let z : Unready state ≡ Unready DeadState = sym is ∙ dead in cc)))
-              (subst (λ (f : ProbeResult). StillStandsBehind (wanted_of s.wanted port.0) f port.0 s.device) is was.behind));
+              (subst (λ (f : ProbeResult). StillBacksProbeResult (wanted_of s.wanted port.0) f port.0 s.device) is was.behind));
           runs = λ ready. absurd (never ready);
           shown = λ bad. shown_on laws port s.device seen t.kept.on serves (was.shown bad);
           own = λ ready. absurd (never ready);
@@ -303,7 +303,7 @@ dead_or_not (Unfit n) = inr (λ is. let z : Unfit n ≡ DeadState = is in cc)
 dead_or_not DeadState = inl refl
 
 -- A dead port isn't looked at. Another one is, and booted where what it was looked at for was found.
-pub turns : LawsBelow → (s new : ServerState) (port : Port) → SettledInvariant s → (probes : ProbesPort port s new) → (probes.state ≢ DeadState → IsSimulated (IsLooking port) AnyUse s.device probes.seen)
+pub turns : PrerequisiteLaws → (s new : ServerState) (port : Port) → SettledInvariant s → (probes : ProbesPort port s new) → (probes.state ≢ DeadState → IsSimulated (IsLooking port) AnyUse s.device probes.seen)
     → IsPortTurn InProbe port [] s new × SettledInvariant new
 turns laws s new port t probes looks = ⊎_elim
     (λ (dead : probes.state ≡ DeadState).
@@ -318,5 +318,5 @@ turns laws s new port t probes looks = ⊎_elim
     whole_rest : probes.result ≡ false → IsSimulated (IsLooking port) AnyUse s.device probes.seen → InCallInvariant (record s { device = probes.seen }) → IsPortTurn InProbe port [] s new × SettledInvariant new
     whole_rest none its kept = subst (λ (n : ServerState). IsPortTurn InProbe port [] s n × SettledInvariant n) (sym (probes.left none)) (rests laws s probes.seen port probes.state t probes.is its probes.result probes.looks none kept)
 
-pub tried : LawsBelow → (s new : ServerState) (port : Port) → SettledInvariant s → (probes : ProbesPort port s new) → (probes.state ≢ DeadState → IsSimulated (IsLooking port) AnyUse s.device probes.seen) → ProbesUnready port s new × SettledInvariant new
+pub tried : PrerequisiteLaws → (s new : ServerState) (port : Port) → SettledInvariant s → (probes : ProbesPort port s new) → (probes.state ≢ DeadState → IsSimulated (IsLooking port) AnyUse s.device probes.seen) → ProbesUnready port s new × SettledInvariant new
 tried laws s new port t probes looks = let x = turns laws s new port t probes looks in (record { does = probes; part = x.0 }, x.1)

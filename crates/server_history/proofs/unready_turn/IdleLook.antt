@@ -13,18 +13,18 @@ use Rattle.adapter.specs.Access.Access.{Reading}
 use Rattle.adapter.specs.Device.{Device, Notes, DevicePort}
 use Rattle.adapter.specs.Kept.{KeepsControls, KeepsPort}
 use Rattle.adapter.specs.Rules.{IsOn}
-use Rattle.adapter.specs.Seen.{PortRegisterRead}
+use Rattle.adapter.specs.RegisterEffects.{PortRegisterRead}
 use Rattle.adapter.specs.declared.command.Operation.TheVariants.{Identify}
 use Rattle.refinement.specs.Driven.{LeavesPort, GainsNoMove}
 use Rattle.refinement.specs.Links.{SameAdapter}
-use Rattle.host_boot.specs.Taken.{StillStandsBehind}
+use Rattle.host_boot.specs.TakeOver.{StillBacksProbeResult}
 use Rattle.host_boot.specs.declared.ProbeResult.TheVariants.{Unready}
 use Rattle.identify.specs.Wanted.{serial_of}
 use Rattle.identify.specs.declared.wanted.Wanted.{Wanted}
 use Rattle.port_boot.specs.States.{BacksState, HasIdentity, IsUnfit}
 use Rattle.port_control.specs.Ports.{IsStopped, SawDevice}
 use Rattle.port_control.specs.Glances.{FindsChange}
-use Rattle.server_history.specs.Below.{LawsBelow}
+use Rattle.server_history.specs.Prerequisites.{PrerequisiteLaws}
 use Rattle.server_history.specs.Probing.{IsLookedAt}
 use Rattle.server_history.proofs.state.PortGrounds.{left_on}
 use Rattle.server_history.proofs.state.RunningPorts.{link_still}
@@ -64,7 +64,7 @@ but_notes noted old new k c = record {
 abbrev SameButAcknowledged : Notes → Notes → Type 0
 SameButAcknowledged old new = new ≡ record old { acknowledged = new.acknowledged }
 
-module _ (laws : LawsBelow) (wanted : Wanted) (port : Port) (first old new : Device) (v : ℕ) (on : IsOn old) (same : SameAdapter first new)
+module _ (laws : PrerequisiteLaws) (wanted : Wanted) (port : Port) (first old new : Device) (v : ℕ) (on : IsOn old) (same : SameAdapter first new)
     (left : LeavesPort (first.port port.0) (record (old.port port.0) { notes = (first.port port.0).notes })) (noted : SameButAcknowledged (first.port port.0).notes (old.port port.0).notes)
     (reads : Reads (Px port Ssts) v old new) (silent : GainsNoMove port.0 Identify first new) where
   at : PortRegisterRead port.0 Ssts v old new
@@ -140,18 +140,18 @@ module _ (laws : LawsBelow) (wanted : Wanted) (port : Port) (first old new : Dev
   ends Dead lives shows e = absurd (lives refl)
   ends ReadyState lives shows none = absurd none
 
-  stands : (state : Shown) → state ≢ Dead → ShowsAsBefore state v → StillStandsBehind wanted (Unready state) port.0 first → StillStandsBehind wanted (Unready state) port.0 new
+  stands : (state : Shown) → state ≢ Dead → ShowsAsBefore state v → StillBacksProbeResult wanted (Unready state) port.0 first → StillBacksProbeResult wanted (Unready state) port.0 new
   stands state lives shows s =
       let x = left_on laws wanted (Unready state) port.0 first before (record { telling = same.telling; size = same.size; cap = same.cap; pi = same.pi }) left_before (λ _. silent) s in
       (x.0, ends state lives shows x.1)
 
 -- ---- a look
 
-pub looked_stands : (laws : LawsBelow) (wanted : Wanted) (port : Port) (state : Shown) (result : Bool) (old new : Device) → IsOn old → state ≢ Dead → IsLookedAt state port result old new → result ≡ false → SameAdapter old new
-    → GainsNoMove port.0 Identify old new → StillStandsBehind wanted (Unready state) port.0 old → StillStandsBehind wanted (Unready state) port.0 new
+pub looked_stands : (laws : PrerequisiteLaws) (wanted : Wanted) (port : Port) (state : Shown) (result : Bool) (old new : Device) → IsOn old → state ≢ Dead → IsLookedAt state port result old new → result ≡ false → SameAdapter old new
+    → GainsNoMove port.0 Identify old new → StillBacksProbeResult wanted (Unready state) port.0 old → StillBacksProbeResult wanted (Unready state) port.0 new
 looked_stands laws wanted port state result old new on lives looks none same silent s = by state lives looks s
   where
-    change : (its : Shown) → its ≢ Dead → (ShowsAsBefore its ≡ (λ v. v % 16 ≡ 3)) → FindsChange port result old new → StillStandsBehind wanted (Unready its) port.0 old → StillStandsBehind wanted (Unready its) port.0 new
+    change : (its : Shown) → its ≢ Dead → (ShowsAsBefore its ≡ (λ v. v % 16 ≡ 3)) → FindsChange port result old new → StillBacksProbeResult wanted (Unready its) port.0 old → StillBacksProbeResult wanted (Unready its) port.0 new
     change its alive kind f behind =
         let first = laws.looking.seen port Is f.causes old f.seen f.reads on.no_reset in
         let there = laws.looks.access_on (Reading (Px port Is) f.causes) old f.seen on (λ v e. absurd cc) f.reads in
@@ -161,7 +161,7 @@ looked_stands laws wanted port state result old new on lives looks none same sil
         first.notes ∙ ap (λ (yes : Bool). record was { acknowledged = yes }) (sym (ap (λ (n : Notes). n.acknowledged) first.notes)) in
         stands laws wanted port old f.seen new f.status there same (but_notes was (old.port port.0) (f.seen.port port.0) (first.keeps.port port.0) (first.keeps.on.controls port.0)) noted f.shows silent its alive (subst (λ (P : ℕ → Type 0). P f.status) (sym kind) link) behind
 
-    by : (its : Shown) → its ≢ Dead → IsLookedAt its port result old new → StillStandsBehind wanted (Unready its) port.0 old → StillStandsBehind wanted (Unready its) port.0 new
+    by : (its : Shown) → its ≢ Dead → IsLookedAt its port result old new → StillBacksProbeResult wanted (Unready its) port.0 old → StillBacksProbeResult wanted (Unready its) port.0 new
     by Absent alive f behind = stands laws wanted port old old new f.status on same (laws.looking.leaves_none (old.port port.0)) refl f.reads silent Absent alive (unequal (f.status % 16) 3 (sym f.tells ∙ none)) behind
     by Foreign alive f behind = change Foreign alive refl f behind
     by (Unfit cause) alive f behind = change (Unfit cause) alive refl f behind

@@ -12,12 +12,12 @@ use Rattle.adapter.specs.Access.{Access, DoesAll, Reads}
 use Rattle.adapter.specs.Access.Access.{Reading, Writing}
 use Rattle.adapter.specs.Device.{Device, DevicePort}
 use Rattle.adapter.specs.Rules.{IsOn}
-use Rattle.refinement.specs.Driven.{Grows}
+use Rattle.refinement.specs.Driven.{TapeGrows}
 use Rattle.refinement.specs.Errors.{NoDiskComes}
 use Rattle.refinement.specs.Links.{IsPlugEvent, NoPlugEvents}
-use Rattle.refinement.specs.Vacant.{IsFreshIfShown, IsVacant}
+use Rattle.refinement.specs.Vacant.{HasFirstFisIfShown, IsVacant}
 use Rattle.block_machine.specs.Events.{ShowsDisk}
-use Rattle.driver_history.specs.Evidence.{Gains, ShowsChange}
+use Rattle.driver_history.specs.Evidence.{TapeGainsEntry, ShowsChange}
 use Rattle.driver_history.specs.Histories.{HasSignatureOrNoDevice}
 use Rattle.driver_history.specs.Trace.{ResetsLink}
 use Rattle.host_boot.specs.Again.{BootsStopped}
@@ -30,7 +30,7 @@ use Rattle.identify.specs.declared.wanted.Wanted.{Wanted}
 use Rattle.port_boot.specs.States.{BacksState, EndsBeforeStart, EndsAfterStart, IsStateOfFault}
 use Rattle.port_control.specs.Ports.{HasClearErrors}
 use Rattle.port_control.specs.Looks.{IsLooking}
-use Rattle.server_history.specs.Below.{LawsBelow}
+use Rattle.server_history.specs.Prerequisites.{PrerequisiteLaws}
 use Rattle.server_history.specs.Server.{state_of}
 use Rattle.server_history.proofs.any_turn.ToldTrouble.{is_plugging, one_or_none}
 use Rattle.server_history.proofs.any_turn.HeededTrouble.{gains_none}
@@ -45,31 +45,31 @@ split : (early late : List Access) (old new : Device) → DoesAll (early ++ late
 split [] late old new does = (old, refl, does)
 split (access ∷ early) late old new (next, one, rest) = let x = split early late next new rest in (x.0, (next, one, x.1), x.2)
 
-module _ (laws : LawsBelow) (port : Port) where
+module _ (laws : PrerequisiteLaws) (port : Port) where
   -- the first and the second of two parts, each by accesses
-  pub none_parts : (old mid new : Device) → Grows old mid → Grows mid new → NoDiskComes port.0 old new → NoDiskComes port.0 old mid × NoDiskComes port.0 mid new
+  pub none_parts : (old mid new : Device) → TapeGrows old mid → TapeGrows mid new → NoDiskComes port.0 old new → NoDiskComes port.0 old mid × NoDiskComes port.0 mid new
   none_parts old mid new early late none = laws.looks.tape.comes_parts port.0 old mid new early.0 late.0 early.1 late.1 none
 
   pub stays_vacant : (accesses : List Access) (old new : Device) → DoesAll accesses old new → NoDiskComes port.0 old new → IsVacant (old.port port.0) → IsVacant (new.port port.0)
   stays_vacant = stays_so laws port IsVacant (laws.vacant_on port)
 
   -- once the link was reset, the first FIS of a disk that shows has come
-  reset_fresh : (accesses : List Access) (old new : Device) → ResetsLink port accesses → DoesAll accesses old new → NoDiskComes port.0 old new → IsFreshIfShown (new.port port.0)
+  reset_fresh : (accesses : List Access) (old new : Device) → ResetsLink port accesses → DoesAll accesses old new → NoDiskComes port.0 old new → HasFirstFisIfShown (new.port port.0)
   reset_fresh accesses old new r does none =
       let rest = r.between ++ (Writing (Px port Sctl) r.ending ∷ r.later) in
       let x = split r.before (Writing (Px port Sctl) r.sending ∷ rest) old new (subst (λ (list : List Access). DoesAll list old new) r.here does) in
       let sent = x.2.0 in
       let early = laws.looks.tape.grows_more old x.0 sent (grows_over laws r.before old x.0 x.1) (laws.looks.tape.access_grows (Writing (Px port Sctl) r.sending) x.0 sent x.2.1) in
-      stays_so laws port IsFreshIfShown (laws.fresh_on port) rest sent new x.2.2 (none_parts old sent new early (grows_over laws rest sent new x.2.2) none).1 (laws.fresh_reset port r.sending x.0 sent r.sends x.2.1)
+      stays_so laws port HasFirstFisIfShown (laws.fresh_on port) rest sent new x.2.2 (none_parts old sent new early (grows_over laws rest sent new x.2.2) none).1 (laws.fresh_reset port r.sending x.0 sent r.sends x.2.1)
 
-  fresh_or_gone : (p : DevicePort) → IsFreshIfShown p → HasSignatureOrNoDevice p
+  fresh_or_gone : (p : DevicePort) → HasFirstFisIfShown p → HasSignatureOrNoDevice p
   fresh_or_gone p fresh = ⊎_elim (λ (shows : p.ssts_det ≡ 3). inl (fresh shows)) (λ (gone : p.ssts_det ≢ 3). inr gone) (cases_eq p.ssts_det 3)
 
   pub reset_fresh_or_gone : (accesses : List Access) (old new : Device) → ResetsLink port accesses → DoesAll accesses old new → NoDiskComes port.0 old new → HasSignatureOrNoDevice (new.port port.0)
   reset_fresh_or_gone accesses old new r does none = fresh_or_gone (new.port port.0) (reset_fresh accesses old new r does none)
 
   -- a device that showed, and shows no more, has gone
-  pub has_gone : (v : ℕ) (old new : Device) → IsOn old → Reads (Px port Ssts) v old new → (old.port port.0).ssts_det ≡ 3 → (new.port port.0).ssts_det ≢ 3 → Gains (IsPlugEvent port.0) old new
+  pub has_gone : (v : ℕ) (old new : Device) → IsOn old → Reads (Px port Ssts) v old new → (old.port port.0).ssts_det ≡ 3 → (new.port port.0).ssts_det ≢ 3 → TapeGainsEntry (IsPlugEvent port.0) old new
   has_gone v old new on reads shows gone =
       let grows = laws.looks.tape.access_grows (Reading (Px port Ssts) v) old new reads in
       ⊎_elim
@@ -85,7 +85,7 @@ record KeepsChange (port : ℕ) (old new : Device) : Type 0 where
   disk : (new.port port).serr_n ≡ false → ((old.port port).serr_n ≡ false) × NoPlugEvents port old new
   came : (old.port port).serr_x ≡ true → (new.port port).serr_x ≡ true
 
-module _ (laws : LawsBelow) (port : Port) where
+module _ (laws : PrerequisiteLaws) (port : Port) where
   change_over : (accesses : List Access) (old new : Device) → IsOn old → All (IsLooking port) accesses → DoesAll accesses old new → KeepsChange port.0 old new
   change_over [] old new on all is = subst (KeepsChange port.0 old) (sym is) (record { disk = λ clear. (clear, laws.looks.tape.plugs_none port.0 old); came = λ came. came })
   change_over (access ∷ accesses) old new on all (mid, does, rest) =
@@ -100,7 +100,7 @@ module _ (laws : LawsBelow) (port : Port) where
       }
 
   -- what the link told before, and what came, is shown still
-  pub change_shown : (accesses : List Access) (old new : Device) → IsOn old → All (IsLooking port) accesses → DoesAll accesses old new → ShowsChange (old.port port.0) ⊎ Gains (IsPlugEvent port.0) old new → ShowsChange (new.port port.0)
+  pub change_shown : (accesses : List Access) (old new : Device) → IsOn old → All (IsLooking port) accesses → DoesAll accesses old new → ShowsChange (old.port port.0) ⊎ TapeGainsEntry (IsPlugEvent port.0) old new → ShowsChange (new.port port.0)
   change_shown accesses old new on all does port_error = ⊎_elim
       (λ (is : (new.port port.0).serr_n ≡ true). inl is)
       (λ (clear : (new.port port.0).serr_n ≡ false).

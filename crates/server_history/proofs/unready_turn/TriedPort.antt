@@ -12,22 +12,22 @@ use Rattle.adapter.specs.Access.{Access}
 use Rattle.adapter.specs.declared.access.DeviceStep.{DeviceStep}
 use Rattle.refinement.specs.Driver.{IsBacked}
 use Rattle.refinement.specs.Errors.{NoDiskComes}
-use Rattle.block_machine.specs.Events.{AllByDevice, AllMay, ShowsRealDisk, Served, Service, RepliesMatch, AnswersAllUnplugged}
-use Rattle.block_machine.specs.Left.{after}
+use Rattle.block_machine.specs.Events.{AllByDevice, AllMay, ShownDiskWasInOrCame, Served, Service, RepliesMatch, AnswersAllUnplugged}
+use Rattle.block_machine.specs.Expected.{after}
 use Rattle.block_machine.specs.Ports.{Evidence, IsStoppedOrStuck, IsServiced, SamePort}
 use Rattle.block_machine.specs.State.{Machine}
 use Rattle.block_machine.specs.Steps.{Step}
 use Rattle.driver_history.specs.Heeding.{OnlyFailedPortsRequeue}
 use Rattle.driver_history.specs.Evidence.{IsEvidencedOf}
 use Rattle.driver_history.specs.Histories.{LosesNoPortError, RunsWellAnew, ProbesDisk}
-use Rattle.driver_history.specs.Holds.{HasNoUnanswered}
+use Rattle.driver_history.specs.PortInvariants.{HasNoUnanswered}
 use Rattle.driver_history.specs.Trace.{LeavesEngine, ResetsLink}
 use Rattle.driver_history.specs.Parts.{EndsNoLinkDue}
-use Rattle.host_boot.specs.Taken.{probe_result_of}
-use Rattle.port_control.specs.Engines.{Sticks, Stops}
+use Rattle.host_boot.specs.TakeOver.{probe_result_of}
+use Rattle.port_control.specs.Engines.{EngineSticks, Stops}
 use Rattle.request_queue.specs.Entries.{BookEntry}
 use Rattle.request_queue.specs.Machine.{EntryRelation}
-use Rattle.server_history.specs.Below.{LawsBelow}
+use Rattle.server_history.specs.Prerequisites.{PrerequisiteLaws}
 use Rattle.server_history.specs.Server.{InCallInvariant, MachineRelation, SettledInvariant, ServerState, mode_in, ports_of, state_of}
 use Rattle.server_history.specs.Turns.{InService, InProbe, IsOfTurn, SimulatesTurn, NamesOnly, MeetsTurnDuty, TurnCorresponds, joint_state_of, abstract_state_of}
 use Rattle.server_history.proofs.state.AnswerSteps.{no_answer}
@@ -50,7 +50,7 @@ pub record TellsTried (port : Port) (stopped stuck : List Port) (accesses : List
   pub becomes : IsServiced (ports_of old) (evidence_tried stopped stuck) (ports_of new) port
   pub engine : All (LeavesEngine port) accesses ⊎ IsStoppedOrStuck (evidence_tried stopped stuck) port
   pub stops : Contains stopped port → Stops port accesses
-  pub sticks : Contains stuck port → Sticks port accesses × ((new.device.port port.0).notes.engine_count ≡ MOST_READINGS)
+  pub sticks : Contains stuck port → EngineSticks port accesses × ((new.device.port port.0).notes.engine_count ≡ MOST_READINGS)
 
 -- The device's steps lead a machine that stands for the one server to one that stands for the other.
 pub record AddsTried (port : Port) (old new : ServerState) (m : Machine) : Type 0 where
@@ -59,7 +59,7 @@ pub record AddsTried (port : Port) (old new : ServerState) (m : Machine) : Type 
   pub may : AllMay m steps
   pub stands : MachineRelation new (after m steps)
   pub backed : IsBacked old.device new.device m steps
-  pub disk : SamePort (ports_of old) (ports_of new) port ⊎ ShowsRealDisk (abstract_state_of old m) steps (abstract_state_of new (after m steps)) port
+  pub disk : SamePort (ports_of old) (ports_of new) port ⊎ ShownDiskWasInOrCame (abstract_state_of old m) steps (abstract_state_of new (after m steps)) port
 
 -- What the turn has done of the port besides: where no disk of it came, what is there was tried, after which no link is due; it was booted anew, unless it is what it was, or dead or
 -- absent; and no trouble of it is lost.
@@ -72,7 +72,7 @@ pub record DoesTried (port : Port) (evidence : Evidence) (accesses : List Access
 
 -- ---- what such a turn makes of a machine
 
-module _ (laws : LawsBelow) (port : Port) (old : ServerState) (k : InCallInvariant old) (unready : state_of (probe_result_of old.ports port.0) ≢ ReadyState) where
+module _ (laws : PrerequisiteLaws) (port : Port) (old : ServerState) (k : InCallInvariant old) (unready : state_of (probe_result_of old.ports port.0) ≢ ReadyState) where
   -- none of its requests is unanswered
   pub none_held : (e : BookEntry) → Contains old.book e → e.entry.port ≢ port
   none_held e here same = unready (ap (λ (q : Port). state_of (probe_result_of old.ports q.0)) (sym same) ∙ of_ready old k e here)

@@ -14,7 +14,7 @@ use Rattle.adapter.specs.Device.{Device}
 use Rattle.adapter.specs.Rules.{IsOn}
 use Rattle.refinement.specs.Driven.{AnyUse, IsSimulated, IsDrivenBy}
 use Rattle.refinement.specs.Errors.{NoDiskComes, IsFatalOf}
-use Rattle.refinement.specs.Facts.{IsFaultOf, RunsWell}
+use Rattle.refinement.specs.PortFacts.{IsFaultOf, RunsWell}
 use Rattle.refinement.specs.Links.{NoPlugEvents}
 use Rattle.refinement.specs.Vacant.{IsVacant}
 use Rattle.block_machine.specs.Events.{ShowsDisk}
@@ -27,7 +27,7 @@ use Rattle.error_recovery.specs.Evidence.{GainsSinceStart, HidesNoTrouble}
 use Rattle.error_recovery.specs.declared.Next.{Next}
 use Rattle.error_recovery.specs.declared.Next.TheVariants as next
 use Rattle.host_boot.specs.Again.{RebootsPort}
-use Rattle.host_boot.specs.Taken.{FoundBadDisk, probe_result_of, wanted_of}
+use Rattle.host_boot.specs.TakeOver.{FoundBadDisk, probe_result_of, wanted_of}
 use Rattle.host_boot.specs.declared.Booted.{Booted}
 use Rattle.host_boot.specs.declared.ProbeResult.{ProbeResult}
 use Rattle.host_boot.specs.declared.ProbeResult.TheVariants.{Ready, Unready}
@@ -35,7 +35,7 @@ use Rattle.identify.specs.declared.DiskInfo.{DiskInfo}
 use Rattle.port_control.specs.declared.Stopped.{Stopped}
 use Rattle.port_control.specs.Glances.{FindsChange, FindsDevice}
 use Rattle.port_control.specs.Looks.{IsLooking}
-use Rattle.server_history.specs.Below.{LawsBelow}
+use Rattle.server_history.specs.Prerequisites.{PrerequisiteLaws}
 use Rattle.server_history.specs.Server.{InCallInvariant, ServerState, is_served, ports_of, state_of}
 use Rattle.server_history.specs.Probing.{BootsUnreadyPort, IsProbedAnew, IsLookedAt}
 use Rattle.server_history.specs.Turns.{joint_state_of}
@@ -68,7 +68,7 @@ module _ (s : ServerState) (port : Port) (state : PortState) (k : InCallInvarian
 
   -- ---- it was looked at, and that is all
 
-  module _ (laws : LawsBelow) (seen : Device) (result : Bool) (l : IsLookedAt state port result s.device seen) (none : result ≡ false) where
+  module _ (laws : PrerequisiteLaws) (seen : Device) (result : Bool) (l : IsLookedAt state port result s.device seen) (none : result ≡ false) where
     device_found : (ports_of s).state port ≡ Absent → FindsDevice port result s.device seen
     device_found absent = subst (λ (its : PortState). IsLookedAt its port result s.device seen) (sym (ap state_of is) ∙ absent) l
 
@@ -127,7 +127,7 @@ module _ (s : ServerState) (port : Port) (state : PortState) (k : InCallInvarian
 
 -- ---- it was booted
 
-module _ (laws : LawsBelow) (s new : ServerState) (seen : Device) (port : Port) (state : PortState) (k : InCallInvariant s) (is : probe_result_of s.ports port.0 ≡ Unready state) (lives : state ≢ DeadState)
+module _ (laws : PrerequisiteLaws) (s new : ServerState) (seen : Device) (port : Port) (state : PortState) (k : InCallInvariant s) (is : probe_result_of s.ports port.0 ≡ Unready state) (lives : state ≢ DeadState)
     (looks : IsSimulated (IsLooking port) AnyUse s.device seen) (b : BootsUnreadyPort port (record s { device = seen }) new) where
   abbrev then : ServerState
   then = then_is laws s new seen port state k is lives looks b

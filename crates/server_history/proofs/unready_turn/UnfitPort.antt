@@ -2,7 +2,7 @@
 use Rattle.std.proofs.Common.{ℕ, true, ◌≡◌, ◌≢◌, ◌⊎◌, refl, sym, ◌∙◌, subst, inl, inr}
 use Rattle.ata_types.specs.declared.PortState.{PortState}
 use Rattle.ata_types.specs.declared.PortState.TheVariants.{Absent, Dead, Foreign, Ready as ReadyState, Unfit}
-use Rattle.host_boot.specs.Taken.{FoundBadDisk}
+use Rattle.host_boot.specs.TakeOver.{FoundBadDisk}
 use Rattle.host_boot.specs.declared.ProbeResult.{ProbeResult}
 use Rattle.host_boot.specs.declared.ProbeResult.TheVariants.{Ready, Unready, Unserved}
 use Rattle.server_history.specs.Server.{is_served, state_of}

@@ -18,25 +18,25 @@ use Rattle.adapter.specs.Rules.{IsOn}
 use Rattle.refinement.specs.Relation.{port_at}
 use Rattle.refinement.specs.Driven.{IsDrivenBy, SparesOtherPorts}
 use Rattle.refinement.specs.Slots.{IsMove, ServesRequest}
-use Rattle.block_machine.specs.Events.{AbstractCall, AllLawful, AreStepsOfCall, IsIssuedIn, AbstractState, Served, ShowsDisk, WasIssued, changes_disk, issues_it}
+use Rattle.block_machine.specs.Events.{AbstractCall, AllAnswersLawful, AreStepsOfCall, IsIssuedIn, AbstractState, Served, ShowsDisk, WasIssued, changes_disk, issues_it}
 use Rattle.block_machine.specs.Histories.{JointState, IsReachable}
-use Rattle.block_machine.specs.Left.{after}
+use Rattle.block_machine.specs.Expected.{after}
 use Rattle.block_machine.specs.Ports.{Evidence, RequestFault, Ports, SameDisk, SamePort}
 use Rattle.block_machine.specs.Due.{of_port}
 use Rattle.block_machine.specs.State.{Pending, Machine, unanswered}
 use Rattle.block_machine.specs.declared.due.Unanswered.{Unanswered}
 use Rattle.block_machine.specs.Steps.{Step}
 use Rattle.server_history.proofs.state.ListMembers.{map_in}
-use Rattle.host_boot.specs.Taken.{probe_result_of}
+use Rattle.host_boot.specs.TakeOver.{probe_result_of}
 use Rattle.host_boot.specs.declared.ProbeResult.{ProbeResult}
 use Rattle.host_boot.specs.declared.ProbeResult.TheVariants.{Unserved, Ready, Unready}
 use Rattle.driver_history.specs.Evidence.{FailsPlain, FailsQueued, IsEvidencedOf}
 use Rattle.error_recovery.specs.Evidence.{BringsLog, HasFailed}
 use Rattle.driver_history.specs.Histories.{IssuesDue}
-use Rattle.driver_history.specs.Parts.{HasTurnIn, IsOfOther, EvidenceAgreesOn}
+use Rattle.driver_history.specs.Parts.{HasTurnIn, IsOfOtherPort, EvidenceAgreesOn}
 use Rattle.driver_history.specs.Trace.{IsAccessForPorts}
-use Rattle.server_history.specs.Below.{LawsBelow}
-use Rattle.server_history.specs.Turns.{IsPortTurn, IsOfCommand, IsStepOf, SimulatesTurn, EachPortTakesTurn, TellsFault, abstract_state_of}
+use Rattle.server_history.specs.Prerequisites.{PrerequisiteLaws}
+use Rattle.server_history.specs.Turns.{IsPortTurn, IsFaultOfCommand, IsStepOf, SimulatesTurn, EachPortTakesTurn, TellsFault, abstract_state_of}
 use Rattle.server_history.specs.Server.{ServerState, InCallInvariant, MachineRelation, SettledInvariant, is_served, mode_in, ports_of, state_of, used_for}
 use Rattle.server_history.proofs.state.DueRequests.{same_book}
 use Rattle.server_history.proofs.any_turn.TurnSteps.{answered_own, issued_before, stood}
@@ -56,7 +56,7 @@ use Rattle.server_history.proofs.any_turn.JoinedParts.{AreToldBelow, NamesSome, 
 same_some : {X : Type 0} {a b : X} → Some a ≡ Some b → a ≡ b
 same_some is = cc
 
-module _ (plan : Plan) (laws : LawsBelow) (s : ServerState) (start : SettledInvariant s) (old : AbstractState) (reached : IsReachable old.machine) (at : MachineRelation s old.machine) (ports_are : old.ports ≡ ports_of s) where
+module _ (plan : Plan) (laws : PrerequisiteLaws) (s : ServerState) (start : SettledInvariant s) (old : AbstractState) (reached : IsReachable old.machine) (at : MachineRelation s old.machine) (ports_are : old.ports ≡ ports_of s) where
   abbrev kept : InCallInvariant s
   kept = start.kept
 
@@ -126,8 +126,8 @@ module _ (plan : Plan) (laws : LawsBelow) (s : ServerState) (start : SettledInva
     earlier q lt same = let is : q.0 ≡ n = ap (λ (r : Port). r.0) same in omega (arith, lt, is)
 
     -- the turn's accesses are of another port then
-    of_other : (q : Port) → q.0 ≢ n → All (IsOfOther q) part.accesses
-    of_other q ne = All-weaker (SparesOtherPorts (port_at n)) (IsOfOther q) (λ access of. (port_at n, ne, of)) part.accesses part.of
+    of_other : (q : Port) → q.0 ≢ n → All (IsOfOtherPort q) part.accesses
+    of_other q ne = All-weaker (SparesOtherPorts (port_at n)) (IsOfOtherPort q) (λ access of. (port_at n, ne, of)) part.accesses part.of
 
     same_n : SamePort old.ports (ports_of c) (port_at n)
     same_n = subst (λ (ports : Ports). SamePort ports (ports_of c) (port_at n)) (sym ports_are) (same_at s c (port_at n) (p.found (port_at n) not_yet) (p.remembered (port_at n) not_yet) (p.modes (port_at n) not_yet))
@@ -161,7 +161,7 @@ module _ (plan : Plan) (laws : LawsBelow) (s : ServerState) (start : SettledInva
       then = part.does;
       last = refl;
       others = p.others (port_at n) not_yet;
-      others_later = All-nil (IsOfOther (port_at n));
+      others_later = All-nil (IsOfOtherPort (port_at n));
     }
 
     -- an earlier port's part of it
@@ -175,7 +175,7 @@ module _ (plan : Plan) (laws : LawsBelow) (s : ServerState) (start : SettledInva
       first = refl;
       then = p.does;
       last = part.does;
-      others = All-nil (IsOfOther q);
+      others = All-nil (IsOfOtherPort q);
       others_later = of_other q ne;
     }
 
@@ -275,7 +275,7 @@ module _ (plan : Plan) (laws : LawsBelow) (s : ServerState) (start : SettledInva
 
     -- ---- what is lawful
 
-    joined_lawful : AllLawful old evidence (ports_of mid) all
+    joined_lawful : AllAnswersLawful old evidence (ports_of mid) all
     joined_lawful = lawful_join old evidence (ports_of mid) x.steps p.steps
         (lawful_on (abstract_state_of c m) old x.evidence evidence (ports_of mid) (ports_of mid) x.steps
         (λ e o here.
@@ -397,7 +397,7 @@ module _ (plan : Plan) (laws : LawsBelow) (s : ServerState) (start : SettledInva
 
       plainly : f.used.queued ≡ false → FailsPlain began mid.device accesses by.serves.pending f.slot told
       plainly plain =
-          let i : IsOfCommand false (port_at n) part.accesses c.device mid.device f.slot told = subst (λ (b : Bool). IsOfCommand b (port_at n) part.accesses c.device mid.device f.slot told) plain f.its in
+          let i : IsFaultOfCommand false (port_at n) part.accesses c.device mid.device f.slot told = subst (λ (b : Bool). IsFaultOfCommand b (port_at n) part.accesses c.device mid.device f.slot told) plain f.its in
           record {
             alone = λ other there own issued. alone plain other there (own ∙ port_is) issued;
             fault = i.0;
@@ -409,7 +409,7 @@ module _ (plan : Plan) (laws : LawsBelow) (s : ServerState) (start : SettledInva
 
       by_log : f.used.queued ≡ true → FailsQueued began mid.device accesses by.serves.pending f.slot told
       by_log queued =
-          let i : IsOfCommand true (port_at n) part.accesses c.device mid.device f.slot told = subst (λ (b : Bool). IsOfCommand b (port_at n) part.accesses c.device mid.device f.slot told) queued f.its in
+          let i : IsFaultOfCommand true (port_at n) part.accesses c.device mid.device f.slot told = subst (λ (b : Bool). IsFaultOfCommand b (port_at n) part.accesses c.device mid.device f.slot told) queued f.its in
           record {
             fault = i.0.0;
             failed = subst (λ (q : Port). HasFailed q accesses s.device mid.device i.0.0) (sym port_is) (its_failed i.0.0 i.0.1);
@@ -486,7 +486,7 @@ module _ (plan : Plan) (laws : LawsBelow) (s : ServerState) (start : SettledInva
       does = laws.basic.does_append p.accesses part.accesses s.device c.device mid.device p.does part.does;
       serving = All-append (IsAccessForPorts (Uses plan old.ports)) p.accesses part.accesses p.serving
           (serving laws n plan (probe_result_of s.ports n) old.ports (ap (λ (ports : Ports). ports.served (port_at n)) ports_are) (state_was (port_at n)) takes its c mid m part x);
-      others = λ q none. All-append (IsOfOther q) p.accesses part.accesses
+      others = λ q none. All-append (IsOfOtherPort q) p.accesses part.accesses
           (p.others q (λ served. let lt = served.0 in none (omega (arith, lt), served.1)))
           (of_other q (λ is. none (omega (arith, is), takes_at q.0 is)));
       steps = all;

@@ -19,15 +19,15 @@ use Rattle.refinement.specs.Driven.{SparesOtherPorts}
 use Rattle.refinement.specs.Links.{DoesNotWrite}
 use Rattle.block_machine.specs.Events.{AbstractState}
 use Rattle.block_machine.specs.Histories.{JointState, IsReachable}
-use Rattle.block_machine.specs.Left.{after}
+use Rattle.block_machine.specs.Expected.{after}
 use Rattle.block_machine.specs.Ports.{Evidence, Ports, SameDisk, SamePort}
 use Rattle.block_machine.specs.State.{Machine, Pending}
 use Rattle.block_machine.specs.Steps.{Step, Again, Answer}
-use Rattle.driver_history.specs.Parts.{IsOfOther, EvidenceAgreesOn}
+use Rattle.driver_history.specs.Parts.{IsOfOtherPort, EvidenceAgreesOn}
 use Rattle.driver_history.specs.Trace.{IsDriversOwn, IsAccessForPorts, LeavesEngine, ResetsLink}
-use Rattle.host_boot.specs.Taken.{probe_result_of}
+use Rattle.host_boot.specs.TakeOver.{probe_result_of}
 use Rattle.host_boot.specs.declared.ProbeResult.{ProbeResult}
-use Rattle.server_history.specs.Below.{LawsBelow}
+use Rattle.server_history.specs.Prerequisites.{PrerequisiteLaws}
 use Rattle.server_history.specs.Server.{ServerState, MachineRelation, SettledInvariant, is_served, ports_of, state_of}
 use Rattle.server_history.specs.Turns.{AtRest, IsPortTurn, InRestart, SimulatesTurn, MeetsTurnDuty, RestartsPort, TurnCorresponds}
 use Rattle.server_history.proofs.whole_call.EarlierResults as carrying
@@ -75,7 +75,7 @@ resets_since port early late r = record {
 }
 
 -- a turn's accesses serve ports that the call uses
-module _ (laws : LawsBelow) (n : ℕ) where
+module _ (laws : PrerequisiteLaws) (n : ℕ) where
   of_such : (Such : Port → Type 0) → Such (port_at n) → (list : List Access) → All (SparesOtherPorts (port_at n)) list → All IsDriversOwn list → All (IsAccessForPorts Such) list
   of_such Such its [] of own = All-nil (IsAccessForPorts Such)
   of_such Such its (access ∷ list) of own = All-cons (IsAccessForPorts Such) access list
@@ -103,7 +103,7 @@ module _ (laws : LawsBelow) (n : ℕ) where
 
 -- ---- a tick
 
-module _ (hung : ℕ → Bool) (laws : LawsBelow) (s : ServerState) (start : SettledInvariant s) (old : AbstractState) (reached : IsReachable old.machine) (at : MachineRelation s old.machine) (ports_are : old.ports ≡ ports_of s) where
+module _ (hung : ℕ → Bool) (laws : PrerequisiteLaws) (s : ServerState) (start : SettledInvariant s) (old : AbstractState) (reached : IsReachable old.machine) (at : MachineRelation s old.machine) (ports_are : old.ports ≡ ports_of s) where
   abbrev plan : Plan
   plan = ATick hung
 
@@ -165,7 +165,7 @@ module _ (hung : ℕ → Bool) (laws : LawsBelow) (s : ServerState) (start : Set
 
       rested : hung n ≡ false → HasRested old (port_at n) accesses mid evidence all
       rested not_so = record {
-        others = subst (λ (list : List Access). All (IsOfOther (port_at n)) (p.accesses ++ list)) (sym rests.0) (subst (All (IsOfOther (port_at n))) (sym (append-nil p.accesses))
+        others = subst (λ (list : List Access). All (IsOfOtherPort (port_at n)) (p.accesses ++ list)) (sym rests.0) (subst (All (IsOfOtherPort (port_at n))) (sym (append-nil p.accesses))
             (p.others (port_at n) (lifting.not_yet plan laws s start old reached at ports_are n c mid before its p next part m_reached on_mid)));
         same = ⊎_elim
             (λ same. same_then old.ports (ports_of c) (ports_of mid) (port_at n) same_n same)
@@ -204,8 +204,8 @@ module _ (hung : ℕ → Bool) (laws : LawsBelow) (s : ServerState) (start : Set
     abbrev accesses_then : List Access
     accesses_then = p.accesses ++ part.accesses
 
-    of_others : All (IsOfOther q) part.accesses
-    of_others = All-weaker (SparesOtherPorts (port_at n)) (IsOfOther q) (λ access of. (port_at n, carrying.other plan laws s start old reached at ports_are n c mid before its p part m_reached q apart, of)) part.accesses part.of
+    of_others : All (IsOfOtherPort q) part.accesses
+    of_others = All-weaker (SparesOtherPorts (port_at n)) (IsOfOtherPort q) (λ access of. (port_at n, carrying.other plan laws s start old reached at ports_are n c mid before its p part m_reached q apart, of)) part.accesses part.of
 
     pub still_ticked : HasTicked hung s old q accesses_then mid evidence steps_then
     still_ticked = record {
@@ -231,7 +231,7 @@ module _ (hung : ℕ → Bool) (laws : LawsBelow) (s : ServerState) (start : Set
       rested = λ not.
           let r = d.ties.rested not in
           record {
-            others = All-append (IsOfOther q) p.accesses part.accesses r.others of_others;
+            others = All-append (IsOfOtherPort q) p.accesses part.accesses r.others of_others;
             same = same_then old.ports (ports_of c) (ports_of mid) q r.same same;
             uninterrupted = λ i. r.uninterrupted (carrying.unnamed plan laws s start old reached at ports_are n c mid before its p part m_reached q apart evidence alike i);
             again = λ e here own. ⊎_elim
@@ -247,7 +247,7 @@ module _ (hung : ℕ → Bool) (laws : LawsBelow) (s : ServerState) (start : Set
 
 -- ---- both
 
-pub ties_turned : (plan : Plan) (laws : LawsBelow) (s : ServerState) (start : SettledInvariant s) (old : AbstractState) (reached : IsReachable old.machine) (at : MachineRelation s old.machine) (ports_are : old.ports ≡ ports_of s) (n : ℕ) (c mid : ServerState) (before its : List Reply)
+pub ties_turned : (plan : Plan) (laws : PrerequisiteLaws) (s : ServerState) (start : SettledInvariant s) (old : AbstractState) (reached : IsReachable old.machine) (at : MachineRelation s old.machine) (ports_are : old.ports ≡ ports_of s) (n : ℕ) (c mid : ServerState) (before its : List Reply)
     (takes : TakesTurn plan (probe_result_of s.ports n)) (p : progress.Progress plan laws s start old reached at ports_are n c before) (next : SettledInvariant mid) (part : IsPortTurn (turn_at plan (probe_result_of s.ports n) n) (port_at n) its c mid)
     (m_reached : IsReachable (after old.machine p.steps)) (on_mid : IsOn mid.device) (evidence : Evidence) → EvidenceAgreesOn (port_at n) (part.makes (after old.machine p.steps) m_reached p.stands).evidence evidence → SamePort old.ports (ports_of c) (port_at n)
     → TiesSoFar plan s old (port_at n) (p.accesses ++ part.accesses) mid evidence ((part.makes (after old.machine p.steps) m_reached p.stands).steps ++ p.steps)
@@ -261,7 +261,7 @@ ties_turned AService laws s start old reached at ports_are n c mid before its ta
     (ready_or_not (state_of (probe_result_of s.ports n)))
 ties_turned (ATick hung) laws s start old reached at ports_are n c mid before its takes p next part m_reached on_mid evidence alike same_n = ticked hung laws s start old reached at ports_are n c mid before its takes p next part m_reached on_mid evidence alike same_n
 
-pub ties_carried : (plan : Plan) (laws : LawsBelow) (s : ServerState) (start : SettledInvariant s) (old : AbstractState) (reached : IsReachable old.machine) (at : MachineRelation s old.machine) (ports_are : old.ports ≡ ports_of s) (n : ℕ) (c mid : ServerState) (before its : List Reply)
+pub ties_carried : (plan : Plan) (laws : PrerequisiteLaws) (s : ServerState) (start : SettledInvariant s) (old : AbstractState) (reached : IsReachable old.machine) (at : MachineRelation s old.machine) (ports_are : old.ports ≡ ports_of s) (n : ℕ) (c mid : ServerState) (before its : List Reply)
     (p : progress.Progress plan laws s start old reached at ports_are n c before) (part : IsPortTurn (turn_at plan (probe_result_of s.ports n) n) (port_at n) its c mid) (m_reached : IsReachable (after old.machine p.steps)) (q : Port) (apart : q ≢ port_at n)
     (d : progress.IsDone plan laws s start old reached at ports_are c p.accesses p.steps p.evidence q) (evidence : Evidence) (alike : EvidenceAgreesOn q p.evidence evidence) (same : SamePort (ports_of c) (ports_of mid) q)
     → TiesSoFar plan s old q (p.accesses ++ part.accesses) mid evidence ((part.makes (after old.machine p.steps) m_reached p.stands).steps ++ p.steps)

@@ -17,19 +17,19 @@ use Rattle.adapter.specs.Device.{Device}
 use Rattle.refinement.specs.Relation.{port_at}
 use Rattle.refinement.specs.Driven.{SparesOtherPorts}
 use Rattle.refinement.specs.Links.{DoesNotWrite}
-use Rattle.block_machine.specs.Events.{AnswersEnded, ShowsRealDisk, AbstractState, NoneKeepsIssue, ShowsDisk, changes_disk, issues_it}
+use Rattle.block_machine.specs.Events.{AnswersEnded, ShownDiskWasInOrCame, AbstractState, NoneStaysIssued, ShowsDisk, changes_disk, issues_it}
 use Rattle.block_machine.specs.Histories.{JointState, IsReachable}
-use Rattle.block_machine.specs.Left.{after}
+use Rattle.block_machine.specs.Expected.{after}
 use Rattle.block_machine.specs.Ports.{Evidence, IsStoppedOrStuck, Ports, SamePort}
 use Rattle.block_machine.specs.State.{Machine, Pending}
 use Rattle.block_machine.specs.Steps.{Step, Again, Answer}
-use Rattle.host_boot.specs.Taken.{probe_result_of}
+use Rattle.host_boot.specs.TakeOver.{probe_result_of}
 use Rattle.driver_history.specs.Evidence.{ShowsChange, ShowsFailure}
 use Rattle.driver_history.specs.Histories.{FindsDone}
-use Rattle.driver_history.specs.Parts.{HasTurnIn, IsOfOther, EvidenceAgreesOn}
+use Rattle.driver_history.specs.Parts.{HasTurnIn, IsOfOtherPort, EvidenceAgreesOn}
 use Rattle.driver_history.specs.Trace.{IsAccessForPorts, ResetsLink}
-use Rattle.driver_history.specs.Holds.{EngineRuns}
-use Rattle.server_history.specs.Below.{LawsBelow}
+use Rattle.driver_history.specs.PortInvariants.{EngineRuns}
+use Rattle.server_history.specs.Prerequisites.{PrerequisiteLaws}
 use Rattle.server_history.specs.Turns.{IsPortTurn, HandlesShownErrors, SimulatesTurn, abstract_state_of}
 use Rattle.server_history.specs.Server.{ServerState, InCallInvariant, MachineRelation, SettledInvariant, ports_of, state_of}
 use Rattle.server_history.proofs.any_turn.TurnSteps.{others_were}
@@ -40,7 +40,7 @@ use Rattle.server_history.proofs.state.PortSlots.{ready_found}
 use Rattle.server_history.proofs.any_turn.TurnsInOrder.{again_of, answered_of}
 use Rattle.server_history.proofs.any_turn.JoinedParts.{dead_or_not}
 
-module _ (plan : Plan) (laws : LawsBelow) (s : ServerState) (start : SettledInvariant s) (old : AbstractState) (reached : IsReachable old.machine) (at : MachineRelation s old.machine) (ports_are : old.ports ≡ ports_of s) where
+module _ (plan : Plan) (laws : PrerequisiteLaws) (s : ServerState) (start : SettledInvariant s) (old : AbstractState) (reached : IsReachable old.machine) (at : MachineRelation s old.machine) (ports_are : old.ports ≡ ports_of s) where
   abbrev kept : InCallInvariant s
   kept = start.kept
 
@@ -87,8 +87,8 @@ module _ (plan : Plan) (laws : LawsBelow) (s : ServerState) (start : SettledInva
         first = refl;
         then = p.does;
         last = part.does;
-        others = All-nil (IsOfOther q);
-        others_later = All-weaker (SparesOtherPorts (port_at n)) (IsOfOther q) (λ access of. (port_at n, other, of)) part.accesses part.of;
+        others = All-nil (IsOfOtherPort q);
+        others_later = All-weaker (SparesOtherPorts (port_at n)) (IsOfOtherPort q) (λ access of. (port_at n, other, of)) part.accesses part.of;
       }
 
       -- the turn answers nobody of it, and lets nobody of it wait again
@@ -131,7 +131,7 @@ module _ (plan : Plan) (laws : LawsBelow) (s : ServerState) (start : SettledInva
       pub in_turn : (e : Pending) → Contains (after old.machine all).book e → Contains (after m x.steps).book e
       in_turn e here = subst (λ (k : Machine). Contains k.book e) whole_is here
 
-      pub anew_still : NoneKeepsIssue p.steps m q → NoneKeepsIssue all (after old.machine all) q
+      pub anew_still : NoneStaysIssued p.steps m q → NoneStaysIssued all (after old.machine all) q
       anew_still none e here own issued =
           let b = others_were laws (port_at n) m m_reached x.steps x.own x.may e (in_turn e here) (λ is. apart (sym own ∙ is)) in
           issued_early e.request.id x.steps p.steps
@@ -141,7 +141,7 @@ module _ (plan : Plan) (laws : LawsBelow) (s : ServerState) (start : SettledInva
       pub changed_whole : list_any (changes_disk q) p.steps ≡ true → list_any (changes_disk q) all ≡ true
       changed_whole is = any_append (changes_disk q) x.steps p.steps ∙ or_right _ _ is
 
-      pub disk_still : SamePort (ports_of c) (ports_of mid) q → ShowsRealDisk old p.steps (abstract_state_of c m) q → ShowsRealDisk old all (abstract_state_of mid (after old.machine all)) q
+      pub disk_still : SamePort (ports_of c) (ports_of mid) q → ShownDiskWasInOrCame old p.steps (abstract_state_of c m) q → ShownDiskWasInOrCame old all (abstract_state_of mid (after old.machine all)) q
       disk_still same had shows = ⊎_elim (λ present. inl present) (λ changed. inr (changed_whole changed)) (had (subst ShowsDisk same.1 shows))
 
       -- ---- what is named of it

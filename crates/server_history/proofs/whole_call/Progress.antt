@@ -17,19 +17,19 @@ use Rattle.adapter.specs.Commands.{is_queued}
 use Rattle.adapter.specs.Device.{Device}
 use Rattle.adapter.specs.Rules.{IsOn}
 use Rattle.refinement.specs.Driver.{IsBacked}
-use Rattle.block_machine.specs.Events.{AllLawful, AnswersEnded, AreStepsOfCall, ShowsRealDisk, IsToldBefore, AbstractState, NoneKeepsIssue, Served, AnswersAllUnplugged, answers_of, reply_of}
+use Rattle.block_machine.specs.Events.{AllAnswersLawful, AnswersEnded, AreStepsOfCall, ShownDiskWasInOrCame, IsToldBefore, AbstractState, NoneStaysIssued, Served, AnswersAllUnplugged, answers_of, reply_of}
 use Rattle.block_machine.specs.Histories.{JointState, IsReachable}
-use Rattle.block_machine.specs.Left.{after}
+use Rattle.block_machine.specs.Expected.{after}
 use Rattle.block_machine.specs.Ports.{Evidence, RequestFault, IsStoppedOrStuck, IsServiced, Ports, SameDisk, SamePort}
 use Rattle.block_machine.specs.State.{Pending}
 use Rattle.block_machine.specs.Steps.{Step, Again, Answer}
-use Rattle.host_boot.specs.Taken.{probe_result_of}
+use Rattle.host_boot.specs.TakeOver.{probe_result_of}
 use Rattle.driver_history.specs.Evidence.{IsEvidencedOf, IsFaultTold}
 use Rattle.driver_history.specs.Histories.{FindsDone, HasUnservedDisk, IssuesDue, PortCorresponds}
-use Rattle.driver_history.specs.Holds.{HasNoUnanswered}
-use Rattle.driver_history.specs.Parts.{EndsNoLinkDue, IsOfOther}
+use Rattle.driver_history.specs.PortInvariants.{HasNoUnanswered}
+use Rattle.driver_history.specs.Parts.{EndsNoLinkDue, IsOfOtherPort}
 use Rattle.driver_history.specs.Trace.{IsAccessForPorts, LeavesEngine, ResetsLink}
-use Rattle.server_history.specs.Below.{LawsBelow}
+use Rattle.server_history.specs.Prerequisites.{PrerequisiteLaws}
 use Rattle.server_history.specs.Turns.{HandlesShownErrors, InService, IsStepOf, abstract_state_of, happening_of_turn}
 use Rattle.server_history.proofs.whole_call.ServiceAndTick.{AService, ATick, OwesBy, Plan, TakesTurn, Uses, asks_for, owes_nothing, ready_takes}
 use Rattle.server_history.specs.Server.{ServerState, InCallInvariant, MachineRelation, SettledInvariant, mode_at, mode_in, ports_of, remembered_at, slots_at, state_of}
@@ -48,15 +48,15 @@ pub record IsRestarted (old : JointState Device) (port : Port) (accesses : List 
   pub boots : (state_of (probe_result_of c.ports port.0) ≡ Dead) ⊎ ResetsLink port accesses
   pub ended : AnswersEnded old.abstract.machine steps port
   pub interrupts : IsStoppedOrStuck evidence port
-  pub anew : NoneKeepsIssue steps (after old.abstract.machine steps) port
+  pub anew : NoneStaysIssued steps (after old.abstract.machine steps) port
   pub another : (e : Pending) → Contains steps (Answer e Unplugged) → e.request.port ≡ port
       → (state_of (probe_result_of c.ports port.0) ≢ Dead) × (state_of (probe_result_of c.ports port.0) ≡ ReadyState → SameDisk old.abstract.ports (ports_of c) port → ⊥)
-  pub disk : ShowsRealDisk old.abstract steps (abstract_state_of c (after old.abstract.machine steps)) port
+  pub disk : ShownDiskWasInOrCame old.abstract steps (abstract_state_of c (after old.abstract.machine steps)) port
   pub heeds : HandlesShownErrors port accesses old evidence (ports_of c) c.device
 
 -- It has let the port rest.
 pub record HasRested (old : AbstractState) (port : Port) (accesses : List Access) (c : ServerState) (evidence : Evidence) (steps : List Step) : Type 0 where
-  pub others : All (IsOfOther port) accesses
+  pub others : All (IsOfOtherPort port) accesses
   pub same : SamePort old.ports (ports_of c) port
   pub uninterrupted : IsStoppedOrStuck evidence port → ⊥
   pub again : (e : Pending) → Contains steps (Again e) → e.request.port ≢ port
@@ -114,7 +114,7 @@ rested_ties (ATick hung) s old port accesses c evidence steps ports_are not rest
 
 -- ---- and of all
 
-module _ (plan : Plan) (laws : LawsBelow) (s : ServerState) (start : SettledInvariant s) (old : AbstractState) (reached : IsReachable old.machine) (at : MachineRelation s old.machine) (ports_are : old.ports ≡ ports_of s) where
+module _ (plan : Plan) (laws : PrerequisiteLaws) (s : ServerState) (start : SettledInvariant s) (old : AbstractState) (reached : IsReachable old.machine) (at : MachineRelation s old.machine) (ports_are : old.ports ≡ ports_of s) where
   abbrev pub kept : InCallInvariant s
   kept = start.kept
 
@@ -134,7 +134,7 @@ module _ (plan : Plan) (laws : LawsBelow) (s : ServerState) (start : SettledInva
   -- What is so of a port that had its turn, or none, at the end of what was done so far.
   pub record IsDone (c : ServerState) (accesses : List Access) (steps : List Step) (evidence : Evidence) (q : Port) : Type 0 where
     pub becomes : IsServiced old.ports evidence (ports_of c) q
-    pub disk : SamePort old.ports (ports_of c) q ⊎ ShowsRealDisk old steps (abstract_state_of c (after old.machine steps)) q
+    pub disk : SamePort old.ports (ports_of c) q ⊎ ShownDiskWasInOrCame old steps (abstract_state_of c (after old.machine steps)) q
     pub keeps : SameDisk old.ports (ports_of c) q ⊎ HasNoUnanswered (after old.machine steps) q
     pub evidenced : IsEvidencedOf (asks_for plan) (Served []) accesses began (ports_of c) c.device evidence q
     pub ties : TiesSoFar plan s old q accesses c evidence steps
@@ -153,7 +153,7 @@ module _ (plan : Plan) (laws : LawsBelow) (s : ServerState) (start : SettledInva
     pub accesses : List Access
     pub does : DoesAll accesses s.device c.device
     pub serving : All (IsAccessForPorts (Uses plan old.ports)) accesses
-    pub others : (q : Port) → (HadTurn n q → ⊥) → All (IsOfOther q) accesses
+    pub others : (q : Port) → (HadTurn n q → ⊥) → All (IsOfOtherPort q) accesses
     pub steps : List Step
     pub turns : AreTurns old n steps
     pub stands : MachineRelation c (after old.machine steps)
@@ -162,7 +162,7 @@ module _ (plan : Plan) (laws : LawsBelow) (s : ServerState) (start : SettledInva
     pub evidence : Evidence
     pub names : NamesSome (HadTurn n) evidence
     pub lost : All (λ q. state_at q.0 ≡ ReadyState) evidence.lost
-    pub lawful : AllLawful old evidence (ports_of c) steps
+    pub lawful : AllAnswersLawful old evidence (ports_of c) steps
     pub owes : OwesBy plan evidence steps
     pub unplugs : AnswersAllUnplugged steps (after old.machine steps)
     pub answers : List (Pending × Outcome)
@@ -187,7 +187,7 @@ module _ (plan : Plan) (laws : LawsBelow) (s : ServerState) (start : SettledInva
     accesses = [];
     does = refl;
     serving = All-nil (IsAccessForPorts (Uses plan old.ports));
-    others = λ q none. All-nil (IsOfOther q);
+    others = λ q none. All-nil (IsOfOtherPort q);
     steps = [];
     turns = no_turns laws old reached;
     stands = at;
@@ -233,11 +233,11 @@ module _ (plan : Plan) (laws : LawsBelow) (s : ServerState) (start : SettledInva
     (λ here. none (All-contains (HadTurn n) evidence.stuck q names.stuck here)),
   )
 
-  pub others_leave : (q : Port) (accesses : List Access) → All (IsOfOther q) accesses → All (LeavesEngine q) accesses
-  others_leave q accesses of = All-weaker (IsOfOther q) (LeavesEngine q) (λ access x. (laws.of_spares x.0 q Cmd x.1 access x.2, laws.of_spares x.0 q Sctl x.1 access x.2)) accesses of
+  pub others_leave : (q : Port) (accesses : List Access) → All (IsOfOtherPort q) accesses → All (LeavesEngine q) accesses
+  others_leave q accesses of = All-weaker (IsOfOtherPort q) (LeavesEngine q) (λ access x. (laws.of_spares x.0 q Cmd x.1 access x.2, laws.of_spares x.0 q Sctl x.1 access x.2)) accesses of
 
   -- nothing is asked of the evidence of a port that has no turn, and that it doesn't name
-  none_evidenced : (accesses : List Access) (new : Device) (ports : Ports) (evidence : Evidence) (q : Port) → (Takes q → ⊥) → NamesSome Takes evidence → All (IsOfOther q) accesses
+  none_evidenced : (accesses : List Access) (new : Device) (ports : Ports) (evidence : Evidence) (q : Port) → (Takes q → ⊥) → NamesSome Takes evidence → All (IsOfOtherPort q) accesses
       → IsEvidencedOf (asks_for plan) (Served []) accesses began ports new evidence q
   none_evidenced accesses new ports evidence q not names of =
       let was_ready : old.ports.state q ≡ ReadyState → ⊥ = λ is. not (ready_takes plan (probe_result_of s.ports q.0) (sym (ap (λ (ports : Ports). ports.state q) ports_are) ∙ is)) in

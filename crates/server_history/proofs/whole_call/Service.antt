@@ -10,11 +10,11 @@ use Rattle.ata_types.specs.declared.request.Reply.{Reply}
 use Rattle.adapter.specs.Device.{Device}
 use Rattle.adapter.specs.declared.access.DeviceStep.{DeviceStep}
 use Rattle.block_machine.specs.Events.{AnswersService, UnansweredKeepDisk, AbstractState, Served, Service}
-use Rattle.block_machine.specs.Histories.{JointState, Happening, IsReachable, now}
-use Rattle.block_machine.specs.Left.{after}
+use Rattle.block_machine.specs.Histories.{JointState, JointEvent, IsReachable, now}
+use Rattle.block_machine.specs.Expected.{after}
 use Rattle.block_machine.specs.Ports.{Ports}
 use Rattle.block_machine.specs.State.{Pending}
-use Rattle.host_boot.specs.Taken.{probe_result_of}
+use Rattle.host_boot.specs.TakeOver.{probe_result_of}
 use Rattle.host_boot.specs.declared.ProbeResult.{ProbeResult}
 use Rattle.host_boot.specs.declared.ProbeResult.TheVariants.{Unready}
 use Rattle.driver_history.specs.Histories.{PortCorresponds}
@@ -22,7 +22,7 @@ use Rattle.server_history.proofs.any_turn.JoinedParts.{dead_or_not}
 use Rattle.driver_history.specs.Evidence.{IsEvidenced}
 use Rattle.request_queue.specs.Machine.{EntryRelation}
 use Rattle.server_history.specs.Histories.{ExtendsSettled, LeadsToServer}
-use Rattle.server_history.specs.Below.{LawsBelow}
+use Rattle.server_history.specs.Prerequisites.{PrerequisiteLaws}
 use Rattle.server_history.specs.Turns.{IsPortTurn, ServePorts, ServesPort, ProbesUnready}
 use Rattle.server_history.specs.Probing.{IsLookedAt}
 use Rattle.server_history.specs.Server.{ServerState, InCallInvariant, MachineRelation, SettledInvariant, mode_in, ports_of, state_of}
@@ -35,7 +35,7 @@ use Rattle.server_history.proofs.whole_call.ServiceAndTick.{AService, TakesTurn,
 use Rattle.server_history.proofs.whole_call.Progress.{IsDone, Progress, answered_was, begun, idle_done}
 use Rattle.server_history.proofs.whole_call.AllTurns.{Whole, go, turns_kept}
 
-module _ (laws : LawsBelow) (s new : ServerState) (replies : List Reply) (start : SettledInvariant s) (serves : ServePorts 0 s.ports replies s new) (first : JointState Device) (past : List (Happening Device DeviceStep)) (leads : LeadsToServer first past s) where
+module _ (laws : PrerequisiteLaws) (s new : ServerState) (replies : List Reply) (start : SettledInvariant s) (serves : ServePorts 0 s.ports replies s new) (first : JointState Device) (past : List (JointEvent Device DeviceStep)) (leads : LeadsToServer first past s) where
   abbrev old : AbstractState
   old = (now first past).abstract
 
@@ -141,7 +141,7 @@ module _ (laws : LawsBelow) (s new : ServerState) (replies : List Reply) (start 
       let did = (done port).ties.0 in
       record { finds = did.finds; faults = did.faults; probes = did.probes; boots = did.boots; port_error = did.port_error; well = did.well; heeds = did.heeds }
 
-  pub service_event : (h : Happening Device DeviceStep) × (h.event.ask ≡ Service) × (h.event.said ≡ Served replies) × LeadsToServer first (h ∷ past) new
+  pub service_event : (h : JointEvent Device DeviceStep) × (h.event.ask ≡ Service) × (h.event.said ≡ Served replies) × LeadsToServer first (h ∷ past) new
   service_event =
       lead_with laws first past s new Service (Served replies) p.evidence p.steps p.wanted leads (holding new holds) (kept_fit new holds)
       p.turns.may p.belong p.turns.last p.lawful keeps all_answered p.owes
@@ -152,5 +152,5 @@ module _ (laws : LawsBelow) (s new : ServerState) (replies : List Reply) (start 
       port_part
       p.backed p.stands
 
-pub law_services_extend_history : LawsBelow → (s new : ServerState) (replies : List Reply) → SettledInvariant s → ServePorts 0 s.ports replies s new → ExtendsSettled s new Service (Served replies)
+pub law_services_extend_history : PrerequisiteLaws → (s new : ServerState) (replies : List Reply) → SettledInvariant s → ServePorts 0 s.ports replies s new → ExtendsSettled s new Service (Served replies)
 law_services_extend_history laws s new replies start serves = record { settled = turns_kept ServesPort ProbesUnready s.ports 0 s new replies start serves; adds = λ first past leads. service_event laws s new replies start serves first past leads }

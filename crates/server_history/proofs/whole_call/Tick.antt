@@ -25,9 +25,9 @@ use Rattle.refinement.specs.Relation.{port_at}
 use Rattle.refinement.specs.Driven.{SparesOtherPorts}
 use Rattle.refinement.specs.Links.{DoesNotWrite}
 use Rattle.refinement.specs.Slots.{ServesRequest}
-use Rattle.block_machine.specs.Events.{AllLawful, AnswersEnded, AnswersTick, HasTimedOut, IssuesLast, UnansweredKeepDisk, AbstractState, NoneKeepsIssue, RestartsTimedOut, Served, Tick, WasIssued, answers_of, changes_disk, is_age, issues_it}
-use Rattle.block_machine.specs.Histories.{Happening, JointState, IsReachable, now}
-use Rattle.block_machine.specs.Left.{after}
+use Rattle.block_machine.specs.Events.{AllAnswersLawful, AnswersEnded, AnswersTick, HasTimedOut, IssuesLast, UnansweredKeepDisk, AbstractState, NoneStaysIssued, RestartsTimedOut, Served, Tick, WasIssued, answers_of, changes_disk, is_age, issues_it}
+use Rattle.block_machine.specs.Histories.{JointEvent, JointState, IsReachable, now}
+use Rattle.block_machine.specs.Expected.{after}
 use Rattle.block_machine.specs.Ports.{IsStoppedOrStuck, Ports, SamePort}
 use Rattle.block_machine.specs.Due.{of_port}
 use Rattle.block_machine.specs.State.{Machine, Pending, unanswered}
@@ -35,14 +35,14 @@ use Rattle.block_machine.specs.Steps.{Step, Age, Again, Answer, after_step, olde
 use Rattle.server_history.proofs.state.ListMembers.{contains_cases, contains_here, into_map, map_in, none_of}
 use Rattle.driver_history.specs.Evidence.{IsEvidenced}
 use Rattle.driver_history.specs.Histories.{FindsDone, IssuesDue, PortCorresponds}
-use Rattle.driver_history.specs.Parts.{IsOfOther}
+use Rattle.driver_history.specs.Parts.{IsOfOtherPort}
 use Rattle.driver_history.specs.Trace.{ClearsNoError, IsDriversOwn, IsAccessForPorts, LeavesEngine}
-use Rattle.host_boot.specs.Taken.{probe_result_of}
+use Rattle.host_boot.specs.TakeOver.{probe_result_of}
 use Rattle.host_boot.specs.declared.ProbeResult.{ProbeResult}
 use Rattle.host_boot.specs.declared.ProbeResult.TheVariants.{Ready, Unready, Unserved}
 use Rattle.request_queue.specs.Entries.{BookEntry, IsOverdue}
 use Rattle.request_queue.specs.Machine.{EntryRelation}
-use Rattle.server_history.specs.Below.{LawsBelow}
+use Rattle.server_history.specs.Prerequisites.{PrerequisiteLaws}
 use Rattle.server_history.specs.Histories.{ExtendsSettled, LeadsToServer}
 use Rattle.server_history.specs.Server.{ServerState, InCallInvariant, MachineRelation, SettledInvariant, mode_in, ports_of, state_of}
 use Rattle.server_history.specs.Turns.{AtRest, IsPortTurn, HandlesShownErrors, InRestart, InService, IsStepOf, Ticks, TicksPort, a_tick_older, joint_state_of, is_ready}
@@ -88,7 +88,7 @@ is_so_overdue book port o = ⊎_elim
 
 -- ---- a port that rests
 
-module _ (laws : LawsBelow) (port : Port) (low : port.0 < 4) (c : ServerState) (settled : SettledInvariant c) where
+module _ (laws : PrerequisiteLaws) (port : Port) (low : port.0 < 4) (c : ServerState) (settled : SettledInvariant c) where
   resting : IsPortTurn AtRest port [] c c
   resting = record {
     accesses = [];
@@ -178,7 +178,7 @@ serving_on One Other each (Loading at bytes) is = (is.0, is.1, tt)
 serving_on One Other each (Storing at bytes) is = (is.0, is.1, tt)
 
 -- accesses of another port clear no bit that tells of this one's trouble
-other_clears_none : (port : Port) (access : Access) → IsOfOther port access → ClearsNoError port access
+other_clears_none : (port : Port) (access : Access) → IsOfOtherPort port access → ClearsNoError port access
 other_clears_none port (Writing (Px at r) v) (other, apart, of) = record {
   is = λ q. let z : Px at r ≡ Px port register.Is = q in absurd (apart (ap (λ (p : Port). p.0) (sym (let same : at ≡ port = cc in same) ∙ of)));
   serr = λ q. let z : Px at r ≡ Px port register.Serr = q in absurd (apart (ap (λ (p : Port). p.0) (sym (let same : at ≡ port = cc in same) ∙ of)));
@@ -190,7 +190,7 @@ other_clears_none port (Storing at bytes) of = tt
 
 -- ---- the event
 
-module _ (laws : LawsBelow) (s new : ServerState) (replies : List Reply) (start : SettledInvariant s) (ticks : Ticks replies s new) (first : JointState Device) (past : List (Happening Device DeviceStep)) (leads : LeadsToServer first past s) where
+module _ (laws : PrerequisiteLaws) (s new : ServerState) (replies : List Reply) (start : SettledInvariant s) (ticks : Ticks replies s new) (first : JointState Device) (past : List (JointEvent Device DeviceStep)) (leads : LeadsToServer first past s) where
   abbrev kept : InCallInvariant s
   kept = start.kept
 
@@ -359,7 +359,7 @@ module _ (laws : LawsBelow) (s new : ServerState) (replies : List Reply) (start 
         issued = sym (older_issued ready y.0) ∙ ap (λ (x : Pending). x.issued) (sym y.2) ∙ w.issued;
       }
 
-  anew_before : (port : Port) → NoneKeepsIssue p.steps (after old.machine p.steps) port → NoneKeepsIssue steps end.machine port
+  anew_before : (port : Port) → NoneStaysIssued p.steps (after old.machine p.steps) port → NoneStaysIssued steps end.machine port
   anew_before port none e here own issued = issued_late e.request.id p.steps (Age ready ∷ []) (none e (in_end e here) own issued)
 
   any_of : (f : Step → Bool) → f (Age ready) ≡ false → list_any f steps ≡ list_any f p.steps
@@ -475,7 +475,7 @@ module _ (laws : LawsBelow) (s new : ServerState) (replies : List Reply) (start 
         };
   }
 
-  lawful : AllLawful was p.evidence (ports_of new) steps
+  lawful : AllAnswersLawful was p.evidence (ports_of new) steps
   lawful = lawful_join was p.evidence (ports_of new) p.steps (Age ready ∷ [])
       (lawful_on old was p.evidence p.evidence (ports_of new) (ports_of new) p.steps
       (λ e o here l. lawful_lift old was p.evidence p.evidence (ports_of new) (ports_of new) e o (issued_before e.request.id) (λ told x. x) (λ x. x) (λ x. x) refl (λ d. d) l)
@@ -491,7 +491,7 @@ module _ (laws : LawsBelow) (s new : ServerState) (replies : List Reply) (start 
       (λ r. record {
         port_error = laws.calls.ordinary port (record { device = s.device; abstract = old }) new.device p.accesses p.evidence (ports_of new) kept.on p.does
             (All-weaker (IsAccessForPorts (Uses plan old.ports)) (DoesNotWrite Ghc) (λ access serving. serving.1) p.accesses p.serving)
-            (All-weaker (IsOfOther port) (ClearsNoError port) (other_clears_none port) p.accesses r.1.others);
+            (All-weaker (IsOfOtherPort port) (ClearsNoError port) (other_clears_none port) p.accesses r.1.others);
         well = λ i. absurd (r.1.uninterrupted i);
       })
       (restarted_or_not port)
@@ -513,7 +513,7 @@ module _ (laws : LawsBelow) (s new : ServerState) (replies : List Reply) (start 
   due_then port is = dues_carried laws (mode_in new port) p.steps steps (after old.machine p.steps) end.machine port (ap (λ (k : Machine). of_port port (map unanswered k.book)) (sym whole_is))
       (λ r here own. sym (any_of (issues_it r.id) refl)) (p.due port is)
 
-  pub tick_event : (h : Happening Device DeviceStep) × (h.event.ask ≡ Tick) × (h.event.said ≡ Served replies) × LeadsToServer first (h ∷ past) new
+  pub tick_event : (h : JointEvent Device DeviceStep) × (h.event.ask ≡ Tick) × (h.event.said ≡ Served replies) × LeadsToServer first (h ∷ past) new
   tick_event =
       lead_with laws first past s new Tick (Served replies) p.evidence steps p.wanted leads (holding new holds) (kept_fit new holds)
       (laws.basic.may was.machine p.steps (Age ready ∷ []) (tt, tt) p.turns.may)
@@ -528,7 +528,7 @@ module _ (laws : LawsBelow) (s new : ServerState) (replies : List Reply) (start 
       (laws.backed_parts s.device s.device new.device was.machine (Age ready ∷ []) p.steps (laws.backed_own s.device was.machine (Age ready) (λ x. x)) p.backed)
       (subst (MachineRelation new) (sym whole_is) p.stands)
 
-pub law_ticks_extend_history : LawsBelow → (s new : ServerState) (replies : List Reply) → SettledInvariant s → Ticks replies s new → ExtendsSettled s new Tick (Served replies)
+pub law_ticks_extend_history : PrerequisiteLaws → (s new : ServerState) (replies : List Reply) → SettledInvariant s → Ticks replies s new → ExtendsSettled s new Tick (Served replies)
 law_ticks_extend_history laws s new replies start ticks = record {
   settled = turns_kept (TicksPort (a_tick_older s).book) (λ port one other. other ≡ one) s.ports 0 (a_tick_older s) new replies (older_settled laws s start) ticks;
   adds = λ first past leads. tick_event laws s new replies start ticks first past leads;

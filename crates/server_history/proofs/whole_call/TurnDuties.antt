@@ -14,21 +14,21 @@ use Rattle.adapter.specs.Commands.{Meaning, is_queued}
 use Rattle.adapter.specs.Device.{Device}
 use Rattle.adapter.specs.Rules.{InUse, IsOn}
 use Rattle.refinement.specs.Relation.{port_at}
-use Rattle.refinement.specs.Facts.{RecordsFaults, ShowsFault}
+use Rattle.refinement.specs.PortFacts.{RecordsFaults, ShowsFault}
 use Rattle.refinement.specs.Slots.{ServesRequest}
 use Rattle.block_machine.specs.Events.{AbstractState, Served, Service, changes_disk}
 use Rattle.block_machine.specs.Histories.{JointState, IsReachable}
-use Rattle.block_machine.specs.Left.{after}
+use Rattle.block_machine.specs.Expected.{after}
 use Rattle.block_machine.specs.Ports.{Evidence, IsStoppedOrStuck, SamePort}
 use Rattle.block_machine.specs.State.{Pending, Machine}
 use Rattle.block_machine.specs.Steps.{Step, Answer}
-use Rattle.host_boot.specs.Taken.{probe_result_of}
+use Rattle.host_boot.specs.TakeOver.{probe_result_of}
 use Rattle.host_boot.specs.declared.ProbeResult.{ProbeResult}
 use Rattle.driver_history.specs.Heeding.{ToldOkOr, IsLeftAlone, ServesReady, tells_fault}
 use Rattle.driver_history.specs.Evidence.{ShowsChange, ShowsFailure}
 use Rattle.driver_history.specs.Histories.{BootsAnew, FindsDone, HasUnservedDisk, HasOnlyTaskFileError, IsAnsweredFaulty, IsIssuedOn, PortCorresponds}
 use Rattle.driver_history.specs.Parts.{HasTurnIn, EvidenceAgreesOn}
-use Rattle.server_history.specs.Below.{LawsBelow}
+use Rattle.server_history.specs.Prerequisites.{PrerequisiteLaws}
 use Rattle.server_history.specs.Turns.{IsPortTurn, HandlesShownErrors, InService, SimulatesTurn, TurnCorresponds, Turn, joint_state_of, abstract_state_of, happening_of_turn}
 use Rattle.server_history.specs.Server.{HasStoredCommand, ServerState, InCallInvariant, MachineRelation, SettledInvariant, ports_of, state_of}
 use Rattle.server_history.proofs.any_turn.JoinedParts.{same_then}
@@ -39,7 +39,7 @@ use Rattle.server_history.proofs.whole_call.Progress as progress
 use Rattle.server_history.proofs.state.PortSlots.{ready_found, free_unused}
 use Rattle.server_history.proofs.unready_turn.UnfitPort.{ready_fits}
 
-module _ (laws : LawsBelow) (s : ServerState) (start : SettledInvariant s) (old : AbstractState) (reached : IsReachable old.machine) (at : MachineRelation s old.machine) (ports_are : old.ports ≡ ports_of s) where
+module _ (laws : PrerequisiteLaws) (s : ServerState) (start : SettledInvariant s) (old : AbstractState) (reached : IsReachable old.machine) (at : MachineRelation s old.machine) (ports_are : old.ports ≡ ports_of s) where
   abbrev kept : InCallInvariant s
   kept = start.kept
 

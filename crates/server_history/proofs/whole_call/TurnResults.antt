@@ -22,20 +22,20 @@ use Rattle.refinement.specs.Relation.{port_at}
 use Rattle.refinement.specs.Driven.{SparesOtherPorts}
 use Rattle.refinement.specs.Links.{DoesNotWrite}
 use Rattle.refinement.specs.Slots.{IsEmptySlot, RelatesSlot, Serves, ServesRequest, Stage, SlotState}
-use Rattle.block_machine.specs.Events.{AnswersEnded, ShowsRealDisk, AbstractState, NoneKeepsIssue, changes_disk}
+use Rattle.block_machine.specs.Events.{AnswersEnded, ShownDiskWasInOrCame, AbstractState, NoneStaysIssued, changes_disk}
 use Rattle.block_machine.specs.Histories.{JointState, IsReachable}
-use Rattle.block_machine.specs.Left.{after}
+use Rattle.block_machine.specs.Expected.{after}
 use Rattle.block_machine.specs.Ports.{Evidence, IsStoppedOrStuck, Ports, SamePort}
 use Rattle.block_machine.specs.State.{Pending, Machine}
 use Rattle.block_machine.specs.Steps.{Step, Again, Answer}
-use Rattle.host_boot.specs.Taken.{probe_result_of}
+use Rattle.host_boot.specs.TakeOver.{probe_result_of}
 use Rattle.driver_history.specs.Heeding.{tells_fault}
 use Rattle.driver_history.specs.Evidence.{ShowsChange, ShowsFailure}
 use Rattle.driver_history.specs.Histories.{FindsDone, IsAnsweredOk, IsIssuedOn, RunsWellAnew}
-use Rattle.driver_history.specs.Parts.{HasTurnIn, IsOfOther, EvidenceAgreesOn}
+use Rattle.driver_history.specs.Parts.{HasTurnIn, IsOfOtherPort, EvidenceAgreesOn}
 use Rattle.driver_history.specs.Trace.{DoesNotWriteCmd, LeavesEngine, ResetsLink}
-use Rattle.driver_history.specs.Holds.{EngineRuns}
-use Rattle.server_history.specs.Below.{LawsBelow}
+use Rattle.driver_history.specs.PortInvariants.{EngineRuns}
+use Rattle.server_history.specs.Prerequisites.{PrerequisiteLaws}
 use Rattle.server_history.specs.Turns.{FindsDoneInTurn, IsPortTurn, HandlesShownErrors, SimulatesTurn, joint_state_of, abstract_state_of}
 use Rattle.server_history.proofs.whole_call.ServiceAndTick.{Plan, TakesTurn, not_reset, turn_at}
 use Rattle.server_history.specs.Server.{ServerState, InCallInvariant, MachineRelation, SettledInvariant, ports_of, state_of, used_for}
@@ -62,7 +62,7 @@ none_told q (step ∷ steps) apart = none_told q steps (λ y o here. apart y o (
 pub counts_apart : (q : Port) (steps : List Step) → ((e : Pending) (o : Outcome) → Contains steps (Answer e o) → e.request.port ≢ q) → count_by (tells_fault q) steps ≡ 0
 counts_apart q steps apart = counts_none (tells_fault q) steps (none_told q steps apart)
 
-module _ (plan : Plan) (laws : LawsBelow) (s : ServerState) (start : SettledInvariant s) (old : AbstractState) (reached : IsReachable old.machine) (at : MachineRelation s old.machine) (ports_are : old.ports ≡ ports_of s) where
+module _ (plan : Plan) (laws : PrerequisiteLaws) (s : ServerState) (start : SettledInvariant s) (old : AbstractState) (reached : IsReachable old.machine) (at : MachineRelation s old.machine) (ports_are : old.ports ≡ ports_of s) where
   abbrev kept : InCallInvariant s
   kept = start.kept
 
@@ -123,18 +123,18 @@ module _ (plan : Plan) (laws : LawsBelow) (s : ServerState) (start : SettledInva
       then = part.does;
       last = refl;
       others = p.others (port_at n) not_yet;
-      others_later = All-nil (IsOfOther (port_at n));
+      others_later = All-nil (IsOfOtherPort (port_at n));
     }
 
     -- ---- what is answered, and what keeps its issue
 
-    pub anew_whole : NoneKeepsIssue x.steps (after m x.steps) (port_at n) → NoneKeepsIssue all (after old.machine all) (port_at n)
+    pub anew_whole : NoneStaysIssued x.steps (after m x.steps) (port_at n) → NoneStaysIssued all (after old.machine all) (port_at n)
     anew_whole none e here own issued = issued_late e.request.id x.steps p.steps (none e (subst (λ (k : Machine). Contains k.book e) whole_is here) own issued)
 
     pub changed_whole : list_any (changes_disk (port_at n)) x.steps ≡ true → list_any (changes_disk (port_at n)) all ≡ true
     changed_whole is = any_append (changes_disk (port_at n)) x.steps p.steps ∙ or_left _ _ is
 
-    pub disk_whole : ShowsRealDisk (abstract_state_of c m) x.steps (abstract_state_of mid (after m x.steps)) (port_at n) → ShowsRealDisk old all (abstract_state_of mid (after old.machine all)) (port_at n)
+    pub disk_whole : ShownDiskWasInOrCame (abstract_state_of c m) x.steps (abstract_state_of mid (after m x.steps)) (port_at n) → ShownDiskWasInOrCame old all (abstract_state_of mid (after old.machine all)) (port_at n)
     disk_whole had shows = ⊎_elim
         (λ present. ⊎_elim (λ was. inl was) (λ changed. inr (any_append (changes_disk (port_at n)) x.steps p.steps ∙ or_right _ _ changed)) (present_before old.machine (port_at n) p.steps present))
         (λ changed. inr (changed_whole changed))

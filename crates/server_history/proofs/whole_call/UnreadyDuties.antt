@@ -10,17 +10,17 @@ use Rattle.refinement.specs.Relation.{port_at}
 use Rattle.refinement.specs.Links.{ShowsDiskIfIn}
 use Rattle.block_machine.specs.Events.{AbstractState, Served, Service}
 use Rattle.block_machine.specs.Histories.{JointState, IsReachable}
-use Rattle.block_machine.specs.Left.{after}
+use Rattle.block_machine.specs.Expected.{after}
 use Rattle.block_machine.specs.Ports.{Evidence, IsStoppedOrStuck, Ports, SamePort}
 use Rattle.block_machine.specs.State.{Machine}
 use Rattle.block_machine.specs.Steps.{Step}
 use Rattle.driver_history.specs.Histories.{BootsAnew, HasUnservedDisk, ProbesDisk, PortCorresponds}
 use Rattle.driver_history.specs.Parts.{EndsNoLinkDue, HasTurnIn, EvidenceAgreesOn}
 use Rattle.driver_history.specs.Trace.{ResetsLink}
-use Rattle.host_boot.specs.Taken.{probe_result_of}
+use Rattle.host_boot.specs.TakeOver.{probe_result_of}
 use Rattle.host_boot.specs.declared.ProbeResult.{ProbeResult}
 use Rattle.host_boot.specs.declared.ProbeResult.TheVariants.{Ready, Unready, Unserved}
-use Rattle.server_history.specs.Below.{LawsBelow}
+use Rattle.server_history.specs.Prerequisites.{PrerequisiteLaws}
 use Rattle.server_history.specs.Server.{ServerState, InCallInvariant, MachineRelation, SettledInvariant, ports_of, state_of}
 use Rattle.server_history.specs.Turns.{IsPortTurn, HandlesShownErrors, InService, InProbe, SimulatesTurn, TurnCorresponds, Turn, joint_state_of, abstract_state_of, happening_of_turn}
 use Rattle.server_history.proofs.whole_call.EarlierResults as carrying
@@ -36,7 +36,7 @@ is_tried Unserved n unready = refl
 is_tried (Ready info) n unready = absurd (unready refl)
 is_tried (Unready state) n unready = refl
 
-module _ (laws : LawsBelow) (s : ServerState) (start : SettledInvariant s) (old : AbstractState) (reached : IsReachable old.machine) (at : MachineRelation s old.machine) (ports_are : old.ports ≡ ports_of s) where
+module _ (laws : PrerequisiteLaws) (s : ServerState) (start : SettledInvariant s) (old : AbstractState) (reached : IsReachable old.machine) (at : MachineRelation s old.machine) (ports_are : old.ports ≡ ports_of s) where
   abbrev kept : InCallInvariant s
   kept = start.kept
 

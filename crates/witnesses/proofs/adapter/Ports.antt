@@ -14,13 +14,13 @@ use Rattle.witnesses.specs.Runs.AccessOrStep.{Made, Came}
 use Rattle.adapter.specs.Commands.{Meaning, is_queued}
 use Rattle.adapter.specs.Device.{Disk, IsDisk, IsSector, HasKnownSectors, DevicePort, Device}
 use Rattle.adapter.specs.FirstRead.{first_disk, no_disk, empty_port, first_disk_sector}
-use Rattle.adapter.specs.Guarded.{IsGuardedSlot, IsGuardedPort, Passing}
-use Rattle.adapter.specs.Idle.{IsIdle, IsIdlePort, IsSane}
+use Rattle.adapter.specs.Guarded.{IsGuardedSlot, IsGuardedPort, PassesTest}
+use Rattle.adapter.specs.Idle.{IsIdle, IsIdlePort, HoldsBytesAndTellsDisks}
 use Rattle.adapter.specs.Memory.{changed}
 use Rattle.adapter.specs.Rules.{IsProgrammed, MayWriteCmd, MayIssue}
 use Rattle.adapter.specs.Decoding.{DecodesTo}
-use Rattle.witnesses.specs.Runs.{AccessOrStep, IsAsReset, IsReachableByRun, IsSafe, MayAllCome, run, after_event}
-use Rattle.witnesses.proofs.adapter.Scene.{memory, memory_bytes}
+use Rattle.witnesses.specs.Runs.{AccessOrStep, IsAsReset, IsReachableByRun, CommandsAreSafe, MayAllCome, device_after_events, after_event}
+use Rattle.witnesses.proofs.adapter.RunningAdapter.{memory, memory_bytes}
 use Rattle.witnesses.proofs.adapter.Sets.{Range, is_in, covers, spares, spares_all, covered, spared, avoided, both, true-false}
 
 -- ---- the adapter
@@ -62,15 +62,15 @@ first_idle = record {
 
 -- ---- runs go on
 
-run_append : (xs ys : List AccessOrStep) (d : Device) → run ys (run xs d) ≡ run (xs ++ ys) d
+run_append : (xs ys : List AccessOrStep) (d : Device) → device_after_events ys (device_after_events xs d) ≡ device_after_events (xs ++ ys) d
 run_append [] ys d = refl
 run_append (x ∷ xs) ys d = run_append xs ys (after_event x d)
 
-may_append : (xs ys : List AccessOrStep) (d : Device) → MayAllCome xs d → MayAllCome ys (run xs d) → MayAllCome (xs ++ ys) d
+may_append : (xs ys : List AccessOrStep) (d : Device) → MayAllCome xs d → MayAllCome ys (device_after_events xs d) → MayAllCome (xs ++ ys) d
 may_append [] ys d h more = more
 may_append (x ∷ xs) ys d h more = (h.0, may_append xs ys (after_event x d) h.1 more)
 
-pub reached_more : {d : Device} → IsReachableByRun d → (events : List AccessOrStep) → MayAllCome events d → IsReachableByRun (run events d)
+pub reached_more : {d : Device} → IsReachableByRun d → (events : List AccessOrStep) → MayAllCome events d → IsReachableByRun (device_after_events events d)
 reached_more {d} r events may = record {
   first = r.first;
   idle = r.idle;
@@ -79,7 +79,7 @@ reached_more {d} r events may = record {
   sane = r.sane;
   events = r.events ++ events;
   may = may_append r.events events r.first r.may (let P : Device → Type 0 = λ e. MayAllCome events e in subst P r.is may);
-  is = ap (λ (e : Device). run events e) r.is ∙ run_append r.events events r.first;
+  is = ap (λ (e : Device). device_after_events events e) r.is ∙ run_append r.events events r.first;
 }
 
 -- an event of this port, or one that leaves all ports
@@ -114,7 +114,7 @@ event_elsewhere p (Came (Unplug port)) d h q other = changed_elsewhere d.port po
 event_elsewhere p _ d h q other = absurd (true-false h refl)
 
 -- the events of one port leave the others
-pub run_elsewhere : (p : ℕ) (events : List AccessOrStep) (d : Device) → are_of p events ≡ true → (q : ℕ) → q ≢ p → (run events d).port q ≡ d.port q
+pub run_elsewhere : (p : ℕ) (events : List AccessOrStep) (d : Device) → are_of p events ≡ true → (q : ℕ) → q ≢ p → (device_after_events events d).port q ≡ d.port q
 unfolding are_of
 run_elsewhere p [] d h q other = refl
 run_elsewhere p (event ∷ events) d h q other =
@@ -202,7 +202,7 @@ disk_is = is_disk first_disk first_disk_sector refl (λ k small. told_bytes k sm
 none_is : IsDisk no_disk
 none_is = is_disk no_disk (λ k. []) refl (λ k small. absurd (omega (arith, small)))
 
-pub first_sane : IsSane first
+pub first_sane : HoldsBytesAndTellsDisks first
 first_sane = record {
   bytes = memory_bytes;
   disk = at_each (λ p. IsDisk p.disk) disk_is none_is;
@@ -223,7 +223,7 @@ pub slot_guarded : (rs : List Range) (mem : ℕ → ℕ) (list slot : ℕ) (m : 
     → (s.table ≡ table) × (length s.prds ≡ 1)
     → covers rs (list + 32 * slot) (list + 32 * slot + 4) ≡ true → covers rs (list + 32 * slot + 8) (list + 32 * slot + 32) ≡ true
     → covers rs table (table + 144) ≡ true → spares rs (list + 32 * slot + 4) (list + 32 * slot + 8) ≡ true → spares_all rs places ≡ true
-    → IsGuardedSlot (Passing (is_in rs)) (Passing (is_in rs)) mem list slot
+    → IsGuardedSlot (PassesTest (is_in rs)) (PassesTest (is_in rs)) mem list slot
 slot_guarded rs mem list slot m places s table is head rest whole count apart = record {
   meaning = m;
   places = places;
@@ -237,7 +237,7 @@ slot_guarded rs mem list slot m places s table is head rest whole count apart = 
 
 -- a port that nothing was issued on
 pub unused_port : (rs : List Range) (mem : ℕ → ℕ) (p : DevicePort) → ((k : ℕ) → p.ci k ≡ false) → ((k : ℕ) → p.taken k ≡ None)
-    → (p.fre ≡ true → spares rs p.bases.fb (p.bases.fb + 256) ≡ true) → IsGuardedPort (Passing (is_in rs)) (Passing (is_in rs)) mem p
+    → (p.fre ≡ true → spares rs p.bases.fb (p.bases.fb + 256) ≡ true) → IsGuardedPort (PassesTest (is_in rs)) (PassesTest (is_in rs)) mem p
 unused_port rs mem p clear none area = record {
   slot = λ k used. absurd (elim used [ inl issued ↦ true-false issued (clear k) | inr t ↦ (let e : None ≡ Some t.0 = sym (none k) ∙ t.1 in (cc)) ]);
   taken = λ k t is. absurd (let e : None ≡ Some t = sym (none k) ∙ is in (cc));
@@ -246,8 +246,8 @@ unused_port rs mem p clear none area = record {
 
 -- one with commands that are issued and not taken
 pub issued_port : (rs : List Range) (mem : ℕ → ℕ) (p : DevicePort)
-    → ((k : ℕ) → p.ci k ≡ true → IsGuardedSlot (Passing (is_in rs)) (Passing (is_in rs)) mem p.bases.clb k) → ((k : ℕ) → p.taken k ≡ None)
-    → (p.fre ≡ true → spares rs p.bases.fb (p.bases.fb + 256) ≡ true) → IsGuardedPort (Passing (is_in rs)) (Passing (is_in rs)) mem p
+    → ((k : ℕ) → p.ci k ≡ true → IsGuardedSlot (PassesTest (is_in rs)) (PassesTest (is_in rs)) mem p.bases.clb k) → ((k : ℕ) → p.taken k ≡ None)
+    → (p.fre ≡ true → spares rs p.bases.fb (p.bases.fb + 256) ≡ true) → IsGuardedPort (PassesTest (is_in rs)) (PassesTest (is_in rs)) mem p
 issued_port rs mem p issued none area = record {
   slot = λ k used. elim used [ inl set ↦ issued k set | inr t ↦ absurd (let e : None ≡ Some t.0 = sym (none k) ∙ t.1 in (cc)) ];
   taken = λ k t is. absurd (let e : None ≡ Some t = sym (none k) ∙ is in (cc));
@@ -255,15 +255,15 @@ issued_port rs mem p issued none area = record {
 }
 
 -- a port as it was at first
-pub untouched : (rs : List Range) (mem : ℕ → ℕ) (q : ℕ) → IsGuardedPort (Passing (is_in rs)) (Passing (is_in rs)) mem (first.port q)
+pub untouched : (rs : List Range) (mem : ℕ → ℕ) (q : ℕ) → IsGuardedPort (PassesTest (is_in rs)) (PassesTest (is_in rs)) mem (first.port q)
 untouched rs mem =
-    at_each (IsGuardedPort (Passing (is_in rs)) (Passing (is_in rs)) mem)
+    at_each (IsGuardedPort (PassesTest (is_in rs)) (PassesTest (is_in rs)) mem)
     (unused_port rs mem disk_port (λ k. refl) (λ k. refl) (λ on. absurd (true-false on refl)))
     (unused_port rs mem empty_port (λ k. refl) (λ k. refl) (λ on. absurd (true-false on refl)))
 
 -- An adapter is safe on which nothing was issued, where port 0 alone was touched.
 pub unused_safe : (d : Device) → ((k : ℕ) → (d.port 0).ci k ≡ false) → ((k : ℕ) → (d.port 0).taken k ≡ None)
-    → ((q : ℕ) → q ≢ 0 → d.port q ≡ first.port q) → IsSafe d
+    → ((q : ℕ) → q ≢ 0 → d.port q ≡ first.port q) → CommandsAreSafe d
 unfolding spares
 unused_safe d clear none elsewhere = record {
   tables = is_in [];
@@ -271,9 +271,9 @@ unused_safe d clear none elsewhere = record {
   guarded = record {
     within = λ at h. h;
     port = λ q. elim (eqb_tells q 0) [
-      | inl here ↦ (let P : ℕ → Type 0 = λ n. IsGuardedPort (Passing (is_in [])) (Passing (is_in [])) d.memory (d.port n) in
+      | inl here ↦ (let P : ℕ → Type 0 = λ n. IsGuardedPort (PassesTest (is_in [])) (PassesTest (is_in [])) d.memory (d.port n) in
           subst P (sym here.1) (unused_port [] d.memory (d.port 0) clear none (λ on. refl)))
-      | inr away ↦ (let P : DevicePort → Type 0 = λ p. IsGuardedPort (Passing (is_in [])) (Passing (is_in [])) d.memory p in
+      | inr away ↦ (let P : DevicePort → Type 0 = λ p. IsGuardedPort (PassesTest (is_in [])) (PassesTest (is_in [])) d.memory p in
           subst P (sym (elsewhere q away.1)) (untouched [] d.memory q))
     ];
   };

@@ -8,15 +8,15 @@ use Rattle.adapter.specs.Access.Access.{Writing}
 use Rattle.adapter.specs.Commands.{is_queued}
 use Rattle.adapter.specs.Device.{FetchedCommand, DevicePort, Device}
 use Rattle.adapter.specs.FirstRead.{first_disk_sector}
-use Rattle.adapter.specs.Guarded.{IsGuarded, IsGuardedPort, IsGuardedSlot, Passing}
+use Rattle.adapter.specs.Guarded.{IsGuarded, IsGuardedPort, IsGuardedSlot, PassesTest}
 use Rattle.adapter.specs.Memory.{changed}
 use Rattle.adapter.specs.Steps.{Steps, Can, begun, device_after}
 use Rattle.adapter.specs.Steps.DeviceTransition.{Fetch, Move, Done, Fault}
 use Rattle.adapter.specs.declared.command.Operation.TheVariants.{ReadQueued, Trim}
-use Rattle.witnesses.specs.Runs.{AccessOrStep, IsReachableByRun, run}
+use Rattle.witnesses.specs.Runs.{AccessOrStep, IsReachableByRun, device_after_events}
 use Rattle.witnesses.specs.Runs.AccessOrStep.{Made, Came}
 use Rattle.witnesses.proofs.adapter.Ports.{reached_more, issue_allowed, slot_guarded, issued_port, told_bytes, are_of, is_of, run_elsewhere, first, no_bit, untouched}
-use Rattle.witnesses.proofs.adapter.Scene.{memory, queued_read, first_says, first_table, second_says, second_table}
+use Rattle.witnesses.proofs.adapter.RunningAdapter.{memory, queued_read, first_says, first_table, second_says, second_table}
 use Rattle.witnesses.proofs.adapter.Sets.{Range, is_in, covers, spares, spares_all, true-false}
 use Rattle.witnesses.proofs.adapter.Started.{at_port, started, started_reached, started_elsewhere}
 
@@ -26,7 +26,7 @@ queue p bits = Made (Writing (Px (at_port p) Sact) bits) ∷ Made (Writing (Px (
 
 -- the read in slot 0 is issued, whatever the received FIS area is
 abbrev pub issued_at : ℕ → Device
-issued_at area = run (queue 0 1) (started area)
+issued_at area = device_after_events (queue 0 1) (started area)
 
 pub issued_at_reached : (area : ℕ) → area % 256 ≡ 0 → area + 256 ≤ 4096 * 256 → IsReachableByRun (issued_at area)
 unfolding changed
@@ -45,7 +45,7 @@ pub one_issued_reached : IsReachableByRun one_issued
 one_issued_reached = issued_at_reached 0x400 refl (omega arith)
 
 abbrev pub issued : Device
-issued = run (queue 0 2) one_issued
+issued = device_after_events (queue 0 2) one_issued
 
 pub issued_reached : IsReachableByRun issued
 unfolding changed
@@ -65,11 +65,11 @@ kept =
     record { from = 0; to = 4 } ∷ record { from = 8; to = 36 } ∷ record { from = 40; to = 64 } ∷ record { from = 0x1000; to = 0x1090 }
     ∷ record { from = 0x1400; to = 0x1490 } ∷ []
 
-first_guarded : IsGuardedSlot (Passing (is_in kept)) (Passing (is_in kept)) memory 0 0
+first_guarded : IsGuardedSlot (PassesTest (is_in kept)) (PassesTest (is_in kept)) memory 0 0
 unfolding covers spares spares_all
 first_guarded = slot_guarded kept memory 0 0 queued_read (0x28000 ∷ []) first_says 0x1000 first_table refl refl refl refl refl
 
-second_guarded : IsGuardedSlot (Passing (is_in kept)) (Passing (is_in kept)) memory 0 1
+second_guarded : IsGuardedSlot (PassesTest (is_in kept)) (PassesTest (is_in kept)) memory 0 1
 unfolding covers spares spares_all
 second_guarded = slot_guarded kept memory 0 1 queued_read (0x29000 ∷ []) second_says 0x1400 second_table refl refl refl refl refl
 
@@ -90,21 +90,21 @@ issued_elsewhere : (q : ℕ) → q ≢ 0 → issued.port q ≡ first.port q
 unfolding are_of is_of
 issued_elsewhere q other = run_elsewhere 0 (queue 0 2) one_issued refl q other ∙ (run_elsewhere 0 (queue 0 1) (started 0x400) refl q other ∙ started_elsewhere 0x400 q other)
 
-issued_here : IsGuardedPort (Passing (is_in kept)) (Passing (is_in kept)) memory (issued.port 0)
+issued_here : IsGuardedPort (PassesTest (is_in kept)) (PassesTest (is_in kept)) memory (issued.port 0)
 unfolding changed spares
 issued_here = issued_port kept memory (issued.port 0)
     (λ k set. elim (either_slot k set) [
-      | inl zeroth ↦ (let P : ℕ → Type 0 = λ s. IsGuardedSlot (Passing (is_in kept)) (Passing (is_in kept)) memory 0 s in subst P (sym zeroth) first_guarded)
-      | inr oneth ↦ (let P : ℕ → Type 0 = λ s. IsGuardedSlot (Passing (is_in kept)) (Passing (is_in kept)) memory 0 s in subst P (sym oneth) second_guarded)
+      | inl zeroth ↦ (let P : ℕ → Type 0 = λ s. IsGuardedSlot (PassesTest (is_in kept)) (PassesTest (is_in kept)) memory 0 s in subst P (sym zeroth) first_guarded)
+      | inr oneth ↦ (let P : ℕ → Type 0 = λ s. IsGuardedSlot (PassesTest (is_in kept)) (PassesTest (is_in kept)) memory 0 s in subst P (sym oneth) second_guarded)
     ])
     (λ k. refl) (λ _. refl)
 
-pub issued_safe : IsGuarded (Passing (is_in kept)) (Passing (is_in kept)) issued
+pub issued_safe : IsGuarded (PassesTest (is_in kept)) (PassesTest (is_in kept)) issued
 issued_safe = record {
   within = λ at h. h;
   port = λ q. elim (eqb_tells q 0) [
-    | inl here ↦ (let P : ℕ → Type 0 = λ n. IsGuardedPort (Passing (is_in kept)) (Passing (is_in kept)) memory (issued.port n) in subst P (sym here.1) issued_here)
-    | inr other ↦ (let P : DevicePort → Type 0 = λ p. IsGuardedPort (Passing (is_in kept)) (Passing (is_in kept)) memory p in
+    | inl here ↦ (let P : ℕ → Type 0 = λ n. IsGuardedPort (PassesTest (is_in kept)) (PassesTest (is_in kept)) memory (issued.port n) in subst P (sym here.1) issued_here)
+    | inr other ↦ (let P : DevicePort → Type 0 = λ p. IsGuardedPort (PassesTest (is_in kept)) (PassesTest (is_in kept)) memory p in
         subst P (sym (issued_elsewhere q other.1)) (untouched kept memory q))
   ];
 }
@@ -130,7 +130,7 @@ abbrev fetches : List AccessOrStep
 fetches = Came (Fetch 0 0 queued_read (0x28000 ∷ [])) ∷ Came (Fetch 0 1 queued_read (0x29000 ∷ [])) ∷ []
 
 abbrev pub taken : Device
-taken = run fetches issued
+taken = device_after_events fetches issued
 
 only_one : (k : ℕ) (t : FetchedCommand) → changed (λ _. None) 0 (Some one) k ≡ Some t → is_queued t.meaning.operation ≡ true
 unfolding changed

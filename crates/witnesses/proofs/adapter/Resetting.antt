@@ -5,18 +5,18 @@ use Rattle.hba_regs.specs.Bits.{bit}
 use Rattle.hba_regs.specs.declared.reg.Reg.TheVariants.{Ghc}
 use Rattle.adapter.specs.Access.Access.{Writing}
 use Rattle.adapter.specs.Device.{DevicePort, Device}
-use Rattle.adapter.specs.Guarded.{IsGuarded, IsGuardedPort, IsGuardedSlot, Passing}
+use Rattle.adapter.specs.Guarded.{IsGuarded, IsGuardedPort, IsGuardedSlot, PassesTest}
 use Rattle.adapter.specs.Memory.{changed}
-use Rattle.witnesses.specs.Runs.{AccessOrStep, IsReachableByRun, run}
+use Rattle.witnesses.specs.Runs.{AccessOrStep, IsReachableByRun, device_after_events}
 use Rattle.witnesses.specs.Runs.AccessOrStep.{Made}
 use Rattle.witnesses.proofs.adapter.Ports.{are_of, is_of, first, issue_allowed, issued_port, no_bit, may_receive, may_start, reached_more, run_elsewhere, same_others, slot_guarded, untouched}
 use Rattle.witnesses.proofs.adapter.Queued.{one_issued, one_issued_reached, queue}
-use Rattle.witnesses.proofs.adapter.Scene.{memory, queued_read, first_says, first_table, other_port_says, other_port_table}
+use Rattle.witnesses.proofs.adapter.RunningAdapter.{memory, queued_read, first_says, first_table, other_port_says, other_port_table}
 use Rattle.witnesses.proofs.adapter.Sets.{Range, is_in, covers, spares, spares_all, true-false}
 use Rattle.witnesses.proofs.adapter.Started.{prepare, start, started, started_elsewhere}
 
 abbrev prepared : Device
-prepared = run (prepare 1 0x800 0x500) one_issued
+prepared = device_after_events (prepare 1 0x800 0x500) one_issued
 
 prepared_reached : IsReachableByRun prepared
 unfolding changed same_others
@@ -44,7 +44,7 @@ prepared_reached = reached_more one_issued_reached (prepare 1 0x800 0x500) (
 )
 
 abbrev both_started : Device
-both_started = run (start 1) prepared
+both_started = device_after_events (start 1) prepared
 
 both_started_reached : IsReachableByRun both_started
 unfolding changed same_others
@@ -67,7 +67,7 @@ both_started_reached = reached_more prepared_reached (start 1) (
 )
 
 abbrev both_issued : Device
-both_issued = run (queue 1 1) both_started
+both_issued = device_after_events (queue 1 1) both_started
 
 both_issued_reached : IsReachableByRun both_issued
 unfolding changed
@@ -83,7 +83,7 @@ abbrev ask_reset : List AccessOrStep
 ask_reset = Made (Writing Ghc 0x80000001) ∷ []
 
 abbrev pub resetting : Device
-resetting = run ask_reset both_issued
+resetting = device_after_events ask_reset both_issued
 
 pub resetting_reached : IsReachableByRun resetting
 resetting_reached = reached_more both_issued_reached ask_reset (tt, tt)
@@ -97,22 +97,22 @@ kept =
     ∷ record { from = 0x808; to = 0x820 } ∷ record { from = 0x1c00; to = 0x1c90 } ∷ []
 
 abbrev Safe : ℕ → DevicePort → Type 0
-Safe q p = IsGuardedPort (Passing (is_in kept)) (Passing (is_in kept)) memory p
+Safe q p = IsGuardedPort (PassesTest (is_in kept)) (PassesTest (is_in kept)) memory p
 
-first_guarded : IsGuardedSlot (Passing (is_in kept)) (Passing (is_in kept)) memory 0 0
+first_guarded : IsGuardedSlot (PassesTest (is_in kept)) (PassesTest (is_in kept)) memory 0 0
 unfolding covers spares spares_all
 first_guarded = slot_guarded kept memory 0 0 queued_read (0x28000 ∷ []) first_says 0x1000 first_table refl refl refl refl refl
 
-other_guarded : IsGuardedSlot (Passing (is_in kept)) (Passing (is_in kept)) memory 0x800 0
+other_guarded : IsGuardedSlot (PassesTest (is_in kept)) (PassesTest (is_in kept)) memory 0x800 0
 unfolding covers spares spares_all
 other_guarded = slot_guarded kept memory 0x800 0 queued_read (0x2a000 ∷ []) other_port_says 0x1c00 other_port_table refl refl refl refl refl
 
 -- slot 0 alone is issued
-zeroth : (list k : ℕ) → IsGuardedSlot (Passing (is_in kept)) (Passing (is_in kept)) memory list 0 → bit 1 k ≡ true
-    → IsGuardedSlot (Passing (is_in kept)) (Passing (is_in kept)) memory list k
+zeroth : (list k : ℕ) → IsGuardedSlot (PassesTest (is_in kept)) (PassesTest (is_in kept)) memory list 0 → bit 1 k ≡ true
+    → IsGuardedSlot (PassesTest (is_in kept)) (PassesTest (is_in kept)) memory list k
 zeroth list k guarded set =
     elim (eqb_tells k 0) [
-      | inl here ↦ (let P : ℕ → Type 0 = λ s. IsGuardedSlot (Passing (is_in kept)) (Passing (is_in kept)) memory list s in subst P (sym here.1) guarded)
+      | inl here ↦ (let P : ℕ → Type 0 = λ s. IsGuardedSlot (PassesTest (is_in kept)) (PassesTest (is_in kept)) memory list s in subst P (sym here.1) guarded)
       | inr away ↦ absurd (true-false set (no_bit 0 k away.1))
     ]
 
@@ -133,7 +133,7 @@ elsewhere q zero one =
     ∙ (run_elsewhere 1 (prepare 1 0x800 0x500) one_issued refl q one
     ∙ (run_elsewhere 0 (queue 0 1) (started 0x400) refl q zero ∙ started_elsewhere 0x400 q zero))))
 
-pub resetting_safe : IsGuarded (Passing (is_in kept)) (Passing (is_in kept)) resetting
+pub resetting_safe : IsGuarded (PassesTest (is_in kept)) (PassesTest (is_in kept)) resetting
 resetting_safe = record {
   within = λ at h. h;
   port = λ q. elim (eqb_tells q 0) [

@@ -9,11 +9,11 @@ use Rattle.adapter.specs.Decoding.{DecodesTo}
 use Rattle.adapter.specs.Encoding.{EncodesCommand}
 use Rattle.adapter.specs.Steps.{Can}
 use Rattle.adapter.specs.Steps.DeviceTransition.{FetchFault, Scribble}
-use Rattle.witnesses.specs.Runs.{AccessOrStep, IsReachableByRun, run}
+use Rattle.witnesses.specs.Runs.{AccessOrStep, IsReachableByRun, device_after_events}
 use Rattle.witnesses.specs.Runs.AccessOrStep.{Came}
 use Rattle.witnesses.proofs.adapter.Ports.{reached_more}
 use Rattle.witnesses.proofs.adapter.Queued.{issued_at, issued_at_reached}
-use Rattle.witnesses.proofs.adapter.Scene.{memory}
+use Rattle.witnesses.proofs.adapter.RunningAdapter.{memory}
 use Rattle.witnesses.proofs.adapter.Sets.{all_bytes, are_bytes}
 
 -- the first byte of the FIS is written over
@@ -21,7 +21,7 @@ abbrev scribble : List AccessOrStep
 scribble = Came (Scribble 0 0 0x1000 (0 ∷ [])) ∷ []
 
 abbrev pub senseless : Device
-senseless = run scribble (issued_at 0x1000)
+senseless = device_after_events scribble (issued_at 0x1000)
 
 pub senseless_reached : IsReachableByRun senseless
 unfolding changed are_bytes

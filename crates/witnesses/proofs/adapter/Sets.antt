@@ -3,7 +3,7 @@ use Rattle.std.proofs.Common.{ℕ, zero, suc, ◌≡◌, ◌<◌, ◌≤◌, ◌
 use Rattle.std.proofs.lemmas.Bool.{eqb-true, ltb-true}
 use Rattle.std.proofs.lemmas.Bool.Decides.{nat_tests, eqb_tells, leb_tells}
 use Rattle.adapter.specs.Device.{IsSector}
-use Rattle.adapter.specs.Guarded.{Passing, HasRange, MissesRange, MissesPieces}
+use Rattle.adapter.specs.Guarded.{PassesTest, HasRange, MissesRange, MissesPieces}
 use Rattle.adapter.specs.Memory.{patched}
 use Rattle.adapter.specs.Encoding.{AreZero}
 
@@ -54,7 +54,7 @@ pub both : (a b : Bool) → a && b ≡ true → (a ≡ true) × (b ≡ true)
 both true b h = (refl, h)
 both false b h = absurd (true-false h refl)
 
-pub covered : (rs : List Range) (from to : ℕ) → covers rs from to ≡ true → HasRange (Passing (is_in rs)) from to
+pub covered : (rs : List Range) (from to : ℕ) → covers rs from to ≡ true → HasRange (PassesTest (is_in rs)) from to
 unfolding covers is_in
 covered [] from to h at low high = h
 covered (r ∷ rs) from to h at low high =
@@ -63,7 +63,7 @@ covered (r ∷ rs) from to h at low high =
       | inr later ↦ or_right (nat_le r.from at && nat_lt at r.to) (is_in rs at) (covered rs from to later at low high)
     ]
 
-pub spared : (rs : List Range) (from to : ℕ) → spares rs from to ≡ true → MissesRange (Passing (is_in rs)) from to
+pub spared : (rs : List Range) (from to : ℕ) → spares rs from to ≡ true → MissesRange (PassesTest (is_in rs)) from to
 unfolding spares is_in
 spared [] from to h at low high here = true-false here refl
 spared (r ∷ rs) from to h at low high here =
@@ -78,7 +78,7 @@ avoids_piece rs [] k h less at low high here = omega arith
 avoids_piece rs (place ∷ places) zero h less at low high here = spared rs place (place + 512) (both _ _ h).0 at low high here
 avoids_piece rs (place ∷ places) (suc k) h less at low high here = avoids_piece rs places k (both _ _ h).1 (omega (arith, less)) at low high here
 
-pub avoided : (rs : List Range) (places : List ℕ) → spares_all rs places ≡ true → MissesPieces (Passing (is_in rs)) places
+pub avoided : (rs : List Range) (places : List ℕ) → spares_all rs places ≡ true → MissesPieces (PassesTest (is_in rs)) places
 unfolding spares_all
 avoided rs places h at here p = avoids_piece rs places p.number h p.listed at p.from p.to here
 

@@ -7,7 +7,7 @@ use Rattle.adapter.specs.Access.Access.{Reading, Writing}
 use Rattle.adapter.specs.Device.{Device}
 use Rattle.adapter.specs.Memory.{changed}
 use Rattle.adapter.specs.Steps.DeviceTransition.{LinkUp}
-use Rattle.witnesses.specs.Runs.{AccessOrStep, IsReachableByRun, run}
+use Rattle.witnesses.specs.Runs.{AccessOrStep, IsReachableByRun, device_after_events}
 use Rattle.witnesses.specs.Runs.AccessOrStep.{Made, Came}
 use Rattle.witnesses.proofs.adapter.Ports.{are_of, is_of, first, first_reached, may_receive, may_start, reached_more, run_elsewhere, same_others}
 
@@ -31,14 +31,14 @@ start p =
     ∷ Made (Writing (Px (at_port p) Cmd) 0x11) ∷ []
 
 abbrev pub on : Device
-on = run switch_on first
+on = device_after_events switch_on first
 
 pub on_reached : IsReachableByRun on
 on_reached = reached_more first_reached switch_on (tt, tt)
 
 -- where the received FIS area is, is the driver's choice
 abbrev pub prepared : ℕ → Device
-prepared area = run (prepare 0 0 area) on
+prepared area = device_after_events (prepare 0 0 area) on
 
 pub prepared_reached : (area : ℕ) → area % 256 ≡ 0 → area + 256 ≤ 4096 * 256 → IsReachableByRun (prepared area)
 unfolding changed same_others
@@ -66,7 +66,7 @@ prepared_reached area aligned inside = reached_more on_reached (prepare 0 0 area
 )
 
 abbrev pub started : ℕ → Device
-started area = run (start 0) (prepared area)
+started area = device_after_events (start 0) (prepared area)
 
 pub started_reached : (area : ℕ) → area % 256 ≡ 0 → area + 256 ≤ 4096 * 256 → IsReachableByRun (started area)
 unfolding changed same_others

@@ -9,7 +9,7 @@ use Rattle.adapter.specs.FirstRead.{first_disk, first_disk_sector}
 use Rattle.adapter.specs.Memory.{changed}
 use Rattle.adapter.specs.Steps.{Can}
 use Rattle.adapter.specs.Steps.DeviceTransition.{Fall, Fatal, FrFall, LinkUp, Plug, Scribble, Unplug}
-use Rattle.witnesses.specs.Runs.{AccessOrStep, IsReachableByRun, IsSafe, run}
+use Rattle.witnesses.specs.Runs.{AccessOrStep, IsReachableByRun, CommandsAreSafe, device_after_events}
 use Rattle.witnesses.specs.Runs.AccessOrStep.{Made, Came}
 use Rattle.witnesses.proofs.adapter.Ports.{are_of, is_of, disk_is, first, others_are, reached_more, run_elsewhere, same_others, unused_safe}
 use Rattle.witnesses.proofs.adapter.Sets.{all_bytes, are_bytes, true-false}
@@ -23,7 +23,7 @@ linking = prepared 0x400
 pub linking_reached : IsReachableByRun linking
 linking_reached = prepared_reached 0x400 refl (omega arith)
 
-pub linking_safe : IsSafe linking
+pub linking_safe : CommandsAreSafe linking
 unfolding changed
 linking_safe = unused_safe linking (λ k. refl) (λ k. refl) (prepared_elsewhere 0x400)
 
@@ -39,7 +39,7 @@ running = started 0x400
 pub running_reached : IsReachableByRun running
 running_reached = started_reached 0x400 refl (omega arith)
 
-pub running_safe : IsSafe running
+pub running_safe : CommandsAreSafe running
 unfolding changed
 running_safe = unused_safe running (λ k. refl) (λ k. refl) (started_elsewhere 0x400)
 
@@ -58,12 +58,12 @@ unfolding changed
 may_unplug = refl
 
 abbrev pub unplugged : Device
-unplugged = run (Came (Unplug 0) ∷ []) running
+unplugged = device_after_events (Came (Unplug 0) ∷ []) running
 
 pub unplugged_reached : IsReachableByRun unplugged
 unplugged_reached = reached_more running_reached (Came (Unplug 0) ∷ []) (may_unplug, tt)
 
-pub unplugged_safe : IsSafe unplugged
+pub unplugged_safe : CommandsAreSafe unplugged
 unfolding changed are_of is_of
 unplugged_safe = unused_safe unplugged (λ k. refl) (λ k. refl)
     (λ q away. run_elsewhere 0 (Came (Unplug 0) ∷ []) running refl q away ∙ started_elsewhere 0x400 q away)
@@ -78,7 +78,7 @@ abbrev stop : List AccessOrStep
 stop = Made (Writing (Px (at_port 0) Cmd) 0x10) ∷ []
 
 abbrev pub stopped : Device
-stopped = run stop running
+stopped = device_after_events stop running
 
 pub stopped_reached : IsReachableByRun stopped
 unfolding changed same_others
@@ -100,7 +100,7 @@ stopped_elsewhere : (q : ℕ) → q ≢ 0 → stopped.port q ≡ first.port q
 unfolding are_of is_of
 stopped_elsewhere q away = run_elsewhere 0 stop running refl q away ∙ started_elsewhere 0x400 q away
 
-pub stopped_safe : IsSafe stopped
+pub stopped_safe : CommandsAreSafe stopped
 unfolding changed
 stopped_safe = unused_safe stopped (λ k. refl) (λ k. refl) stopped_elsewhere
 
@@ -112,7 +112,7 @@ abbrev stop_receiving : List AccessOrStep
 stop_receiving = Came (Fall 0) ∷ Made (Writing (Px (at_port 0) Cmd) 0) ∷ []
 
 abbrev pub silent : Device
-silent = run stop_receiving stopped
+silent = device_after_events stop_receiving stopped
 
 pub silent_reached : IsReachableByRun silent
 unfolding changed same_others
@@ -133,7 +133,7 @@ silent_reached = reached_more stopped_reached stop_receiving (
   ),
 )
 
-pub silent_safe : IsSafe silent
+pub silent_safe : CommandsAreSafe silent
 unfolding changed are_of is_of
 silent_safe = unused_safe silent (λ k. refl) (λ k. refl)
     (λ q away. run_elsewhere 0 stop_receiving stopped refl q away ∙ stopped_elsewhere q away)

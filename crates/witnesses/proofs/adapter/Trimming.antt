@@ -7,15 +7,15 @@ use Rattle.hba_regs.specs.declared.reg.PortReg.TheVariants.{Ci}
 use Rattle.adapter.specs.Access.Access.{Writing}
 use Rattle.adapter.specs.Commands.{Meaning, is_queued}
 use Rattle.adapter.specs.Device.{FetchedCommand, DevicePort, Device}
-use Rattle.adapter.specs.Guarded.{IsGuarded, IsGuardedPort, IsGuardedSlot, Passing}
+use Rattle.adapter.specs.Guarded.{IsGuarded, IsGuardedPort, IsGuardedSlot, PassesTest}
 use Rattle.adapter.specs.Memory.{bytes_at, changed, patched}
 use Rattle.adapter.specs.Decoding.{DecodesTo}
 use Rattle.adapter.specs.Steps.{Steps, Can, begun, device_after}
 use Rattle.adapter.specs.Steps.DeviceTransition.{Fetch, Move, Clear}
-use Rattle.witnesses.specs.Runs.{AccessOrStep, IsReachableByRun, run}
+use Rattle.witnesses.specs.Runs.{AccessOrStep, IsReachableByRun, device_after_events}
 use Rattle.witnesses.specs.Runs.AccessOrStep.{Made, Came}
 use Rattle.witnesses.proofs.adapter.Ports.{are_of, is_of, first, issue_allowed, issued_port, no_bit, reached_more, run_elsewhere, slot_guarded, untouched}
-use Rattle.witnesses.proofs.adapter.Scene.{memory, a_trim, trim_says, trim_table}
+use Rattle.witnesses.proofs.adapter.RunningAdapter.{memory, a_trim, trim_says, trim_table}
 use Rattle.witnesses.proofs.adapter.Sets.{Range, is_in, are_bytes, covers, spares, spares_all, is_sector, true-false}
 use Rattle.witnesses.proofs.adapter.Started.{at_port, started, started_elsewhere, started_reached}
 
@@ -23,7 +23,7 @@ abbrev issue : List AccessOrStep
 issue = Made (Writing (Px (at_port 0) Ci) 4) ∷ []
 
 abbrev pub issued : Device
-issued = run issue (started 0x400)
+issued = device_after_events issue (started 0x400)
 
 -- what the slot says is the trim alone, which isn't queued
 abbrev pub OneMeaning : Type 0
@@ -44,16 +44,16 @@ abbrev pub kept : List Range
 kept = record { from = 64; to = 68 } ∷ record { from = 72; to = 96 } ∷ record { from = 0x1800; to = 0x1890 } ∷ []
 
 abbrev Safe : DevicePort → Type 0
-Safe p = IsGuardedPort (Passing (is_in kept)) (Passing (is_in kept)) memory p
+Safe p = IsGuardedPort (PassesTest (is_in kept)) (PassesTest (is_in kept)) memory p
 
-trim_guarded : IsGuardedSlot (Passing (is_in kept)) (Passing (is_in kept)) memory 0 2
+trim_guarded : IsGuardedSlot (PassesTest (is_in kept)) (PassesTest (is_in kept)) memory 0 2
 unfolding covers spares spares_all
 trim_guarded = slot_guarded kept memory 0 2 a_trim (0x9000 ∷ []) trim_says 0x1800 trim_table refl refl refl refl refl
 
-second : (k : ℕ) → bit 4 k ≡ true → IsGuardedSlot (Passing (is_in kept)) (Passing (is_in kept)) memory 0 k
+second : (k : ℕ) → bit 4 k ≡ true → IsGuardedSlot (PassesTest (is_in kept)) (PassesTest (is_in kept)) memory 0 k
 second k set =
     elim (eqb_tells k 2) [
-      | inl here ↦ (let P : ℕ → Type 0 = λ s. IsGuardedSlot (Passing (is_in kept)) (Passing (is_in kept)) memory 0 s in subst P (sym here.1) trim_guarded)
+      | inl here ↦ (let P : ℕ → Type 0 = λ s. IsGuardedSlot (PassesTest (is_in kept)) (PassesTest (is_in kept)) memory 0 s in subst P (sym here.1) trim_guarded)
       | inr away ↦ absurd (true-false set (no_bit 2 k away.1))
     ]
 
@@ -65,7 +65,7 @@ elsewhere : (q : ℕ) → q ≢ 0 → issued.port q ≡ first.port q
 unfolding are_of is_of
 elsewhere q away = run_elsewhere 0 issue (started 0x400) refl q away ∙ started_elsewhere 0x400 q away
 
-pub issued_safe : IsGuarded (Passing (is_in kept)) (Passing (is_in kept)) issued
+pub issued_safe : IsGuarded (PassesTest (is_in kept)) (PassesTest (is_in kept)) issued
 issued_safe = record {
   within = λ at h. h;
   port = λ q. elim (eqb_tells q 0) [

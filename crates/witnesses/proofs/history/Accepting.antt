@@ -18,8 +18,8 @@ use Rattle.refinement.specs.Relation.{port_at}
 use Rattle.refinement.specs.Slots.{ServesRequest, Stage}
 use Rattle.refinement.specs.Witness.{first_id}
 use Rattle.block_machine.specs.Events.{Happens, AbstractState}
-use Rattle.block_machine.specs.Histories.{Happening, JointState}
-use Rattle.block_machine.specs.Left.{after}
+use Rattle.block_machine.specs.Histories.{JointEvent, JointState}
+use Rattle.block_machine.specs.Expected.{after}
 use Rattle.block_machine.specs.Ports.{Evidence, Ports, SamePort}
 use Rattle.block_machine.specs.State.{Machine, Pending, unanswered}
 use Rattle.block_machine.specs.Steps.{Accept, Answer, Issue, May, newly_accepted}
@@ -27,9 +27,9 @@ use Rattle.block_machine.specs.declared.due.Unanswered.{Unanswered}
 use Rattle.identify.specs.declared.wanted.Wanted.TheVariants.{Any}
 use Rattle.driver_history.specs.Heeding.{ServesReady, tells_fault}
 use Rattle.driver_history.specs.Histories.{IsIssuedOn, IsIssuingAccess, CallCorresponds, PortCorresponds}
-use Rattle.driver_history.specs.Holds.{DriverInvariantWith}
+use Rattle.driver_history.specs.PortInvariants.{DriverInvariantWith}
 use Rattle.witnesses.specs.ReadyPort.{ReadyPortHasBegun}
-use Rattle.witnesses.specs.Scene.{plain, running_port}
+use Rattle.witnesses.specs.RunningAdapter.{plain, running_port}
 use Rattle.witnesses.proofs.history.Command.{read_memory, told, zeros}
 use Rattle.witnesses.proofs.history.Holding.{IsUnnamed, first_slots, no_slots}
 use Rattle.witnesses.proofs.history.Issuing.{Submission, IsIssued, reading, submit_happens as happens_so, submit_part as part_of, submit_ties as ties_so}
@@ -164,7 +164,7 @@ is_issued = record {
   only = All-from_recursion (IsIssuingAccess (port_at 0)) submit_accesses (omega arith, (omega arith, (omega arith, (inr refl, tt))));
 }
 
-abbrev pub submit : Happening Device DeviceStep
+abbrev pub submit : JointEvent Device DeviceStep
 submit = issuing_on.submit submission
 
 pub submit_happens : Happens first.abstract submit.event

@@ -15,7 +15,7 @@ use Rattle.refinement.specs.Relation.{port_at}
 use Rattle.refinement.specs.Driver.{IsBacked}
 use Rattle.block_machine.specs.Due.{NoneDue}
 use Rattle.block_machine.specs.Events.{AgesOnce, Happens, HasTimedOut, RestartsTimedOut, Served, Tick, is_age}
-use Rattle.block_machine.specs.Histories.{Happening}
+use Rattle.block_machine.specs.Histories.{JointEvent}
 use Rattle.block_machine.specs.State.{Pending, unanswered}
 use Rattle.block_machine.specs.Steps.{Step, Again, Age, Answer}
 use Rattle.block_machine.specs.declared.due.Unanswered.{Unanswered}
@@ -23,7 +23,7 @@ use Rattle.identify.specs.declared.wanted.Wanted.TheVariants.{Any}
 use Rattle.driver_history.specs.Evidence.{IsEvidencedOf, ShowsFailure, ShowsLoss}
 use Rattle.driver_history.specs.Histories.{IssuesDue, CallCorresponds, PortCorresponds}
 use Rattle.driver_history.specs.Trace.{IsAccessForPorts, LeavesEngine}
-use Rattle.witnesses.specs.Scene.{plain}
+use Rattle.witnesses.specs.RunningAdapter.{plain}
 use Rattle.witnesses.proofs.history.Accepting.{both, holds_issued, in_book, issued_at, issued_for, waiting_for}
 use Rattle.witnesses.proofs.history.Command.{read_memory}
 use Rattle.witnesses.proofs.history.Holding.{IsCalm, first_slots, no_trouble, unnamed_evidenced}
@@ -75,7 +75,7 @@ quiet = calm submitted.tape read_memory issued refl refl refl (λ place from. re
 -- ---- a tick that restarts nothing
 
 module _ (age : ℕ) where
-  abbrev pub tick : Happening Device DeviceStep
+  abbrev pub tick : JointEvent Device DeviceStep
   tick = record {
     event = record { ask = Tick; said = Served []; evidence = nothing; steps = ages ∷ []; ports = both };
     device = submitted;

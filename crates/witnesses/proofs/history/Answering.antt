@@ -15,8 +15,8 @@ use Rattle.adapter.specs.declared.tape.Entry.TheVariants as entry
 use Rattle.refinement.specs.Relation.{port_at}
 use Rattle.refinement.specs.Driver.{IsBacked}
 use Rattle.refinement.specs.Witness.{first_id}
-use Rattle.block_machine.specs.Histories.{Happening}
-use Rattle.block_machine.specs.Events.{ShowsRealDisk, Happens, Service, Served}
+use Rattle.block_machine.specs.Histories.{JointEvent}
+use Rattle.block_machine.specs.Events.{ShownDiskWasInOrCame, Happens, Service, Served}
 use Rattle.block_machine.specs.Ports.{PortsWellFormed, IsStoppedOrStuck, IsServiced, SamePort}
 use Rattle.block_machine.specs.State.{Pending}
 use Rattle.block_machine.specs.Steps.{Step, End, Answer, Unplug}
@@ -32,7 +32,7 @@ use Rattle.adapter.specs.declared.access.DeviceStep.{DeviceStep}
 use Rattle.refinement.specs.Links.{IsPlugEvent}
 use Rattle.error_recovery.specs.Evidence.{ShowsFatal}
 use Rattle.driver_history.specs.Heeding.{ServesReady}
-use Rattle.driver_history.specs.Evidence.{Gains, IsEvidencedOf, ShowsLoss, ShowsFailure}
+use Rattle.driver_history.specs.Evidence.{TapeGainsEntry, IsEvidencedOf, ShowsLoss, ShowsFailure}
 use Rattle.driver_history.specs.Histories.{FindsDone, IsIssuedOn, CallCorresponds, PortCorresponds, BootsAnew, LosesNoPortError, RunsWellAnew, IsPortAlive}
 use Rattle.driver_history.specs.Trace.{DoesNotWriteCmd}
 use Rattle.port_control.specs.Engines.{Stops}
@@ -79,7 +79,7 @@ not_dead_then (suc (suc n)) is = let x : Absent ≡ Dead = is in cc
 abbrev reply : Reply
 reply = record { id = first_id; client = asked.client; outcome = outcome.Ok }
 
-abbrev service : Happening Device DeviceStep
+abbrev service : JointEvent Device DeviceStep
 service = record {
   event = record { ask = Service; said = Served (reply ∷ []); evidence = loss_evidence; steps = service_steps; ports = one };
   device = lost;
@@ -125,7 +125,7 @@ becomes n = (
     changes (suc zero) = inr (inl (named 1))
     changes (suc (suc n)) = inl (refl, refl, refl, refl, refl, refl)
 
-had_disk : (n : ℕ) → SamePort both one (port_at n) ⊎ ShowsRealDisk submitted_at.abstract service_steps lost_at.abstract (port_at n)
+had_disk : (n : ℕ) → SamePort both one (port_at n) ⊎ ShownDiskWasInOrCame submitted_at.abstract service_steps lost_at.abstract (port_at n)
 had_disk zero = inl (refl, refl, refl, refl, refl, refl)
 had_disk (suc zero) = inr (λ shows. absurd shows)
 had_disk (suc (suc n)) = inl (refl, refl, refl, refl, refl, refl)
@@ -197,7 +197,7 @@ of_served = (tended 0 refl, (tended 0 refl, (tended 1 refl, (tended 1 refl, ((λ
     tended : (n : ℕ) → both.served (port_at n) ≡ true → IsPortAlive both (port_at n)
     tended n served = (served, not_dead n)
 
-gains : Gains (IsPlugEvent 1) submitted lost
+gains : TapeGainsEntry (IsPlugEvent 1) submitted lost
 gains = record {
   gained = gained;
   tape = refl;

@@ -12,8 +12,8 @@ use Rattle.adapter.specs.Steps.DeviceTransition.{LinkUp, ResetEnds}
 use Rattle.refinement.specs.Relation.{port_at}
 use Rattle.refinement.specs.Places.{list_of, received_of}
 use Rattle.witnesses.specs.Allowed.{AreAllowed}
-use Rattle.witnesses.specs.Reset.{booting, rebooting}
-use Rattle.witnesses.specs.Scene.{device_with, having, running_port}
+use Rattle.witnesses.specs.Reset.{boot_accesses, reset_and_boot_accesses}
+use Rattle.witnesses.specs.RunningAdapter.{device_with, port_or_empty, running_port}
 use Rattle.witnesses.proofs.history.Command.{read_memory}
 use Rattle.witnesses.proofs.history.Devices.{AlikeBut, but_first, but_second, put_device, reads, same_beside, writes}
 use Rattle.witnesses.proofs.history.Submitting.{pages, submitted}
@@ -72,7 +72,7 @@ module _ (k : ℕ) where
   unfit = record idle { notes = note Sig 0xeb140101 idle }
 
   -- the port stands at its place in these lists
-  module _ (around : DevicePort → List DevicePort) (at : (p : DevicePort) → having (around p) k ≡ p) (alike : (p q : DevicePort) → AlikeBut k (around p) (around q)) where
+  module _ (around : DevicePort → List DevicePort) (at : (p : DevicePort) → port_or_empty (around p) k ≡ p) (alike : (p q : DevicePort) → AlikeBut k (around p) (around q)) where
     abbrev pub dev : DevicePort → Device
     dev p = device_with pages read_memory (around p)
 
@@ -90,16 +90,16 @@ module _ (k : ℕ) where
         steps = LinkUp k 0xeb140101 false ∷ [];
         lead = (
           subst (λ (p : DevicePort). MayLinkUp p 0xeb140101) (sym (at awaiting)) (record { present = refl; det = refl; due = refl; fits = omega arith }),
-          put_device pages read_memory k (around awaiting) (around (up awaiting)) (up (having (around awaiting) k)) (at (up awaiting) ∙ ap up (sym (at awaiting))) (alike awaiting (up awaiting)),
+          put_device pages read_memory k (around awaiting) (around (up awaiting)) (up (port_or_empty (around awaiting) k)) (at (up awaiting) ∙ ap up (sym (at awaiting))) (alike awaiting (up awaiting)),
         );
       };
       shows = subst (PortShows Ssts 3) (sym (at (up awaiting))) refl;
-      effect = put_device pages read_memory k (around (up awaiting)) (around shown) (record (having (around (up awaiting)) k) { notes = note Ssts 3 (having (around (up awaiting)) k) })
+      effect = put_device pages read_memory k (around (up awaiting)) (around shown) (record (port_or_empty (around (up awaiting)) k) { notes = note Ssts 3 (port_or_empty (around (up awaiting)) k) })
           (at shown ∙ ap (λ (q : DevicePort). record q { notes = note Ssts 3 q }) (sym (at (up awaiting)))) (alike (up awaiting) shown);
     }
 
     -- and then there come these
-    unfoldable pub boots : (later : List Access) (new : Device) → DoesAll later (dev unfit) new → DoesAll (booting k ++ later) (dev (quieted k)) new
+    unfoldable pub boots : (later : List Access) (new : Device) → DoesAll later (dev unfit) new → DoesAll (boot_accesses k ++ later) (dev (quieted k)) new
     boots later new then = (dev asked, reads_here Cmd 0 (quieted k) (refl, refl, refl, refl), (dev with_list, writes_here Clb (list_of k) asked, (dev with_lists, writes_here Clbu 0 with_list, (dev with_area, writes_here Fb (received_of k) with_lists, (dev placed, writes_here Fbu 0 with_area, (dev asked_again, reads_here Cmd 0 placed (refl, refl, refl, refl), (dev hearing, writes_here Cmd 0x10 asked_again, (dev sending, writes_here Sctl 1 hearing, (dev awaiting, writes_here Sctl 0 sending, (dev shown, comes_up, (dev unchanged, writes_here Serr 0xffffffff shown, (dev calmed, writes_here Is 0xffffffff unchanged, (dev idle, reads_here Tfd 0x77 calmed refl, (dev unfit, reads_here Sig 0xeb140101 idle refl, then))))))))))))))
 
 -- ---- the adapter's reset
@@ -124,15 +124,15 @@ begun = device_with pages read_memory (quieted 0 ∷ quieted 1 ∷ [])
 abbrev pub rebooted : Device
 rebooted = device_with pages read_memory (unfit 0 ∷ unfit 1 ∷ [])
 
-pub ports_are : having (quieted 0 ∷ quieted 1 ∷ []) ≡ ended.port
+pub ports_are : port_or_empty (quieted 0 ∷ quieted 1 ∷ []) ≡ ended.port
 ports_are = λ i n. each n i
   where
-    each : (n : ℕ) → having (quieted 0 ∷ quieted 1 ∷ []) n ≡ ended.port n
+    each : (n : ℕ) → port_or_empty (quieted 0 ∷ quieted 1 ∷ []) n ≡ ended.port n
     each zero = refl
     each (suc zero) = refl
     each (suc (suc n)) = refl
 
-unfoldable pub does : DoesAll rebooting submitted rebooted
+unfoldable pub does : DoesAll reset_and_boot_accesses submitted rebooted
 does = (
   pending,
   record { mid = submitted; steps = record { steps = []; lead = refl }; effect = refl },
@@ -142,7 +142,7 @@ does = (
     (
       begun,
       record { mid = ended; steps = record { steps = []; lead = refl }; effect = ap (λ (f : ℕ → DevicePort). record begun { port = f }) ports_are },
-      boots 0 first_quieted (λ p. refl) (λ p q. but_first p q (quieted 1 ∷ [])) (booting 1) rebooted
+      boots 0 first_quieted (λ p. refl) (λ p q. but_first p q (quieted 1 ∷ [])) (boot_accesses 1) rebooted
           (boots 1 second_quieted (λ p. refl) (λ p q. but_second (unfit 0) p q []) [] rebooted refl),
     ),
   ),
@@ -158,6 +158,6 @@ may_hear k = record {
   others = λ place low start receive. same_beside 0x10 0 refl refl refl refl place start receive;
 }
 
-pub allowed : AreAllowed rebooting submitted rebooted does
+pub allowed : AreAllowed reset_and_boot_accesses submitted rebooted does
 unfolding does boots comes_up reads_here writes_here reads writes
 allowed = (tt, (tt, (tt, ((record { ae = refl; no_reset = refl }, (omega arith, refl)), ((record { ae = refl; no_reset = refl }, (omega arith, refl), (refl, refl, refl, omega arith)), ((record { ae = refl; no_reset = refl }, (omega arith, refl), (refl, refl, refl)), ((record { ae = refl; no_reset = refl }, (omega arith, refl), (refl, refl, refl, omega arith)), ((record { ae = refl; no_reset = refl }, (omega arith, refl), (refl, refl, refl)), ((record { ae = refl; no_reset = refl }, (omega arith, refl)), ((record { ae = refl; no_reset = refl }, (omega arith, refl), may_hear 0), ((record { ae = refl; no_reset = refl }, (omega arith, refl), (refl, inr refl)), ((record { ae = refl; no_reset = refl }, (omega arith, refl), (refl, inl refl)), ((record { ae = refl; no_reset = refl }, (omega arith, refl)), ((record { ae = refl; no_reset = refl }, (omega arith, refl), tt), ((record { ae = refl; no_reset = refl }, (omega arith, refl), tt), ((record { ae = refl; no_reset = refl }, (omega arith, refl)), ((record { ae = refl; no_reset = refl }, (omega arith, refl)), ((record { ae = refl; no_reset = refl }, (omega arith, refl)), ((record { ae = refl; no_reset = refl }, (omega arith, refl), (refl, refl, refl, omega arith)), ((record { ae = refl; no_reset = refl }, (omega arith, refl), (refl, refl, refl)), ((record { ae = refl; no_reset = refl }, (omega arith, refl), (refl, refl, refl, omega arith)), ((record { ae = refl; no_reset = refl }, (omega arith, refl), (refl, refl, refl)), ((record { ae = refl; no_reset = refl }, (omega arith, refl)), ((record { ae = refl; no_reset = refl }, (omega arith, refl), may_hear 1), ((record { ae = refl; no_reset = refl }, (omega arith, refl), (refl, inr refl)), ((record { ae = refl; no_reset = refl }, (omega arith, refl), (refl, inl refl)), ((record { ae = refl; no_reset = refl }, (omega arith, refl)), ((record { ae = refl; no_reset = refl }, (omega arith, refl), tt), ((record { ae = refl; no_reset = refl }, (omega arith, refl), tt), ((record { ae = refl; no_reset = refl }, (omega arith, refl)), ((record { ae = refl; no_reset = refl }, (omega arith, refl)), tt)))))))))))))))))))))))))))))))

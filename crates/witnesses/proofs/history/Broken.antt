@@ -8,8 +8,8 @@ use Rattle.ata_types.specs.declared.request.Outcome.TheVariants as outcome
 use Rattle.adapter.specs.Device.{Device}
 use Rattle.adapter.specs.declared.access.DeviceStep.{DeviceStep}
 use Rattle.refinement.specs.Relation.{port_at}
-use Rattle.block_machine.specs.Events.{ShowsRealDisk, Happens, Served, Service}
-use Rattle.block_machine.specs.Histories.{Happening}
+use Rattle.block_machine.specs.Events.{ShownDiskWasInOrCame, Happens, Served, Service}
+use Rattle.block_machine.specs.Histories.{JointEvent}
 use Rattle.block_machine.specs.Ports.{IsStoppedOrStuck, IsServiced, SamePort}
 use Rattle.block_machine.specs.State.{Pending}
 use Rattle.block_machine.specs.Steps.{Step, Answer}
@@ -17,7 +17,7 @@ use Rattle.identify.specs.declared.wanted.Wanted.TheVariants.{Any}
 use Rattle.driver_history.specs.Heeding.{ServesReady}
 use Rattle.driver_history.specs.Histories.{BootsAnew, FindsDone, IsIssuedOn, IsPortAlive, CallCorresponds, PortCorresponds}
 use Rattle.driver_history.specs.Trace.{DoesNotWriteCmd}
-use Rattle.witnesses.specs.Fatal.{FatalErrorIsAHistory, fatal_accesses, fatal_evidence, looking}
+use Rattle.witnesses.specs.Fatal.{FatalErrorIsAHistory, fatal_accesses, fatal_evidence, fatal_look_accesses}
 use Rattle.witnesses.proofs.history.Accepting.{asked, both, first, issuing, submit, submit_happens, submit_parts, submit_ties, waiting, bits_set, leaves_other, none_there, not_ended, the_answer}
 use Rattle.witnesses.proofs.history.Breaking.{allowed, broken, does, outset}
 use Rattle.witnesses.proofs.history.Devices.{AreServing, serving}
@@ -41,7 +41,7 @@ restart = record {
   steps = answer ∷ [];
   machine = issuing;
   port = broken;
-  looked = looking;
+  looked = fatal_look_accesses;
   outset = outset;
   failed = port_at 0 ∷ [];
 }
@@ -56,7 +56,7 @@ is_restart = record {
   failed_all = λ f. named 0;
   failed_only = λ n h. (named_is 0 n h, shows_fatal);
   writes = (inl refl, (inr refl, of_first));
-  running = All-from_recursion (DoesNotWriteCmd (port_at 0)) looking (tt, (λ is. cc, (λ is. cc, (tt, tt))));
+  running = All-from_recursion (DoesNotWriteCmd (port_at 0)) fatal_look_accesses (tt, (λ is. cc, (λ is. cc, (tt, tt))));
   unfound = λ e slot s clear. bits_set 0 broken refl (λ k. refl) (λ k. refl) e slot s clear;
   told = λ e o here. (the_answer outcome.Unplugged e o here).1;
   own = ((tt, λ d. d), (tt, tt), λ n. refl);
@@ -72,11 +72,11 @@ becomes n = (λ is. absurd (not_dead n is), λ _. (may_become (port_at 0 ∷ [])
     changes zero = inr (inl (named 0))
     changes (suc n) = inl (others_same n)
 
-had_disk : (n : ℕ) → SamePort both one (port_at n) ⊎ ShowsRealDisk broken_at.abstract (answer ∷ []) (booted_at outset).abstract (port_at n)
+had_disk : (n : ℕ) → SamePort both one (port_at n) ⊎ ShownDiskWasInOrCame broken_at.abstract (answer ∷ []) (booted_at outset).abstract (port_at n)
 had_disk zero = inr (λ shows. inl refl)
 had_disk (suc n) = inl (others_same n)
 
-abbrev service : Happening Device DeviceStep
+abbrev service : JointEvent Device DeviceStep
 service = record {
   event = record { ask = Service; said = Served replies; evidence = fatal_evidence; steps = answer ∷ []; ports = one };
   device = booted;
@@ -106,7 +106,7 @@ heeds (suc zero) is = leaves_other outcome.Unplugged fatal_evidence (booted_at o
 heeds (suc (suc n)) is = absurd (let x : Absent ≡ Ready = is in cc)
 
 boots : (n : ℕ) → BootsAnew Service (Served replies) fatal_accesses broken_at one booted (port_at n)
-boots zero = (λ is f. inr (inr (resets looking)), inr (inr (inr (resets looking))))
+boots zero = (λ is f. inr (inr (resets fatal_look_accesses)), inr (inr (inr (resets fatal_look_accesses))))
 boots (suc zero) = (λ is f. absurd (⊎_elim (λ fatal. quiet restart is_restart 0 is (inl fatal)) (there restart is_restart 1 is) f), inl (refl, refl, refl, refl, refl, refl))
 boots (suc (suc n)) = (λ is. absurd (let x : Absent ≡ Ready = is in cc), inl (refl, refl, refl, refl, refl, refl))
 

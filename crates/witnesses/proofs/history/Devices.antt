@@ -17,12 +17,12 @@ use Rattle.adapter.specs.Access.Access.{Reading, Writing, Loading, Storing}
 use Rattle.adapter.specs.Device.{DevicePort, Device}
 use Rattle.adapter.specs.Memory.{changed, patched}
 use Rattle.adapter.specs.Rules.{MayWriteCmd, MayStart}
-use Rattle.adapter.specs.Steps.{Can, StepLeads, DeviceTransition, Steps, device_after}
+use Rattle.adapter.specs.Steps.{Can, TransitionsLead, DeviceTransition, Steps, device_after}
 use Rattle.adapter.specs.Steps.DeviceTransition.{Fall}
 use Rattle.adapter.specs.declared.tape.Entry.{Entry}
 use Rattle.refinement.specs.Relation.{port_at}
 use Rattle.driver_history.specs.Trace.{LeavesEngine, IsAccessForPorts, IsOfPorts}
-use Rattle.witnesses.specs.Scene.{device_with, having}
+use Rattle.witnesses.specs.RunningAdapter.{device_with, port_or_empty}
 
 -- ---- one port is changed
 
@@ -53,7 +53,7 @@ past_second f new k = cond-false (suc (suc k) == 1) new (f (suc (suc k))) (ne_eq
 
 -- these ports differ from those at one place at most
 abbrev pub AlikeBut : ℕ → List DevicePort → List DevicePort → Type 0
-AlikeBut k old new = (n : ℕ) → n ≢ k → having new n ≡ having old n
+AlikeBut k old new = (n : ℕ) → n ≢ k → port_or_empty new n ≡ port_or_empty old n
 
 pub but_first : (p q : DevicePort) (rest : List DevicePort) → AlikeBut 0 (p ∷ rest) (q ∷ rest)
 but_first p q rest zero ne = absurd (ne refl)
@@ -64,9 +64,9 @@ but_second o p q rest zero ne = refl
 but_second o p q rest (suc zero) ne = absurd (ne refl)
 but_second o p q rest (suc (suc n)) ne = refl
 
-pub put_device : (tape : List Entry) (memory : ℕ → ℕ) (k : ℕ) (old new : List DevicePort) (x : DevicePort) → having new k ≡ x → AlikeBut k old new
-    → device_with tape memory new ≡ record (device_with tape memory old) { port = changed (having old) k x }
-put_device tape memory k old new x here others = ap (λ (f : ℕ → DevicePort). record (device_with tape memory old) { port = f }) (put k (having old) (having new) x here others)
+pub put_device : (tape : List Entry) (memory : ℕ → ℕ) (k : ℕ) (old new : List DevicePort) (x : DevicePort) → port_or_empty new k ≡ x → AlikeBut k old new
+    → device_with tape memory new ≡ record (device_with tape memory old) { port = changed (port_or_empty old) k x }
+put_device tape memory k old new x here others = ap (λ (f : ℕ → DevicePort). record (device_with tape memory old) { port = f }) (put k (port_or_empty old) (port_or_empty new) x here others)
 
 -- bytes are stored, and the device does nothing first
 pub stores : (at : ℕ) (bytes : List ℕ) (tape : List Entry) (memory : ℕ → ℕ) (ports : List DevicePort) → Stores at bytes (device_with tape memory ports) (device_with tape (patched memory at bytes) ports)
@@ -74,9 +74,9 @@ stores at bytes tape memory ports = record { mid = device_with tape memory ports
 
 module _ (tape : List Entry) (memory : ℕ → ℕ) (k : ℕ) (old new : List DevicePort) (others : AlikeBut k old new) where
   abbrev p : DevicePort
-  p = having old k
+  p = port_or_empty old k
 
-  unfoldable pub reads : (r : PortReg) (v : ℕ) → PortShows r v p → having new k ≡ record p { notes = note r v p } → Reads (Px (port_at k) r) v (device_with tape memory old) (device_with tape memory new)
+  unfoldable pub reads : (r : PortReg) (v : ℕ) → PortShows r v p → port_or_empty new k ≡ record p { notes = note r v p } → Reads (Px (port_at k) r) v (device_with tape memory old) (device_with tape memory new)
   reads r v shows here = record {
     mid = device_with tape memory old;
     steps = record { steps = []; lead = refl };
@@ -84,7 +84,7 @@ module _ (tape : List Entry) (memory : ℕ → ℕ) (k : ℕ) (old new : List De
     effect = put_device tape memory k old new (record p { notes = note r v p }) here others;
   }
 
-  unfoldable pub writes : (r : PortReg) (v : ℕ) → having new k ≡ port_written r v (length tape) p → Writes (Px (port_at k) r) v (device_with tape memory old) (device_with tape memory new)
+  unfoldable pub writes : (r : PortReg) (v : ℕ) → port_or_empty new k ≡ port_written r v (length tape) p → Writes (Px (port_at k) r) v (device_with tape memory old) (device_with tape memory new)
   writes r v here = record {
     mid = device_with tape memory old;
     steps = record { steps = []; lead = refl };
@@ -97,14 +97,14 @@ fall p = record p { cr = false; taken = λ _. None }
 
 -- PxCMD is read when CR has just fallen
 unfoldable pub falls_reads : (tape : List Entry) (memory : ℕ → ℕ) (k v : ℕ) (old mid new : List DevicePort) → AlikeBut k old mid → AlikeBut k mid new
-    → (having old k).st ≡ false → (having old k).cr ≡ true → having mid k ≡ fall (having old k)
-    → PortShows Cmd v (having mid k) → having new k ≡ record (having mid k) { notes = note Cmd v (having mid k) }
+    → (port_or_empty old k).st ≡ false → (port_or_empty old k).cr ≡ true → port_or_empty mid k ≡ fall (port_or_empty old k)
+    → PortShows Cmd v (port_or_empty mid k) → port_or_empty new k ≡ record (port_or_empty mid k) { notes = note Cmd v (port_or_empty mid k) }
     → Reads (Px (port_at k) Cmd) v (device_with tape memory old) (device_with tape memory new)
 falls_reads tape memory k v old mid new first then st cr fallen shows here = record {
   mid = device_with tape memory mid;
-  steps = record { steps = Fall k ∷ []; lead = ((st, cr), put_device tape memory k old mid (fall (having old k)) fallen first) };
+  steps = record { steps = Fall k ∷ []; lead = ((st, cr), put_device tape memory k old mid (fall (port_or_empty old k)) fallen first) };
   shows = shows;
-  effect = put_device tape memory k mid new (record (having mid k) { notes = note Cmd v (having mid k) }) here then;
+  effect = put_device tape memory k mid new (record (port_or_empty mid k) { notes = note Cmd v (port_or_empty mid k) }) here then;
 }
 
 pub no_bit : (k : ℕ) → bit 0 k ≡ false
@@ -112,7 +112,7 @@ no_bit k = ap (λ (b : ℕ). b == 1) (bit_at-zero k)
 
 -- a step of the device's, and what it does then
 pub step_first : (step : DeviceTransition) (old mid new : Device) → Can step old → mid ≡ device_after step old → Steps mid new → Steps old new
-step_first step old mid new can is rest = record { steps = step ∷ rest.steps; lead = (can, subst (λ (d : Device). StepLeads rest.steps d new) is rest.lead) }
+step_first step old mid new can is rest = record { steps = step ∷ rest.steps; lead = (can, subst (λ (d : Device). TransitionsLead rest.steps d new) is rest.lead) }
 
 -- ---- PxCMD
 

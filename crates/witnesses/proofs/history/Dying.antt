@@ -16,27 +16,27 @@ use Rattle.refinement.specs.Driver.{IsBacked, DriverRelation}
 use Rattle.refinement.specs.Slots.{ServesRequest, RelatesSlot}
 use Rattle.refinement.specs.Witness.{first_id}
 use Rattle.block_machine.specs.Events.{Service, Served, Happens}
-use Rattle.block_machine.specs.Histories.{Happening, JointState}
+use Rattle.block_machine.specs.Histories.{JointEvent, JointState}
 use Rattle.block_machine.specs.Ports.{IsServiced, Ports, PortsWellFormed}
-use Rattle.block_machine.specs.Left.{after}
+use Rattle.block_machine.specs.Expected.{after}
 use Rattle.block_machine.specs.State.{Pending, Machine}
 use Rattle.block_machine.specs.Steps.{Step, Answer, NoneQuarantined}
-use Rattle.host_boot.specs.Taken.{wanted_of}
+use Rattle.host_boot.specs.TakeOver.{wanted_of}
 use Rattle.identify.specs.declared.wanted.Wanted.TheVariants.{Any}
 use Rattle.driver_history.specs.Evidence.{IsEvidencedOf}
 use Rattle.driver_history.specs.Histories.{CallCorresponds, PortCorresponds, ProbesDisk, HasUnservedDisk, IsPortAlive}
-use Rattle.driver_history.specs.Holds.{PortStateInvariant, DriverInvariantWith, HasNoUnanswered}
+use Rattle.driver_history.specs.PortInvariants.{PortStateInvariant, DriverInvariantWith, HasNoUnanswered}
 use Rattle.driver_history.specs.Trace.{LeavesEngine, IsAccessForPorts}
 use Rattle.host_boot.specs.Resets.{ReadsGlobalControl}
 use Rattle.witnesses.specs.Dead.{reset_accesses, StuckResetIsAHistory}
-use Rattle.witnesses.specs.Scene.{having, showing}
+use Rattle.witnesses.specs.RunningAdapter.{port_or_empty, ports_with_disks}
 use Rattle.hba_regs.specs.declared.reg.Reg.TheVariants.{Ghc}
 use Rattle.adapter.specs.Access.{DoesAll}
 use Rattle.adapter.specs.Rules.{IsOn}
 use Rattle.refinement.specs.Acts.{driver_state}
 use Rattle.refinement.specs.Driver.{DriverRelation}
 use Rattle.block_machine.specs.Events.{Reset, WasReset}
-use Rattle.block_machine.specs.Ports.{Evidence, IsStuck}
+use Rattle.block_machine.specs.Ports.{Evidence, IsAfterStuckReset}
 use Rattle.driver_history.specs.Histories.{ProbesDisk}
 use Rattle.witnesses.proofs.history.Command.{read_memory}
 use Rattle.witnesses.proofs.history.Devices.{leaves}
@@ -51,7 +51,7 @@ use Rattle.witnesses.proofs.history.Members.{nowhere, only, either}
 -- ---- the reset
 
 abbrev dead : Ports
-dead = showing plain_disks.info (true ∷ true ∷ []) (Dead ∷ Dead ∷ [])
+dead = ports_with_disks plain_disks.info (true ∷ true ∷ []) (Dead ∷ Dead ∷ [])
 
 abbrev pending : Device
 pending = record submitted { hr = true; ae = true; ie = false }
@@ -66,7 +66,7 @@ resets = (
 abbrev stuck_evidence : Evidence
 stuck_evidence = record { faults = []; lost = []; gone = []; failed = []; fatal = []; stopped = []; stuck = port_at 0 ∷ port_at 1 ∷ [] }
 
-abbrev reset : Happening Device DeviceStep
+abbrev reset : JointEvent Device DeviceStep
 reset = record {
   event = record { ask = Reset; said = WasReset None; evidence = stuck_evidence; steps = []; ports = dead };
   device = pending;
@@ -133,7 +133,7 @@ fit_dead = record {
     no_cause (suc zero) cause is = let x : Dead ≡ Unfit cause = is in cc
     no_cause (suc (suc n)) cause is = let x : Absent ≡ Unfit cause = is in cc
 
-stuck_is : (n : ℕ) → IsStuck both stuck_evidence dead (port_at n)
+stuck_is : (n : ℕ) → IsAfterStuckReset both stuck_evidence dead (port_at n)
 stuck_is zero = (refl, λ is. (refl, (0, omega arith, refl)), (refl, refl))
 stuck_is (suc zero) = (refl, λ is. (refl, (1, omega arith, refl)), (refl, refl))
 stuck_is (suc (suc n)) = (refl, λ is. absurd (true≢false (sym is)), (refl, refl))
@@ -214,7 +214,7 @@ answered = after issuing (answer ∷ [])
 abbrev replies : List Reply
 replies = record { id = first_id; client = asked.client; outcome = outcome.PortDead } ∷ []
 
-abbrev service : Happening Device DeviceStep
+abbrev service : JointEvent Device DeviceStep
 service = record {
   event = record { ask = Service; said = Served replies; evidence = nothing; steps = answer ∷ []; ports = dead };
   device = pending;
@@ -240,7 +240,7 @@ serves_kept =
       stage = s.stage;
     }
 
-slot_kept : (n k : ℕ) → RelatesSlot answered read_memory pages (having (issued ∷ second ∷ []) n) n k (uses_first n k)
+slot_kept : (n k : ℕ) → RelatesSlot answered read_memory pages (port_or_empty (issued ∷ second ∷ []) n) n k (uses_first n k)
 slot_kept zero zero = serves_kept
 slot_kept zero (suc k) = holds_submitted.knows.agrees.slot zero (suc k)
 slot_kept (suc n) k = holds_submitted.knows.agrees.slot (suc n) k

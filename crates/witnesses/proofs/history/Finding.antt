@@ -31,8 +31,8 @@ use Rattle.refinement.specs.Driver.{IsBacked}
 use Rattle.refinement.specs.Slots.{ServesRequest}
 use Rattle.block_machine.specs.Due.{IsDue, NoneDue}
 use Rattle.block_machine.specs.Events.{Happens, Service, Served, ShowsDisk}
-use Rattle.block_machine.specs.Histories.{JointState, Happening}
-use Rattle.block_machine.specs.Left.{after}
+use Rattle.block_machine.specs.Histories.{JointState, JointEvent}
+use Rattle.block_machine.specs.Expected.{after}
 use Rattle.block_machine.specs.Ports.{Evidence, IsServiced}
 use Rattle.block_machine.specs.State.{Block, Machine, Pending, unanswered}
 use Rattle.block_machine.specs.Steps.{Step, Answer, End, Touch, AllTouched, mark_ended, touch}
@@ -41,9 +41,9 @@ use Rattle.identify.specs.declared.wanted.Wanted.TheVariants.{Any}
 use Rattle.driver_history.specs.Heeding.{ServesReady}
 use Rattle.driver_history.specs.Evidence.{IsEvidencedOf, ShowsFailure, ShowsLoss}
 use Rattle.driver_history.specs.Histories.{FindsDone, IsAnsweredOk, IsIssuedOn, IsPortAlive, CallCorresponds, PortCorresponds, with_issue_undone}
-use Rattle.driver_history.specs.Holds.{mode_of_disk}
+use Rattle.driver_history.specs.PortInvariants.{mode_of_disk}
 use Rattle.driver_history.specs.Trace.{DoesNotWriteCmd, LeavesEngine}
-use Rattle.witnesses.specs.Scene.{queueing_cap}
+use Rattle.witnesses.specs.RunningAdapter.{queueing_cap}
 use Rattle.witnesses.proofs.history.Command.{queued_read}
 use Rattle.witnesses.proofs.history.Devices.{serving}
 use Rattle.witnesses.proofs.history.Holding.{IsCalm, no_trouble, tries_ready, unnamed_evidenced}
@@ -125,7 +125,7 @@ module _ (c : Discovery) where
   abbrev pub replies : List Reply
   replies = record { id = c.id; client = outstanding.request.asked.client; outcome = outcome.Ok } ∷ []
 
-  abbrev pub service : Happening Device DeviceStep
+  abbrev pub service : JointEvent Device DeviceStep
   service = record {
     event = record { ask = Service; said = Served replies; evidence = nothing; steps = steps; ports = two_ready c.disk };
     device = served_at.device;

@@ -20,7 +20,7 @@ use Rattle.adapter.specs.declared.command.Operation.TheVariants.{Identify}
 use Rattle.adapter.specs.declared.tape.Entry.{Entry}
 use Rattle.refinement.specs.Acts.{DriverSlots}
 use Rattle.refinement.specs.Relation.{port_at}
-use Rattle.refinement.specs.Facts.{IsFaulted, IsFaultOf}
+use Rattle.refinement.specs.PortFacts.{IsFaulted, IsFaultOf}
 use Rattle.refinement.specs.Slots.{Free, Serves, SlotStates, IsMove}
 use Rattle.refinement.specs.Witness.{first_id}
 use Rattle.block_machine.specs.Events.{AbstractCall, CallResult}
@@ -32,11 +32,11 @@ use Rattle.block_machine.specs.declared.due.QueueMode.{QueueMode}
 use Rattle.port_boot.specs.States.{HasFitDisk}
 use Rattle.port_control.specs.Ports.{programmed}
 use Rattle.error_recovery.specs.Evidence.{GainsSinceStart}
-use Rattle.driver_history.specs.Evidence.{IsEvidencedOf, ShowsFailure, ShowsLoss, Gains}
+use Rattle.driver_history.specs.Evidence.{IsEvidencedOf, ShowsFailure, ShowsLoss, TapeGainsEntry}
 use Rattle.driver_history.specs.Histories.{HasUnservedDisk, ProbesDisk, LosesNoPortError}
-use Rattle.driver_history.specs.Holds.{HasNothing, ReadySlotsInvariant, IsFreeOrServes, IsQueuedAsAsked, IsUnservedAt, HasNoUnanswered, EngineRuns}
+use Rattle.driver_history.specs.PortInvariants.{HasNothingInSlots, ReadySlotsInvariant, IsFreeOrServes, IsQueuedAsAsked, IsUnservedAt, HasNoUnanswered, EngineRuns}
 use Rattle.driver_history.specs.Trace.{LeavesEngine}
-use Rattle.witnesses.specs.Scene.{page_entry, page_move}
+use Rattle.witnesses.specs.RunningAdapter.{page_entry, page_move}
 use Rattle.witnesses.proofs.history.Pages.{Kind}
 use Rattle.witnesses.proofs.history.Members.{only}
 
@@ -56,14 +56,14 @@ abbrev pub first_slots : DriverSlots
 first_slots = record { uses = uses_first; parked = λ port. [] }
 
 -- no other does
-pub serves_first : (port slot : ℕ) (id : RequestId) → uses_first port slot ≡ Serves id → (port ≡ 0) × (slot ≡ 0)
-serves_first zero zero id is = (refl, refl)
-serves_first zero (suc slot) id is = absurd (let x : Free ≡ Serves id = is in cc)
-serves_first (suc port) slot id is = absurd (let x : Free ≡ Serves id = is in cc)
+pub answers_first_only : (port slot : ℕ) (id : RequestId) → uses_first port slot ≡ Serves id → (port ≡ 0) × (slot ≡ 0)
+answers_first_only zero zero id is = (refl, refl)
+answers_first_only zero (suc slot) id is = absurd (let x : Free ≡ Serves id = is in cc)
+answers_first_only (suc port) slot id is = absurd (let x : Free ≡ Serves id = is in cc)
 
 -- ---- ports
 
-pub unserved_at : (s : DriverSlots) (i : JointState Device) (port : ℕ) → i.abstract.ports.state (port_at port) ≡ Absent → i.device.port port ≡ empty_port → HasNothing s port → HasNoUnanswered i.abstract.machine (port_at port)
+pub unserved_at : (s : DriverSlots) (i : JointState Device) (port : ℕ) → i.abstract.ports.state (port_at port) ≡ Absent → i.device.port port ≡ empty_port → HasNothingInSlots s port → HasNoUnanswered i.abstract.machine (port_at port)
     → NoneQuarantined i.abstract.machine (port_at port) → IsUnservedAt s i (port_at port)
 unserved_at s i port absent quiet slots waits kept = record {
   absent = absent;
@@ -216,13 +216,13 @@ tries_ready accesses old ports new port ready = record {
 -- ---- trouble
 
 -- nothing of this kind was gained
-pub gained_none : (Is : Entry → Type 0) (old new : Device) (gained : List Entry) → new.tape ≡ old.tape ++ gained → All (λ e. Is e → ⊥) gained → Gains Is old new → ⊥
+pub gained_none : (Is : Entry → Type 0) (old new : Device) (gained : List Entry) → new.tape ≡ old.tape ++ gained → All (λ e. Is e → ⊥) gained → TapeGainsEntry Is old new → ⊥
 gained_none Is old new gained is none g =
     let same : g.gained ≡ gained = append_cancel_left old.tape g.gained gained (sym g.tape ∙ is) in
     All-contains (λ e. Is e → ⊥) gained g.entry none (subst (λ (es : List Entry). Contains es g.entry) same g.here) g.is
 
 -- so it was not while ST was one either
-pub ran_none : (Is : Entry → Type 0) (port : ℕ) (old new : Device) → (Gains Is old new → ⊥) → GainsSinceStart Is port old new → ⊥
+pub ran_none : (Is : Entry → Type 0) (port : ℕ) (old new : Device) → (TapeGainsEntry Is old new → ⊥) → GainsSinceStart Is port old new → ⊥
 ran_none Is port old new none g = none (record {
   gained = g.before ++ (g.entry ∷ g.later);
   tape = g.tape;
@@ -250,11 +250,11 @@ no_trouble evidence old ports new port gained is none served calm = record {
   disk = λ ready g. absurd (ran_none (IsPlugEvent port.0) port.0 old.device new plugs g);
 }
   where
-    faults : Gains (IsFaultOf port.0) old.device new → ⊥
+    faults : TapeGainsEntry (IsFaultOf port.0) old.device new → ⊥
     faults = gained_none (IsFaultOf port.0) old.device new gained is (each gained (λ e (c : IsCalm port.0 e). c.0) none)
 
-    fatals : Gains (IsFatalOf port.0) old.device new → ⊥
+    fatals : TapeGainsEntry (IsFatalOf port.0) old.device new → ⊥
     fatals = gained_none (IsFatalOf port.0) old.device new gained is (each gained (λ e (c : IsCalm port.0 e). c.1) none)
 
-    plugs : Gains (IsPlugEvent port.0) old.device new → ⊥
+    plugs : TapeGainsEntry (IsPlugEvent port.0) old.device new → ⊥
     plugs = gained_none (IsPlugEvent port.0) old.device new gained is (each gained (λ e (c : IsCalm port.0 e). c.2) none)

@@ -11,9 +11,9 @@ use Rattle.ata_types.specs.declared.request.Outcome.TheVariants as outcome
 use Rattle.adapter.specs.Device.{Device}
 use Rattle.adapter.specs.declared.access.DeviceStep.{DeviceStep}
 use Rattle.refinement.specs.Relation.{port_at}
-use Rattle.refinement.specs.Facts.{RunsWell}
+use Rattle.refinement.specs.PortFacts.{RunsWell}
 use Rattle.block_machine.specs.Events.{Happens, HasTimedOut, RestartsTimedOut, Served, Tick}
-use Rattle.block_machine.specs.Histories.{Happening}
+use Rattle.block_machine.specs.Histories.{JointEvent}
 use Rattle.block_machine.specs.Ports.{IsStoppedOrStuck, MayBecome, SamePort}
 use Rattle.block_machine.specs.State.{Pending}
 use Rattle.block_machine.specs.Steps.{Again, Answer, Step}
@@ -21,7 +21,7 @@ use Rattle.identify.specs.declared.wanted.Wanted.TheVariants.{Any}
 use Rattle.driver_history.specs.Histories.{BootsAnew, FindsDone, CallCorresponds, PortCorresponds}
 use Rattle.driver_history.specs.Trace.{DoesNotWriteCmd}
 use Rattle.witnesses.specs.Hung.{HungPortIsAHistory}
-use Rattle.witnesses.specs.Restart.{restart_evidence, restarting}
+use Rattle.witnesses.specs.Restart.{restart_evidence, restart_accesses}
 use Rattle.witnesses.proofs.history.Accepting.{asked, bits_set, both, first, issued_at, issued_for, not_ended, submit, submit_happens, submit_parts, submit_ties, waiting_for}
 use Rattle.witnesses.proofs.history.Aging.{ages, ages_once, hung_at, hung_first, not_hung, tick, tick_happens, tick_part, tick_ties}
 use Rattle.witnesses.proofs.history.Devices.{serving}
@@ -92,7 +92,7 @@ is_restart = record {
 
 -- ---- the call
 
-abbrev restarting_tick : Happening Device DeviceStep
+abbrev restarting_tick : JointEvent Device DeviceStep
 restarting_tick = record {
   event = record { ask = Tick; said = Served replies; evidence = restart_evidence []; steps = steps; ports = one };
   device = booted;
@@ -153,15 +153,15 @@ happens = record {
 
 -- ---- what it owes each port
 
-finds_there : (n : ℕ) → HasTimedOut (issued_at 2).abstract (port_at n) → FindsDone (port_at n) restarting (issued_at 2) steps
+finds_there : (n : ℕ) → HasTimedOut (issued_at 2).abstract (port_at n) → FindsDone (port_at n) restart_accesses (issued_at 2) steps
 finds_there zero h = finds restart is_restart
 finds_there (suc n) h = absurd (other n h)
 
-boots : (n : ℕ) → BootsAnew Tick (Served replies) restarting (issued_at 2) one booted (port_at n)
+boots : (n : ℕ) → BootsAnew Tick (Served replies) restart_accesses (issued_at 2) one booted (port_at n)
 boots zero h = inr (resets [])
 boots (suc n) h = absurd (other n h)
 
-part_of : (n : ℕ) → PortCorresponds (issued_at 2) restarting_tick restarting (port_at n)
+part_of : (n : ℕ) → PortCorresponds (issued_at 2) restarting_tick restart_accesses (port_at n)
 part_of n = record {
   finds = finds_there n;
   faults = tt;
@@ -174,8 +174,8 @@ part_of n = record {
 
 ties : CallCorresponds (Any ∷ Any ∷ []) (issued_at 2) restarting_tick
 ties = record {
-  accesses = restarting;
-  came = (restarts outset, serving (HasTimedOut (issued_at 2).abstract) restarting (of_served (HasTimedOut (issued_at 2).abstract) hung));
+  accesses = restart_accesses;
+  came = (restarts outset, serving (HasTimedOut (issued_at 2).abstract) restart_accesses (of_served (HasTimedOut (issued_at 2).abstract) hung));
   backed = backed restart is_restart;
   evidenced = record { faults = λ f here. absurd (nowhere f here); port = λ port. evidenced restart is_restart port.0 };
   grounded = tt;

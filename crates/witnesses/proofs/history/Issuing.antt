@@ -22,8 +22,8 @@ use Rattle.refinement.specs.Relation.{port_at}
 use Rattle.refinement.specs.Driver.{IsBacked}
 use Rattle.block_machine.specs.Due.{IsDue}
 use Rattle.block_machine.specs.Events.{Happens, Submit, Submitted, NoneDueWhereReady, IsIssuedIn, situation_of}
-use Rattle.block_machine.specs.Histories.{JointState, Happening}
-use Rattle.block_machine.specs.Left.{after}
+use Rattle.block_machine.specs.Histories.{JointState, JointEvent}
+use Rattle.block_machine.specs.Expected.{after}
 use Rattle.block_machine.specs.Ports.{Evidence}
 use Rattle.block_machine.specs.Refusals.{IsAcceptable}
 use Rattle.block_machine.specs.State.{Accepted, Block, Machine, block_of, unanswered}
@@ -32,9 +32,9 @@ use Rattle.block_machine.specs.declared.due.Unanswered.{Unanswered}
 use Rattle.identify.specs.declared.wanted.Wanted.TheVariants.{Any}
 use Rattle.driver_history.specs.Evidence.{IsEvidencedOf}
 use Rattle.driver_history.specs.Histories.{IssuesDue, IsIssuingAccess, CallCorresponds, PortCorresponds, with_issue_undone}
-use Rattle.driver_history.specs.Holds.{mode_of_disk}
+use Rattle.driver_history.specs.PortInvariants.{mode_of_disk}
 use Rattle.driver_history.specs.Trace.{LeavesEngine}
-use Rattle.witnesses.specs.Scene.{having, queueing_cap}
+use Rattle.witnesses.specs.RunningAdapter.{port_or_empty, queueing_cap}
 use Rattle.witnesses.proofs.history.Holding.{IsCalm, IsUnnamed, each, no_trouble, unnamed_evidenced}
 use Rattle.witnesses.proofs.history.Members.{nowhere, only}
 use Rattle.witnesses.proofs.history.Pages.{Kind}
@@ -117,7 +117,7 @@ leaves_engine port (Writing r v) i = (
 )
 
 -- no disk is put in where port 0 stands before and after
-pub unplugged : (p p' : DevicePort) → Stands p → Stands p' → (n : ℕ) → (having (p' ∷ second ∷ []) n).plugged ≡ (having (p ∷ second ∷ []) n).plugged ++ []
+pub unplugged : (p p' : DevicePort) → Stands p → Stands p' → (n : ℕ) → (port_or_empty (p' ∷ second ∷ []) n).plugged ≡ (port_or_empty (p ∷ second ∷ []) n).plugged ++ []
 unplugged p p' a b zero =
     let same : p'.plugged ≡ p.plugged = ap (λ (q : DevicePort). q.plugged) (b.same ∙ sym a.same) in
     same ∙ sym (append-nil p.plugged)
@@ -157,7 +157,7 @@ module _ (c : Submission) where
   abbrev pub submitted_at : JointState Device
   submitted_at = instant_with c.disk c.slots_then issuing [] c.memory_then c.port_then
 
-  abbrev pub submit : Happening Device DeviceStep
+  abbrev pub submit : JointEvent Device DeviceStep
   submit = record {
     event = record { ask = Submit (reading c.sector c.frame_number); said = Submitted (Ok c.id); evidence = nothing; steps = submit_steps; ports = two_ready c.disk };
     device = submitted_at.device;

@@ -18,7 +18,7 @@ use Rattle.adapter.specs.declared.tape.Entry.TheVariants as entry
 use Rattle.refinement.specs.Relation.{port_at}
 use Rattle.refinement.specs.Slots.{IsEmptySlot}
 use Rattle.witnesses.specs.Loss.{completing_turn, losing_turn}
-use Rattle.witnesses.specs.Scene.{device_with}
+use Rattle.witnesses.specs.RunningAdapter.{device_with}
 use Rattle.witnesses.proofs.history.Command.{read_memory}
 use Rattle.witnesses.proofs.history.Submitting.{command, fetches, issued, others_clear, pages, second, submitted, taken}
 use Rattle.witnesses.proofs.history.Devices.{may_stop, but_first, but_second, fall, falls_reads, no_bit, past_first, put_device, reads, step_first, writes}

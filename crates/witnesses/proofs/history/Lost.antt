@@ -18,14 +18,14 @@ use Rattle.refinement.specs.Relation.{port_at}
 use Rattle.refinement.specs.Driver.{DriverRelation}
 use Rattle.refinement.specs.Slots.{IsEmptySlot, IsMove}
 use Rattle.block_machine.specs.Histories.{JointState}
-use Rattle.block_machine.specs.Left.{after}
+use Rattle.block_machine.specs.Expected.{after}
 use Rattle.block_machine.specs.Ports.{Ports}
 use Rattle.block_machine.specs.State.{Machine, Pending}
 use Rattle.block_machine.specs.Steps.{Step, Touch, End, Answer, Unplug, AllTouched, mark_ended, touch}
-use Rattle.host_boot.specs.Taken.{wanted_of}
+use Rattle.host_boot.specs.TakeOver.{wanted_of}
 use Rattle.identify.specs.declared.wanted.Wanted.TheVariants.{Any}
-use Rattle.driver_history.specs.Holds.{PortStateInvariant, DriverInvariantWith, IsReadyAt, IsStoppedAt}
-use Rattle.witnesses.specs.Scene.{having, page_entry, plain, showing}
+use Rattle.driver_history.specs.PortInvariants.{PortStateInvariant, DriverInvariantWith, IsReadyAt, IsStoppedAt}
+use Rattle.witnesses.specs.RunningAdapter.{port_or_empty, page_entry, plain, ports_with_disks}
 use Rattle.witnesses.proofs.history.Holding.{fit_disk, no_slots, requests_none, runs_on, unserved_at}
 use Rattle.witnesses.proofs.history.Submitting.{command}
 use Rattle.witnesses.proofs.history.Accepting.{issuing, waiting}
@@ -38,7 +38,7 @@ use Rattle.witnesses.proofs.history.Members.{nowhere}
 -- ---- the machine
 
 abbrev pub one : Ports
-one = showing plain_disks.info (true ∷ true ∷ []) (Ready ∷ Absent ∷ [])
+one = ports_with_disks plain_disks.info (true ∷ true ∷ []) (Ready ∷ Absent ∷ [])
 
 abbrev pub touched : Pending
 touched = touch 0 waiting
@@ -64,12 +64,12 @@ lost_at = record { device = lost; abstract = record { machine = served; ports = 
 
 -- ---- what holds
 
-lost_free : (n k : ℕ) → IsEmptySlot (having (found ∷ gone ∷ []) n) k
+lost_free : (n k : ℕ) → IsEmptySlot (port_or_empty (found ∷ gone ∷ []) n) k
 lost_free zero k = found_free k
 lost_free (suc zero) k = record { issued = refl; free = refl; unarmed = refl }
 lost_free (suc (suc n)) k = record { issued = refl; free = refl; unarmed = refl }
 
-one_in : (n : ℕ) → served.present (port_at n) ≡ (having (found ∷ gone ∷ []) n).present
+one_in : (n : ℕ) → served.present (port_at n) ≡ (port_or_empty (found ∷ gone ∷ []) n).present
 one_in zero = refl
 one_in (suc zero) = refl
 one_in (suc (suc n)) = cond-false (suc (suc n) == 1) false false (ne_eqb (suc (suc n)) 1 (omega arith))

@@ -19,22 +19,22 @@ use Rattle.adapter.specs.declared.tape.Entry.TheVariants as entry
 use Rattle.refinement.specs.Acts.{driver_state}
 use Rattle.refinement.specs.Relation.{port_at}
 use Rattle.refinement.specs.Driver.{IsBacked, DriverRelation}
-use Rattle.refinement.specs.Facts.{IsFaultOf}
+use Rattle.refinement.specs.PortFacts.{IsFaultOf}
 use Rattle.refinement.specs.Links.{IsPlugEvent}
 use Rattle.refinement.specs.Slots.{IsMove, RelatesSlot, ServesRequest}
 use Rattle.refinement.specs.Witness.{first_id}
 use Rattle.block_machine.specs.Due.{is_plain}
 use Rattle.block_machine.specs.Events.{Device as Told, Happens, Stepped}
-use Rattle.block_machine.specs.Histories.{Happening, JointState}
+use Rattle.block_machine.specs.Histories.{JointEvent, JointState}
 use Rattle.block_machine.specs.State.{Pending}
 use Rattle.error_recovery.specs.Evidence.{ShowsFatal}
-use Rattle.host_boot.specs.Taken.{wanted_of}
+use Rattle.host_boot.specs.TakeOver.{wanted_of}
 use Rattle.identify.specs.declared.wanted.Wanted.TheVariants.{Any}
-use Rattle.driver_history.specs.Evidence.{Gains, IsEvidencedOf, ShowsFailure, ShowsLoss}
+use Rattle.driver_history.specs.Evidence.{TapeGainsEntry, IsEvidencedOf, ShowsFailure, ShowsLoss}
 use Rattle.driver_history.specs.Histories.{LosesNoPortError, CallCorresponds, PortCorresponds}
-use Rattle.driver_history.specs.Holds.{PortStateInvariant, DriverInvariantWith, IsQueuedAsAsked, IsReadyAt}
+use Rattle.driver_history.specs.PortInvariants.{PortStateInvariant, DriverInvariantWith, IsQueuedAsAsked, IsReadyAt}
 use Rattle.driver_history.specs.Trace.{LeavesEngine}
-use Rattle.witnesses.specs.Scene.{having, page_entry, plain}
+use Rattle.witnesses.specs.RunningAdapter.{port_or_empty, page_entry, plain}
 use Rattle.witnesses.proofs.history.Accepting.{both, holds_submitted, in_book, issuing, submitted_at, waiting}
 use Rattle.witnesses.proofs.history.Breaking.{breaks, broken, can_break, dev, tape_broken}
 use Rattle.witnesses.proofs.history.Command.{read_memory, told}
@@ -76,12 +76,12 @@ serves_still : ServesRequest issuing read_memory broken 0 0 first_id
 serves_still = serves_one issuing read_memory broken 0 (read_of 100 1) first_id 100 100 waiting.request.held 0 refl (omega arith) (0, omega arith, refl) refl refl told
     (inl (record { started = refl; issued = refl; free = refl; sact = refl; block = tt; untouched = λ i. sym (le-ltb i 0 (omega arith)); unended = refl }))
 
-slots : (n k : ℕ) → RelatesSlot issuing read_memory tape_broken (having (broken ∷ second ∷ []) n) n k (uses_first n k)
+slots : (n k : ℕ) → RelatesSlot issuing read_memory tape_broken (port_or_empty (broken ∷ second ∷ []) n) n k (uses_first n k)
 slots zero zero = serves_still
 slots zero (suc k) = record { issued = others_clear k; free = refl; unarmed = refl }
 slots (suc n) k = holds_submitted.knows.agrees.slot (suc n) k
 
-present : (n : ℕ) → issuing.present (port_at n) ≡ (having (broken ∷ second ∷ []) n).present
+present : (n : ℕ) → issuing.present (port_at n) ≡ (port_or_empty (broken ∷ second ∷ []) n).present
 present zero = refl
 present (suc zero) = refl
 present (suc (suc n)) = refl
@@ -127,7 +127,7 @@ holds_broken = record {
 
 -- ---- the call
 
-abbrev pub meeting : Happening Device DeviceStep
+abbrev pub meeting : JointEvent Device DeviceStep
 meeting = record {
   event = record { ask = Told (Fatal (port_at 0) Interface); said = Stepped true; evidence = nothing; steps = []; ports = both };
   device = dev broken;
@@ -181,10 +181,10 @@ port_error zero = record {
   disk = λ ready g. absurd (ran_none (IsPlugEvent 0) 0 submitted (dev broken) plugs g);
 }
   where
-    faults : Gains (IsFaultOf 0) submitted (dev broken) → ⊥
+    faults : TapeGainsEntry (IsFaultOf 0) submitted (dev broken) → ⊥
     faults = gained_none (IsFaultOf 0) submitted (dev broken) gained refl (All-cons (λ e. IsFaultOf 0 e → ⊥) (entry.Fatal (port_at 0)) [] (λ x. x) (All-nil (λ e. IsFaultOf 0 e → ⊥)))
 
-    plugs : Gains (IsPlugEvent 0) submitted (dev broken) → ⊥
+    plugs : TapeGainsEntry (IsPlugEvent 0) submitted (dev broken) → ⊥
     plugs = gained_none (IsPlugEvent 0) submitted (dev broken) gained refl no_plugging
 port_error (suc n) = no_trouble nothing submitted_at both (dev broken) (port_at (suc n)) gained refl (fatal_alone (suc n) (omega arith)) (served_ready (suc n)) (quiet (suc n))
 

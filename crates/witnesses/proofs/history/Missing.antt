@@ -18,21 +18,21 @@ use Rattle.refinement.specs.Relation.{port_at}
 use Rattle.refinement.specs.Driver.{IsBacked, DriverRelation}
 use Rattle.refinement.specs.Links.{IsPlugEvent}
 use Rattle.refinement.specs.Slots.{IsEmptySlot}
-use Rattle.block_machine.specs.Events.{AnswersService, Device as Told, ShowsRealDisk, Happens, Served, Service, Stepped}
-use Rattle.block_machine.specs.Histories.{Happening, JointState}
-use Rattle.block_machine.specs.Left.{after}
+use Rattle.block_machine.specs.Events.{AnswersService, Device as Told, ShownDiskWasInOrCame, Happens, Served, Service, Stepped}
+use Rattle.block_machine.specs.Histories.{JointEvent, JointState}
+use Rattle.block_machine.specs.Expected.{after}
 use Rattle.block_machine.specs.Ports.{PortsWellFormed, Evidence, IsStoppedOrStuck, IsServiced, Ports, SamePort}
 use Rattle.block_machine.specs.State.{Machine}
 use Rattle.block_machine.specs.Steps.{Answer, Step, Unplug}
-use Rattle.host_boot.specs.Taken.{wanted_of}
+use Rattle.host_boot.specs.TakeOver.{wanted_of}
 use Rattle.identify.specs.declared.wanted.Wanted.TheVariants.{Any}
 use Rattle.port_control.specs.Engines.{Stops}
-use Rattle.driver_history.specs.Evidence.{Gains, IsEvidencedOf, ShowsChange}
+use Rattle.driver_history.specs.Evidence.{TapeGainsEntry, IsEvidencedOf, ShowsChange}
 use Rattle.driver_history.specs.Histories.{HasUnservedDisk, IsPortAlive, CallCorresponds, PortCorresponds, ProbesDisk}
-use Rattle.driver_history.specs.Holds.{PortStateInvariant}
+use Rattle.driver_history.specs.PortInvariants.{PortStateInvariant}
 use Rattle.driver_history.specs.Trace.{DoesNotWriteCmd, LeavesEngine, ResetsLink}
-use Rattle.witnesses.specs.Scene.{having, showing}
-use Rattle.witnesses.specs.Missing.{MissingDiskIsAHistory, passing, looking}
+use Rattle.witnesses.specs.RunningAdapter.{port_or_empty, ports_with_disks}
+use Rattle.witnesses.specs.Missing.{MissingDiskIsAHistory, unfit_look_accesses, missing_look_accesses}
 use Rattle.witnesses.proofs.history.Accepting.{first, submit, submit_happens, submit_ties}
 use Rattle.witnesses.proofs.history.Booting.{rebooted, unfit}
 use Rattle.witnesses.proofs.history.Command.{read_memory}
@@ -52,7 +52,7 @@ use Rattle.witnesses.proofs.history.Looking.{absent, allowed, can_go, does, gain
 abbrev going : Step
 going = Unplug (port_at 0)
 
-abbrev unplug : Happening Device DeviceStep
+abbrev unplug : JointEvent Device DeviceStep
 unplug = record {
   event = record { ask = Told (asked.Unplug (port_at 0)); said = Stepped true; evidence = nothing; steps = going ∷ []; ports = unfit_ports };
   device = unplugged;
@@ -65,13 +65,13 @@ abbrev unplugged_at : JointState Device
 unplugged_at = record { device = unplugged; abstract = record { machine = without; ports = unfit_ports } }
 
 abbrev one_absent : Ports
-one_absent = showing plain_disks.info (true ∷ true ∷ []) (Absent ∷ Unfit 8 ∷ [])
+one_absent = ports_with_disks plain_disks.info (true ∷ true ∷ []) (Absent ∷ Unfit 8 ∷ [])
 
 -- port 0 was stopped
 abbrev evidence : Evidence
 evidence = record { faults = []; lost = []; gone = []; failed = []; fatal = []; stopped = port_at 0 ∷ []; stuck = [] }
 
-abbrev service : Happening Device DeviceStep
+abbrev service : JointEvent Device DeviceStep
 service = record {
   event = record { ask = Service; said = Served []; evidence = evidence; steps = []; ports = one_absent };
   device = looked_over;
@@ -125,7 +125,7 @@ becomes n = (
     changes zero = inr (inl (named 0))
     changes (suc n) = inl (same_past n)
 
-had_disk : (n : ℕ) → SamePort unfit_ports one_absent (port_at n) ⊎ ShowsRealDisk unplugged_at.abstract [] looked_at.abstract (port_at n)
+had_disk : (n : ℕ) → SamePort unfit_ports one_absent (port_at n) ⊎ ShownDiskWasInOrCame unplugged_at.abstract [] looked_at.abstract (port_at n)
 had_disk zero = inr (λ shows. absurd shows)
 had_disk (suc n) = inl (same_past n)
 
@@ -143,12 +143,12 @@ unplug_happens = record {
 }
 
 -- another port's disk neither goes nor comes
-gains_none : (n : ℕ) → Gains (IsPlugEvent (suc n)) rebooted unplugged → ⊥
+gains_none : (n : ℕ) → TapeGainsEntry (IsPlugEvent (suc n)) rebooted unplugged → ⊥
 gains_none n = gained_none (IsPlugEvent (suc n)) rebooted unplugged gained refl
     (All-cons (λ e. IsPlugEvent (suc n) e → ⊥) (entry.Unplug (port_at 0)) [] (λ (is : 0 ≡ suc n). omega (arith, is)) (All-nil (λ e. IsPlugEvent (suc n) e → ⊥)))
 
 -- a port that isn't the first shows no change
-quiet : (n : ℕ) → ShowsChange (having (unfit 0 ∷ unfit 1 ∷ []) (suc n)) → ⊥
+quiet : (n : ℕ) → ShowsChange (port_or_empty (unfit 0 ∷ unfit 1 ∷ []) (suc n)) → ⊥
 quiet zero (inl is) = true≢false (sym is)
 quiet zero (inr is) = true≢false (sym is)
 quiet (suc n) (inl is) = true≢false (sym is)
@@ -171,7 +171,7 @@ unplug_part n = record {
   heeds = λ why. ⊎_elim (nowhere (port_at n)) (nowhere (port_at n)) why;
 }
   where
-    changes : (n : ℕ) → ShowsChange (rebooted.port n) ⊎ Gains (IsPlugEvent n) rebooted unplugged → ShowsChange (unplugged.port n)
+    changes : (n : ℕ) → ShowsChange (rebooted.port n) ⊎ TapeGainsEntry (IsPlugEvent n) rebooted unplugged → ShowsChange (unplugged.port n)
     changes zero why = inl refl
     changes (suc n) why = absurd (⊎_elim (quiet n) (gains_none n) why)
 
@@ -190,7 +190,7 @@ unplug_backed = record {
     plugs (suc zero) = refl
     plugs (suc (suc n)) = refl
 
-free : (n k : ℕ) → IsEmptySlot (having (gone ∷ unfit 1 ∷ []) n) k
+free : (n k : ℕ) → IsEmptySlot (port_or_empty (gone ∷ unfit 1 ∷ []) n) k
 free zero k = record { issued = refl; free = refl; unarmed = refl }
 free (suc zero) k = record { issued = refl; free = refl; unarmed = refl }
 free (suc (suc n)) k = record { issued = refl; free = refl; unarmed = refl }
@@ -200,7 +200,7 @@ unplug_knows = agreeing without no_slots tape_gone read_memory gone (unfit 1)
     (record { own_first = refl; own_second = refl; disks = (refl, refl); present = present; ids = refl; sizes = refl; bytes = refl; lasting = (refl, refl); still = refl })
     free free_apart (λ f b from small. past_driver f b from) (λ n e may at_port. ⊎_elim (λ z. absurd (nowhere e z.0)) (λ z. absurd (nowhere e z)) may)
   where
-    present : (n : ℕ) → without.present (port_at n) ≡ (having (gone ∷ unfit 1 ∷ []) n).present
+    present : (n : ℕ) → without.present (port_at n) ≡ (port_or_empty (gone ∷ unfit 1 ∷ []) n).present
     present zero = refl
     present (suc zero) = refl
     present (suc (suc n)) = cond-false (suc (suc n) == 0) false false (ne_eqb (suc (suc n)) 0 (omega arith))
@@ -278,23 +278,23 @@ service_happens = record {
   answered = answers;
 }
 
-stops : Stops (port_at 0) (looking ++ passing)
+stops : Stops (port_at 0) (missing_look_accesses ++ unfit_look_accesses)
 stops = record {
   before = Reading (Px (port_at 0) Is) 0x400000 ∷ Reading (Px (port_at 0) Ssts) 0 ∷ Reading (Px (port_at 0) Cmd) 0x4010 ∷ [];
   cleared = 0x4010;
   between = [];
   fallen = 0x4010;
-  later = Writing (Px (port_at 0) Serr) 0xffffffff ∷ Reading (Px (port_at 0) Ssts) 0 ∷ passing;
+  later = Writing (Px (port_at 0) Serr) 0xffffffff ∷ Reading (Px (port_at 0) Ssts) 0 ∷ unfit_look_accesses;
   here = refl;
   clears = refl;
   only = All-nil (DoesNotWriteCmd (port_at 0));
   shown = refl;
 }
 
-of_first : WritesOf (IsOf (port_at 0)) (looking ++ passing)
+of_first : WritesOf (IsOf (port_at 0)) (missing_look_accesses ++ unfit_look_accesses)
 of_first = (refl, (refl, tt))
 
-of_served : AreServing (IsPortAlive unfit_ports) (looking ++ passing)
+of_served : AreServing (IsPortAlive unfit_ports) (missing_look_accesses ++ unfit_look_accesses)
 of_served = (tended 0 refl, (tended 0 refl, (tended 0 refl, ((λ is. cc, tended 0 refl), (tended 0 refl, ((λ is. cc, tended 0 refl), (tended 0 refl, (tended 1 refl, (tended 1 refl, tt)))))))))
   where
     tended : (n : ℕ) → unfit_ports.served (port_at n) ≡ true → IsPortAlive unfit_ports (port_at n)
@@ -310,7 +310,7 @@ unnamed n = record {
   stuck = nowhere (port_at (suc n));
 }
 
-service_evidenced : (n : ℕ) → IsEvidencedOf Service (Served []) (looking ++ passing) unplugged_at one_absent looked_over evidence (port_at n)
+service_evidenced : (n : ℕ) → IsEvidencedOf Service (Served []) (missing_look_accesses ++ unfit_look_accesses) unplugged_at one_absent looked_over evidence (port_at n)
 service_evidenced zero = record {
   lost = λ h. absurd (nowhere (port_at 0) h);
   gone_all = λ ready loss. absurd (not_ready 0 ready);
@@ -323,14 +323,14 @@ service_evidenced zero = record {
   stopped_only = λ h. inl stops;
   stuck_only = λ h. absurd (nowhere (port_at 0) h);
 }
-service_evidenced (suc n) = unnamed_evidenced Service (Served []) (looking ++ passing) unplugged_at one_absent looked_over evidence (port_at (suc n)) (unnamed n) (λ ready. absurd (not_ready (suc n) ready))
-    (leaves (IsOf (port_at 0)) (port_at (suc n)) (λ is. apart (ap (λ (p : Port). p.0) is)) (λ is. apart (ap (λ (p : Port). p.0) is)) (looking ++ passing) of_first)
+service_evidenced (suc n) = unnamed_evidenced Service (Served []) (missing_look_accesses ++ unfit_look_accesses) unplugged_at one_absent looked_over evidence (port_at (suc n)) (unnamed n) (λ ready. absurd (not_ready (suc n) ready))
+    (leaves (IsOf (port_at 0)) (port_at (suc n)) (λ is. apart (ap (λ (p : Port). p.0) is)) (λ is. apart (ap (λ (p : Port). p.0) is)) (missing_look_accesses ++ unfit_look_accesses) of_first)
   where
     apart : suc n ≡ 0 → ⊥
     apart e = omega (arith, e)
 
 -- the first port's disk isn't there; the other's is, and shows no change
-probes : (n : ℕ) → ProbesDisk (looking ++ passing) unplugged_at one_absent looked_over (port_at n)
+probes : (n : ℕ) → ProbesDisk (missing_look_accesses ++ unfit_look_accesses) unplugged_at one_absent looked_over (port_at n)
 probes zero = record {
   shown = λ is. absurd (let x : Unfit 8 ≡ Absent = is in cc);
   absent = λ is. absurd (let x : Unfit 8 ≡ Absent = is in cc);
@@ -354,7 +354,7 @@ probes (suc (suc n)) = record {
     not_bad (inl is) = let x : Absent ≡ Foreign = is in cc
     not_bad (inr is) = let x : Absent ≡ Unfit is.0 = is.1 in cc
 
-service_part : (n : ℕ) → PortCorresponds unplugged_at service (looking ++ passing) (port_at n)
+service_part : (n : ℕ) → PortCorresponds unplugged_at service (missing_look_accesses ++ unfit_look_accesses) (port_at n)
 service_part n = record {
   finds = λ ready. absurd (not_ready n ready);
   faults = λ alone. absurd (not_ready n alone.ready);
@@ -371,7 +371,7 @@ service_part n = record {
   heeds = λ ready. absurd (not_ready n ready);
 }
   where
-    boots : (n : ℕ) → SamePort unfit_ports one_absent (port_at n) ⊎ ((one_absent.state (port_at n) ≡ Dead) ⊎ ((one_absent.state (port_at n) ≡ Absent) ⊎ ResetsLink (port_at n) (looking ++ passing)))
+    boots : (n : ℕ) → SamePort unfit_ports one_absent (port_at n) ⊎ ((one_absent.state (port_at n) ≡ Dead) ⊎ ((one_absent.state (port_at n) ≡ Absent) ⊎ ResetsLink (port_at n) (missing_look_accesses ++ unfit_look_accesses)))
     boots zero = inr (inr (inl refl))
     boots (suc n) = inl (same_past n)
 
@@ -379,7 +379,7 @@ service_part n = record {
     quiet_past zero shows = quiet 0 shows
     quiet_past (suc n) shows = quiet (suc n) shows
 
-    changes : (n : ℕ) → ShowsChange (unplugged.port n) ⊎ Gains (IsPlugEvent n) unplugged looked_over → IsStoppedOrStuck evidence (port_at n) ⊎ ShowsChange (looked_over.port n)
+    changes : (n : ℕ) → ShowsChange (unplugged.port n) ⊎ TapeGainsEntry (IsPlugEvent n) unplugged looked_over → IsStoppedOrStuck evidence (port_at n) ⊎ ShowsChange (looked_over.port n)
     changes zero why = inl (inl (named 0))
     changes (suc n) why = absurd (⊎_elim (quiet_past n) (gained_none (IsPlugEvent (suc n)) unplugged looked_over [] (sym (append-nil _)) (All-nil (λ e. IsPlugEvent (suc n) e → ⊥))) why)
 
@@ -398,7 +398,7 @@ service_backed = record {
     plugs (suc zero) = refl
     plugs (suc (suc n)) = refl
 
-free_then : (n k : ℕ) → IsEmptySlot (having (absent ∷ passed ∷ []) n) k
+free_then : (n k : ℕ) → IsEmptySlot (port_or_empty (absent ∷ passed ∷ []) n) k
 free_then zero k = record { issued = refl; free = refl; unarmed = refl }
 free_then (suc zero) k = record { issued = refl; free = refl; unarmed = refl }
 free_then (suc (suc n)) k = record { issued = refl; free = refl; unarmed = refl }
@@ -408,7 +408,7 @@ service_knows = agreeing without no_slots tape_gone read_memory absent passed
     (record { own_first = refl; own_second = refl; disks = (refl, refl); present = present; ids = refl; sizes = refl; bytes = refl; lasting = (refl, refl); still = refl })
     free_then free_apart (λ f b from small. past_driver f b from) (λ n e may at_port. ⊎_elim (λ z. absurd (nowhere e z.0)) (λ z. absurd (nowhere e z)) may)
   where
-    present : (n : ℕ) → without.present (port_at n) ≡ (having (absent ∷ passed ∷ []) n).present
+    present : (n : ℕ) → without.present (port_at n) ≡ (port_or_empty (absent ∷ passed ∷ []) n).present
     present zero = refl
     present (suc zero) = refl
     present (suc (suc n)) = cond-false (suc (suc n) == 0) false false (ne_eqb (suc (suc n)) 0 (omega arith))
@@ -440,8 +440,8 @@ holds_of (suc (suc n)) = unserved_at no_slots looked_at (suc (suc n)) refl refl 
 
 service_ties : CallCorresponds (Any ∷ Any ∷ []) unplugged_at service
 service_ties = record {
-  accesses = looking ++ passing;
-  came = (does, serving (IsPortAlive unfit_ports) (looking ++ passing) of_served);
+  accesses = missing_look_accesses ++ unfit_look_accesses;
+  came = (does, serving (IsPortAlive unfit_ports) (missing_look_accesses ++ unfit_look_accesses) of_served);
   backed = service_backed;
   evidenced = record { faults = λ f here. absurd (nowhere f here); port = λ port. service_evidenced port.0 };
   grounded = tt;

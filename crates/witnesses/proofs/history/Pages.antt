@@ -5,12 +5,12 @@ use Rattle.std.specs.Prelude.{IsTrue}
 use Rattle.std.proofs.lemmas.Bool.{true≢false}
 use Rattle.std.proofs.lemmas.List.{get_or-replicate, get_or_append_left}
 use Rattle.block_machine.specs.Ports.{IsValidMode}
-use Rattle.driver_history.specs.Holds.{mode_of_disk}
+use Rattle.driver_history.specs.PortInvariants.{mode_of_disk}
 use Rattle.identify.specs.Page.{HasNoUnfit, AllowsTrim, identity_word}
 use Rattle.identify.specs.declared.DiskInfo.{DiskInfo}
 use Rattle.identify.specs.declared.Unfit.TheVariants.{BadChecksum, Word83, No48Bit, SectorSize, NoFlush, NoSectors}
 use Rattle.port_boot.specs.States.{IsFit}
-use Rattle.witnesses.specs.Scene.{fit_page, page_rest, page_with, queueing_cap, queueing_page}
+use Rattle.witnesses.specs.RunningAdapter.{fit_page, page_rest, page_with, queueing_cap, queueing_page}
 
 -- what a page with this queue says
 abbrev pub info_with : ℕ → Bool → DiskInfo

@@ -18,7 +18,7 @@ use Rattle.refinement.specs.Relation.{port_at}
 use Rattle.refinement.specs.Places.{table_of}
 use Rattle.refinement.specs.Slots.{SlotDecodesTo}
 use Rattle.driver_history.specs.Histories.{IsIssuingAccess}
-use Rattle.witnesses.specs.Scene.{device_with, running_port}
+use Rattle.witnesses.specs.RunningAdapter.{device_with, running_port}
 use Rattle.witnesses.proofs.history.Command.{header_to, frame_head, queued_bytes, queued_read, told_queued, zeros}
 use Rattle.witnesses.proofs.history.Devices.{but_first, other_bit, stores, writes}
 use Rattle.witnesses.proofs.history.Memory.{spares}

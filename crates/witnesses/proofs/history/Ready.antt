@@ -15,18 +15,18 @@ use Rattle.refinement.specs.Relation.{ServeApart, HaveSlots, HasReceivedArea, Sa
 use Rattle.refinement.specs.Driver.{DriverRelation}
 use Rattle.refinement.specs.Slots.{Free, Serves, IsEmptySlot, IsMove, RelatesSlot}
 use Rattle.block_machine.specs.Histories.{JointState}
-use Rattle.block_machine.specs.Left.{IsInitial}
+use Rattle.block_machine.specs.Expected.{IsInitial}
 use Rattle.block_machine.specs.Ports.{Ports, PortsWellFormed}
 use Rattle.block_machine.specs.State.{Machine, Pending}
 use Rattle.block_machine.specs.Steps.{NoneQuarantined}
 pub use Rattle.block_machine.proofs.Setting.{acceptable, client, empty, empty_starts, frame, granted, its_row, request, row, two_rows}
 use Rattle.driver_history.specs.Evidence.{ShowsFailure, ShowsLoss}
 use Rattle.driver_history.specs.Histories.{IsFirstInstant}
-use Rattle.driver_history.specs.Holds.{ReadySlotsInvariant, PortStateInvariant, DriverInvariantWith, IsReadyAt, mode_of_disk}
-use Rattle.host_boot.specs.Taken.{IsServed, wanted_of}
+use Rattle.driver_history.specs.PortInvariants.{ReadySlotsInvariant, PortStateInvariant, DriverInvariantWith, IsReadyAt, mode_of_disk}
+use Rattle.host_boot.specs.TakeOver.{IsServed, wanted_of}
 use Rattle.identify.specs.declared.wanted.Wanted.TheVariants.{Any, Nothing}
 use Rattle.port_control.specs.Ports.{programmed}
-use Rattle.witnesses.specs.Scene.{device_with, having, page_entry, queueing_cap, running_port, showing}
+use Rattle.witnesses.specs.RunningAdapter.{device_with, port_or_empty, page_entry, queueing_cap, running_port, ports_with_disks}
 use Rattle.witnesses.proofs.history.Still.{all_still, first_lasting, still_bytes}
 use Rattle.witnesses.proofs.history.Holding.{fit_disk, no_slots, requests_none, runs_on, unfailing, unlost, unserved_at}
 use Rattle.witnesses.proofs.history.Command.{zeros}
@@ -57,7 +57,7 @@ pub record AreDisks (m : Machine) (tape : List Entry) (p q : DevicePort) : Type 
   pub own_first : p.bases ≡ programmed 0
   pub own_second : q.bases ≡ programmed 1
   pub disks : (p.disk ≡ first_disk) × (q.disk ≡ first_disk)
-  pub present : (n : ℕ) → m.present (port_at n) ≡ (having (p ∷ q ∷ []) n).present
+  pub present : (n : ℕ) → m.present (port_at n) ≡ (port_or_empty (p ∷ q ∷ []) n).present
   pub ids : m.disk_ids ≡ start.disk_ids
   pub sizes : m.sizes ≡ start.sizes
   pub bytes : m.disks ≡ start.disks
@@ -66,32 +66,32 @@ pub record AreDisks (m : Machine) (tape : List Entry) (p q : DevicePort) : Type 
   pub still : all_still tape ≡ true
 
 module _ (m : Machine) (s : DriverSlots) (tape : List Entry) (memory : ℕ → ℕ) (p q : DevicePort) (are : AreDisks m tape p q) where
-  received : (n : ℕ) → (having (p ∷ q ∷ []) n).fre ≡ true → HasReceivedArea (having (p ∷ q ∷ []) n) n
+  received : (n : ℕ) → (port_or_empty (p ∷ q ∷ []) n).fre ≡ true → HasReceivedArea (port_or_empty (p ∷ q ∷ []) n) n
   received zero f = record { below = omega arith; area = ap (λ (b : Bases). b.fb) are.own_first }
   received (suc zero) f = record { below = omega arith; area = ap (λ (b : Bases). b.fb) are.own_second }
   received (suc (suc n)) f = absurd (true≢false (sym f))
 
-  name_of : (n : ℕ) → start.disk_ids (port_at n) ≡ (having (p ∷ q ∷ []) n).disk.name
+  name_of : (n : ℕ) → start.disk_ids (port_at n) ≡ (port_or_empty (p ∷ q ∷ []) n).disk.name
   name_of zero = sym (ap (λ (d : Disk). d.name) are.disks.0)
   name_of (suc zero) = sym (ap (λ (d : Disk). d.name) are.disks.1)
   name_of (suc (suc n)) = refl
 
-  size_of : (n : ℕ) → start.sizes (port_at n) ≡ (having (p ∷ q ∷ []) n).disk.size
+  size_of : (n : ℕ) → start.sizes (port_at n) ≡ (port_or_empty (p ∷ q ∷ []) n).disk.size
   size_of zero = sym (ap (λ (d : Disk). d.size) are.disks.0)
   size_of (suc zero) = sym (ap (λ (d : Disk). d.size) are.disks.1)
   size_of (suc (suc n)) = refl
 
-  sectors_of : (n : ℕ) → SameSectors start (having (p ∷ q ∷ []) n).disk n
+  sectors_of : (n : ℕ) → SameSectors start (port_or_empty (p ∷ q ∷ []) n).disk n
   sectors_of zero = record { told = first_disk_sector; tells = ap (λ (d : Disk). d.sectors) are.disks.0; same = λ k b kl bl. tells k b bl }
   sectors_of (suc zero) = record { told = first_disk_sector; tells = ap (λ (d : Disk). d.sectors) are.disks.1; same = λ k b kl bl. tells k b bl }
   sectors_of (suc (suc n)) = record { told = λ k. []; tells = refl; same = λ k b kl bl. absurd (omega (arith, kl)) }
 
-  lasts : (n : ℕ) → HasLasting m tape (having (p ∷ q ∷ []) n) n
+  lasts : (n : ℕ) → HasLasting m tape (port_or_empty (p ∷ q ∷ []) n) n
   lasts zero k inside bytes w = inl (λ b bl. still_bytes tape (p.lasting) 0 k bytes are.lasting.0 are.still w b bl ∙ sym (ap (λ (f : Port → ℕ → ℕ → ℕ). f (port_at 0) k b) are.bytes))
   lasts (suc zero) k inside bytes w = inl (λ b bl. still_bytes tape (q.lasting) 1 k bytes are.lasting.1 are.still w b bl ∙ sym (ap (λ (f : Port → ℕ → ℕ → ℕ). f (port_at 1) k b) are.bytes))
   lasts (suc (suc n)) k inside bytes w = absurd (omega (arith, inside))
 
-  pub agreeing : ((n k : ℕ) → RelatesSlot m memory tape (having (p ∷ q ∷ []) n) n k (s.uses n k)) → ServeApart s.uses → SameMemory m memory → ((n : ℕ) → HaveSlots s.uses m n (s.parked n))
+  pub agreeing : ((n k : ℕ) → RelatesSlot m memory tape (port_or_empty (p ∷ q ∷ []) n) n k (s.uses n k)) → ServeApart s.uses → SameMemory m memory → ((n : ℕ) → HaveSlots s.uses m n (s.parked n))
       → DriverRelation m (driver_state s (device_with tape memory (p ∷ q ∷ [])))
   agreeing slots apart same have = record {
     agrees = record {
@@ -114,7 +114,7 @@ module _ (m : Machine) (s : DriverSlots) (tape : List Entry) (memory : ℕ → �
 
 -- both ports are ready
 abbrev pub two_ready : Kind → Ports
-two_ready disk = showing disk.info (true ∷ true ∷ []) (Ready ∷ Ready ∷ [])
+two_ready disk = ports_with_disks disk.info (true ∷ true ∷ []) (Ready ∷ Ready ∷ [])
 
 -- so they are whatever the disks
 abbrev pub two_served : Port → Bool
@@ -164,7 +164,7 @@ served_of tape memory ports (suc (suc n)) = (λ f. absurd (true≢false (sym f))
 
 -- no ready port shows trouble before its call
 pub calm : (tape : List Entry) (memory : ℕ → ℕ) (p : DevicePort) → p.serr_n ≡ false → p.serr_x ≡ false → p.ssts_det ≡ 3 → ((place : ℕ) → 27 ≤ place → p.is place ≡ false) → (new : Device) (n : ℕ) → two_states (port_at n) ≡ Ready
-    → (ShowsLoss (port_at n) (device_with tape memory (p ∷ second ∷ [])) new → ⊥) × (ShowsFailure (having (p ∷ second ∷ []) n) → ⊥)
+    → (ShowsLoss (port_at n) (device_with tape memory (p ∷ second ∷ [])) new → ⊥) × (ShowsFailure (port_or_empty (p ∷ second ∷ []) n) → ⊥)
 calm tape memory p n x there quiet new zero is = (unlost (port_at 0) (device_with tape memory (p ∷ second ∷ [])) new n x there, unfailing p quiet)
 calm tape memory p n x there quiet new (suc zero) is = (unlost (port_at 1) (device_with tape memory (p ∷ second ∷ [])) new refl refl refl, unfailing second (λ place from. refl))
 calm tape memory p n x there quiet new (suc (suc k)) is = absurd (let z : Absent ≡ Ready = is in cc)
@@ -195,7 +195,7 @@ pub record Stands (p : DevicePort) : Type 0 where
 
 -- such a port shows none
 pub shows_none : (tape : List Entry) (memory : ℕ → ℕ) (p : DevicePort) → Stands p → (new : Device) (n : ℕ) → two_states (port_at n) ≡ Ready
-    → (ShowsLoss (port_at n) (device_with tape memory (p ∷ second ∷ [])) new → ⊥) × (ShowsFailure (having (p ∷ second ∷ []) n) → ⊥)
+    → (ShowsLoss (port_at n) (device_with tape memory (p ∷ second ∷ [])) new → ⊥) × (ShowsFailure (port_or_empty (p ∷ second ∷ []) n) → ⊥)
 shows_none tape memory p stands =
     calm tape memory p (ap (λ (q : DevicePort). q.serr_n) stands.same) (ap (λ (q : DevicePort). q.serr_x) stands.same) (ap (λ (q : DevicePort). q.ssts_det) stands.same) stands.quiet
 
@@ -253,16 +253,16 @@ module _ (disk : Kind) (s : DriverSlots) (m : Machine) (more : List Entry) (memo
       still = a.still;
     }
       where
-        present : (n : ℕ) → start.present (port_at n) ≡ (having (p ∷ second ∷ []) n).present
+        present : (n : ℕ) → start.present (port_at n) ≡ (port_or_empty (p ∷ second ∷ []) n).present
         present zero = sym (was (λ q. q.present))
         present (suc zero) = refl
         present (suc (suc n)) = refl
 
-    slot_of : (n k : ℕ) → RelatesSlot m memory (sent disk.page ++ more) (having (p ∷ second ∷ []) n) n k (s.uses n k)
+    slot_of : (n k : ℕ) → RelatesSlot m memory (sent disk.page ++ more) (port_or_empty (p ∷ second ∷ []) n) n k (s.uses n k)
     slot_of zero k = a.slots k
-    slot_of (suc n) k = subst (RelatesSlot m memory (sent disk.page ++ more) (having (p ∷ second ∷ []) (suc n)) (suc n) k) (sym (a.others n k)) (free n)
+    slot_of (suc n) k = subst (RelatesSlot m memory (sent disk.page ++ more) (port_or_empty (p ∷ second ∷ []) (suc n)) (suc n) k) (sym (a.others n k)) (free n)
       where
-        free : (n : ℕ) → IsEmptySlot (having (p ∷ second ∷ []) (suc n)) k
+        free : (n : ℕ) → IsEmptySlot (port_or_empty (p ∷ second ∷ []) (suc n)) k
         free zero = record { issued = refl; free = refl; unarmed = refl }
         free (suc n) = record { issued = refl; free = refl; unarmed = refl }
 

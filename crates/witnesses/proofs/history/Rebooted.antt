@@ -27,20 +27,20 @@ use Rattle.refinement.specs.Tape.{NoneByDevice, PutsInDisks}
 use Rattle.refinement.specs.Witness.{first_id}
 use Rattle.block_machine.specs.Events.{AbstractCall, CallResult, AnswersAllUnplugged}
 use Rattle.block_machine.specs.Histories.{JointState}
-use Rattle.block_machine.specs.Left.{AllStepsFaithful, after}
+use Rattle.block_machine.specs.Expected.{AllStepsFaithful, after}
 use Rattle.block_machine.specs.Ports.{PortsWellFormed, Evidence, MayBecome, Ports, SamePort}
 use Rattle.block_machine.specs.State.{Machine, Pending}
 use Rattle.block_machine.specs.Steps.{Step, Answer}
-use Rattle.host_boot.specs.Taken.{wanted_of}
+use Rattle.host_boot.specs.TakeOver.{wanted_of}
 use Rattle.identify.specs.declared.wanted.Wanted.TheVariants.{Any}
 use Rattle.driver_history.specs.Evidence.{IsEvidencedOf, ShowsFailure, ShowsLoss}
 use Rattle.error_recovery.specs.Evidence.{ShowsFatal}
 use Rattle.driver_history.specs.Histories.{FindsDone, IsAnsweredOk, LosesNoPortError, RunsWellAnew}
-use Rattle.driver_history.specs.Holds.{PortStateInvariant, DriverInvariantWith, IsReadyAt, IsStoppedAt}
+use Rattle.driver_history.specs.PortInvariants.{PortStateInvariant, DriverInvariantWith, IsReadyAt, IsStoppedAt}
 use Rattle.driver_history.specs.Trace.{DoesNotWriteCmd, ResetsLink}
 use Rattle.port_control.specs.Engines.{Stops}
-use Rattle.witnesses.specs.Restart.{asking, placing, resetting, restart_evidence, restarting, stopping}
-use Rattle.witnesses.specs.Scene.{having, page_entry, plain, showing}
+use Rattle.witnesses.specs.Restart.{mask_accesses, placing_accesses, comreset_accesses, restart_evidence, restart_accesses, stop_accesses}
+use Rattle.witnesses.specs.RunningAdapter.{port_or_empty, page_entry, plain, ports_with_disks}
 use Rattle.witnesses.proofs.history.Accepting.{asked, both, issuing, waiting}
 use Rattle.witnesses.proofs.history.Command.{read_memory}
 use Rattle.witnesses.proofs.history.Devices.{AreServing, IsOf, WritesOf, leaves}
@@ -55,7 +55,7 @@ use Rattle.witnesses.proofs.history.Submitting.{issued, second}
 -- ---- the ports
 
 abbrev pub one : Ports
-one = showing plain_disks.info (true ∷ true ∷ []) (Unfit 8 ∷ Ready ∷ [])
+one = ports_with_disks plain_disks.info (true ∷ true ∷ []) (Unfit 8 ∷ Ready ∷ [])
 
 pub fit_one : PortsWellFormed one
 fit_one = record {
@@ -113,12 +113,12 @@ module _ (c : Outset) where
   abbrev pub booted_at : JointState Device
   booted_at = record { device = booted; abstract = record { machine = answered; ports = one } }
 
-  free : (n k : ℕ) → IsEmptySlot (having (unfit c ∷ second ∷ []) n) k
+  free : (n k : ℕ) → IsEmptySlot (port_or_empty (unfit c ∷ second ∷ []) n) k
   free zero k = record { issued = refl; free = refl; unarmed = refl }
   free (suc zero) k = record { issued = refl; free = refl; unarmed = refl }
   free (suc (suc n)) k = record { issued = refl; free = refl; unarmed = refl }
 
-  present : (n : ℕ) → answered.present (port_at n) ≡ (having (unfit c ∷ second ∷ []) n).present
+  present : (n : ℕ) → answered.present (port_at n) ≡ (port_or_empty (unfit c ∷ second ∷ []) n).present
   present zero = refl
   present (suc zero) = refl
   present (suc (suc n)) = refl
@@ -178,27 +178,27 @@ rest =
 
 -- the accesses before them are these
 module _ (looked : List Access) where
-  pub stops : Stops (port_at 0) (looked ++ restarting)
+  pub stops : Stops (port_at 0) (looked ++ restart_accesses)
   stops = record {
-    before = looked ++ (asking ++ Reading (Px (port_at 0) Cmd) 0xc011 ∷ []);
+    before = looked ++ (mask_accesses ++ Reading (Px (port_at 0) Cmd) 0xc011 ∷ []);
     cleared = 0xc010;
     between = [];
     fallen = 0x4010;
-    later = placing ++ resetting;
-    here = sym (append_assoc looked (asking ++ Reading (Px (port_at 0) Cmd) 0xc011 ∷ []) _);
+    later = placing_accesses ++ comreset_accesses;
+    here = sym (append_assoc looked (mask_accesses ++ Reading (Px (port_at 0) Cmd) 0xc011 ∷ []) _);
     clears = refl;
     only = All-nil (DoesNotWriteCmd (port_at 0));
     shown = refl;
   }
 
-  pub resets : ResetsLink (port_at 0) (looked ++ restarting)
+  pub resets : ResetsLink (port_at 0) (looked ++ restart_accesses)
   resets = record {
-    before = looked ++ (asking ++ (stopping ++ placing));
+    before = looked ++ (mask_accesses ++ (stop_accesses ++ placing_accesses));
     between = [];
     later = rest;
     sending = 1;
     ending = 0;
-    here = sym (append_assoc looked (asking ++ (stopping ++ placing)) _);
+    here = sym (append_assoc looked (mask_accesses ++ (stop_accesses ++ placing_accesses)) _);
     sends = refl;
     ends = refl;
     held = All-nil (DoesNotWrite (Px (port_at 0) Sctl));
@@ -209,11 +209,11 @@ module _ (looked : List Access) where
 abbrev pub IsWritten : Reg → Type 0
 IsWritten r = IsOf (port_at 0) r ⊎ (r ≡ registers.Is)
 
-pub of_first : WritesOf IsWritten restarting
+pub of_first : WritesOf IsWritten restart_accesses
 of_first = (inl refl, (inl refl, (inl refl, (inl refl, (inl refl, (inl refl, (inl refl, (inl refl, (inl refl, (inl refl, (inl refl, tt)))))))))))
 
 -- a call that may use that port may make them
-pub of_served : (Such : Port → Type 0) → Such (port_at 0) → AreServing Such restarting
+pub of_served : (Such : Port → Type 0) → Such (port_at 0) → AreServing Such restart_accesses
 of_served Such tended = (tended, (tended, (tended, ((λ is. cc, tended), (tended, (tended, ((λ is. cc, tended), (tended, ((λ is. cc, tended), ((λ is. cc, tended), ((λ is. cc, tended), ((λ is. cc, tended), (tended, ((λ is. cc, tended), ((λ is. cc, tended), ((λ is. cc, tended), (tended, ((λ is. cc, tended), ((λ is. cc, tended), (tended, (tended, tt)))))))))))))))))))))
 
 -- ---- the call
@@ -238,7 +238,7 @@ module _ (c : Restart) where
   old = record { device = old_device; abstract = record { machine = c.machine; ports = both } }
 
   abbrev pub accesses : List Access
-  accesses = c.looked ++ restarting
+  accesses = c.looked ++ restart_accesses
 
   abbrev pub evidence : Evidence
   evidence = restart_evidence c.failed
@@ -332,7 +332,7 @@ module _ (c : Restart) where
     finds = record {
       ci = 1;
       sact = 0;
-      reads = record { before = c.looked; later = stopping ++ (placing ++ resetting); here = refl; running = is.running };
+      reads = record { before = c.looked; later = stop_accesses ++ (placing_accesses ++ comreset_accesses); here = refl; running = is.running };
       exact = λ e slot on s. (λ ok. absurd (none_ok e ok), λ clear. absurd (is.unfound e slot s clear.0));
     }
 

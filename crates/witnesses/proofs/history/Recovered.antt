@@ -23,26 +23,26 @@ use Rattle.refinement.specs.Relation.{port_at}
 use Rattle.refinement.specs.Acts.{driver_state}
 use Rattle.refinement.specs.Driver.{IsBacked, DriverRelation}
 use Rattle.refinement.specs.Errors.{IsFatalOf}
-use Rattle.refinement.specs.Facts.{IsFaultOf, RunsWell}
+use Rattle.refinement.specs.PortFacts.{IsFaultOf, RunsWell}
 use Rattle.refinement.specs.Links.{IsPlugEvent}
 use Rattle.refinement.specs.Slots.{IsEmptySlot, IsMove}
 use Rattle.refinement.specs.Witness.{first_id}
 use Rattle.block_machine.specs.Events.{Service, Served, Happens}
-use Rattle.block_machine.specs.Histories.{Happening, JointState}
-use Rattle.block_machine.specs.Left.{after}
+use Rattle.block_machine.specs.Histories.{JointEvent, JointState}
+use Rattle.block_machine.specs.Expected.{after}
 use Rattle.block_machine.specs.State.{Pending, Machine}
 use Rattle.block_machine.specs.Steps.{Step, Answer}
-use Rattle.host_boot.specs.Taken.{wanted_of}
+use Rattle.host_boot.specs.TakeOver.{wanted_of}
 use Rattle.identify.specs.declared.wanted.Wanted.TheVariants.{Any}
 use Rattle.error_recovery.specs.Evidence.{GainsSinceStart}
 use Rattle.driver_history.specs.Heeding.{ServesReady}
-use Rattle.driver_history.specs.Evidence.{Gains, IsEvidencedOf, ShowsLoss, ShowsFailure}
+use Rattle.driver_history.specs.Evidence.{TapeGainsEntry, IsEvidencedOf, ShowsLoss, ShowsFailure}
 use Rattle.driver_history.specs.Histories.{CallCorresponds, PortCorresponds, FindsDone, IsAnsweredOk, IsIssuedOn, LosesNoPortError, RunsWellAnew, IsPortAlive}
-use Rattle.driver_history.specs.Holds.{PortStateInvariant, DriverInvariantWith, IsReadyAt}
+use Rattle.driver_history.specs.PortInvariants.{PortStateInvariant, DriverInvariantWith, IsReadyAt}
 use Rattle.driver_history.specs.Trace.{DoesNotWriteCmd}
 use Rattle.port_control.specs.Engines.{Stops}
 use Rattle.witnesses.specs.Recovery.{fault_evidence, recovery_accesses, told_fault, RecoveryIsAHistory}
-use Rattle.witnesses.specs.Scene.{having, page_entry}
+use Rattle.witnesses.specs.RunningAdapter.{port_or_empty, page_entry}
 use Rattle.witnesses.proofs.history.Command.{read_memory}
 use Rattle.witnesses.proofs.history.Devices.{IsOf, WritesOf, leaves, serving, AreServing}
 use Rattle.witnesses.proofs.history.Finding.{stay_serviced}
@@ -66,12 +66,12 @@ answered = after issuing (answer ∷ [])
 abbrev recovered_at : JointState Device
 recovered_at = record { device = recovered; abstract = record { machine = answered; ports = both } }
 
-free : (n k : ℕ) → IsEmptySlot (having (started ∷ second ∷ []) n) k
+free : (n k : ℕ) → IsEmptySlot (port_or_empty (started ∷ second ∷ []) n) k
 free zero k = record { issued = refl; free = refl; unarmed = refl }
 free (suc zero) k = record { issued = refl; free = refl; unarmed = refl }
 free (suc (suc n)) k = record { issued = refl; free = refl; unarmed = refl }
 
-present : (n : ℕ) → answered.present (port_at n) ≡ (having (started ∷ second ∷ []) n).present
+present : (n : ℕ) → answered.present (port_at n) ≡ (port_or_empty (started ∷ second ∷ []) n).present
 present zero = refl
 present (suc zero) = refl
 present (suc (suc n)) = refl
@@ -115,7 +115,7 @@ holds_recovered = record {
 abbrev replies : List Reply
 replies = record { id = first_id; client = waiting.request.asked.client; outcome = outcome.DeviceError 0x41 0x40 } ∷ []
 
-abbrev service : Happening Device DeviceStep
+abbrev service : JointEvent Device DeviceStep
 service = record {
   event = record { ask = Service; said = Served replies; evidence = fault_evidence; steps = answer ∷ []; ports = both };
   device = recovered;
@@ -137,7 +137,7 @@ stops = record {
 of_first : WritesOf (IsOf (port_at 0)) recovery_accesses
 of_first = (refl, (refl, (refl, (refl, tt))))
 
-gains : Gains (IsFaultOf 0) submitted recovered
+gains : TapeGainsEntry (IsFaultOf 0) submitted recovered
 gains = record {
   gained = entry.Fault fault ∷ [];
   tape = refl;

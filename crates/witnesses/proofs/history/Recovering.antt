@@ -23,7 +23,7 @@ use Rattle.error_recovery.specs.Evidence.{HasFailed}
 use Rattle.driver_history.specs.Evidence.{IsFaultTold}
 use Rattle.driver_history.specs.Trace.{DoesNotWriteCmd}
 use Rattle.witnesses.specs.Recovery.{recovery_accesses, told_fault}
-use Rattle.witnesses.specs.Scene.{device_with}
+use Rattle.witnesses.specs.RunningAdapter.{device_with}
 use Rattle.witnesses.proofs.history.Command.{read_memory}
 use Rattle.witnesses.proofs.history.Devices.{may_start, may_stop, but_first, fall, falls_reads, no_bit, put_device, reads, writes}
 use Rattle.witnesses.proofs.history.Submitting.{command, fetches, pages, second, submitted, taken}

@@ -14,9 +14,9 @@ use Rattle.adapter.specs.Memory.{bytes_at, patched}
 use Rattle.adapter.specs.declared.command.Operation.{Operation}
 use Rattle.adapter.specs.declared.command.Operation.TheVariants as operation
 use Rattle.refinement.specs.Relation.{SameMemory, port_at}
-use Rattle.refinement.specs.Facts.{IsDisturbance, RunsWell}
+use Rattle.refinement.specs.PortFacts.{IsDisturbance, RunsWell}
 use Rattle.refinement.specs.Places.{table_of}
-use Rattle.refinement.specs.Served.{second_id}
+use Rattle.refinement.specs.TwoReads.{second_id}
 use Rattle.refinement.specs.Slots.{IsMove, ServesRequest, op_of}
 use Rattle.refinement.specs.Witness.{first_id}
 use Rattle.block_machine.specs.State.{Accepted, Pending, unanswered}
@@ -24,7 +24,7 @@ use Rattle.block_machine.specs.declared.due.Unanswered.{Unanswered}
 use Rattle.driver_history.specs.Evidence.{StaysHealthy}
 use Rattle.driver_history.specs.Histories.{IsAnsweredOk, IsIssuedOn}
 use Rattle.witnesses.specs.Queued.{ReadsEndInAnyOrder}
-use Rattle.witnesses.specs.Scene.{queued, running_port}
+use Rattle.witnesses.specs.RunningAdapter.{queued, running_port}
 use Rattle.witnesses.proofs.history.Command.{queued_read, told_queued}
 use Rattle.witnesses.proofs.history.Devices.{no_bit, other_bit}
 use Rattle.witnesses.proofs.history.Finding as found_on
@@ -290,12 +290,12 @@ order_is_free = record {
   read = (refl, refl);
   issued = (refl, refl);
   both_active = (refl, refl);
-  serve_second = found_on.service discovery_two;
-  serves_second = (refl, refl);
+  service_second = found_on.service discovery_two;
+  answers_second = (refl, refl);
   one_active = (one_active 0, one_active 1);
   left = λ e here. let is = only outstanding_first e here in (ap (λ (x : Pending). x.request.id) is, ap (λ (x : Pending). x.issued) is);
-  serve_first = found_on.service discovery_one;
-  serves_first = (refl, refl);
+  service_first = found_on.service discovery_one;
+  answers_first_only = (refl, refl);
   ready = (refl, refl, refl, refl, refl);
   healthy = (stays_healthy discovery_two found_two, stays_healthy discovery_one found_one);
   well = runs_well found_again again_stands;

@@ -26,19 +26,19 @@ use Rattle.refinement.specs.Places.{list_of, received_of}
 use Rattle.refinement.specs.Slots.{IsEmptySlot}
 use Rattle.refinement.specs.Witness.{first_id}
 use Rattle.block_machine.specs.Events.{AnswersReset, Happens, Reset, ShowsDisk, WasReset}
-use Rattle.block_machine.specs.Histories.{Happening, JointState}
-use Rattle.block_machine.specs.Left.{after}
+use Rattle.block_machine.specs.Histories.{JointEvent, JointState}
+use Rattle.block_machine.specs.Expected.{after}
 use Rattle.block_machine.specs.Ports.{PortsWellFormed, Evidence, IsStoppedOrStuck, MayBecome, Ports}
 use Rattle.block_machine.specs.State.{Machine, Pending}
 use Rattle.block_machine.specs.Steps.{Answer, Release, Step}
-use Rattle.host_boot.specs.Taken.{wanted_of}
+use Rattle.host_boot.specs.TakeOver.{wanted_of}
 use Rattle.identify.specs.declared.wanted.Wanted.TheVariants.{Any}
 use Rattle.driver_history.specs.Evidence.{IsEvidencedOf}
 use Rattle.driver_history.specs.Histories.{IsPortServed, CallCorresponds, PortCorresponds}
-use Rattle.driver_history.specs.Holds.{PortStateInvariant}
+use Rattle.driver_history.specs.PortInvariants.{PortStateInvariant}
 use Rattle.driver_history.specs.Trace.{IsDriversOwn, IsOfPorts, LeavesEngine, ResetsLink}
-use Rattle.witnesses.specs.Reset.{ResetIsAHistory, adapter_reset, booting, rebooting}
-use Rattle.witnesses.specs.Scene.{having, showing}
+use Rattle.witnesses.specs.Reset.{ResetIsAHistory, adapter_reset, boot_accesses, reset_and_boot_accesses}
+use Rattle.witnesses.specs.RunningAdapter.{port_or_empty, ports_with_disks}
 use Rattle.witnesses.proofs.history.Accepting.{asked, both, first, issuing, submit, submit_happens, submit_parts, submit_ties, submitted_at, waiting}
 use Rattle.witnesses.proofs.history.Booting.{allowed, does, rebooted, unfit}
 use Rattle.witnesses.proofs.history.Command.{read_memory}
@@ -53,7 +53,7 @@ use Rattle.witnesses.proofs.history.Submitting.{issued, pages, submitted}
 -- ---- the call
 
 abbrev pub unfit_ports : Ports
-unfit_ports = showing plain_disks.info (true ∷ true ∷ []) (Unfit 8 ∷ Unfit 8 ∷ [])
+unfit_ports = ports_with_disks plain_disks.info (true ∷ true ∷ []) (Unfit 8 ∷ Unfit 8 ∷ [])
 
 -- both ports were stopped, and port 0 has lost its disk
 abbrev evidence : Evidence
@@ -68,7 +68,7 @@ steps = answer ∷ Release ∷ []
 abbrev replies : List Reply
 replies = record { id = first_id; client = asked.client; outcome = outcome.Unplugged } ∷ []
 
-abbrev pub reset : Happening Device DeviceStep
+abbrev pub reset : JointEvent Device DeviceStep
 reset = record {
   event = record { ask = Reset; said = WasReset (Some replies); evidence = evidence; steps = steps; ports = unfit_ports };
   device = rebooted;
@@ -176,11 +176,11 @@ happens = record {
 
 -- ---- the accesses
 
-own : All IsDriversOwn rebooting
-own = All-from_recursion IsDriversOwn rebooting (tt, (tt, (tt, (tt, (tt, (tt, (tt, (tt, (tt, (tt, (tt, (tt, (tt, (tt, (tt, (tt, (tt, (tt, (tt, (tt, (tt, (tt, (tt, (tt, (tt, (tt, (tt, (tt, (tt, (tt, (tt, tt)))))))))))))))))))))))))))))))
+own : All IsDriversOwn reset_and_boot_accesses
+own = All-from_recursion IsDriversOwn reset_and_boot_accesses (tt, (tt, (tt, (tt, (tt, (tt, (tt, (tt, (tt, (tt, (tt, (tt, (tt, (tt, (tt, (tt, (tt, (tt, (tt, (tt, (tt, (tt, (tt, (tt, (tt, (tt, (tt, (tt, (tt, (tt, (tt, tt)))))))))))))))))))))))))))))))
 
-of_ports : All (IsOfPorts (IsPortServed both)) rebooting
-of_ports = All-from_recursion (IsOfPorts (IsPortServed both)) rebooting (tt, (tt, (tt, (refl, (refl, (refl, (refl, (refl, (refl, (refl, (refl, (refl, (refl, (refl, (refl, (refl, (refl, (refl, (refl, (refl, (refl, (refl, (refl, (refl, (refl, (refl, (refl, (refl, (refl, (refl, (refl, tt)))))))))))))))))))))))))))))))
+of_ports : All (IsOfPorts (IsPortServed both)) reset_and_boot_accesses
+of_ports = All-from_recursion (IsOfPorts (IsPortServed both)) reset_and_boot_accesses (tt, (tt, (tt, (refl, (refl, (refl, (refl, (refl, (refl, (refl, (refl, (refl, (refl, (refl, (refl, (refl, (refl, (refl, (refl, (refl, (refl, (refl, (refl, (refl, (refl, (refl, (refl, (refl, (refl, (refl, (refl, tt)))))))))))))))))))))))))))))))
 
 -- what follows COMRESET
 abbrev after_link : ℕ → List Access
@@ -203,22 +203,22 @@ number r = 0
 other_port : (r : PortReg) → Px (port_at 1) r ≢ Px (port_at 0) Sctl
 other_port r is = let same : 1 ≡ 0 = ap number is in omega (arith, same)
 
-links : (n : ℕ) → both.served (port_at n) ≡ true → ResetsLink (port_at n) rebooting
+links : (n : ℕ) → both.served (port_at n) ≡ true → ResetsLink (port_at n) reset_and_boot_accesses
 links zero is = record {
   before = adapter_reset ++ before_link 0;
   between = [];
-  later = after_link 0 ++ booting 1;
+  later = after_link 0 ++ boot_accesses 1;
   sending = 1;
   ending = 0;
   here = refl;
   sends = refl;
   ends = refl;
   held = All-nil (DoesNotWrite (Px (port_at 0) Sctl));
-  left = All-from_recursion (DoesNotWrite (Px (port_at 0) Sctl)) (after_link 0 ++ booting 1)
+  left = All-from_recursion (DoesNotWrite (Px (port_at 0) Sctl)) (after_link 0 ++ boot_accesses 1)
       (tt, (λ is. cc, (λ is. cc, (tt, (tt, (tt, (other_port Clb, (other_port Clbu, (other_port Fb, (other_port Fbu, (tt, (other_port Cmd, (other_port Sctl, (other_port Sctl, (tt, (other_port Serr, (other_port Is, (tt, (tt, tt)))))))))))))))))));
 }
 links (suc zero) is = record {
-  before = adapter_reset ++ (booting 0 ++ before_link 1);
+  before = adapter_reset ++ (boot_accesses 0 ++ before_link 1);
   between = [];
   later = after_link 1;
   sending = 1;
@@ -237,7 +237,7 @@ links (suc (suc n)) is = absurd (true≢false (sym is))
 abbrev IsWritten : Reg → Type 0
 IsWritten r = number r < 2
 
-evidenced : (n : ℕ) → IsEvidencedOf Reset (WasReset (Some replies)) rebooting submitted_at unfit_ports rebooted evidence (port_at n)
+evidenced : (n : ℕ) → IsEvidencedOf Reset (WasReset (Some replies)) reset_and_boot_accesses submitted_at unfit_ports rebooted evidence (port_at n)
 evidenced n =
     let quiet = calm submitted.tape read_memory issued refl refl refl (λ place from. refl) rebooted n in
     record {
@@ -253,18 +253,18 @@ evidenced n =
       stuck_only = λ h. absurd (nowhere (port_at n) h);
     }
   where
-    written : WritesOf IsWritten rebooting
+    written : WritesOf IsWritten reset_and_boot_accesses
     written = (omega arith, (omega arith, (omega arith, (omega arith, (omega arith, (omega arith, (omega arith, (omega arith, (omega arith, (omega arith, (omega arith, (omega arith, (omega arith, (omega arith, (omega arith, (omega arith, (omega arith, (omega arith, (omega arith, (omega arith, tt))))))))))))))))))))
 
     -- a port that isn't served has its engine left
-    engines : (n : ℕ) → All (LeavesEngine (port_at n)) rebooting ⊎ IsStoppedOrStuck evidence (port_at n)
+    engines : (n : ℕ) → All (LeavesEngine (port_at n)) reset_and_boot_accesses ⊎ IsStoppedOrStuck evidence (port_at n)
     engines zero = inr (inl (0, omega arith, refl))
     engines (suc zero) = inr (inl (1, omega arith, refl))
-    engines (suc (suc n)) = inl (leaves IsWritten (port_at (suc (suc n))) (λ below. omega (arith, below)) (λ below. omega (arith, below)) rebooting written)
+    engines (suc (suc n)) = inl (leaves IsWritten (port_at (suc (suc n))) (λ below. omega (arith, below)) (λ below. omega (arith, below)) reset_and_boot_accesses written)
 
 -- ---- what it owes each port
 
-part_of : (n : ℕ) → PortCorresponds submitted_at reset rebooting (port_at n)
+part_of : (n : ℕ) → PortCorresponds submitted_at reset reset_and_boot_accesses (port_at n)
 part_of n = record {
   finds = tt;
   faults = tt;
@@ -303,7 +303,7 @@ backed = record {
 
 -- ---- what holds after it
 
-free : (n k : ℕ) → IsEmptySlot (having (unfit 0 ∷ unfit 1 ∷ []) n) k
+free : (n k : ℕ) → IsEmptySlot (port_or_empty (unfit 0 ∷ unfit 1 ∷ []) n) k
 free zero k = record { issued = refl; free = refl; unarmed = refl }
 free (suc zero) k = record { issued = refl; free = refl; unarmed = refl }
 free (suc (suc n)) k = record { issued = refl; free = refl; unarmed = refl }
@@ -313,7 +313,7 @@ knows = agreeing answered no_slots pages read_memory (unfit 0) (unfit 1)
     (record { own_first = refl; own_second = refl; disks = (refl, refl); present = present; ids = refl; sizes = refl; bytes = refl; lasting = (refl, refl); still = refl })
     free free_apart (λ f b from small. past_driver f b from) (λ n e may at_port. ⊎_elim (λ z. absurd (nowhere e z.0)) (λ z. absurd (nowhere e z)) may)
   where
-    present : (n : ℕ) → answered.present (port_at n) ≡ (having (unfit 0 ∷ unfit 1 ∷ []) n).present
+    present : (n : ℕ) → answered.present (port_at n) ≡ (port_or_empty (unfit 0 ∷ unfit 1 ∷ []) n).present
     present zero = refl
     present (suc zero) = refl
     present (suc (suc n)) = refl
@@ -345,8 +345,8 @@ holds_of (suc (suc n)) = unserved_at no_slots rebooted_at (suc (suc n)) refl ref
 
 pub ties : CallCorresponds (Any ∷ Any ∷ []) submitted_at reset
 ties = record {
-  accesses = rebooting;
-  came = (does, own, of_ports, record { rest = Reading Ghc 0 ∷ Writing Ghc 0x80000002 ∷ (booting 0 ++ booting 1); here = refl }, (record { ae = refl; no_reset = refl }, refl));
+  accesses = reset_and_boot_accesses;
+  came = (does, own, of_ports, record { rest = Reading Ghc 0 ∷ Writing Ghc 0x80000002 ∷ (boot_accesses 0 ++ boot_accesses 1); here = refl }, (record { ae = refl; no_reset = refl }, refl));
   backed = backed;
   evidenced = record { faults = λ f here. absurd (nowhere f here); port = λ port. evidenced port.0 };
   grounded = tt;

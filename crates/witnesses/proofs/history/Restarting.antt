@@ -13,8 +13,8 @@ use Rattle.adapter.specs.Steps.DeviceTransition.{FrFall, LinkUp}
 use Rattle.adapter.specs.declared.tape.Entry.{Entry}
 use Rattle.refinement.specs.Relation.{port_at}
 use Rattle.witnesses.specs.Allowed.{AreAllowed}
-use Rattle.witnesses.specs.Restart.{placing, resetting, restarting, stopping}
-use Rattle.witnesses.specs.Scene.{device_with, having}
+use Rattle.witnesses.specs.Restart.{placing_accesses, comreset_accesses, restart_accesses, stop_accesses}
+use Rattle.witnesses.specs.RunningAdapter.{device_with, port_or_empty}
 use Rattle.witnesses.proofs.history.Command.{read_memory}
 use Rattle.witnesses.proofs.history.Devices.{but_first, fall, falls_reads, may_stop, no_bit, put_device, reads, same_beside, writes}
 use Rattle.witnesses.proofs.history.Still.{all_still}
@@ -26,7 +26,7 @@ module _ (tape : List Entry) where
   abbrev pub dev : DevicePort → Device
   dev p = device_with tape read_memory (p ∷ second ∷ [])
 
-  alike : (p q : DevicePort) → dev q ≡ record (dev p) { port = changed (having (p ∷ second ∷ [])) 0 q }
+  alike : (p q : DevicePort) → dev q ≡ record (dev p) { port = changed (port_or_empty (p ∷ second ∷ [])) 0 q }
   alike p q = put_device tape read_memory 0 (p ∷ second ∷ []) (q ∷ second ∷ []) q refl (but_first p q (second ∷ []))
 
   unfoldable pub reads_here : (r : PortReg) (v : ℕ) (p : DevicePort) → PortShows r v p → Reads (Px (port_at 0) r) v (dev p) (dev (record p { notes = note r v p }))
@@ -140,16 +140,16 @@ module _ (c : Outset) where
   comes_up : Reads (Px (port_at 0) Ssts) 3 (dev tape awaiting) (dev tape shown)
   comes_up = reads_after tape (LinkUp 0 0xeb140101 false) awaiting (up awaiting) Ssts 3 (record { present = refl; det = refl; due = refl; fits = omega arith }) (alike tape awaiting (up awaiting)) refl
 
-  resets : DoesAll resetting (dev tape hearing) (dev tape unfit)
+  resets : DoesAll comreset_accesses (dev tape hearing) (dev tape unfit)
   resets = (dev tape sending, writes_here tape Sctl 1 hearing, (dev tape awaiting, writes_here tape Sctl 0 sending, (dev tape shown, comes_up, (dev tape unchanged, writes_here tape Serr 0xffffffff shown, (dev tape quieted, writes_here tape Is 0xffffffff unchanged, (dev tape idle, reads_here tape Tfd 0x77 quieted refl, (dev tape unfit, reads_here tape Sig 0xeb140101 idle refl, refl)))))))
 
-  places : DoesAll (placing ++ resetting) (dev tape stopped) (dev tape unfit)
+  places : DoesAll (placing_accesses ++ comreset_accesses) (dev tape stopped) (dev tape unfit)
   places = (dev tape commanded_again, reads_here tape Cmd 0x4010 stopped (refl, refl, refl, refl), (dev tape closing, writes_here tape Cmd 0x4000 commanded_again, (dev tape closed, closes, (dev tape with_list, writes_here tape Clb 0 closed, (dev tape with_lists, writes_here tape Clbu 0 with_list, (dev tape with_area, writes_here tape Fb 0x400 with_lists, (dev tape placed, writes_here tape Fbu 0 with_area, (dev tape asked_again, reads_here tape Cmd 0 placed (refl, refl, refl, refl), (dev tape hearing, writes_here tape Cmd 0x10 asked_again, resets)))))))))
 
-  stops : DoesAll (stopping ++ (placing ++ resetting)) (dev tape seen_masks) (dev tape unfit)
+  stops : DoesAll (stop_accesses ++ (placing_accesses ++ comreset_accesses)) (dev tape seen_masks) (dev tape unfit)
   stops = (dev tape commanded, reads_here tape Cmd 0xc011 seen_masks (refl, refl, refl, refl), (dev tape stopping_port, writes_here tape Cmd 0xc010 commanded, (dev tape stopped, falls, places)))
 
-  pub restarts : DoesAll restarting (dev tape outset) (dev tape unfit)
+  pub restarts : DoesAll restart_accesses (dev tape outset) (dev tape unfit)
   restarts = (dev tape seen_ci, reads_here tape Ci 1 outset (λ k low. refl), (dev tape seen_masks, reads_here tape Sact 0 seen_ci (λ k low. no_bit k), stops))
 
   -- ---- by the rules
@@ -170,6 +170,6 @@ module _ (c : Outset) where
     others = λ place low start receive. same_beside 0x10 0 refl refl refl refl place start receive;
   }
 
-  pub restart_allowed : AreAllowed restarting (dev tape outset) (dev tape unfit) restarts
+  pub restart_allowed : AreAllowed restart_accesses (dev tape outset) (dev tape unfit) restarts
   unfolding restarts stops places resets falls reads_after closes comes_up reads_here writes_here reads writes falls_reads
   restart_allowed = ((record { ae = refl; no_reset = refl }, (omega arith, refl)), ((record { ae = refl; no_reset = refl }, (omega arith, refl)), ((record { ae = refl; no_reset = refl }, (omega arith, refl)), ((record { ae = refl; no_reset = refl }, (omega arith, refl), may_stop commanded 0xc010 0xc011 refl refl refl refl refl), ((record { ae = refl; no_reset = refl }, (omega arith, refl)), ((record { ae = refl; no_reset = refl }, (omega arith, refl)), ((record { ae = refl; no_reset = refl }, (omega arith, refl), may_close), ((record { ae = refl; no_reset = refl }, (omega arith, refl)), ((record { ae = refl; no_reset = refl }, (omega arith, refl), (refl, refl, refl, omega arith)), ((record { ae = refl; no_reset = refl }, (omega arith, refl), (refl, refl, refl)), ((record { ae = refl; no_reset = refl }, (omega arith, refl), (refl, refl, refl, omega arith)), ((record { ae = refl; no_reset = refl }, (omega arith, refl), (refl, refl, refl)), ((record { ae = refl; no_reset = refl }, (omega arith, refl)), ((record { ae = refl; no_reset = refl }, (omega arith, refl), may_hear), ((record { ae = refl; no_reset = refl }, (omega arith, refl), (refl, inr refl)), ((record { ae = refl; no_reset = refl }, (omega arith, refl), (refl, inl refl)), ((record { ae = refl; no_reset = refl }, (omega arith, refl)), ((record { ae = refl; no_reset = refl }, (omega arith, refl), tt), ((record { ae = refl; no_reset = refl }, (omega arith, refl), tt), ((record { ae = refl; no_reset = refl }, (omega arith, refl)), ((record { ae = refl; no_reset = refl }, (omega arith, refl)), tt)))))))))))))))))))))

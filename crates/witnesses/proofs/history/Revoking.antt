@@ -11,7 +11,7 @@ use Rattle.adapter.specs.Device.{Device}
 use Rattle.adapter.specs.declared.access.DeviceStep.{DeviceStep}
 use Rattle.refinement.specs.Relation.{port_at}
 use Rattle.block_machine.specs.Events.{Happens, RevokeOf, WasRevoked}
-use Rattle.block_machine.specs.Histories.{Happening}
+use Rattle.block_machine.specs.Histories.{JointEvent}
 use Rattle.block_machine.specs.Rules.{HasRow}
 use Rattle.block_machine.specs.State.{Pending}
 use Rattle.block_machine.specs.Steps.{Answer, Revoke, Step}
@@ -43,7 +43,7 @@ not_left (r, here, named) =
 abbrev steps : List Step
 steps = Revoke client 0 ∷ []
 
-abbrev revoke : Happening Device DeviceStep
+abbrev revoke : JointEvent Device DeviceStep
 revoke = record {
   event = record { ask = RevokeOf client 0; said = WasRevoked (Some []); evidence = nothing; steps = steps; ports = both };
   device = submitted;

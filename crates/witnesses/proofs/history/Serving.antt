@@ -19,9 +19,9 @@ use Rattle.block_machine.specs.State.{Block, Machine, Pending}
 use Rattle.block_machine.specs.Steps.{newly_issued, newly_accepted}
 use Rattle.block_machine.specs.declared.due.QueueMode.{QueueMode}
 use Rattle.block_machine.specs.declared.due.Unanswered.{Unanswered}
-use Rattle.driver_history.specs.Holds.{IsQueuedAsAsked, mode_of_disk}
-use Rattle.witnesses.specs.Scene.{queueing_cap}
-use Rattle.witnesses.proofs.history.Holding.{first_slots, requests_first, serves_first, uses_first}
+use Rattle.driver_history.specs.PortInvariants.{IsQueuedAsAsked, mode_of_disk}
+use Rattle.witnesses.specs.RunningAdapter.{queueing_cap}
+use Rattle.witnesses.proofs.history.Holding.{first_slots, requests_first, answers_first_only, uses_first}
 use Rattle.witnesses.proofs.history.Issuing.{accepted_as}
 use Rattle.witnesses.proofs.history.Members.{only}
 use Rattle.witnesses.proofs.history.Pages.{Kind}
@@ -73,7 +73,7 @@ serves_none m memory p slot id s started with_issue_undone free unended = ⊎_el
 -- ---- slot 0 alone is in use
 
 first_apart : ServeApart first_slots.uses
-first_apart q k q' k' id u v = let one = serves_first q k id u in let other = serves_first q' k' id v in (one.0 ∙ sym other.0, one.1 ∙ sym other.1)
+first_apart q k q' k' id u v = let one = answers_first_only q k id u in let other = answers_first_only q' k' id v in (one.0 ∙ sym other.0, one.1 ∙ sym other.1)
 
 module _ (disk : Kind) (m : Machine) (more : List Entry) (memory : ℕ → ℕ) (p : DevicePort) (c : Meaning) (k n : ℕ) (held : ℕ → Block) (age : ℕ) where
   abbrev the_request : Pending

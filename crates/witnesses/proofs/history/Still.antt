@@ -6,7 +6,7 @@ use Rattle.std.proofs.lemmas.Option.{same_Some}
 use Rattle.adapter.specs.Commands.{is_ranged, reads_memory}
 use Rattle.adapter.specs.Device.{Lasting}
 use Rattle.adapter.specs.FirstRead.{first_disk, first_disk_sector}
-use Rattle.adapter.specs.Steps.{WereHeld, put_into}
+use Rattle.adapter.specs.Steps.{WereHeld, bytes_put_into}
 use Rattle.adapter.specs.declared.tape.Entry.{Entry}
 use Rattle.adapter.specs.declared.tape.Entry.TheVariants as entry
 use Rattle.witnesses.proofs.history.Memory.{tells}
@@ -33,7 +33,7 @@ still_of (x ∷ xs) e still here = by (λ c. still_of xs e (and_parts (is_still 
     by rest zero lt at = ap is_still (sym at) ∙ (and_parts (is_still x) (all_still xs) still).0
     by rest (suc i) lt at = rest (i, omega (arith, lt), at)
 
-puts_none : (e : Entry) (port k : ℕ) → is_still e ≡ true → put_into port k e ≡ None
+puts_none : (e : Entry) (port k : ℕ) → is_still e ≡ true → bytes_put_into port k e ≡ None
 puts_none (entry.Move move) port k still = by (is_ranged move.operation && reads_memory move.operation) still
   where
     and_false : (a : Bool) → a && false ≡ false

@@ -13,7 +13,7 @@ use Rattle.adapter.specs.Steps.{Steps, begun, with_fetch}
 use Rattle.adapter.specs.Steps.DeviceTransition.{Fetch}
 use Rattle.adapter.specs.declared.tape.Entry.{Entry}
 use Rattle.refinement.specs.Relation.{port_at}
-use Rattle.witnesses.specs.Scene.{device_with, fit_page, page_entry, running_port}
+use Rattle.witnesses.specs.RunningAdapter.{device_with, fit_page, page_entry, running_port}
 use Rattle.witnesses.proofs.history.Command.{place_bytes, read_bytes, read_memory, told, zeros}
 use Rattle.witnesses.proofs.history.Devices.{but_first, other_bit, put_device, step_first, stores, writes}
 

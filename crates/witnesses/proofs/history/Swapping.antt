@@ -20,7 +20,7 @@ use Rattle.refinement.specs.Relation.{port_at}
 use Rattle.refinement.specs.Slots.{SlotDecodesTo}
 use Rattle.witnesses.specs.Allowed.{AreAllowed}
 use Rattle.witnesses.specs.Queued.{first_found, second_found}
-use Rattle.witnesses.specs.Scene.{device_with, queueing_page}
+use Rattle.witnesses.specs.RunningAdapter.{device_with, queueing_page}
 use Rattle.witnesses.proofs.history.Command.{queued_read}
 use Rattle.witnesses.proofs.history.Devices.{but_first, changed_here, no_bit, other_bit, past_first, past_second, put_device, reads, step_first}
 use Rattle.witnesses.proofs.history.Losing.{is_sector}

@@ -8,19 +8,19 @@ use Rattle.adapter.specs.Device.{Device}
 use Rattle.adapter.specs.Decoding.{piece_addresses}
 use Rattle.refinement.specs.Acts.{DriverSlots}
 use Rattle.refinement.specs.Relation.{ServeApart, port_at}
-use Rattle.refinement.specs.Served.{second_id}
+use Rattle.refinement.specs.TwoReads.{second_id}
 use Rattle.refinement.specs.Slots.{Free, RelatesSlot, Serves, Stage, SlotStates}
 use Rattle.refinement.specs.Witness.{first_id}
 use Rattle.block_machine.specs.Due.{IsDue, is_plain}
 use Rattle.block_machine.specs.Events.{IsIssuedIn}
 use Rattle.block_machine.specs.Histories.{JointState}
-use Rattle.block_machine.specs.Left.{after}
+use Rattle.block_machine.specs.Expected.{after}
 use Rattle.block_machine.specs.State.{Block, Machine, Pending, unanswered}
 use Rattle.block_machine.specs.Steps.{Accept, Issue, May, newly_accepted}
 use Rattle.block_machine.specs.declared.due.Unanswered.{Unanswered}
 use Rattle.driver_history.specs.Histories.{IssuesDue}
-use Rattle.driver_history.specs.Holds.{ReadySlotsInvariant, IsFreeOrServes, IsQueuedAsAsked}
-use Rattle.witnesses.specs.Scene.{queued, running_port}
+use Rattle.driver_history.specs.PortInvariants.{ReadySlotsInvariant, IsFreeOrServes, IsQueuedAsAsked}
+use Rattle.witnesses.specs.RunningAdapter.{queued, running_port}
 use Rattle.witnesses.proofs.history.Command.{queued_read, zeros}
 use Rattle.witnesses.proofs.history.Devices.{other_bit}
 use Rattle.witnesses.proofs.history.Holding.{first_slots, no_slots}

@@ -3,13 +3,13 @@ use Rattle.std.proofs.lemmas.List.{length-map, length-set}
 use Rattle.std.proofs.Math.Seq.{map-set_same}
 use Rattle.ata_types.specs.declared.request.RequestId.{RequestId}
 use Rattle.refinement.specs.Relation.{port_at}
-use Rattle.host_boot.specs.Taken.{probe_result_of}
+use Rattle.host_boot.specs.TakeOver.{probe_result_of}
 use Rattle.host_boot.specs.declared.ProbeResult.{ProbeResult}
 use Rattle.block_server.specs.FourPorts.{by_port}
 use Rattle.block_server.specs.Seen.{with_ports}
 use Rattle.port_driver.specs.declared.served_port.ServedPort.{ServedPort}
 use Rattle.port_driver.specs.declared.served_port.Shared.{Shared}
-use Rattle.server_history.specs.Served.{IssuesAll, IssuesBatchOf}
+use Rattle.server_history.specs.Served.{IssuesAll, IssuesTogetherIfAny}
 use Rattle.server_history.specs.Server.{InCallInvariant, ServerState, mode_in}
 use Rattle.request_queue.specs.Entries.{asks_of, due_ids}
 use Rattle.block_server.proofs.Placing as placing
@@ -64,7 +64,7 @@ loop-number-preserved g c =
           so_far.rest s kept last
           (reviving.one_issued found number within (now s) (later s) last (all s holds)
           (λ unready.
-          subst (λ (ids : List RequestId). IssuesBatchOf (port_at number) ids (now s) (later s))
+          subst (λ (ids : List RequestId). IssuesTogetherIfAny (port_at number) ids (now s) (later s))
           (c.law_a_port_goes_on_after_its_errors.ensures.undue (now s) (port_at number) holds (λ info is. unready info (ap (λ (list : List ProbeResult). probe_result_of list number) (sym so_far.found) ∙ is))) (all s holds))
           issues);
       cost = omega (arith, so_far.cost, issued.ensures.cost);

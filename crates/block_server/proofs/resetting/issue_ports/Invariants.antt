@@ -1,6 +1,6 @@
 use Rattle.std.proofs.Common.{◌≡◌, ◌*◌, drop, length}
 use Rattle.adapter.specs.Counted.{MakesAtMost}
-use Rattle.port_driver.specs.Costs.{ISSUES_ACCESSES}
+use Rattle.port_driver.specs.Costs.{ISSUE_DUE_ACCESSES}
 use Rattle.block_server.specs.FourPorts.{by_port}
 use Rattle.block_server.specs.Seen.{with_ports}
 use Rattle.server_history.specs.Resets.{IssuePorts}
@@ -15,5 +15,5 @@ invariant-loop-number g l = record {
   rest : (s : ServerState) → InCallInvariant (with_ports s (g.A.Adapter.device l.fn.adapter) l.fn.shared l.fn.ports) → (new : ServerState)
       → IssuePorts l.number (drop l.number (by_port (λ p. p.found) l.fn.ports)) (with_ports s (g.A.Adapter.device l.adapter) l.shared l.ports) new
       → IssuePorts 0 (by_port (λ p. p.found) l.fn.ports) (with_ports s (g.A.Adapter.device l.fn.adapter) l.fn.shared l.fn.ports) new;
-  cost : MakesAtMost (ISSUES_ACCESSES * l.number) (g.A.Adapter.access_count l.fn.adapter) (g.A.Adapter.access_count l.adapter);
+  cost : MakesAtMost (ISSUE_DUE_ACCESSES * l.number) (g.A.Adapter.access_count l.fn.adapter) (g.A.Adapter.access_count l.adapter);
 }

@@ -1,7 +1,7 @@
 use Rattle.std.proofs.Common.{ℕ, ◌≡◌, ◌+◌, ◌/◌, ◌%◌, ◌∙◌, ap, sym, get_or, subst, arith}
 use Rattle.block_machine.specs.declared.due.QueueMode.{QueueMode}
 use Rattle.hba_regs.specs.Bits.{bit}
-use Rattle.host_boot.specs.Taken.{probe_result_of}
+use Rattle.host_boot.specs.TakeOver.{probe_result_of}
 use Rattle.host_boot.specs.declared.Host.{Host}
 use Rattle.server_history.specs.Server.{probed_mode}
 use Rattle.port_driver.specs.Parts.{NotesProbeResult}

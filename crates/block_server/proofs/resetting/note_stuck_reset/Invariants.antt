@@ -1,8 +1,8 @@
 use Rattle.port_driver.specs.Parts.{NotesProbeResult}
 use Rattle.server_history.specs.Server.{plain_mode}
-use Rattle.server_history.specs.StuckServer.{stuck_found}
+use Rattle.server_history.specs.StuckServer.{found_after_stuck_reset}
 use Rattle.block_server.proofs.Becoming.{BecomesSoFar}
 use Rattle.block_server.proofs.resetting.note_stuck_reset.Given as goal
 
 abbrev pub invariant-loop-number : goal.invariant-loop-number
-invariant-loop-number l = BecomesSoFar (λ number old new. NotesProbeResult (stuck_found old.found) plain_mode old new) l.fn.ports l.ports l.number
+invariant-loop-number l = BecomesSoFar (λ number old new. NotesProbeResult (found_after_stuck_reset old.found) plain_mode old new) l.fn.ports l.ports l.number

@@ -3,7 +3,7 @@ use Rattle.commands.proofs.finding.law_reading_finds_done.Goals as goal
 
 pub returns : goal.returns
 returns c = finds_done (record {
-  access = c.law_acts_are_done.ensures.access;
+  access = c.law_accesses_and_decisions_are_acts.ensures.access;
   on = c.law_adapter_stays.ensures.on;
   controls = c.law_controls_stay.ensures;
   ends = c.law_ended_is_clear.ensures.ends;
@@ -11,6 +11,6 @@ returns c = finds_done (record {
   device = c.law_histories_compose.ensures.device;
   after_both = c.law_histories_compose.ensures.after;
   reading = c.law_reading_is_followed.ensures;
-  keeps = c.law_steps_guarantee.ensures;
+  keeps = c.law_step_lists_keep_what_steps_keep.ensures;
   kept = c.law_steps_spare_the_book.ensures.kept;
 })

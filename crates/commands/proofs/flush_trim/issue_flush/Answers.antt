@@ -1,6 +1,6 @@
 use Rattle.std.proofs.Common.{false, [], arith}
 use Rattle.ata_types.specs.declared.range.Range.{Range}
-use Rattle.commands.specs.Batches.{only_task}
+use Rattle.commands.specs.Batches.{batch_of_one}
 use Rattle.commands.specs.PlainTasks.{flush_task}
 use Rattle.commands.proofs.Armed.{armed_flush, flush, flush_table}
 use Rattle.commands.proofs.flush_trim.issue_flush.Goals as goal
@@ -13,7 +13,7 @@ pub write-requires : goal.write-requires
 write-requires g c =
     let q = c.requires in
     let table = c.write_table.ensures in
-    (c.law_writing_issues.ensures c.args.port false (only_task 0 (flush_task nowhere) []) _ _ _
+    (c.law_writing_issues.ensures c.args.port false (batch_of_one 0 (flush_task nowhere) []) _ _ _
     (armed_flush c.args.port nowhere [] _ _ _ q.may.on q.may.there q.may.agreed q.may.may c.bit_of-own.ensures table.followed (table.says flush [] (flush_table _ c.flush_command.ensures)))).0
 
 pub returns : goal.returns
@@ -22,7 +22,7 @@ returns g c =
     let table = c.write_table.ensures in
     record {
       issued = λ range frames.
-          (c.law_writing_issues.ensures c.args.port false (only_task 0 (flush_task range) frames) _ _ _
+          (c.law_writing_issues.ensures c.args.port false (batch_of_one 0 (flush_task range) frames) _ _ _
           (armed_flush c.args.port range frames _ _ _ q.may.on q.may.there q.may.agreed q.may.may c.bit_of-own.ensures table.followed (table.says flush [] (flush_table _ c.flush_command.ensures)))).1 _
           c.write.ensures.does;
       cost = omega arith;

@@ -1,17 +1,17 @@
 use Rattle.std.proofs.Common.{[], ◌∷◌}
 use Rattle.command_table.specs.Written.{IsTableStore}
-use Rattle.commands.specs.Batches.{SlotTask}
+use Rattle.commands.specs.Batches.{PlacedTask}
 use Rattle.commands.proofs.Armed.{armed_transfer}
 use Rattle.commands.proofs.Stores.{Leaving, stores_may, stores_there, table_stores}
 use Rattle.commands.proofs.ncq.issue.Goals as goal
 
-pub prepare-requires : goal.prepare-requires
-prepare-requires g c = record { may = record { may = c.requires.may; small = c.requires.slot; usable = c.requires.usable; fits = c.requires.fits } }
+pub store_transfer-requires : goal.store_transfer-requires
+store_transfer-requires g c = record { may = record { may = c.requires.may; small = c.requires.slot; usable = c.requires.usable; fits = c.requires.fits } }
 
 pub arm-requires-clause-there : goal.arm-requires-clause-there
 arm-requires-clause-there g c =
     let q = c.requires.may in
-    let stores = c.prepare.ensures.stores.stores in
+    let stores = c.store_transfer.ensures.stores.stores in
     let laws : Leaving = record {
       left = c.law_other_ports_are_left.ensures.left;
       on = c.law_other_ports_are_left.ensures.on;
@@ -23,7 +23,7 @@ arm-requires-clause-there g c =
 pub arm-requires-clause-started : goal.arm-requires-clause-started
 arm-requires-clause-started g c =
     let q = c.requires.may in
-    let stores = c.prepare.ensures.stores.stores in
+    let stores = c.store_transfer.ensures.stores.stores in
     let laws : Leaving = record {
       left = c.law_other_ports_are_left.ensures.left;
       on = c.law_other_ports_are_left.ensures.on;
@@ -34,13 +34,13 @@ arm-requires-clause-started g c =
 
 pub write-requires : goal.write-requires
 write-requires g c =
-    let t : SlotTask = record { slot = c.args.slot.0; task = c.args.transfer.now; frames = c.args.frames.now } in
+    let t : PlacedTask = record { slot = c.args.slot.0; task = c.args.transfer.now; frames = c.args.frames.now } in
     (c.law_writing_issues.ensures c.args.port t.task.queued (t ∷ []) c.bit_of-own.result _ _
-    (armed_transfer c.args.port t c.bit_of-own.result _ _ _ (record { may = c.requires.may; small = c.requires.slot; usable = c.requires.usable; fits = c.requires.fits }) c.prepare.ensures.stores c.bit_of-own.ensures c.arm.ensures.arms)).0
+    (armed_transfer c.args.port t c.bit_of-own.result _ _ _ (record { may = c.requires.may; small = c.requires.slot; usable = c.requires.usable; fits = c.requires.fits }) c.store_transfer.ensures.stores c.bit_of-own.ensures c.arm.ensures.arms)).0
 
 pub returns-clause-issued : goal.returns-clause-issued
 returns-clause-issued g c =
-    let t : SlotTask = record { slot = c.args.slot.0; task = c.args.transfer.now; frames = c.args.frames.now } in
+    let t : PlacedTask = record { slot = c.args.slot.0; task = c.args.transfer.now; frames = c.args.frames.now } in
     (c.law_writing_issues.ensures c.args.port t.task.queued (t ∷ []) c.bit_of-own.result _ _
-    (armed_transfer c.args.port t c.bit_of-own.result _ _ _ (record { may = c.requires.may; small = c.requires.slot; usable = c.requires.usable; fits = c.requires.fits }) c.prepare.ensures.stores c.bit_of-own.ensures c.arm.ensures.arms)).1
+    (armed_transfer c.args.port t c.bit_of-own.result _ _ _ (record { may = c.requires.may; small = c.requires.slot; usable = c.requires.usable; fits = c.requires.fits }) c.store_transfer.ensures.stores c.bit_of-own.ensures c.arm.ensures.arms)).1
     _ c.write.ensures.does

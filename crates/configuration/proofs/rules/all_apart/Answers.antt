@@ -5,7 +5,7 @@ use Rattle.configuration.proofs.rules.all_apart.Goals as goal
 
 pub returns-then-not-is_apart_from : goal.returns-then-not-is_apart_from
 returns-then-not-is_apart_from g c =
-    let apart = g.A.Apart.apart in (
+    let apart = g.A.MustDiffer.apart in (
       (λ (t : false ≡ true). let none : ⊥ = cc in absurd none),
       (λ h.
           let all = subst (AllPairs apart) c.in-Some.ensures.cases.0 (c.loop-part.invariant.1 h) in
@@ -15,7 +15,7 @@ returns-then-not-is_apart_from g c =
 
 pub loop-part-preserved : goal.loop-part-preserved
 loop-part-preserved g c =
-    let apart = g.A.Apart.apart in
+    let apart = g.A.MustDiffer.apart in
     let part = c.in-Some.part.now in
     let others = c.in-Some.others.now in
     let is = c.in-Some.ensures.cases.0 in

@@ -1,12 +1,12 @@
 use Rattle.std.proofs.Common.{All, ap, map, subst, sym}
-use Rattle.configuration.specs.Schema.{HasKeys, rule_of}
+use Rattle.configuration.specs.Schema.{HasKeys, key_rule_of}
 use Rattle.configuration.specs.Tables.{tables_of}
 use Rattle.configuration.proofs.TableLemmas.{All-tables, tables-All}
 use Rattle.configuration.proofs.schema.tables_have_keys.Goals as goal
 
 pub returns : goal.returns
 returns c =
-    let P = HasKeys (map rule_of c.args.keys.now) in
+    let P = HasKeys (map key_rule_of c.args.keys.now) in
     let each = c.values_have_keys.ensures in
     let items = c.items_at.result.now in
     let at = ap tables_of c.items_at.ensures in (

@@ -3,7 +3,7 @@ use Rattle.std.specs.Vec.{vec_len, vec_capacity}
 use Rattle.device_model.proofs.Caching.{had_lasts, kept_lasts, kept_written, put_lasts}
 use Rattle.device_model.proofs.OldSectors.{gap_none}
 use Rattle.device_model.specs.declared.old_sectors.OldSectors.{OldSectors}
-use Rattle.device_model.specs.OldSectors.{with_old}
+use Rattle.device_model.specs.OldSectors.{with_old_bytes}
 use Rattle.std.specs.Prelude.{option_map}
 use Rattle.device_model.proofs.cache.put_over_old.Goals as goal
 use Rattle.device_model.proofs.cache.put_over_old.Goals.{in-Some+else-not-read, in_default}
@@ -23,12 +23,12 @@ returns-clause-lasting g c =
           let keeps = w.keep.ensures.keeps in
           let gives = w.read.ensures.gives w.if-not-read.false in
           let now = w.keep.new.self.sectors.items in
-          subst (λ (x : OldSectors). option_map (with_old x.sectors.items) then ≡ option_map (with_old olds) told) (sym w.kept-is)
+          subst (λ (x : OldSectors). option_map (with_old_bytes x.sectors.items) then ≡ option_map (with_old_bytes olds) told) (sym w.kept-is)
           (put_lasts olds now sector bytes told then (kept_lasts olds now sector w.read.new.out told none keeps gives)
           (kept_written olds now sector w.read.new.out told none keeps gives bytes) c.write.result (rw same at write.puts) (rw same at write.kept))
       | in_default w ↦
           let same : g.S.SectorStore.told c.match-gap_for.store ≡ told = ap g.S.SectorStore.told w.store-is in
-          subst (λ (x : OldSectors). option_map (with_old x.sectors.items) then ≡ option_map (with_old olds) told) (sym w.kept-is)
+          subst (λ (x : OldSectors). option_map (with_old_bytes x.sectors.items) then ≡ option_map (with_old_bytes olds) told) (sym w.kept-is)
           (put_lasts olds olds sector bytes told then refl (had_lasts olds sector told (w.in_default.ensures.has refl) bytes) c.write.result
           (rw same at write.puts) (rw same at write.kept))
     ]

@@ -1,6 +1,6 @@
 use Rattle.std.proofs.Common.{rules, ◌≡◌, ◌∙◌, List, sym, subst, take, slice_index_or, arith}
 use Rattle.std.proofs.lemmas.List.{take_all}
-use Rattle.device_model.specs.OldSectors.{no_old}
+use Rattle.device_model.specs.OldSectors.{no_old_sector}
 use Rattle.device_model.specs.declared.old_sectors.OldSector.{OldSector}
 use Rattle.device_model.proofs.Caching.{WritesBack, take_more, writes_more, writes_turn, wrote_one}
 use Rattle.device_model.proofs.cache.roll_back.Goals as goal
@@ -11,8 +11,8 @@ loop-old-preserved g c =
     let place = c.loop-old.old-index in
     let P : List OldSector → Type 0 = λ l. WritesBack g.S.SectorStore.size g.S.SectorStore.told g.S.SectorStore.failures l c.args.store.now c.write-written.new.self in
     let write = c.write-written.ensures in
-    let old = slice_index_or olds place no_old in
-    subst P (sym (take_more olds place no_old c.loop-old-test.true))
+    let old = slice_index_or olds place no_old_sector in
+    subst P (sym (take_more olds place no_old_sector c.loop-old-test.true))
     (writes_more g.S.SectorStore.size g.S.SectorStore.told g.S.SectorStore.failures (take place olds) old c.args.store.now c.loop-old.store c.write-written.new.self c.loop-old.invariant
     (wrote_one g.S.SectorStore.size g.S.SectorStore.told g.S.SectorStore.failures old c.write-written.result c.loop-old.store c.write-written.new.self write.sized
     (search rules) (search rules) write.serves write.kept (search rules)))

@@ -1,6 +1,6 @@
 use Rattle.std.proofs.Common.{rules, Bool, true, false, ◌≡◌, ◌<◌, ◌≤◌, ◌∙◌, sym, refl, length}
 use Rattle.std.specs.Prelude.{if◌then◌else◌}
-use Rattle.adapter.specs.Access.{with_is_cleared}
+use Rattle.adapter.specs.Access.{with_is_bit_cleared}
 use Rattle.device_model.specs.View.{Media, acknowledging, port_of, blank_port}
 use Rattle.device_model.proofs.EachPort.{none_done, skip_port, change_port, all_done}
 use Rattle.device_model.proofs.SlotLemmas.{at_port}
@@ -25,7 +25,7 @@ loop-port-preserved c =
           rw w.ports-is (skip_port f c.args.ports.now c.loop-port.ports c.loop-port.port (λ p. rw zero refl) c.loop-port.invariant)
     ]
 
-blank_stays : (b : Bool) (m : Media) → (if b then with_is_cleared (port_of blank_port m) else port_of blank_port m) ≡ port_of blank_port m
+blank_stays : (b : Bool) (m : Media) → (if b then with_is_bit_cleared (port_of blank_port m) else port_of blank_port m) ≡ port_of blank_port m
 blank_stays true m = refl
 blank_stays false m = refl
 

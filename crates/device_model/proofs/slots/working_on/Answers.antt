@@ -1,7 +1,7 @@
 use Rattle.std.proofs.Common.{rules, ◌≡◌, ◌∙◌, ◌<◌, length, subst, sym}
 use Rattle.adapter.specs.Steps.{IsWorking}
 use Rattle.device_model.proofs.Absurd.{some_one}
-use Rattle.device_model.specs.Whole.{no_media}
+use Rattle.device_model.specs.WholeAdapter.{no_media}
 use Rattle.device_model.specs.View.{blank_port, taken_in, operation_of_kind, port_of}
 use Rattle.device_model.specs.declared.port.PortModel.{PortModel}
 use Rattle.device_model.specs.declared.port.TakenCommand.{TakenCommand}

@@ -3,7 +3,7 @@ use Rattle.std.specs.Prelude.{slice_index_or}
 use Rattle.hba_regs.specs.Bits.{bit}
 use Rattle.device_model.proofs.Absurd.{some-none, some_one, true-false}
 use Rattle.device_model.proofs.SlotLemmas.{held_none, held_room, held_within}
-use Rattle.device_model.specs.Block.{taken_by}
+use Rattle.device_model.specs.Block.{taken_in_slot}
 use Rattle.device_model.specs.declared.port.TakenCommand.{TakenCommand}
 use Rattle.std.proofs.lemmas.Bool.{cases_lt}
 use Rattle.adapter.specs.Commands.{is_queued}
@@ -31,7 +31,7 @@ loop-slot-preserved c = λ k few t held.
       | inl low ↦ c.loop-slot.invariant k low t held
       | inr high ↦
           let here : k ≡ slot = omega (arith, few, high) in
-          let is : taken_by c.args.filled rooms slot ≡ Some t = ap (taken_by c.args.filled rooms) (sym here) ∙ held in
+          let is : taken_in_slot c.args.filled rooms slot ≡ Some t = ap (taken_in_slot c.args.filled rooms) (sym here) ∙ held in
           elim c.else-is_set.branch [
             | else-is_set-via-then-is_set+else-not-is_queued w ↦
                 let u : TakenCommand = slice_index_or rooms slot w.index-rooms-slot.result in

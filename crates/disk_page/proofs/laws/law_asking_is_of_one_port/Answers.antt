@@ -6,7 +6,7 @@ pub returns-clause-of : goal.returns-clause-of
 returns-clause-of c = asking_is_of
 
 pub returns-clause-leaves : goal.returns-clause-leaves
-returns-clause-leaves c = asking_leaves_running c.law_base.ensures
+returns-clause-leaves c = asking_leaves_running c.law_prerequisites.ensures
 
 pub returns-clause-none : goal.returns-clause-none
 returns-clause-none c = asked_none

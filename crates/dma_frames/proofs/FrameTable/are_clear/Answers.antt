@@ -22,8 +22,8 @@ loop-frame-init c = record {
   free = λ k lt. absurd (omega (arith, lt));
 }
 
-pub set_bit-requires-clause-frame : goal.set_bit-requires-clause-frame
-set_bit-requires-clause-frame c = c.is_free.ensures.within c.if-not-is_free.false
+pub set_frame_bit-requires-clause-frame : goal.set_frame_bit-requires-clause-frame
+set_frame_bit-requires-clause-frame c = c.is_lendable.ensures.within c.if-not-is_lendable.false
 
 pub loop-frame-preserved : goal.loop-frame-preserved
 loop-frame-preserved c =
@@ -32,13 +32,13 @@ loop-frame-preserved c =
     let n = c.loop-frame.frame-index in
     let frame = get_or frames n first in
     let here = slice_get-get_or frames n first c.loop-frame-test.true in
-    let free = c.is_free.ensures.free c.if-not-is_free.false in
-    let within = c.is_free.ensures.within c.if-not-is_free.false in
+    let free = c.is_lendable.ensures.free c.if-not-is_lendable.false in
+    let within = c.is_lendable.ensures.within c.if-not-is_lendable.false in
     record {
-      words = c.set_bit.auto.words ∙ v.words;
-      seen = seen_more c.loop-frame.before frames n frame here within v.seen c.set_bit.new.words c.set_bit.ensures.this c.set_bit.ensures.others;
+      words = c.set_frame_bit.auto.words ∙ v.words;
+      seen = seen_more c.loop-frame.before frames n frame here within v.seen c.set_frame_bit.new.words c.set_frame_bit.ensures.this c.set_frame_bit.ensures.others;
       own = below_more _ _ v.own (λ w. w.2 (ap (λ (f : Frame). owner_of c.args.self.now f) (same_Some _ _ (sym w.1 ∙ here)) ∙ free.0));
-      once = below_more _ _ v.once (once_here c.loop-frame.before frames n frame here within v.seen (iff_false c.is_set.ensures c.if-is_set.false));
+      once = below_more _ _ v.once (once_here c.loop-frame.before frames n frame here within v.seen (iff_false c.is_frame_bit_set.ensures c.if-is_frame_bit_set.false));
       free = below_more _ _ v.free (λ w. absurd (let lent : IsSome (lent_to c.args.self.now frame) = subst (λ (f : Frame). IsSome (lent_to c.args.self.now f)) (same_Some _ _ (sym w.1 ∙ here)) w.2 in
           let none = free.1 in let is = subst IsSome none lent in cc));
     }

@@ -2,4 +2,4 @@ use Rattle.driver_history.proofs.Telling.{reads_hold}
 use Rattle.driver_history.proofs.laws.law_reads_hold.Goals as goal
 
 pub returns : goal.returns
-returns c = reads_hold c.law_runs.ensures
+returns c = reads_hold c.law_run_prerequisites.ensures

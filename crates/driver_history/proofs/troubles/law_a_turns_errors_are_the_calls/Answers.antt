@@ -3,12 +3,12 @@ use Rattle.driver_history.proofs.troubles.law_a_turns_errors_are_the_calls.Goals
 
 pub returns-clause-port_error : goal.returns-clause-port_error
 returns-clause-port_error c port old begun ended ports new turn call on t on_then stays alike was set stops its =
-    trouble_is_the_calls c.law_base.ensures port old begun new on t on_then ended ports stays turn call alike was set stops its
+    trouble_is_the_calls c.law_prerequisites.ensures port old begun new on t on_then ended ports stays turn call alike was set stops its
 
 pub returns-clause-boots : goal.returns-clause-boots
 returns-clause-boots c port old begun ended ports new one other on undue t on_then stays was its =
-    boots_are_the_calls c.law_base.ensures port old begun new on t on_then ended ports stays one other undue was its
+    boots_are_the_calls c.law_prerequisites.ensures port old begun new on t on_then ended ports stays one other undue was its
 
 pub returns-clause-well : goal.returns-clause-well
 returns-clause-well c port old begun ended ports new turn call on t on_then linked stays alike known its =
-    well_is_the_calls c.law_base.ensures port old begun new on t on_then ended ports stays turn call alike linked known its
+    well_is_the_calls c.law_prerequisites.ensures port old begun new on t on_then ended ports stays turn call alike linked known its

@@ -4,8 +4,8 @@ use Rattle.driver_history.proofs.troubles.law_ordinary_accesses_lose_no_error.Go
 
 pub returns-clause-accesses : goal.returns-clause-accesses
 returns-clause-accesses c port old new accesses evidence ports on does spares clears =
-    loses_none c.law_base.ensures port old new (accesses_show c.law_base.ensures port accesses old.device new on does spares clears) evidence ports
+    loses_none c.law_prerequisites.ensures port old new (accesses_show c.law_prerequisites.ensures port accesses old.device new on does spares clears) evidence ports
 
 pub returns-clause-steps : goal.returns-clause-steps
 returns-clause-steps c port old new evidence ports on moves =
-    loses_none c.law_base.ensures port old new (λ kind. steps_show c.law_base.ensures kind port.0 old.device new on.no_reset moves) evidence ports
+    loses_none c.law_prerequisites.ensures port old new (λ kind. steps_show c.law_prerequisites.ensures kind port.0 old.device new on.no_reset moves) evidence ports

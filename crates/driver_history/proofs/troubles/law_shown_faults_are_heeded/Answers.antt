@@ -5,7 +5,7 @@ use Rattle.adapter.specs.declared.access.DeviceStep.{DeviceStep}
 use Rattle.ata_types.specs.declared.Port.{Port}
 use Rattle.ata_types.specs.declared.PortState.TheVariants.{Ready}
 use Rattle.block_machine.specs.Events.{AbstractCall, Service, abstract_after}
-use Rattle.block_machine.specs.Histories.{Happening, JointState, now}
+use Rattle.block_machine.specs.Histories.{JointEvent, JointState, now}
 use Rattle.identify.specs.declared.wanted.Wanted.{Wanted}
 use Rattle.driver_history.specs.Heeding.{HeedsAt, ServesReady}
 use Rattle.driver_history.specs.Claims.{HandlesShownFailure}
@@ -13,7 +13,7 @@ use Rattle.driver_history.specs.Evidence.{ShowsFailure}
 use Rattle.driver_history.specs.Histories.{IsDriverHistory, TellsPlainFaults}
 use Rattle.driver_history.proofs.troubles.law_shown_faults_are_heeded.Goals as goal
 
-heeds_fault : (wanted : List Wanted) (first : JointState Device) (past : List (Happening Device DeviceStep)) (h : Happening Device DeviceStep) (port : Port)
+heeds_fault : (wanted : List Wanted) (first : JointState Device) (past : List (JointEvent Device DeviceStep)) (h : JointEvent Device DeviceStep) (port : Port)
     → IsDriverHistory wanted first (h ∷ past) → h.event.ask ≡ Service → (now first past).abstract.ports.state port ≡ Ready → ShowsFailure ((now first past).device.port port.0)
     → HandlesShownFailure port (now first past) h
 heeds_fault wanted first past h port history asks asked failure =

@@ -5,20 +5,20 @@ use Rattle.host_boot.proofs.resetting.reset.Goals as goal
 
 pub loop-reading-init : goal.loop-reading-init
 loop-reading-init g c = record {
-  known = resetting_begins c.law_base.ensures _ _ c.write.ensures.does;
+  known = resetting_begins c.law_prerequisites.ensures _ _ c.write.ensures.does;
   cost = omega arith;
 }
 
 pub returns-then-not-is_resetting-clause-reset : goal.returns-then-not-is_resetting-clause-reset
-returns-then-not-is_resetting-clause-reset g c = resetting_ends c.law_base.ensures _ _ _ _ _ c.loop-reading.invariant.known c.read.ensures.does (omega arith) (sym c.is_resetting.ensures ∙ c.if-not-is_resetting.true)
+returns-then-not-is_resetting-clause-reset g c = resetting_ends c.law_prerequisites.ensures _ _ _ _ _ c.loop-reading.invariant.known c.read.ensures.does (omega arith) (sym c.is_resetting.ensures ∙ c.if-not-is_resetting.true)
 
 pub loop-reading-preserved : goal.loop-reading-preserved
 loop-reading-preserved g c = record {
-  known = resetting_goes_on c.law_base.ensures _ _ _ _ _ c.loop-reading.invariant.known c.read.ensures.does (sym c.is_resetting.ensures ∙ c.if-not-is_resetting.false);
+  known = resetting_goes_on c.law_prerequisites.ensures _ _ _ _ _ c.loop-reading.invariant.known c.read.ensures.does (sym c.is_resetting.ensures ∙ c.if-not-is_resetting.false);
   cost = omega arith;
 }
 
 pub returns-clause-stuck : goal.returns-clause-stuck
 returns-clause-stuck g c =
     let all : c.loop-reading._reading ≡ MOST_READINGS = omega arith in
-    resetting_sticks c.law_base.ensures _ _ _ all c.loop-reading.invariant.known
+    resetting_sticks c.law_prerequisites.ensures _ _ _ all c.loop-reading.invariant.known

@@ -3,8 +3,8 @@ use Rattle.std.proofs.lemmas.Result.{err_from_is_err_and}
 use Rattle.std.specs.Borrow.{Bor}
 use Rattle.adapter.specs.declared.access.DeviceStep.{DeviceStep}
 use Rattle.ata_types.specs.declared.call.Call.{Call}
-use Rattle.script.specs.Script.{Asks, AskInTurn, asked_of, lines_of, lines_after}
-use Rattle.play.specs.Played.{IsWhy}
+use Rattle.script.specs.Script.{Asks, AskInTurn, call_if_asked, lines_of, lines_after}
+use Rattle.play.specs.Played.{IsWhyItStopped}
 use Rattle.play.proofs.Printing.{PlayedSoFar, bytes_left, fewer_left, played_none, played_nothing, played_line, ran_none, ran_part, ran_all, cut_more, if_error, on_error}
 use Rattle.play.proofs.session.perform.Goals as goal
 
@@ -32,7 +32,7 @@ loop-rest-preserved-in-Ok-false g c =
     let here = g.W.Write.contents c.loop-rest.out in
     let all = lines_of c.args.script.now in
     let so_far = subst (λ (rest : Option (Bor (List ℕ))). PlayedSoFar device g.A.TapedAdapter.ended c.args.trace c.args.server.now all c.loop-rest.server c.loop-rest.shown rest before here) c.in-Some.is c.loop-rest.invariant.played in
-    let asks = subst (λ (some : Bool). Asks c.first_line.result.0.now (asked_of some c.parse_script_line.new.call)) c.in-Ok-false.field-0-test c.in-Ok-false.ensures.ok in
+    let asks = subst (λ (some : Bool). Asks c.first_line.result.0.now (call_if_asked some c.parse_script_line.new.call)) c.in-Ok-false.field-0-test c.in-Ok-false.ensures.ok in
     record {
       fed = c.loop-rest.invariant.fed;
       room = c.loop-rest.invariant.room;
@@ -63,7 +63,7 @@ returns-in_err-shown-in-Ok-true g c =
     let so_far = subst (λ (rest : Option (Bor (List ℕ))). PlayedSoFar device g.A.TapedAdapter.ended c.args.trace c.args.server.now all c.loop-rest.server c.loop-rest.shown rest before here) c.in-Some.is c.loop-rest.invariant.played in
     let cut = cut_more all so_far.texts c.in-Some.text.now c.first_line.result.0.now c.first_line.result.1 so_far.cut c.first_line.ensures.first in
     let from = c.law_lines_are_asked_in_turn.ensures.parted so_far.texts c.first_line.result.0.now (lines_after c.first_line.result.1) c.requires.good.0 (subst (λ (texts : List (List ℕ)). AskInTurn texts c.requires.good.0) cut c.requires.good.1) in
-    let reads = subst (λ (some : Bool). Asks c.first_line.result.0.now (asked_of some c.parse_script_line.new.call)) c.in-Ok-true.field-0-test c.in-Ok-true.ensures.ok in
+    let reads = subst (λ (some : Bool). Asks c.first_line.result.0.now (call_if_asked some c.parse_script_line.new.call)) c.in-Ok-true.field-0-test c.in-Ok-true.ensures.ok in
     let asks = subst (λ (call : Call DeviceStep). Asks c.first_line.result.0.now (Some call)) (sym c.call.ensures) reads in
     let printed = c.in_err-shown-in-Ok-true.ensures.printed in
     let ran = ran_part device g.A.TapedAdapter.ended c.args.trace c.args.server.now c.args.script.now c.law_lines_are_asked_in_turn.ensures c.loop-rest.server c.play_line.new.server c.loop-rest.shown c.first_line.result.0.now
@@ -72,8 +72,8 @@ returns-in_err-shown-in-Ok-true g c =
     let told = err_from_is_err_and c.from_residual.result c.from_residual.ensures.1 in (
       ran.0,
       on_error c.from_residual.result _ c.from_residual.ensures.0,
-      if_error c.from_residual.result _ (IsWhy (g.A.TapedAdapter.ended c.play_line.new.server.adapter) ran.0.part) (told.1 ∙ ap Err told.2)
-          (subst (λ (part : ℕ). IsWhy (g.A.TapedAdapter.ended c.play_line.new.server.adapter) part c.in_err-shown-in-Ok-true.field-0.0) (sym ran.1) printed.2),
+      if_error c.from_residual.result _ (IsWhyItStopped (g.A.TapedAdapter.ended c.play_line.new.server.adapter) ran.0.part) (told.1 ∙ ap Err told.2)
+          (subst (λ (part : ℕ). IsWhyItStopped (g.A.TapedAdapter.ended c.play_line.new.server.adapter) part c.in_err-shown-in-Ok-true.field-0.0) (sym ran.1) printed.2),
     )
 
 pub returns : goal.returns
@@ -94,7 +94,7 @@ loop-rest-preserved-in_ok-shown-in-Ok-true g c =
     let after = g.W.Write.contents c.play_line.new.out in
     let all = lines_of c.args.script.now in
     let so_far = subst (λ (rest : Option (Bor (List ℕ))). PlayedSoFar device g.A.TapedAdapter.ended c.args.trace c.args.server.now all c.loop-rest.server c.loop-rest.shown rest before here) c.in-Some.is c.loop-rest.invariant.played in
-    let reads = subst (λ (some : Bool). Asks c.first_line.result.0.now (asked_of some c.parse_script_line.new.call)) c.in-Ok-true.field-0-test c.in-Ok-true.ensures.ok in
+    let reads = subst (λ (some : Bool). Asks c.first_line.result.0.now (call_if_asked some c.parse_script_line.new.call)) c.in-Ok-true.field-0-test c.in-Ok-true.ensures.ok in
     let asks = subst (λ (call : Call DeviceStep). Asks c.first_line.result.0.now (Some call)) (sym c.call.ensures) reads in
     let printed = c.in_ok-shown-in-Ok-true.ensures.printed in
     record {

@@ -13,4 +13,4 @@ pub returns-clause-stops : goal.returns-clause-stops
 returns-clause-stops c = λ port state old new. boot_driven (StopsBoth port) port old new state
 
 pub returns-clause-commanding : goal.returns-clause-commanding
-returns-clause-commanding c = λ port access is. inl (c.law_base.ensures.control_wider Commanding BootRegisters port starting access is)
+returns-clause-commanding c = λ port access is. inl (c.law_prerequisites.ensures.control_wider Commanding BootRegisters port starting access is)

@@ -3,10 +3,10 @@ use Rattle.port_control.proofs.events.has_changed.Goals as goal
 
 pub read-requires-2 : goal.read-requires-2
 read-requires-2 g c =
-    (one_on c.law_base.ensures c.args.port _ _ _ c.requires.on c.requires.there c.read.ensures.does, one_there c.law_base.ensures c.args.port _ _ _ c.requires.on c.requires.there c.read.ensures.does)
+    (one_on c.law_prerequisites.ensures c.args.port _ _ _ c.requires.on c.requires.there c.read.ensures.does, one_there c.law_prerequisites.ensures c.args.port _ _ _ c.requires.on c.requires.there c.read.ensures.does)
 
 pub returns-clause-on : goal.returns-clause-on
-returns-clause-on g c = changing_on c.law_base.ensures c.args.port _ _ _ c.requires.on c.requires.there c.read.ensures.does _ _ c.read-2.ensures.does
+returns-clause-on g c = changing_on c.law_prerequisites.ensures c.args.port _ _ _ c.requires.on c.requires.there c.read.ensures.does _ _ c.read-2.ensures.does
 
 pub returns-clause-finds : goal.returns-clause-finds
 returns-clause-finds g c = record {
@@ -19,4 +19,4 @@ returns-clause-finds g c = record {
 }
 
 pub returns-clause-followed : goal.returns-clause-followed
-returns-clause-followed g c = changing_followed c.law_base.ensures c.args.port _ _ _ c.requires.on c.requires.there c.read.ensures.does _ _ c.read-2.ensures.does
+returns-clause-followed g c = changing_followed c.law_prerequisites.ensures c.args.port _ _ _ c.requires.on c.requires.there c.read.ensures.does _ _ c.read-2.ensures.does

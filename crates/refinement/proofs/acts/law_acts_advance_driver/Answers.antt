@@ -8,7 +8,7 @@ pub returns-clause-does : goal.returns-clause-does
 returns-clause-does c = done_does
 
 pub returns-clause-silent : goal.returns-clause-silent
-returns-clause-silent c = λ acts k later m port o own. done_silent c.law_below.ensures port o own acts k later m
+returns-clause-silent c = λ acts k later m port o own. done_silent c.law_prerequisites.ensures port o own acts k later m
 
 pub returns-clause-plain : goal.returns-clause-plain
-returns-clause-plain c = done_plain c.law_below.ensures
+returns-clause-plain c = done_plain c.law_prerequisites.ensures

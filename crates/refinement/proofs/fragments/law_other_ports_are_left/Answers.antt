@@ -28,7 +28,7 @@ returns-clause-tape c = tape_over AnyAccess
 
 pub returns-clause-silent : goal.returns-clause-silent
 returns-clause-silent c = λ port q uses next o old new other followed a own none.
-    (followed_silent c.law_below.ensures) followed uses a.parked a.machine refl a.reached a.knows q o own (of_spares_others port q Ci other) (of_spares_others port q Sact other) none
+    (followed_silent c.law_prerequisites.ensures) followed uses a.parked a.machine refl a.reached a.knows q o own (of_spares_others port q Ci other) (of_spares_others port q Sact other) none
 
 pub returns-clause-spares : goal.returns-clause-spares
 returns-clause-spares c = of_spares_others

@@ -6,13 +6,13 @@ use Rattle.refinement.proofs.driver.UnmovingPort.{steps_unmoving, access_unmovin
 use Rattle.refinement.proofs.fragments.law_unused_slots_are_silent.Goals as goal
 
 pub returns-clause-steps : goal.returns-clause-steps
-returns-clause-steps c = steps_unmoving c.law_below.ensures
+returns-clause-steps c = steps_unmoving c.law_prerequisites.ensures
 
 pub returns-clause-access : goal.returns-clause-access
-returns-clause-access c = access_unmoving c.law_below.ensures
+returns-clause-access c = access_unmoving c.law_prerequisites.ensures
 
 pub returns-clause-controls : goal.returns-clause-controls
-returns-clause-controls c = controls_unmoving c.law_below.ensures (λ r. r ≢ Ci) (λ same. same refl)
+returns-clause-controls c = controls_unmoving c.law_prerequisites.ensures (λ r. r ≢ Ci) (λ same. same refl)
 
 pub returns-clause-more : goal.returns-clause-more
 returns-clause-more c = λ port o. gains_more (IsMove port o)

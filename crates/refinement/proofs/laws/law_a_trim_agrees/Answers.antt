@@ -2,4 +2,4 @@ use Rattle.refinement.proofs.witnesses.Trim.{trim_is_known}
 use Rattle.refinement.proofs.laws.law_a_trim_agrees.Goals as goal
 
 pub returns : goal.returns
-returns c = trim_is_known c.law_below.ensures
+returns c = trim_is_known c.law_prerequisites.ensures

@@ -2,4 +2,4 @@ use Rattle.refinement.proofs.driver.PermittedAccesses.{own_is_permitted}
 use Rattle.refinement.proofs.laws.law_own_issuing_is_permitted.Goals as goal
 
 pub returns : goal.returns
-returns c = own_is_permitted c.law_below.ensures
+returns c = own_is_permitted c.law_prerequisites.ensures

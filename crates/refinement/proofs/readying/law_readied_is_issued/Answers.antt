@@ -2,7 +2,7 @@ use Rattle.refinement.proofs.driver.ReadySlot.{readied_permitted, readied_prepar
 use Rattle.refinement.proofs.readying.law_readied_is_issued.Goals as goal
 
 pub returns-clause-permitted : goal.returns-clause-permitted
-returns-clause-permitted c = readied_permitted c.law_below.ensures
+returns-clause-permitted c = readied_permitted c.law_prerequisites.ensures
 
 pub returns-clause-prepared : goal.returns-clause-prepared
 returns-clause-prepared c = readied_prepared

@@ -2,16 +2,16 @@ use Rattle.refinement.proofs.driver.EndedHalt.{issued_ends, steps_end, access_en
 use Rattle.refinement.proofs.recovering.law_halt_is_ended.Goals as goal
 
 pub returns-clause-issued : goal.returns-clause-issued
-returns-clause-issued c = issued_ends c.law_below.ensures
+returns-clause-issued c = issued_ends c.law_prerequisites.ensures
 
 pub returns-clause-steps : goal.returns-clause-steps
-returns-clause-steps c = steps_end c.law_below.ensures
+returns-clause-steps c = steps_end c.law_prerequisites.ensures
 
 pub returns-clause-access : goal.returns-clause-access
-returns-clause-access c = access_ends c.law_below.ensures
+returns-clause-access c = access_ends c.law_prerequisites.ensures
 
 pub returns-clause-read : goal.returns-clause-read
-returns-clause-read c = halt_ended c.law_below.ensures
+returns-clause-read c = halt_ended c.law_prerequisites.ensures
 
 pub returns-clause-found : goal.returns-clause-found
-returns-clause-found c = ended_well c.law_below.ensures
+returns-clause-found c = ended_well c.law_prerequisites.ensures

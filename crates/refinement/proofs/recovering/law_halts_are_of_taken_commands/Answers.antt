@@ -2,10 +2,10 @@ use Rattle.refinement.proofs.driver.HaltedCommand.{access_halts, acts_halts, cal
 use Rattle.refinement.proofs.recovering.law_halts_are_of_taken_commands.Goals as goal
 
 pub returns-clause-steps : goal.returns-clause-steps
-returns-clause-steps c = steps_halts c.law_below.ensures
+returns-clause-steps c = steps_halts c.law_prerequisites.ensures
 
 pub returns-clause-access : goal.returns-clause-access
-returns-clause-access c = access_halts c.law_below.ensures
+returns-clause-access c = access_halts c.law_prerequisites.ensures
 
 pub returns-clause-calm : goal.returns-clause-calm
 returns-clause-calm c = calm_halts
@@ -14,4 +14,4 @@ pub returns-clause-plain : goal.returns-clause-plain
 returns-clause-plain c = plain_halts
 
 pub returns-clause-acts : goal.returns-clause-acts
-returns-clause-acts c = acts_halts c.law_below.ensures
+returns-clause-acts c = acts_halts c.law_prerequisites.ensures

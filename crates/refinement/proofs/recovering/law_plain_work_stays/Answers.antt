@@ -2,10 +2,10 @@ use Rattle.refinement.proofs.device.PlainPort.{steps_plain, access_plain, runnin
 use Rattle.refinement.proofs.recovering.law_plain_work_stays.Goals as goal
 
 pub returns-clause-steps : goal.returns-clause-steps
-returns-clause-steps c = steps_plain c.law_below.ensures
+returns-clause-steps c = steps_plain c.law_prerequisites.ensures
 
 pub returns-clause-access : goal.returns-clause-access
-returns-clause-access c = access_plain c.law_below.ensures
+returns-clause-access c = access_plain c.law_prerequisites.ensures
 
 pub returns-clause-runs : goal.returns-clause-runs
 returns-clause-runs c = running_plainly
@@ -14,4 +14,4 @@ pub returns-clause-up : goal.returns-clause-up
 returns-clause-up c = plainly_up
 
 pub returns-clause-found : goal.returns-clause-found
-returns-clause-found c = plainly_well c.law_below.ensures
+returns-clause-found c = plainly_well c.law_prerequisites.ensures

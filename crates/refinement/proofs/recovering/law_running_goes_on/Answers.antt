@@ -2,13 +2,13 @@ use Rattle.refinement.proofs.device.LinkOverFaults.{start_runs, steps_run, acces
 use Rattle.refinement.proofs.recovering.law_running_goes_on.Goals as goal
 
 pub returns-clause-starts : goal.returns-clause-starts
-returns-clause-starts c = start_runs c.law_below.ensures
+returns-clause-starts c = start_runs c.law_prerequisites.ensures
 
 pub returns-clause-steps : goal.returns-clause-steps
-returns-clause-steps c = steps_run c.law_below.ensures
+returns-clause-steps c = steps_run c.law_prerequisites.ensures
 
 pub returns-clause-access : goal.returns-clause-access
-returns-clause-access c = access_runs c.law_below.ensures
+returns-clause-access c = access_runs c.law_prerequisites.ensures
 
 pub returns-clause-started : goal.returns-clause-started
 returns-clause-started c = running_started

@@ -4,7 +4,7 @@ use Rattle.std.proofs.lemmas.List.{length-map, get_or-map, get_or_default}
 use Rattle.ata_types.specs.declared.request.RequestId.{RequestId}
 use Rattle.block_machine.specs.declared.due.Unanswered.{Unanswered}
 use Rattle.request_queue.specs.Entries.{BookEntry, asks, asks_of, is_among, older_entry}
-use Rattle.request_queue.specs.Holders.{IsHolderOf, may_have_holder}
+use Rattle.request_queue.specs.Blockers.{IsBlockerOf, may_be_blocked}
 use Rattle.request_queue.specs.Store.{blank_entry}
 use Rattle.request_queue.proofs.Aging as aging
 use Rattle.request_queue.proofs.Changing.{all_are_changed, keeps_its_id, next_changed, older_spares, request_is}
@@ -16,12 +16,12 @@ is_one : (o : Option RequestId) (b : Bool) → is_some o ≡ not b → b ≡ fal
 is_one None b e is none = false≢true (e ∙ ap not is)
 is_one (Some id) b e is none = cc
 
--- one with a holder waits
-held_waits : (es : List BookEntry) (i : ℕ) (h : Option RequestId) → i < length es → (h ≡ None → ⊥) → ((d : Unanswered) → IsHolderOf (asks_of es) (get_or (asks_of es) i d) h) → (d : BookEntry) → (get_or es i d).entry.issued ≡ false
+-- one with a blocker waits
+held_waits : (es : List BookEntry) (i : ℕ) (h : Option RequestId) → i < length es → (h ≡ None → ⊥) → ((d : Unanswered) → IsBlockerOf (asks_of es) (get_or (asks_of es) i d) h) → (d : BookEntry) → (get_or es i d).entry.issued ≡ false
 held_waits es i h lt some its d =
     let r = get_or (asks_of es) i (asks d.entry) in
     let held = a_holder (asks_of es) r h some (its (asks d.entry)) in
-    let waits = not-true r.issued (and_parts (not r.issued) _ (and_parts (may_have_holder r) _ held).0).0 in
+    let waits = not-true r.issued (and_parts (not r.issued) _ (and_parts (may_be_blocked r) _ held).0).0 in
     sym (ap (λ (u : Unanswered). u.issued) (get_or-map (λ (e : BookEntry). asks e.entry) es i d (asks d.entry) lt)) ∙ waits
 
 pub replace-requires-clause-same_id : goal.replace-requires-clause-same_id
@@ -35,14 +35,14 @@ loop-place-preserved c =
     let now = c.loop-place.store in
     let i = c.loop-place.place in
     let v = c.loop-place.invariant in
-    let are = c.requires.holders in
+    let are = c.requires.blockers in
     let n = are.number in
     let long = length-map old (λ (e : BookEntry). asks e.entry) in
     let end = c.loop-place.auto.place-end in
     let more = c.loop-place-test.true in
     let inside : i < length (asks_of old) = omega (arith, end, more, n) in
     let lt : i < length old = omega (arith, end, more, n, long) in
-    let its = get_or_default c.args.holders.now i None c.index-holders-place.result (omega (arith, end, more)) ∙ sym c.index-holders-place.is in
+    let its = get_or_default c.args.blockers.now i None c.index-blockers-place.result (omega (arith, end, more)) ∙ sym c.index-blockers-place.is in
     elim c.if-is_none.branch [
       | then-is_none+then-request w ↦
           let r = w.request-request.result in
@@ -61,21 +61,21 @@ loop-place-preserved c =
           record { changed = rw w.store-is both.0; overdue = w.overdue-is ∙ both.1 }
       | else-is_none w ↦
           let d : BookEntry = record { entry = blank_entry; frames = [] } in
-          let waits = held_waits old i (get_or c.args.holders.now i None) lt (λ none. is_one _ c.is_none.result c.is_none.ensures w.if-is_none.false (sym its ∙ none)) (λ x. are.each i x inside) in
+          let waits = held_waits old i (get_or c.args.blockers.now i None) lt (λ none. is_one _ c.is_none.result c.is_none.ensures w.if-is_none.false (sym its ∙ none)) (λ x. are.each i x inside) in
           let both = aging.waiting_more ports old now i c.loop-place.overdue lt v.changed v.overdue d (waits d) waits in
           record { changed = rw w.store-is both.0; overdue = w.overdue-is ∙ both.1 }
     ]
 
 pub returns-clause-older_entry : goal.returns-clause-older_entry
 returns-clause-older_entry c =
-    let n = c.requires.holders.number in
+    let n = c.requires.blockers.number in
     let long = length-map c.args.store.now (λ (e : BookEntry). asks e.entry) in
     let low = c.loop-place-test.false in
     all_are_changed (older_entry (is_among c.args.ports.now)) c.args.store.now c.loop-place.store c.loop-place.place (omega (arith, n, long, low)) c.loop-place.invariant.changed
 
 pub returns-clause-overdue : goal.returns-clause-overdue
 returns-clause-overdue c =
-    let n = c.requires.holders.number in
+    let n = c.requires.blockers.number in
     let long = length-map c.args.store.now (λ (e : BookEntry). asks e.entry) in
     let low = c.loop-place-test.false in
     aging.all_aged (is_among c.args.ports.now) c.args.store.now c.loop-place.store c.loop-place.place c.loop-place.overdue (omega (arith, n, long, low)) c.loop-place.invariant.changed c.loop-place.invariant.overdue

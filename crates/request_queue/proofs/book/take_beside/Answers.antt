@@ -2,12 +2,12 @@ use Rattle.std.proofs.Common.{ℕ, ◌≡◌, ◌<◌, ◌≤◌, ◌-◌, Some,
 use Rattle.std.specs.List.{remove, slice_get}
 use Rattle.block_machine.specs.declared.due.Unanswered.{Unanswered}
 use Rattle.request_queue.specs.Conflicts.{AreConflictLists}
-use Rattle.request_queue.specs.Counts.{AreCounts}
+use Rattle.request_queue.specs.ClientCounts.{AreClientCounts}
 use Rattle.request_queue.specs.Entries.{BookEntry, BookIsInOrder}
-use Rattle.request_queue.specs.Holders.{AreHolders}
+use Rattle.request_queue.specs.Blockers.{AreBlockers}
 use Rattle.request_queue.specs.declared.PendingRequest.{PendingRequest}
 use Rattle.request_queue.proofs.Changing.{asks_in_order, request_is}
-use Rattle.request_queue.proofs.Counts.{is_counted, one_uncounted}
+use Rattle.request_queue.proofs.ClientCounts.{is_counted, one_uncounted}
 use Rattle.request_queue.proofs.Holding.{fewer_holders}
 use Rattle.request_queue.proofs.Indexing.{asks_less}
 use Rattle.request_queue.proofs.Placed.{e, at}
@@ -20,20 +20,20 @@ module _ (es : List BookEntry) (i : ℕ) (r : PendingRequest) (lt : i < length e
       let same = ap (λ (x : PendingRequest). x.client.0) (request_is es i r (e es i r lt s is) is) in
       omega (arith, c, same)
 
-  some : (counts : List ℕ) → AreCounts es counts → 1 ≤ get_or counts r.client.0 0
+  some : (counts : List ℕ) → AreClientCounts es counts → 1 ≤ get_or counts r.client.0 0
   some counts are = let its = are.each r.client.0 small in let one = is_counted es (e es i r lt s is) i (at es i r lt s is) in omega (arith, its, one)
 
-  fewer : (counts : List ℕ) → AreCounts es counts → AreCounts (remove es i) (set counts r.client.0 (get_or counts r.client.0 0 - 1))
+  fewer : (counts : List ℕ) → AreClientCounts es counts → AreClientCounts (remove es i) (set counts r.client.0 (get_or counts r.client.0 0 - 1))
   fewer counts are =
       let its = are.each r.client.0 small in
       let one = is_counted es (e es i r lt s is) i (at es i r lt s is) in
       one_uncounted es (e es i r lt s is) i counts (get_or counts r.client.0 0 - 1) are (at es i r lt s is) small (omega (arith, its, one))
 
-pub refind_holders-requires-clause-but : goal.refind_holders-requires-clause-but
-refind_holders-requires-clause-but c =
+pub refind_blockers-requires-clause-but : goal.refind_blockers-requires-clause-but
+refind_blockers-requires-clause-but c =
     let es = c.args.store.now in
     let r = c.request-request.result in
-    rw (c.remove.ensures.items) (fewer_holders es c.args.holders.now.items c.args.place (e es c.args.place r c.requires.place c.requires.ordered c.request-request.ensures) r.id c.requires.beside.held
+    rw (c.remove.ensures.items) (fewer_holders es c.args.blockers.now.items c.args.place (e es c.args.place r c.requires.place c.requires.ordered c.request-request.ensures) r.id c.requires.beside.held
     (asks_in_order es c.requires.ordered.ordered) (at es c.args.place r c.requires.place c.requires.ordered c.request-request.ensures) refl)
 
 pub returns-clause-beside : goal.returns-clause-beside
@@ -43,8 +43,8 @@ returns-clause-beside c =
     let less = sym (asks_less es c.args.place) in
     record {
       conflicts = subst (λ (book : List Unanswered). AreConflictLists book c.take.new.self) less c.take.ensures;
-      held = subst (λ (book : List Unanswered). AreHolders book c.refind_holders.new.holders.items) less c.refind_holders.ensures.holders;
-      counted = subst (λ (n : ℕ). AreCounts (remove es c.args.place) (set c.args.counts.now n (get_or c.args.counts.now n 0 - 1))) (sym c.from.ensures)
+      held = subst (λ (book : List Unanswered). AreBlockers book c.refind_blockers.new.blockers.items) less c.refind_blockers.ensures.blockers;
+      counted = subst (λ (n : ℕ). AreClientCounts (remove es c.args.place) (set c.args.counts.now n (get_or c.args.counts.now n 0 - 1))) (sym c.from.ensures)
           (fewer es c.args.place r c.requires.place c.requires.ordered c.request-request.ensures c.args.counts.now c.requires.beside.counted);
     }
 

@@ -8,7 +8,7 @@ use Rattle.ata_types.specs.declared.request.RequestId.{RequestId}
 use Rattle.block_machine.specs.declared.due.Unanswered.{Unanswered}
 use Rattle.block_machine.specs.Due.{is_plain}
 use Rattle.request_queue.specs.Entries.{BookEntry, asks, asks_of}
-use Rattle.request_queue.specs.Holders.{IsHolderOf, has_holder}
+use Rattle.request_queue.specs.Blockers.{IsBlockerOf, has_blocker}
 use Rattle.request_queue.specs.Walk.{is_issued_plain}
 use Rattle.request_queue.specs.Store.{asks_at, blank_entry}
 use Rattle.request_queue.proofs.Holding.{a_holder, no_holder}
@@ -36,25 +36,25 @@ loop-place-preserved c =
     let i = c.loop-place.place in
     let places = c.loop-place.places.items in
     let v = c.loop-place.invariant in
-    let p : Unanswered → Bool = λ r. r.port.0 == c.args.port.0 && not (has_holder book r) in
+    let p : Unanswered → Bool = λ r. r.port.0 == c.args.port.0 && not (has_blocker book r) in
     let alone : Unanswered → Bool = is_issued_plain c.args.mode in
-    let are = c.requires.holders in
+    let are = c.requires.blockers in
     let n = are.number in
     let long = length-map es (λ (e : BookEntry). asks e.entry) in
     let end = c.loop-place.auto.place-end in
     let more = c.loop-place-test.true in
     let inside : i < length book = omega (arith, end, more, n) in
     let lt : i < length es = omega (arith, end, more, n, long) in
-    let its = get_or_default c.args.holders.now i None c.index-holders-place.result (omega (arith, end, more)) ∙ sym c.index-holders-place.is in
+    let its = get_or_default c.args.blockers.now i None c.index-blockers-place.result (omega (arith, end, more)) ∙ sym c.index-blockers-place.is in
     elim c.if-is_none.branch [
       | then-is_none+then-asks-port w ↦
           let r = w.asks-asks.result in
           let one = one_at_most r.issued in
-          let free = no_holder book r (get_or c.args.holders.now i None) (its ∙ is_none _ c.is_none.result c.is_none.ensures w.if-is_none.true)
-          (subst (λ (x : Unanswered). IsHolderOf book x (get_or c.args.holders.now i None)) (get_or_from_slice_get book i r r w.asks-asks.ensures) (are.each i r inside)) in
+          let free = no_holder book r (get_or c.args.blockers.now i None) (its ∙ is_none _ c.is_none.result c.is_none.ensures w.if-is_none.true)
+          (subst (λ (x : Unanswered). IsBlockerOf book x (get_or c.args.blockers.now i None)) (get_or_from_slice_get book i r r w.asks-asks.ensures) (are.each i r inside)) in
           let count = counted_more es places i r w.asks-asks.ensures (λ (u : Unanswered). u.issued) in
           rw (w.places-is, w.push.ensures.items) (record {
-            unheld = one_in p es places i r w.asks-asks.ensures v.unheld (and_from _ _ (eq-eqb r.port.0 c.args.port.0 w.if-asks-port.true) (ap not free));
+            without_blocker = one_in p es places i r w.asks-asks.ensures v.without_blocker (and_from _ _ (eq-eqb r.port.0 c.args.port.0 w.if-asks-port.true) (ap not free));
             within = All-push (λ place. place < length es) places i v.within lt;
             few = rw length_push (omega (arith, v.few));
             counted = omega (arith, w.count-is, v.counted, w.slots_of-slots.ensures, count);
@@ -69,7 +69,7 @@ loop-place-preserved c =
       | then-is_none+else-asks-port w ↦
           let r = w.asks-asks.result in
           rw w.places-is (record {
-            unheld = one_out p es places i r w.asks-asks.ensures v.unheld (ap (λ (b : Bool). b && not (has_holder book r)) (ne_eqb r.port.0 c.args.port.0 w.if-asks-port.false));
+            without_blocker = one_out p es places i r w.asks-asks.ensures v.without_blocker (ap (λ (b : Bool). b && not (has_blocker book r)) (ne_eqb r.port.0 c.args.port.0 w.if-asks-port.false));
             within = v.within;
             few = omega (arith, v.few);
             counted = w.count-is ∙ v.counted;
@@ -79,9 +79,9 @@ loop-place-preserved c =
           })
       | else-is_none w ↦
           let r = get_or book i (asks blank_entry) in
-          let held = a_holder book r (get_or c.args.holders.now i None) (λ none. is_one _ c.is_none.result c.is_none.ensures w.if-is_none.false (sym its ∙ none)) (are.each i (asks blank_entry) inside) in
+          let held = a_holder book r (get_or c.args.blockers.now i None) (λ none. is_one _ c.is_none.result c.is_none.ensures w.if-is_none.false (sym its ∙ none)) (are.each i (asks blank_entry) inside) in
           rw w.places-is (record {
-            unheld = one_out p es places i r (slice_get-get_or book i (asks blank_entry) inside) v.unheld
+            without_blocker = one_out p es places i r (slice_get-get_or book i (asks blank_entry) inside) v.without_blocker
                 (false_from_ne_true _ (λ both. both_ways _ (not-true _ (and_parts (r.port.0 == c.args.port.0) _ both).1) held));
             within = v.within;
             few = omega (arith, v.few);

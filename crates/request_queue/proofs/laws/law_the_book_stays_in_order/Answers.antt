@@ -1,6 +1,6 @@
 use Rattle.request_queue.specs.Entries.{older_entry, marked_under}
 use Rattle.request_queue.proofs.Changing.{longer_in_order, issued_in_order, waiting_in_order, all_in_order, older_spares, revoked_spares, fewer_in_order, asks_in_order}
-use Rattle.request_queue.proofs.Counts.{all_fit}
+use Rattle.request_queue.proofs.ClientCounts.{all_fit}
 use Rattle.request_queue.proofs.laws.law_the_book_stays_in_order.Goals as goal
 
 pub returns-clause-accepted : goal.returns-clause-accepted

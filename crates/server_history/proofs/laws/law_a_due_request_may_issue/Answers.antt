@@ -2,7 +2,7 @@ use Rattle.server_history.proofs.plain_calls.NextSlots.{due_may, due_never_full}
 use Rattle.server_history.proofs.laws.law_a_due_request_may_issue.Goals as goal
 
 pub returns-clause-lowest : goal.returns-clause-lowest
-returns-clause-lowest c = λ s request k here due slot lowest. due_may c.law_below.ensures s request k here due slot lowest
+returns-clause-lowest c = λ s request k here due slot lowest. due_may c.law_history_prerequisites.ensures s request k here due slot lowest
 
 pub returns-clause-full : goal.returns-clause-full
-returns-clause-full c = λ s request k here due. due_never_full c.law_below.ensures s request k here due
+returns-clause-full c = λ s request k here due. due_never_full c.law_history_prerequisites.ensures s request k here due

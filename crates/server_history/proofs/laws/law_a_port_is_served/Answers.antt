@@ -3,15 +3,15 @@ use Rattle.server_history.proofs.healthy_turn.ServedPort.{finished, idle, unfini
 use Rattle.server_history.proofs.laws.law_a_port_is_served.Goals as goal
 
 pub returns-clause-idle : goal.returns-clause-idle
-returns-clause-idle c s seen port t ready l looks its = idle s seen port t ready looks l c.law_below.ensures its
+returns-clause-idle c s seen port t ready l looks its = idle s seen port t ready looks l c.law_history_prerequisites.ensures its
 
 pub returns-clause-unfinished : goal.returns-clause-unfinished
-returns-clause-unfinished c s seen new port mask t ready l looks its some done reads sees none = unfinished s seen port t ready looks l c.law_below.ensures mask its some new done reads sees none
+returns-clause-unfinished c s seen new port mask t ready l looks its some done reads sees none = unfinished s seen port t ready looks l c.law_history_prerequisites.ensures mask its some new done reads sees none
 
 pub returns-clause-finished : goal.returns-clause-finished
 returns-clause-finished c s new seen found port mask done replies t ready l looks its some reads sees was_done answers =
-    finished s seen port t ready looks l c.law_below.ensures mask its some new found done replies reads sees was_done answers
+    finished s seen port t ready looks l c.law_history_prerequisites.ensures mask its some new found done replies reads sees was_done answers
 
 pub returns-clause-error_handled : goal.returns-clause-error_handled
 returns-clause-error_handled c s new port replies t ready r unhung looks =
-    (recovered c.law_below.ensures port replies s new t ready r looks unhung, settles c.law_below.ensures port replies s new t ready r looks)
+    (recovered c.law_history_prerequisites.ensures port replies s new t ready r looks unhung, settles c.law_history_prerequisites.ensures port replies s new t ready r looks)

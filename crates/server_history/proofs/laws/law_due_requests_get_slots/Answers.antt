@@ -3,16 +3,16 @@ use Rattle.server_history.proofs.plain_calls.RequestsInSlots.{puts_more}
 use Rattle.server_history.proofs.laws.law_due_requests_get_slots.Goals as goal
 
 pub returns-clause-lowest : goal.returns-clause-lowest
-returns-clause-lowest c s mid port ids tasks request k puts here port_is due slot lowest = may_take c.law_below.ensures s mid port ids tasks k puts request here port_is due slot lowest
+returns-clause-lowest c s mid port ids tasks request k puts here port_is due slot lowest = may_take c.law_history_prerequisites.ensures s mid port ids tasks k puts request here port_is due slot lowest
 
 pub returns-clause-full : goal.returns-clause-full
-returns-clause-full c s mid port ids tasks request k puts here port_is due = next_free c.law_below.ensures s mid port ids tasks k puts request here port_is due
+returns-clause-full c s mid port ids tasks request k puts here port_is due = next_free c.law_history_prerequisites.ensures s mid port ids tasks k puts request here port_is due
 
 pub returns-clause-goes_on : goal.returns-clause-goes_on
-returns-clause-goes_on c s mid port ids tasks k puts = leaves_in_order c.law_below.ensures s mid port ids tasks k puts
+returns-clause-goes_on c s mid port ids tasks k puts = leaves_in_order c.law_history_prerequisites.ensures s mid port ids tasks k puts
 
 pub returns-clause-more : goal.returns-clause-more
-returns-clause-more c s mid new port ids tasks id t puts one = puts_more c.law_below.ensures port ids tasks s mid new id t puts one
+returns-clause-more c s mid new port ids tasks id t puts one = puts_more c.law_history_prerequisites.ensures port ids tasks s mid new id t puts one
 
 pub returns-clause-together : goal.returns-clause-together
-returns-clause-together c s mid port ids tasks request k puts here port_is due some = all_queued c.law_below.ensures s mid port ids tasks k puts request here port_is due some
+returns-clause-together c s mid port ids tasks request k puts here port_is due some = all_queued c.law_history_prerequisites.ensures s mid port ids tasks k puts request here port_is due some

@@ -4,13 +4,13 @@ use Rattle.server_history.proofs.recovery_turn.CallPart.{unlooked}
 use Rattle.server_history.proofs.laws.law_looks_preserve_invariant.Goals as goal
 
 pub returns-clause-looking : goal.returns-clause-looking
-returns-clause-looking c s new port k ready followed = looking_kept s new port k ready c.law_below.ensures followed
+returns-clause-looking c s new port k ready followed = looking_kept s new port k ready c.law_history_prerequisites.ensures followed
 
 pub returns-clause-finding : goal.returns-clause-finding
-returns-clause-finding c s new port mask done k ready finds = finding_kept s new port k ready c.law_below.ensures mask done finds
+returns-clause-finding c s new port mask done k ready finds = finding_kept s new port k ready c.law_history_prerequisites.ensures mask done finds
 
 pub returns-clause-found : goal.returns-clause-found
-returns-clause-found c s new port mask done slot k ready its small finds found = found_over s new port k ready c.law_below.ensures mask done finds its slot small found
+returns-clause-found c s new port mask done slot k ready its small finds found = found_over s new port k ready c.law_history_prerequisites.ensures mask done finds its slot small found
 
 pub returns-clause-none : goal.returns-clause-none
 returns-clause-none c port device = unlooked port device device refl

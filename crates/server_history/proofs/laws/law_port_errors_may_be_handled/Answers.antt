@@ -2,7 +2,7 @@ use Rattle.server_history.proofs.recovery_turn.FailedPort.{are_alike, fits_for, 
 use Rattle.server_history.proofs.laws.law_port_errors_may_be_handled.Goals as goal
 
 pub returns-clause-may : goal.returns-clause-may
-returns-clause-may c s seen found port mask done k ready l looks finds = may_recover c.law_below.ensures s seen found port mask done k ready l looks finds
+returns-clause-may c s seen found port mask done k ready l looks finds = may_recover c.law_history_prerequisites.ensures s seen found port mask done k ready l looks finds
 
 pub returns-clause-agreed : goal.returns-clause-agreed
 returns-clause-agreed c s port queued k ready kinds = fits_for s port queued k ready kinds

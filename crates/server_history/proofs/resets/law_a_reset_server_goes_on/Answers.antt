@@ -3,11 +3,11 @@ use Rattle.server_history.proofs.reset_call.RetakenMachine.{may_settle}
 use Rattle.server_history.proofs.resets.law_a_reset_server_goes_on.Goals as goal
 
 pub returns-clause-settle : goal.returns-clause-settle
-returns-clause-settle c = λ s taken booked takes. may_settle c.law_resets.ensures s taken booked takes
+returns-clause-settle c = λ s taken booked takes. may_settle c.law_reset_prerequisites.ensures s taken booked takes
 
 pub returns-clause-kept : goal.returns-clause-kept
-returns-clause-kept c = λ s taken settled replies booked takes settles. keeps_all c.law_resets.ensures s taken settled booked takes replies settles booked.machine booked.reached booked.stands
+returns-clause-kept c = λ s taken settled replies booked takes settles. keeps_all c.law_reset_prerequisites.ensures s taken settled booked takes replies settles booked.machine booked.reached booked.stands
 
 pub returns-clause-settled : goal.returns-clause-settled
 returns-clause-settled c = λ s taken settled new replies booked takes settles issues.
-    settled_at_last c.law_resets.ensures s taken settled booked takes replies settles booked.machine booked.reached booked.stands new issues
+    settled_at_last c.law_reset_prerequisites.ensures s taken settled booked takes replies settles booked.machine booked.reached booked.stands new issues

@@ -1,43 +1,43 @@
 use Rattle.std.proofs.Common.{◌≡◌, ◌≢◌, ℕ, Bool, true, [], ◌∷◌, refl}
 use Rattle.adapter.specs.Device.{Device}
 use Rattle.adapter.specs.FirstRead.{first_disk, first_disk_sector}
-use Rattle.adapter.specs.Guarded.{IsGuarded, Passing}
+use Rattle.adapter.specs.Guarded.{IsGuarded, PassesTest}
 use Rattle.adapter.specs.Steps.{DeviceTransition, Steps, Can}
 use Rattle.adapter.specs.Steps.DeviceTransition.{Fetch as Fetching, FetchFault as SenselessFetching, Move as Moving, Clear as Clearing, Done as Ending, Fault as Failing, Fatal as FailingFatally, Fall as Falling, FrFall as FallingSilent, LinkUp as Linking, Unplug as Unplugging, Plug as Plugging, ResetEnds as EndingReset, Scribble as Scribbling}
-use Rattle.witnesses.specs.Runs.{ComesSafely, IsReachableByRun, IsSafe, TransitionKind, kind_of}
+use Rattle.witnesses.specs.Runs.{ComesSafely, IsReachableByRun, CommandsAreSafe, TransitionKind, kind_of}
 use Rattle.witnesses.specs.Runs.TransitionKind.{Fetch, FetchFault, Move, Clear, Done, Fault, Fatal, Fall, FrFall, LinkUp, Unplug, Plug, ResetEnds, Scribble}
 use Rattle.witnesses.proofs.adapter.Queued as queued
 use Rattle.witnesses.proofs.adapter.Resetting as resetting
-use Rattle.witnesses.proofs.adapter.Scene.{memory, queued_read, a_trim, trim_says}
+use Rattle.witnesses.proofs.adapter.RunningAdapter.{memory, queued_read, a_trim, trim_says}
 use Rattle.witnesses.proofs.adapter.Senseless.{senseless, senseless_reached, may_fail}
 use Rattle.witnesses.proofs.adapter.Sets.{is_in}
 use Rattle.witnesses.proofs.adapter.Stopping as stopping
 use Rattle.witnesses.proofs.adapter.Trimming as trimming
 use Rattle.witnesses.proofs.adapter_runs.law_each_step_can_come.Goals as goal
 
-safely : (kind : TransitionKind) (d : Device) → IsReachableByRun d → IsSafe d → (s : DeviceTransition) → kind_of s ≡ kind → Can s d → ComesSafely kind
+safely : (kind : TransitionKind) (d : Device) → IsReachableByRun d → CommandsAreSafe d → (s : DeviceTransition) → kind_of s ≡ kind → Can s d → ComesSafely kind
 safely kind d reached safe s is can = record { comes = record { device = d; reached = reached; step = s; kind_is = is; can = can }; safe = safe }
 
 -- what steps of the device keep safe
 abbrev StaySafe : Type 0
-StaySafe = (tables kept : ℕ → Bool) (old new : Device) → IsGuarded (Passing tables) (Passing kept) old → Steps old new
-    → IsGuarded (Passing tables) (Passing kept) new × ((at : ℕ) → Passing kept at → new.memory at ≡ old.memory at)
+StaySafe = (tables kept : ℕ → Bool) (old new : Device) → IsGuarded (PassesTest tables) (PassesTest kept) old → Steps old new
+    → IsGuarded (PassesTest tables) (PassesTest kept) new × ((at : ℕ) → PassesTest kept at → new.memory at ≡ old.memory at)
 
-reads_safe : StaySafe → (d : Device) → Steps queued.issued d → IsSafe d
+reads_safe : StaySafe → (d : Device) → Steps queued.issued d → CommandsAreSafe d
 reads_safe stay d steps = record {
   tables = is_in queued.kept;
   kept = is_in queued.kept;
   guarded = (stay (is_in queued.kept) (is_in queued.kept) queued.issued d queued.issued_safe steps).0;
 }
 
-trim_safe : StaySafe → IsSafe trimming.moved
+trim_safe : StaySafe → CommandsAreSafe trimming.moved
 trim_safe stay = record {
   tables = is_in trimming.kept;
   kept = is_in trimming.kept;
   guarded = (stay (is_in trimming.kept) (is_in trimming.kept) trimming.issued trimming.moved trimming.issued_safe trimming.moved_steps).0;
 }
 
-reset_safe : IsSafe resetting.resetting
+reset_safe : CommandsAreSafe resetting.resetting
 reset_safe = record { tables = is_in resetting.kept; kept = is_in resetting.kept; guarded = resetting.resetting_safe }
 
 by_kind : StaySafe → trimming.OneMeaning → (kind : TransitionKind) → kind ≢ FetchFault → ComesSafely kind

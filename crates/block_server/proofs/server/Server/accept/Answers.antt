@@ -1,4 +1,6 @@
 use Rattle.std.proofs.Common.{ℕ, ◌≡◌, ◌≤◌, ◌+◌, ◌++◌, ◌∷◌, List, Ok, length, refl, sym, ap, ◌∙◌, [], subst, arith, get_or, set, slice_set, rules}
+use Rattle.ata_types.specs.declared.Port.{Port}
+use Rattle.host_boot.specs.TakeOver.{probe_result_of}
 use Rattle.ata_types.specs.declared.request.Frame.{Frame}
 use Rattle.block_machine.specs.Events.{Submit, Submitted}
 use Rattle.block_machine.specs.Due.{due_of}
@@ -8,7 +10,7 @@ use Rattle.ata_types.specs.declared.request.RequestId.{RequestId}
 use Rattle.block_machine.specs.Refusals.{IsAcceptable}
 use Rattle.block_machine.specs.Rules.{HasNoFault}
 use Rattle.dma_frames.specs.Table.{owner_of, lent_to}
-use Rattle.block_server.specs.Calls.{AcceptsRequest, IsFor}
+use Rattle.block_server.specs.Calls.{AcceptsRequest, IsRequestForPort}
 use Rattle.std.specs.Box.{with_value}
 use Rattle.port_driver.specs.Parts.{HasPortAt}
 use Rattle.block_server.specs.FourPorts.{by_port}
@@ -16,11 +18,11 @@ use Rattle.port_driver.specs.Ports.{HasFoundPort, with_port_slots}
 use Rattle.port_driver.specs.declared.served_port.ServedPort.{ServedPort}
 use Rattle.port_driver.specs.declared.served_port.Shared.{Shared}
 use Rattle.block_server.proofs.Placing as placing
-use Rattle.block_server.specs.Seen.{seen}
+use Rattle.block_server.specs.Seen.{server_view_of}
 use Rattle.block_server.specs.View.{ServerView, server_of}
 use Rattle.request_queue.specs.Entries.{BookEntry, asks, asks_of}
 use Rattle.server_history.specs.Histories.{ExtendsHistory}
-use Rattle.server_history.specs.Served.{Accepts, accepted_as, accepting}
+use Rattle.server_history.specs.Served.{Accepts, accepted_as, with_accepted}
 use Rattle.server_history.specs.Server.{ServerState, mode_in, admission_context, state_of}
 use Rattle.block_server.proofs.Standing.{is_on, of_on}
 use Rattle.block_server.proofs.Accepting as accepted
@@ -30,39 +32,39 @@ use Rattle.block_server.proofs.server.Server.accept.Goals as goal
 use Rattle.block_server.proofs.server.Server.accept.Goals.{After-index-self-from, After-issue_due}
 
 pub overflow_add-id : goal.overflow_add-id
-overflow_add-id g c = let h = accepted.next_fits (server_of g.A.Adapter.device (seen c.self.inside)) c.args.r.now (subst (λ (v : ServerView g.row.A.Denot). IsAcceptable (admission_context (server_of g.A.Adapter.device v)) c.args.r.now) (sym c.self.view_is) c.requires.acceptable) in omega (arith, h)
+overflow_add-id g c = let h = accepted.next_fits (server_of g.A.Adapter.device (server_view_of c.self.inside)) c.args.r.now (subst (λ (v : ServerView g.row.A.Denot). IsAcceptable (admission_context (server_of g.A.Adapter.device v)) c.args.r.now) (sym c.self.view_is) c.requires.acceptable) in omega (arith, h)
 
 pub accept-requires-clause-frames : goal.accept-requires-clause-frames
 accept-requires-clause-frames g c = (
   rw c.deref_mut.ensures.value (subst (λ (frames : List Frame). HasNoFault (owner_of c.self.inside.shared.table.value) (lent_to c.self.inside.shared.table.value) c.args.r.now.client frames) (sym c.as_slice.ensures.value)
-      (accepted.faultless (server_of g.A.Adapter.device (seen c.self.inside)) c.args.r.now (subst (λ (v : ServerView g.row.A.Denot). IsAcceptable (admission_context (server_of g.A.Adapter.device v)) c.args.r.now) (sym c.self.view_is) c.requires.acceptable))),
+      (accepted.faultless (server_of g.A.Adapter.device (server_view_of c.self.inside)) c.args.r.now (subst (λ (v : ServerView g.row.A.Denot). IsAcceptable (admission_context (server_of g.A.Adapter.device v)) c.args.r.now) (sym c.self.view_is) c.requires.acceptable))),
   c.as_slice.ensures.fits,
 )
 
 pub accept-requires-clause-few : goal.accept-requires-clause-few
-accept-requires-clause-few g c = accepted.has_place (server_of g.A.Adapter.device (seen c.self.inside)) c.args.r.now (subst (λ (v : ServerView g.row.A.Denot). IsAcceptable (admission_context (server_of g.A.Adapter.device v)) c.args.r.now) (sym c.self.view_is) c.requires.acceptable) (is_on g.A.Adapter.device (seen c.self.inside) c.args.self.now c.self.view_is c.requires.on c.self.invariant).kept c.args.port (subst (λ (v : ServerView g.row.A.Denot). IsFor v.grants c.args.r.now c.args.port) (sym c.self.view_is) c.requires.port)
+accept-requires-clause-few g c = accepted.has_place (server_of g.A.Adapter.device (server_view_of c.self.inside)) c.args.r.now (subst (λ (v : ServerView g.row.A.Denot). IsAcceptable (admission_context (server_of g.A.Adapter.device v)) c.args.r.now) (sym c.self.view_is) c.requires.acceptable) (is_on g.A.Adapter.device (server_view_of c.self.inside) c.args.self.now c.self.view_is c.requires.on c.self.invariant).kept c.args.port (subst (λ (v : ServerView g.row.A.Denot). IsRequestForPort v.grants c.args.r.now c.args.port) (sym c.self.view_is) c.requires.port)
 
 -- the port that it is for
 abbrev its_port : (g : Over) (c : After-index-self-from g) → ServedPort
 its_port g c = get_or c.self.inside.ports c.from.result c.index-self-from.result
 
-has_port : (g : Over) (c : After-index-self-from g) → HasPortAt (server_of g.A.Adapter.device (seen c.self.inside)) c.args.port.0 (its_port g c)
+has_port : (g : Over) (c : After-index-self-from g) → HasPortAt (server_of g.A.Adapter.device (server_view_of c.self.inside)) c.args.port.0 (its_port g c)
 has_port g c =
     let v = c.self.inside in
-    let four = placing.four_ports v.ports (is_on g.A.Adapter.device (seen v) c.args.self.now c.self.view_is c.requires.on c.self.invariant).kept.four in
+    let four = placing.four_ports v.ports (is_on g.A.Adapter.device (server_view_of v) c.args.self.now c.self.view_is c.requires.on c.self.invariant).kept.four in
     let acc = (subst (λ (v : ServerView g.row.A.Denot). IsAcceptable (admission_context (server_of g.A.Adapter.device v)) c.args.r.now) (sym c.self.view_is) c.requires.acceptable) in
-    let is_for = subst (λ (x : ServerView g.row.A.Denot). IsFor x.grants c.args.r.now c.args.port) (sym c.self.view_is) c.requires.port in
-    let small = accepted.low (server_of g.A.Adapter.device (seen v)) c.args.r.now acc (is_on g.A.Adapter.device (seen v) c.args.self.now c.self.view_is c.requires.on c.self.invariant).kept c.args.port is_for in
+    let is_for = subst (λ (x : ServerView g.row.A.Denot). IsRequestForPort x.grants c.args.r.now c.args.port) (sym c.self.view_is) c.requires.port in
+    let small = accepted.low (server_of g.A.Adapter.device (server_view_of v)) c.args.r.now acc (is_on g.A.Adapter.device (server_view_of v) c.args.self.now c.self.view_is c.requires.on c.self.invariant).kept c.args.port is_for in
     let from = c.from.ensures in
-    placing.has_at_place (server_of g.A.Adapter.device (seen v)) (g.A.Adapter.device v.adapter) v.shared v.ports c.args.port.0 c.from.result from c.index-self-from.result (omega (arith, four, small, from))
+    placing.has_at_place (server_of g.A.Adapter.device (server_view_of v)) (g.A.Adapter.device v.adapter) v.shared v.ports c.args.port.0 c.from.result from c.index-self-from.result (omega (arith, four, small, from))
 
 -- what the server has once it is accepted
 lends : (g : Over) (c : After-index-self-from g)
-    → HasFoundPort (accepting c.args.port c.args.r.now (record { 0 = c.self.inside.last + 1 }) c.accept.new.table (server_of g.A.Adapter.device (seen c.self.inside))) (g.A.Adapter.device c.self.inside.adapter) c.accept.new.self (its_port g c).slots c.args.port (its_port g c).mode (its_port g c).found
+    → HasFoundPort (with_accepted c.args.port c.args.r.now (record { 0 = c.self.inside.last + 1 }) c.accept.new.table (server_of g.A.Adapter.device (server_view_of c.self.inside))) (g.A.Adapter.device c.self.inside.adapter) c.accept.new.self (its_port g c).slots c.args.port (its_port g c).mode (its_port g c).found
 lends g c =
     let acc = (subst (λ (v : ServerView g.row.A.Denot). IsAcceptable (admission_context (server_of g.A.Adapter.device v)) c.args.r.now) (sym c.self.view_is) c.requires.acceptable) in
-    let is_for = subst (λ (x : ServerView g.row.A.Denot). IsFor x.grants c.args.r.now c.args.port) (sym c.self.view_is) c.requires.port in
-    accepted.lends (server_of g.A.Adapter.device (seen c.self.inside)) c.args.r.now acc (is_on g.A.Adapter.device (seen c.self.inside) c.args.self.now c.self.view_is c.requires.on c.self.invariant).kept c.args.port is_for
+    let is_for = subst (λ (x : ServerView g.row.A.Denot). IsRequestForPort x.grants c.args.r.now c.args.port) (sym c.self.view_is) c.requires.port in
+    accepted.lends (server_of g.A.Adapter.device (server_view_of c.self.inside)) c.args.r.now acc (is_on g.A.Adapter.device (server_view_of c.self.inside) c.args.self.now c.self.view_is c.requires.on c.self.invariant).kept c.args.port is_for
     c.law_requests_preserve_invariant.ensures.accepted (record { 0 = c.self.inside.last + 1 }) refl c.as_slice.result.now c.as_slice.ensures.value
     c.accept.new.table (rw c.deref_mut.ensures.value at c.accept.ensures.lent) c.accept.new.self c.accept.ensures.last
     (its_port g c).slots (has_port g c).slots_are (its_port g c).mode (has_port g c).mode_is (its_port g c).found (has_port g c).found_is
@@ -70,18 +72,18 @@ lends g c =
 pub issue_due-requires : goal.issue_due-requires
 issue_due-requires g c =
     let at = (goal.at.issue_due-requires g c).After-index-self-from in
-    let s = server_of g.A.Adapter.device (seen c.self.inside) in
+    let s = server_of g.A.Adapter.device (server_view_of c.self.inside) in
     let acc = subst (λ (v : ServerView g.row.A.Denot). IsAcceptable (admission_context (server_of g.A.Adapter.device v)) c.args.r.now) (sym c.self.view_is) c.requires.acceptable in
-    let is_for = subst (λ (v : ServerView g.row.A.Denot). IsFor v.grants c.args.r.now c.args.port) (sym c.self.view_is) c.requires.port in
-    let kept = (is_on g.A.Adapter.device (seen c.self.inside) c.args.self.now c.self.view_is c.requires.on c.self.invariant).kept in
-    record { ready = ap state_of (sym (has_port g at).found_is) ∙ accepted.ready s c.args.r.now acc kept c.args.port is_for; lends = (accepting c.args.port c.args.r.now (record { 0 = c.self.inside.last + 1 }) c.accept.new.table (server_of g.A.Adapter.device (seen c.self.inside)), lends g at) }
+    let is_for = subst (λ (v : ServerView g.row.A.Denot). IsRequestForPort v.grants c.args.r.now c.args.port) (sym c.self.view_is) c.requires.port in
+    let kept = (is_on g.A.Adapter.device (server_view_of c.self.inside) c.args.self.now c.self.view_is c.requires.on c.self.invariant).kept in
+    record { ready = ap state_of (sym (has_port g at).found_is) ∙ (ap (λ (p : Port). state_of (probe_result_of s.ports p.0)) (sym is_for.2) ∙ c.law_requests_preserve_invariant.ensures.ready s c.args.r.now is_for.0 acc is_for.1); lends = (with_accepted c.args.port c.args.r.now (record { 0 = c.self.inside.last + 1 }) c.accept.new.table (server_of g.A.Adapter.device (server_view_of c.self.inside)), lends g at) }
 
 abbrev at_issuing : (g : Over) (c : After-issue_due g) → After-index-self-from g
 at_issuing g c = (goal.at.returns-clause-cost g c).After-index-self-from
 
 -- the server then
 abbrev after : (g : Over) (c : After-issue_due g) → ServerView g.row.A.Denot
-after g c = seen (record c.self.inside {
+after g c = server_view_of (record c.self.inside {
   adapter = c.issue_due.new.adapter;
   shared = record { table = with_value c.self.inside.shared.table c.accept.new.table; book = c.issue_due.new.book };
   ports = set c.self.inside.ports c.from.result c.issue_due.new.self;
@@ -89,17 +91,17 @@ after g c = seen (record c.self.inside {
 })
 
 -- what was due then is issued
-sent : (g : Over) (c : After-issue_due g) → Accepts c.args.port c.args.r.now (record { 0 = c.self.inside.last + 1 }) (server_of g.A.Adapter.device (seen c.self.inside)) (server_of g.A.Adapter.device (after g c))
+sent : (g : Over) (c : After-issue_due g) → Accepts c.args.port c.args.r.now (record { 0 = c.self.inside.last + 1 }) (server_of g.A.Adapter.device (server_view_of c.self.inside)) (server_of g.A.Adapter.device (after g c))
 sent g c =
     let v = c.self.inside in
-    let s = (server_of g.A.Adapter.device (seen v)) in
+    let s = (server_of g.A.Adapter.device (server_view_of v)) in
     let id : RequestId = record { 0 = v.last + 1 } in
     let acc = (subst (λ (v : ServerView g.row.A.Denot). IsAcceptable (admission_context (server_of g.A.Adapter.device v)) c.args.r.now) (sym c.self.view_is) c.requires.acceptable) in
-    let is_for = subst (λ (x : ServerView g.row.A.Denot). IsFor x.grants c.args.r.now c.args.port) (sym c.self.view_is) c.requires.port in
-    let accepts = accepted.accepts s c.args.r.now acc (is_on g.A.Adapter.device (seen v) c.args.self.now c.self.view_is c.requires.on c.self.invariant).kept c.args.port is_for
+    let is_for = subst (λ (x : ServerView g.row.A.Denot). IsRequestForPort x.grants c.args.r.now c.args.port) (sym c.self.view_is) c.requires.port in
+    let accepts = accepted.accepts s c.args.r.now acc (is_on g.A.Adapter.device (server_view_of v) c.args.self.now c.self.view_is c.requires.on c.self.invariant).kept c.args.port is_for
     c.law_requests_preserve_invariant.ensures.accepted id refl c.as_slice.result.now c.as_slice.ensures.value
     c.accept.new.table (rw c.deref_mut.ensures.value at c.accept.ensures.lent) c.accept.new.self c.accept.ensures.last in
-    let more : ServerState = accepting c.args.port c.args.r.now id c.accept.new.table s in
+    let more : ServerState = with_accepted c.args.port c.args.r.now id c.accept.new.table s in
     let new = g.A.Adapter.device c.issue_due.new.adapter in
     let u = c.issue_due.new.self.slots in
     let shared : Shared = record { table = with_value v.shared.table c.accept.new.table; book = c.issue_due.new.book } in
@@ -109,7 +111,7 @@ sent g c =
 
 pub invariant_of-self : goal.invariant_of-self
 invariant_of-self g c = of_on c.self.view_is c.requires.on (
-    (c.law_acceptances_extend_history.ensures (server_of g.A.Adapter.device (seen c.self.inside)) (server_of g.A.Adapter.device (after g c)) c.args.port c.args.r.now (record { 0 = c.self.inside.last + 1 }) (is_on g.A.Adapter.device (seen c.self.inside) c.args.self.now c.self.view_is c.requires.on c.self.invariant) (subst (λ (v : ServerView g.row.A.Denot). IsAcceptable (admission_context (server_of g.A.Adapter.device v)) c.args.r.now) (sym c.self.view_is) c.requires.acceptable) (sent g c)).settled)
+    (c.law_acceptances_extend_history.ensures (server_of g.A.Adapter.device (server_view_of c.self.inside)) (server_of g.A.Adapter.device (after g c)) c.args.port c.args.r.now (record { 0 = c.self.inside.last + 1 }) (is_on g.A.Adapter.device (server_view_of c.self.inside) c.args.self.now c.self.view_is c.requires.on c.self.invariant) (subst (λ (v : ServerView g.row.A.Denot). IsAcceptable (admission_context (server_of g.A.Adapter.device v)) c.args.r.now) (sym c.self.view_is) c.requires.acceptable) (sent g c)).settled)
 
 pub returns-clause-accepts : goal.returns-clause-accepts
 returns-clause-accepts g c =
@@ -119,17 +121,17 @@ returns-clause-accepts g c =
       accepts = sent g c;
       stuck = refl;
       same = λ none.
-          let book = accepted.its_book (server_of g.A.Adapter.device (seen c.self.inside)) c.args.r.now (subst (λ (v : ServerView g.row.A.Denot). IsAcceptable (admission_context (server_of g.A.Adapter.device v)) c.args.r.now) (sym c.self.view_is) c.requires.acceptable) (is_on g.A.Adapter.device (seen c.self.inside) c.args.self.now c.self.view_is c.requires.on c.self.invariant).kept c.args.port (subst (λ (v : ServerView g.row.A.Denot). IsFor v.grants c.args.r.now c.args.port) (sym c.self.view_is) c.requires.port)
+          let book = accepted.its_book (server_of g.A.Adapter.device (server_view_of c.self.inside)) c.args.r.now (subst (λ (v : ServerView g.row.A.Denot). IsAcceptable (admission_context (server_of g.A.Adapter.device v)) c.args.r.now) (sym c.self.view_is) c.requires.acceptable) (is_on g.A.Adapter.device (server_view_of c.self.inside) c.args.self.now c.self.view_is c.requires.on c.self.invariant).kept c.args.port (subst (λ (v : ServerView g.row.A.Denot). IsRequestForPort v.grants c.args.r.now c.args.port) (sym c.self.view_is) c.requires.port)
           c.law_requests_preserve_invariant.ensures.accepted (record { 0 = c.self.inside.last + 1 }) refl c.as_slice.result.now c.as_slice.ensures.value
           c.accept.new.table (rw c.deref_mut.ensures.value at c.accept.ensures.lent) c.accept.new.self c.accept.ensures.last in
           c.issue_due.ensures.none (subst (λ (b : List BookEntry). due_of (its_port g (at_issuing g c)).mode c.args.port (asks_of b) ≡ []) book
-          (subst (λ (m : QueueMode). due_of m c.args.port (asks_of (accepting c.args.port c.args.r.now (record { 0 = c.self.inside.last + 1 }) (sent g c).table (server_of g.A.Adapter.device (seen c.self.inside))).book) ≡ []) (has_port g (at_issuing g c)).mode_is none));
+          (subst (λ (m : QueueMode). due_of m c.args.port (asks_of (with_accepted c.args.port c.args.r.now (record { 0 = c.self.inside.last + 1 }) (sent g c).table (server_of g.A.Adapter.device (server_view_of c.self.inside))).book) ≡ []) (has_port g (at_issuing g c)).mode_is none));
     })
 
 pub returns-clause-adds : goal.returns-clause-adds
 returns-clause-adds g c =
     subst (λ (v : ServerView g.row.A.Denot). ExtendsHistory (server_of g.A.Adapter.device v) (server_of g.A.Adapter.device (after g c)) (Submit c.args.r.now) (Submitted (Ok (record { 0 = c.self.inside.last + 1 })))) c.self.view_is
-    (c.law_acceptances_extend_history.ensures (server_of g.A.Adapter.device (seen c.self.inside)) (server_of g.A.Adapter.device (after g c)) c.args.port c.args.r.now (record { 0 = c.self.inside.last + 1 }) (is_on g.A.Adapter.device (seen c.self.inside) c.args.self.now c.self.view_is c.requires.on c.self.invariant) (subst (λ (v : ServerView g.row.A.Denot). IsAcceptable (admission_context (server_of g.A.Adapter.device v)) c.args.r.now) (sym c.self.view_is) c.requires.acceptable) (sent g c)).adds
+    (c.law_acceptances_extend_history.ensures (server_of g.A.Adapter.device (server_view_of c.self.inside)) (server_of g.A.Adapter.device (after g c)) c.args.port c.args.r.now (record { 0 = c.self.inside.last + 1 }) (is_on g.A.Adapter.device (server_view_of c.self.inside) c.args.self.now c.self.view_is c.requires.on c.self.invariant) (subst (λ (v : ServerView g.row.A.Denot). IsAcceptable (admission_context (server_of g.A.Adapter.device v)) c.args.r.now) (sym c.self.view_is) c.requires.acceptable) (sent g c)).adds
 
 pub accept-requires-clause-fresh : goal.accept-requires-clause-fresh
 accept-requires-clause-fresh g c = search rules
@@ -137,8 +139,8 @@ accept-requires-clause-fresh g c = search rules
 -- of the requests, the one that is accepted may be due alone
 pub returns-clause-cost : goal.returns-clause-cost
 returns-clause-cost g c =
-    let s = server_of g.A.Adapter.device (seen c.self.inside) in
-    let settled = is_on g.A.Adapter.device (seen c.self.inside) c.args.self.now c.self.view_is c.requires.on c.self.invariant in
+    let s = server_of g.A.Adapter.device (server_view_of c.self.inside) in
+    let settled = is_on g.A.Adapter.device (server_view_of c.self.inside) c.args.self.now c.self.view_is c.requires.on c.self.invariant in
     let id : RequestId = record { 0 = c.self.inside.last + 1 } in
     let exact = c.law_due_is_exact.ensures in
     let m = mode_in s c.args.port in

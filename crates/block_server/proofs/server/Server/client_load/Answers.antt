@@ -5,9 +5,9 @@ use Rattle.adapter.specs.Rules.{IsUnowned, IsStable}
 use Rattle.block_machine.specs.Events.{LoadAt}
 use Rattle.block_machine.specs.Refusals.{IsFirstMemFault, MayAccessFrame}
 use Rattle.dma_frames.specs.Table.{owner_of, lent_to}
-use Rattle.block_server.specs.Seen.{seen}
+use Rattle.block_server.specs.Seen.{server_view_of}
 use Rattle.block_server.specs.View.{ServerView, server_of}
-use Rattle.server_history.specs.Histories.{ExtendsHistory, InvariantBy, load_said}
+use Rattle.server_history.specs.Histories.{ExtendsHistory, InvariantByStuck, load_said}
 use Rattle.block_server.proofs.Standing.{holds_either}
 use Rattle.block_server.proofs.server.Server.client_load.Given.{Over}
 use Rattle.block_server.proofs.server.Server.client_load.Goals as goal
@@ -18,7 +18,7 @@ returns-in_err-address-clause-adds g c =
     let device = g.A.Adapter.device in
     let told = err_from_is_err_and c.from_residual.result c.from_residual.ensures.1 in
     let P : ServerView g.row.A.Denot → Type 0 = λ v. ExtendsHistory (server_of device v) (server_of device v) (LoadAt c.args.client c.args.frame c.args.offset (length c.args.out.now)) (load_said c.from_residual.result c.args.out.now) in
-    let s = server_of device (seen c.self.inside) in
+    let s = server_of device (server_view_of c.self.inside) in
     let Q : ServerView g.row.A.Denot → Type 0 = λ v. IsFirstMemFault (owner_of v.table) (lent_to v.table) c.args.client c.args.frame c.args.offset (length c.args.out.now) c.in_err-address.field-0.0 in
     subst P c.self.view_is (
     subst (λ r. ExtendsHistory s s (LoadAt c.args.client c.args.frame c.args.offset (length c.args.out.now)) (load_said r c.args.out.now)) (sym (told.1 ∙ ap Err told.2))
@@ -29,17 +29,17 @@ pub load-requires : goal.load-requires
 load-requires g c =
     let P : ServerView g.row.A.Denot → Type 0 = λ v. MayAccessFrame (owner_of v.table) (lent_to v.table) c.args.client c.args.frame c.args.offset (length c.args.out.now) in
     subst (λ (at : ℕ). IsStable (IsUnowned at (length c.args.out.now)) (g.A.Adapter.device c.self.inside.adapter)) (sym c.in_ok-address.ensures.ok.1)
-    (let s = server_of g.A.Adapter.device (seen c.self.inside) in
+    (let s = server_of g.A.Adapter.device (server_view_of c.self.inside) in
     let opened = subst P (sym c.self.view_is) c.in_ok-address.ensures.ok.0 in
     let booked = holds_either c.self.inside.stuck c.self.invariant (λ _ settled. c.law_server_invariant_holds.ensures.kept s settled.kept) (λ _ stalled. stalled.booked) in
     c.law_open_frames_are_accessible.ensures s c.args.client c.args.frame c.args.offset (length c.args.out.now) booked opened)
 
 -- what it leaves, and that it adds an event
-went : (g : Over) (c : After-slice_known-2-1 g) → InvariantBy c.self.inside.stuck (server_of g.A.Adapter.device (record (seen c.self.inside) { adapter = c.load.new.self }))
-    × ExtendsHistory (server_of g.A.Adapter.device (seen c.self.inside)) (server_of g.A.Adapter.device (record (seen c.self.inside) { adapter = c.load.new.self })) (LoadAt c.args.client c.args.frame c.args.offset (length c.args.out.now)) (load_said (Ok tt) c.load.new.out)
+went : (g : Over) (c : After-slice_known-2-1 g) → InvariantByStuck c.self.inside.stuck (server_of g.A.Adapter.device (record (server_view_of c.self.inside) { adapter = c.load.new.self }))
+    × ExtendsHistory (server_of g.A.Adapter.device (server_view_of c.self.inside)) (server_of g.A.Adapter.device (record (server_view_of c.self.inside) { adapter = c.load.new.self })) (LoadAt c.args.client c.args.frame c.args.offset (length c.args.out.now)) (load_said (Ok tt) c.load.new.out)
 went g c =
     let device = g.A.Adapter.device in
-    let s = seen c.self.inside in
+    let s = server_view_of c.self.inside in
     let Q : ServerView g.row.A.Denot → Type 0 = λ v. MayAccessFrame (owner_of v.table) (lent_to v.table) c.args.client c.args.frame c.args.offset (length c.args.out.now) in
     let opened = subst Q (sym c.self.view_is) c.in_ok-address.ensures.ok.0 in
     let loads = subst (λ (at : ℕ). Loads at c.load.new.out (device s.adapter) (device c.load.new.self)) c.in_ok-address.ensures.ok.1 c.load.ensures.does in
@@ -51,7 +51,7 @@ invariant_of-self g c = (went g c).0
 pub returns-clause-adds : goal.returns-clause-adds
 returns-clause-adds g c =
     let device = g.A.Adapter.device in
-    let P : ServerView g.row.A.Denot → Type 0 = λ v. ExtendsHistory (server_of device v) (server_of device (record (seen c.self.inside) { adapter = c.load.new.self })) (LoadAt c.args.client c.args.frame c.args.offset (length c.args.out.now)) (load_said (Ok tt) c.load.new.out) in
+    let P : ServerView g.row.A.Denot → Type 0 = λ v. ExtendsHistory (server_of device v) (server_of device (record (server_view_of c.self.inside) { adapter = c.load.new.self })) (LoadAt c.args.client c.args.frame c.args.offset (length c.args.out.now)) (load_said (Ok tt) c.load.new.out) in
     subst P c.self.view_is (went g c).1
 
 pub returns-clause-loads : goal.returns-clause-loads

@@ -5,9 +5,9 @@ use Rattle.adapter.specs.Rules.{IsUnowned, IsStable}
 use Rattle.block_machine.specs.Events.{StoreAt}
 use Rattle.block_machine.specs.Refusals.{IsFirstMemFault, MayAccessFrame}
 use Rattle.dma_frames.specs.Table.{owner_of, lent_to}
-use Rattle.block_server.specs.Seen.{seen}
+use Rattle.block_server.specs.Seen.{server_view_of}
 use Rattle.block_server.specs.View.{ServerView, server_of}
-use Rattle.server_history.specs.Histories.{ExtendsHistory, InvariantBy, store_said}
+use Rattle.server_history.specs.Histories.{ExtendsHistory, InvariantByStuck, store_said}
 use Rattle.block_server.proofs.Standing.{holds_either}
 use Rattle.block_server.proofs.server.Server.client_store.Given.{Over}
 use Rattle.block_server.proofs.server.Server.client_store.Goals as goal
@@ -18,7 +18,7 @@ returns-in_err-address-clause-adds g c =
     let device = g.A.Adapter.device in
     let told = err_from_is_err_and c.from_residual.result c.from_residual.ensures.1 in
     let P : ServerView g.row.A.Denot → Type 0 = λ v. ExtendsHistory (server_of device v) (server_of device v) (StoreAt c.args.client c.args.frame c.args.offset c.args.bytes.now) (store_said c.from_residual.result) in
-    let s = server_of device (seen c.self.inside) in
+    let s = server_of device (server_view_of c.self.inside) in
     let Q : ServerView g.row.A.Denot → Type 0 = λ v. IsFirstMemFault (owner_of v.table) (lent_to v.table) c.args.client c.args.frame c.args.offset (length c.args.bytes.now) c.in_err-address.field-0.0 in
     subst P c.self.view_is (
     subst (λ r. ExtendsHistory s s (StoreAt c.args.client c.args.frame c.args.offset c.args.bytes.now) (store_said r)) (sym (told.1 ∙ ap Err told.2))
@@ -29,17 +29,17 @@ pub store-requires : goal.store-requires
 store-requires g c =
     let P : ServerView g.row.A.Denot → Type 0 = λ v. MayAccessFrame (owner_of v.table) (lent_to v.table) c.args.client c.args.frame c.args.offset (length c.args.bytes.now) in
     subst (λ (at : ℕ). IsStable (IsUnowned at (length c.args.bytes.now)) (g.A.Adapter.device c.self.inside.adapter)) (sym c.in_ok-address.ensures.ok.1)
-    (let s = server_of g.A.Adapter.device (seen c.self.inside) in
+    (let s = server_of g.A.Adapter.device (server_view_of c.self.inside) in
     let opened = subst P (sym c.self.view_is) c.in_ok-address.ensures.ok.0 in
     let booked = holds_either c.self.inside.stuck c.self.invariant (λ _ settled. c.law_server_invariant_holds.ensures.kept s settled.kept) (λ _ stalled. stalled.booked) in
     c.law_open_frames_are_accessible.ensures s c.args.client c.args.frame c.args.offset (length c.args.bytes.now) booked opened)
 
 -- what it leaves, and that it adds an event
-went : (g : Over) (c : After-store g) → InvariantBy c.self.inside.stuck (server_of g.A.Adapter.device (record (seen c.self.inside) { adapter = c.store.new.self }))
-    × ExtendsHistory (server_of g.A.Adapter.device (seen c.self.inside)) (server_of g.A.Adapter.device (record (seen c.self.inside) { adapter = c.store.new.self })) (StoreAt c.args.client c.args.frame c.args.offset c.args.bytes.now) (store_said (Ok tt))
+went : (g : Over) (c : After-store g) → InvariantByStuck c.self.inside.stuck (server_of g.A.Adapter.device (record (server_view_of c.self.inside) { adapter = c.store.new.self }))
+    × ExtendsHistory (server_of g.A.Adapter.device (server_view_of c.self.inside)) (server_of g.A.Adapter.device (record (server_view_of c.self.inside) { adapter = c.store.new.self })) (StoreAt c.args.client c.args.frame c.args.offset c.args.bytes.now) (store_said (Ok tt))
 went g c =
     let device = g.A.Adapter.device in
-    let s = seen c.self.inside in
+    let s = server_view_of c.self.inside in
     let Q : ServerView g.row.A.Denot → Type 0 = λ v. MayAccessFrame (owner_of v.table) (lent_to v.table) c.args.client c.args.frame c.args.offset (length c.args.bytes.now) in
     let opened = subst Q (sym c.self.view_is) c.in_ok-address.ensures.ok.0 in
     let stores = subst (λ (at : ℕ). Stores at c.args.bytes.now (device s.adapter) (device c.store.new.self)) c.in_ok-address.ensures.ok.1 c.store.ensures.does in
@@ -51,5 +51,5 @@ invariant_of-self g c = (went g c).0
 pub returns-clause-adds : goal.returns-clause-adds
 returns-clause-adds g c =
     let device = g.A.Adapter.device in
-    let P : ServerView g.row.A.Denot → Type 0 = λ v. ExtendsHistory (server_of device v) (server_of device (record (seen c.self.inside) { adapter = c.store.new.self })) (StoreAt c.args.client c.args.frame c.args.offset c.args.bytes.now) (store_said (Ok tt)) in
+    let P : ServerView g.row.A.Denot → Type 0 = λ v. ExtendsHistory (server_of device v) (server_of device (record (server_view_of c.self.inside) { adapter = c.store.new.self })) (StoreAt c.args.client c.args.frame c.args.offset c.args.bytes.now) (store_said (Ok tt)) in
     subst P c.self.view_is (went g c).1

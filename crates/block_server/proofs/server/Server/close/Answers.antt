@@ -8,7 +8,7 @@ use Rattle.block_server.specs.FourPorts.{by_port, without_loans}
 use Rattle.port_driver.specs.Parts.{no_port}
 use Rattle.port_driver.specs.declared.served_port.ServedPort.{ServedPort}
 use Rattle.server_history.specs.Kept.{MayGiveBack}
-use Rattle.block_server.specs.Seen.{seen}
+use Rattle.block_server.specs.Seen.{server_view_of}
 use Rattle.block_server.specs.View.{server_of}
 use Rattle.block_server.proofs.Keeping.{may_go_back}
 use Rattle.block_server.proofs.Standing.{holds_either}
@@ -19,10 +19,10 @@ give_all_back-requires g c = search rules
 
 pub give_all_back-requires-2 : goal.give_all_back-requires-2
 give_all_back-requires-2 g c =
-    let s : ServerState = server_of g.A.Adapter.device (seen c.self.inside) in
+    let s : ServerState = server_of g.A.Adapter.device (server_view_of c.self.inside) in
     let kept = holds_either c.self.inside.stuck c.self.invariant (λ _ settled. c.law_server_invariant_holds.ensures.kept s settled.kept) (λ _ stalled. stalled.booked) in
     let laws = c.law_quarantined_loans_are_lent.ensures in
-    subst (λ (table : Table). MayGiveBack table (seen c.self.inside).kept) (sym c.deref_mut-2.ensures.value)
+    subst (λ (table : Table). MayGiveBack table (server_view_of c.self.inside).kept) (sym c.deref_mut-2.ensures.value)
     (may_go_back s c.give_all_back.new.table
     (record {
       lent = λ port. laws.lent s port kept;
@@ -33,8 +33,8 @@ give_all_back-requires-2 g c =
     (λ k d small. (kept.accepted k d small).lent)
     (subst (λ (table : Table). GivesBack table c.give_all_back.new.table c.self.inside.shared.book) c.deref_mut.ensures.value c.give_all_back.ensures))
 
-pub end_all-requires : goal.end_all-requires
-end_all-requires g c =
+pub destroy_quarantines-requires : goal.destroy_quarantines-requires
+destroy_quarantines-requires g c =
     let ports = c.self.inside.ports in
-    subst (λ (lists : List (List Lending)). (port : ℕ) → quarantined_at lists port ≡ []) (sym (c.into_loans.ensures ∙ ap (by_port (λ p. p.kept)) c.give_all_back-2.ensures.ports))
+    subst (λ (lists : List (List Lending)). (port : ℕ) → quarantined_at lists port ≡ []) (sym (c.into_quarantines.ensures ∙ ap (by_port (λ p. p.kept)) c.give_all_back-2.ensures.ports))
     (λ port. get_or-map (λ (p : ServedPort). p.kept) (map without_loans ports) port no_port ∙ ap (λ (p : ServedPort). p.kept) (get_or-map without_loans ports port no_port))

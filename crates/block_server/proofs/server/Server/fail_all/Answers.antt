@@ -1,12 +1,12 @@
 use Rattle.std.proofs.Common.{◌≡◌, ◌∙◌, ◌++◌, Bool, List, true, ap, refl, sym, subst}
 use Rattle.ata_types.specs.declared.request.Reply.{Reply}
 use Rattle.block_machine.specs.Events.{Service, Served}
-use Rattle.server_history.specs.Histories.{ExtendsHistory, ExtendsStuck, InvariantBy}
+use Rattle.server_history.specs.Histories.{ExtendsHistory, ExtendsStuck, InvariantByStuck}
 use Rattle.server_history.specs.Resets.{ResolvePorts}
 use Rattle.server_history.specs.Server.{ServerState}
 use Rattle.server_history.specs.StuckServer.{StuckInvariant}
 use Rattle.block_server.specs.Calls.{ServicesBy}
-use Rattle.block_server.specs.Seen.{seen, with_ports}
+use Rattle.block_server.specs.Seen.{server_view_of, with_ports}
 use Rattle.block_server.specs.View.{ServerView, server_of}
 use Rattle.block_server.proofs.Standing.{now_off, still}
 use Rattle.block_server.proofs.server.Server.fail_all.Given.{Over}
@@ -16,36 +16,36 @@ use Rattle.block_server.proofs.server.Server.fail_all.Goals.{After-resolve_ports
 pub resolve_ports-requires-clause-settle : goal.resolve_ports-requires-clause-settle
 resolve_ports-requires-clause-settle g c =
     let device = g.A.Adapter.device in
-    let s = server_of device (seen c.self.inside) in
+    let s = server_of device (server_view_of c.self.inside) in
     let off : StuckInvariant s = now_off device refl (still true c.self.view_is c.requires.stuck) c.self.invariant in
     (s, c.law_server_invariant_holds.ensures.settle s off.booked)
 
 -- the server then
 abbrev after : (g : Over) (c : After-resolve_ports g) → ServerState
 after g c =
-    let s = server_of g.A.Adapter.device (seen c.self.inside) in
+    let s = server_of g.A.Adapter.device (server_view_of c.self.inside) in
     with_ports s s.device c.resolve_ports.new.shared c.resolve_ports.new.ports
 
 -- all requests were told, and that adds an event
-told : (g : Over) (c : After-resolve_ports g) → ResolvePorts 0 (seen c.self.inside).ports c.resolve_ports.new.replies.items (server_of g.A.Adapter.device (seen c.self.inside)) (after g c)
-    × ExtendsStuck (server_of g.A.Adapter.device (seen c.self.inside)) (after g c) Service (Served c.resolve_ports.new.replies.items)
+told : (g : Over) (c : After-resolve_ports g) → ResolvePorts 0 (server_view_of c.self.inside).ports c.resolve_ports.new.replies.items (server_of g.A.Adapter.device (server_view_of c.self.inside)) (after g c)
+    × ExtendsStuck (server_of g.A.Adapter.device (server_view_of c.self.inside)) (after g c) Service (Served c.resolve_ports.new.replies.items)
 told g c =
     let device = g.A.Adapter.device in
-    let s = server_of device (seen c.self.inside) in
+    let s = server_of device (server_view_of c.self.inside) in
     let off : StuckInvariant s = now_off device refl (still true c.self.view_is c.requires.stuck) c.self.invariant in
     let all = c.resolve_ports.ensures.settles s (c.law_server_invariant_holds.ensures.settle s off.booked) in
     let settles = subst (λ (replies : List Reply). ResolvePorts 0 s.ports replies s (after g c)) (sym (all.1 ∙ ap (λ (told : List Reply). told ++ all.0) c.requires.none)) all.2 in
     (settles, c.law_stuck_services_extend_history.ensures s (after g c) c.resolve_ports.new.replies.items off settles)
 
 pub invariant_of-self : goal.invariant_of-self
-invariant_of-self g c = subst (λ (b : Bool). InvariantBy b (after g c)) (sym (still true c.self.view_is c.requires.stuck)) (told g c).1.stalled
+invariant_of-self g c = subst (λ (b : Bool). InvariantByStuck b (after g c)) (sym (still true c.self.view_is c.requires.stuck)) (told g c).1.stalled
 
 pub returns-clause-services : goal.returns-clause-services
 returns-clause-services g c =
     let device = g.A.Adapter.device in
     let P : ServerView g.row.A.Denot → Type 0 = λ v. ServicesBy v.stuck v.ports c.resolve_ports.new.replies.items (server_of device v) (after g c) × (c.self.inside.stuck ≡ v.stuck) in
     subst P c.self.view_is (
-      subst (λ (b : Bool). ServicesBy b (seen c.self.inside).ports c.resolve_ports.new.replies.items (server_of device (seen c.self.inside)) (after g c)) (sym (still true c.self.view_is c.requires.stuck)) (told g c).0,
+      subst (λ (b : Bool). ServicesBy b (server_view_of c.self.inside).ports c.resolve_ports.new.replies.items (server_of device (server_view_of c.self.inside)) (after g c)) (sym (still true c.self.view_is c.requires.stuck)) (told g c).0,
       refl,
     )
 

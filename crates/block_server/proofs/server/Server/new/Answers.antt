@@ -4,12 +4,12 @@ use Rattle.ata_types.specs.declared.grant.GrantRow.{GrantRow}
 use Rattle.block_machine.specs.Rules.{DifferInName}
 use Rattle.dma_frames.specs.Table.{ExtentsApart}
 use Rattle.grants.specs.Rows.{SameRows}
-use Rattle.host_boot.specs.Taken.{TakesOver, probe_result_of}
+use Rattle.host_boot.specs.TakeOver.{TakesOver, probe_result_of}
 use Rattle.host_boot.specs.declared.ProbeResult.{ProbeResult}
 use Rattle.identify.specs.declared.wanted.Wanted.{Wanted}
 use Rattle.server_history.specs.Histories.{StartsHistory}
 use Rattle.server_history.specs.Server.{ServerState, SettledInvariant, probed_mode}
-use Rattle.block_server.specs.Seen.{seen}
+use Rattle.block_server.specs.Seen.{server_view_of}
 use Rattle.block_server.specs.View.{server_of}
 use Rattle.block_server.proofs.Making.{NewPorts, new_fits, new_ports}
 use Rattle.block_server.proofs.server.Server.new.Given.{Over}
@@ -25,7 +25,7 @@ boxed-requires-clause-apart g c = subst (AllPairs ExtentsApart) (sym c.owners.en
 
 -- the server then
 abbrev new_server : (g : Over) (c : After-law_a_new_server_has_begun g) → ServerState
-new_server g c = server_of g.A.Adapter.device (seen (record {
+new_server g c = server_of g.A.Adapter.device (server_view_of (record {
   adapter = c.take_over-host.new.adapter;
   grants = c.in-Ok-from_rows.grants;
   shared = record { table = c.in-Ok-boxed.table; book = c.in-Ok-new.book };
@@ -37,7 +37,7 @@ new_server g c = server_of g.A.Adapter.device (seen (record {
 -- what it has of its ports
 has_ports : (g : Over) (c : After-law_a_new_server_has_begun g) → NewPorts c.take_over-host.result c.wanted.result.now c.note_probe_result.new.ports
 has_ports g c =
-    new_ports c.take_over-host.result c.take_over-host.ensures.four c.wanted.result.now c.in-Ok-none_kept.kept c.in-Ok-none_kept.ensures c.unserved_ports-ports.result c.note_probe_result.new.ports
+    new_ports c.take_over-host.result c.take_over-host.ensures.four c.wanted.result.now c.in-Ok-empty_quarantines.kept c.in-Ok-empty_quarantines.ensures c.unserved_ports-ports.result c.note_probe_result.new.ports
     c.unserved_ports-ports.ensures.wanted c.unserved_ports-ports.ensures.kept c.unserved_ports-ports.ensures.found c.unserved_ports-ports.ensures.forgotten c.note_probe_result.ensures
 
 its_rows : (g : Over) (c : After-law_a_new_server_has_begun g) → SameRows c.in-Ok.plan.grants c.in-Ok-from_rows.grants

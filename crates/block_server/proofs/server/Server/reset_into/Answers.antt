@@ -3,7 +3,7 @@ use Rattle.std.specs.Box.{with_value}
 use Rattle.ata_types.specs.declared.request.Reply.{Reply}
 use Rattle.block_machine.specs.Events.{Reset, WasReset}
 use Rattle.dma_frames.specs.Table.{Table}
-use Rattle.host_boot.specs.Taken.{TakesOver}
+use Rattle.host_boot.specs.TakeOver.{TakesOver}
 use Rattle.host_boot.specs.declared.ProbeResult.{ProbeResult}
 use Rattle.identify.specs.declared.wanted.Wanted.{Wanted}
 use Rattle.server_history.specs.Histories.{ExtendsSettled, ExtendsHistory, ExtendsStuck}
@@ -12,7 +12,7 @@ use Rattle.server_history.specs.Resets.{IsReinitialized, IssuePorts, ResetsServe
 use Rattle.server_history.specs.Server.{InCallInvariant, ServerState}
 use Rattle.server_history.specs.StuckServer.{ResetGetsStuck, ServerInvariant}
 use Rattle.block_server.specs.FourPorts.{EachBecomes, BeginsAsHostFound, by_port}
-use Rattle.block_server.specs.Seen.{seen, with_ports}
+use Rattle.block_server.specs.Seen.{server_view_of, with_ports}
 use Rattle.block_server.specs.View.{ServerView, server_of}
 use Rattle.port_driver.specs.declared.served_port.ServedPort.{ServedPort}
 use Rattle.port_driver.specs.declared.served_port.Shared.{Shared}
@@ -28,20 +28,20 @@ use Rattle.block_server.proofs.server.Server.reset_into.Goals.{After-note_stuck_
 
 -- the server then
 abbrev stuck_server : (g : Over) (c : After-note_stuck_reset g) → ServerState
-stuck_server g c = with_ports (server_of g.A.Adapter.device (seen c.self.inside)) (g.A.Adapter.device c.reset.new.adapter) c.self.inside.shared c.note_stuck_reset.new.ports
+stuck_server g c = with_ports (server_of g.A.Adapter.device (server_view_of c.self.inside)) (g.A.Adapter.device c.reset.new.adapter) c.self.inside.shared c.note_stuck_reset.new.ports
 
-stuck_books : (g : Over) (c : After-note_stuck_reset g) → ServerInvariant (server_of g.A.Adapter.device (seen c.self.inside))
+stuck_books : (g : Over) (c : After-note_stuck_reset g) → ServerInvariant (server_of g.A.Adapter.device (server_view_of c.self.inside))
 stuck_books g c =
-    holds_either c.self.inside.stuck c.self.invariant (λ _ settled. c.law_server_invariant_holds.ensures.kept (server_of g.A.Adapter.device (seen c.self.inside)) settled.kept) (λ _ stalled. stalled.booked)
+    holds_either c.self.inside.stuck c.self.invariant (λ _ settled. c.law_server_invariant_holds.ensures.kept (server_of g.A.Adapter.device (server_view_of c.self.inside)) settled.kept) (λ _ stalled. stalled.booked)
 
-got_stuck : (g : Over) (c : After-note_stuck_reset g) → ResetGetsStuck (server_of g.A.Adapter.device (seen c.self.inside)) (stuck_server g c)
+got_stuck : (g : Over) (c : After-note_stuck_reset g) → ResetGetsStuck (server_of g.A.Adapter.device (server_view_of c.self.inside)) (stuck_server g c)
 got_stuck g c =
     let device = g.A.Adapter.device in
     let v = c.self.inside in
-    becoming.gets_stuck (server_of device (seen v)) (device v.adapter) (device c.reset.new.adapter) v.shared v.ports c.note_stuck_reset.new.ports (placing.four_ports v.ports (stuck_books g c).four) c.note_stuck_reset.ensures c.in-Err.ensures.stuck
+    becoming.gets_stuck (server_of device (server_view_of v)) (device v.adapter) (device c.reset.new.adapter) v.shared v.ports c.note_stuck_reset.new.ports (placing.four_ports v.ports (stuck_books g c).four) c.note_stuck_reset.ensures c.in-Err.ensures.stuck
 
-stuck_then : (g : Over) (c : After-note_stuck_reset g) → ExtendsStuck (server_of g.A.Adapter.device (seen c.self.inside)) (stuck_server g c) Reset (WasReset None)
-stuck_then g c = c.law_stuck_resets_extend_history.ensures (server_of g.A.Adapter.device (seen c.self.inside)) (stuck_server g c) (stuck_books g c) (got_stuck g c)
+stuck_then : (g : Over) (c : After-note_stuck_reset g) → ExtendsStuck (server_of g.A.Adapter.device (server_view_of c.self.inside)) (stuck_server g c) Reset (WasReset None)
+stuck_then g c = c.law_stuck_resets_extend_history.ensures (server_of g.A.Adapter.device (server_view_of c.self.inside)) (stuck_server g c) (stuck_books g c) (got_stuck g c)
 
 pub invariant_of-self : goal.invariant_of-self
 invariant_of-self g c = (stuck_then g (goal.at.invariant_of-self g c).After-note_stuck_reset).stalled
@@ -64,24 +64,24 @@ returns-in-Err-clause-resets g c =
 
 pub give_all_back-requires : goal.give_all_back-requires
 give_all_back-requires g c =
-    let s = server_of g.A.Adapter.device (seen c.self.inside) in
+    let s = server_of g.A.Adapter.device (server_view_of c.self.inside) in
     let booked : ServerInvariant s = holds_either c.self.inside.stuck c.self.invariant (λ _ settled. c.law_server_invariant_holds.ensures.kept s settled.kept) (λ _ stalled. stalled.booked) in
     let laws = c.law_quarantined_loans_are_lent.ensures in
     subst (λ (table : Table). MayGiveBack table s.kept) (sym c.deref_mut.ensures.value)
     (reviving.may_go s booked (λ port. laws.lent s port booked) (λ port. laws.two s port booked) (λ port other a b. laws.one s port other a b booked))
 
 -- the server as its adapter was taken over again, with no loan kept
-its_books : (g : Over) (c : After-resolve_ports-arg-3-1 g) → ServerInvariant (server_of g.A.Adapter.device (seen c.self.inside))
+its_books : (g : Over) (c : After-resolve_ports-arg-3-1 g) → ServerInvariant (server_of g.A.Adapter.device (server_view_of c.self.inside))
 its_books g c =
-    holds_either c.self.inside.stuck c.self.invariant (λ _ settled. c.law_server_invariant_holds.ensures.kept (server_of g.A.Adapter.device (seen c.self.inside)) settled.kept) (λ _ stalled. stalled.booked)
+    holds_either c.self.inside.stuck c.self.invariant (λ _ settled. c.law_server_invariant_holds.ensures.kept (server_of g.A.Adapter.device (server_view_of c.self.inside)) settled.kept) (λ _ stalled. stalled.booked)
 
 abbrev shared_then : (g : Over) (c : After-resolve_ports-arg-3-1 g) → Shared
 shared_then g c = record { table = with_value c.self.inside.shared.table c.give_all_back.new.table; book = c.self.inside.shared.book }
 
 abbrev taken : (g : Over) (c : After-resolve_ports-arg-3-1 g) → ServerState
-taken g c = with_ports (server_of g.A.Adapter.device (seen c.self.inside)) (g.A.Adapter.device c.take_over-host.new.adapter) (shared_then g c) c.note_probe_result.new.ports
+taken g c = with_ports (server_of g.A.Adapter.device (server_view_of c.self.inside)) (g.A.Adapter.device c.take_over-host.new.adapter) (shared_then g c) c.note_probe_result.new.ports
 
-takes : (g : Over) (c : After-resolve_ports-arg-3-1 g) → IsReinitialized (server_of g.A.Adapter.device (seen c.self.inside)) (taken g c)
+takes : (g : Over) (c : After-resolve_ports-arg-3-1 g) → IsReinitialized (server_of g.A.Adapter.device (server_view_of c.self.inside)) (taken g c)
 takes g c =
     let device = g.A.Adapter.device in
     let v = c.self.inside in
@@ -89,13 +89,13 @@ takes g c =
     let back = c.give_all_back.ensures in
     let new = device c.take_over-host.new.adapter in
     let idle = device c.reset.new.adapter in
-    becoming.takes_again (server_of device (seen v)) (device v.adapter) idle new v.shared (shared_then g c) v.ports c.note_probe_result.new.ports (placing.four_ports v.ports (its_books g c).four) host c.take_over-host.ensures.four
+    becoming.takes_again (server_of device (server_view_of v)) (device v.adapter) idle new v.shared (shared_then g c) v.ports c.note_probe_result.new.ports (placing.four_ports v.ports (its_books g c).four) host c.take_over-host.ensures.four
     (subst (λ (ports : List ServedPort). EachBecomes (BeginsAsHostFound host) ports c.note_probe_result.new.ports) back.ports c.note_probe_result.ensures) c.in_default.ensures.reset
     (subst (λ (table : Table). TakesBack table c.give_all_back.new.table (IsKeptIn (by_port (λ p. p.kept) v.ports))) c.deref_mut.ensures.value back.back)
     (subst (λ (wanted : List Wanted). TakesOver wanted host idle new) (c.wanted_disks.ensures ∙ ap (by_port (λ p. p.wanted)) back.ports) c.take_over-host.ensures.taken) refl
 
 pub resolve_ports-requires-clause-settle : goal.resolve_ports-requires-clause-settle
-resolve_ports-requires-clause-settle g c = (taken g c, c.law_a_reset_server_goes_on.ensures.settle (server_of g.A.Adapter.device (seen c.self.inside)) (taken g c) (its_books g c) (takes g c))
+resolve_ports-requires-clause-settle g c = (taken g c, c.law_a_reset_server_goes_on.ensures.settle (server_of g.A.Adapter.device (server_view_of c.self.inside)) (taken g c) (its_books g c) (takes g c))
 
 -- its requests were resolved
 abbrev at_settling : (g : Over) (c : After-issue_ports-arg-3-1 g) → After-resolve_ports-arg-3-1 g
@@ -108,28 +108,28 @@ settles : (g : Over) (c : After-issue_ports-arg-3-1 g) → ResolvePorts 0 (taken
 settles g c =
     let a = at_settling g c in
     let from = taken g a in
-    let all = c.resolve_ports.ensures.settles from (c.law_a_reset_server_goes_on.ensures.settle (server_of g.A.Adapter.device (seen c.self.inside)) from (its_books g a) (takes g a)) in
+    let all = c.resolve_ports.ensures.settles from (c.law_a_reset_server_goes_on.ensures.settle (server_of g.A.Adapter.device (server_view_of c.self.inside)) from (its_books g a) (takes g a)) in
     subst (λ (replies : List Reply). ResolvePorts 0 from.ports replies from (settled g c)) (sym (all.1 ∙ ap (λ (told : List Reply). told ++ all.0) c.clear.ensures)) all.2
 
 keeps : (g : Over) (c : After-issue_ports-arg-3-1 g) → InCallInvariant (settled g c)
 keeps g c =
     let a = at_settling g c in
-    c.law_a_reset_server_goes_on.ensures.kept (server_of g.A.Adapter.device (seen c.self.inside)) (taken g a) (settled g c) c.resolve_ports.new.replies.items (its_books g a) (takes g a) (settles g c)
+    c.law_a_reset_server_goes_on.ensures.kept (server_of g.A.Adapter.device (server_view_of c.self.inside)) (taken g a) (settled g c) c.resolve_ports.new.replies.items (its_books g a) (takes g a) (settles g c)
 
 pub issue_ports-requires : goal.issue_ports-requires
 issue_ports-requires g c = record { kept = (settled g c, keeps g c) }
 
 -- the server then
 abbrev after : (g : Over) (c : After-issue_ports g) → ServerState
-after g c = with_ports (server_of g.A.Adapter.device (seen c.self.inside)) (g.A.Adapter.device c.issue_ports.new.adapter) c.issue_ports.new.shared c.issue_ports.new.ports
+after g c = with_ports (server_of g.A.Adapter.device (server_view_of c.self.inside)) (g.A.Adapter.device c.issue_ports.new.adapter) c.issue_ports.new.shared c.issue_ports.new.ports
 
 -- the server was reset, and that adds an event
-was_reset : (g : Over) (c : After-issue_ports g) → ResetsServer c.resolve_ports.new.replies.items (server_of g.A.Adapter.device (seen c.self.inside)) (after g c)
-    × ExtendsSettled (server_of g.A.Adapter.device (seen c.self.inside)) (after g c) Reset (WasReset (Some c.resolve_ports.new.replies.items))
+was_reset : (g : Over) (c : After-issue_ports g) → ResetsServer c.resolve_ports.new.replies.items (server_of g.A.Adapter.device (server_view_of c.self.inside)) (after g c)
+    × ExtendsSettled (server_of g.A.Adapter.device (server_view_of c.self.inside)) (after g c) Reset (WasReset (Some c.resolve_ports.new.replies.items))
 was_reset g c =
     let i = (goal.at.returns-clause-resets g c).After-issue_ports-arg-3-1 in
     let a = at_settling g i in
-    let s = server_of g.A.Adapter.device (seen c.self.inside) in
+    let s = server_of g.A.Adapter.device (server_view_of c.self.inside) in
     let I : List ProbeResult → Type 0 = λ found. IssuePorts 0 found (settled g i) (after g c) in
     let resets : ResetsServer c.resolve_ports.new.replies.items s (after g c) =
     record { taken = taken g a; takes = takes g a; settled = settled g i; settles = settles g i; issues = subst I c.resolve_ports.ensures.found (c.issue_ports.ensures.issues (settled g i) (keeps g i)) } in

@@ -30,7 +30,7 @@ loop-at-preserved g c =
     let P : List (Call DeviceStep) → Type 0 = λ calls. Simulates g.A.Adapter.device c.args.self.now c.make_call-said.new.self calls (so_far.said ++ one ∷ []) in
     let Q : List (Call DeviceStep) → Type 0 = λ calls. length (so_far.said ++ one ∷ []) ≡ length calls in
     let calls = ap (λ (e : Call DeviceStep). take c.loop-at.at c.args.calls.now ++ e ∷ []) c.index-calls-at.is ∙ sym (take_more c.args.calls.now c.loop-at.at call below) in
-    let before = c.go_on.ensures.earlier ∙ c.reserve.ensures.said ∙ so_far.told in
+    let before = c.begin_next_result.ensures.earlier ∙ c.reserve.ensures.said ∙ so_far.told in
     record {
       ran = record {
         said = so_far.said ++ one ∷ [];
@@ -38,9 +38,9 @@ loop-at-preserved g c =
         each = subst Q calls (length-append so_far.said (one ∷ []) ∙ ap (λ n. n + 1) so_far.each ∙ sym (length-append (take c.loop-at.at c.args.calls.now) (call ∷ [])));
         keeps = subst P calls (c.law_runs_keep_their_promise.ensures.more _ _ _ _ _ _ _ so_far.keeps (c.law_runs_keep_their_promise.ensures.one _ _ call one c.make_call-said.ensures.adds c.make_call-said.ensures.wanted));
       };
-      length = omega (arith, c.go_on.ensures.len, c.reserve.ensures.len, c.loop-at.invariant.length);
+      length = omega (arith, c.begin_next_result.ensures.len, c.reserve.ensures.len, c.loop-at.invariant.length);
       last = λ some. refl;
-      room = omega (arith, c.loop-at.invariant.room, c.reserve.ensures.capacity, c.go_on.ensures.capacity);
+      room = omega (arith, c.loop-at.invariant.room, c.reserve.ensures.capacity, c.begin_next_result.ensures.capacity);
       cost =
           let M : List (Call DeviceStep) → Type 0 = λ calls. MakesAtMost (most_accesses_of_all calls) (g.A.Adapter.access_count c.args.self.now.adapter) (g.A.Adapter.access_count c.make_call-said.new.self.adapter) in
           let more = most_more (take c.loop-at.at c.args.calls.now) call in

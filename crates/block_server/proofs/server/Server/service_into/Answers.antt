@@ -1,10 +1,10 @@
 use Rattle.std.proofs.Common.{◌≡◌, Bool, false, List, arith, length, refl, sym, ap, ◌∙◌, subst}
 use Rattle.std.proofs.lemmas.List.{length-map}
 use Rattle.ata_types.specs.declared.request.Reply.{Reply}
-use Rattle.block_server.specs.Seen.{seen}
+use Rattle.block_server.specs.Seen.{server_view_of}
 use Rattle.block_server.specs.View.{ServerView, server_of}
 use Rattle.port_driver.specs.declared.served_port.ServedPort.{ServedPort}
-use Rattle.server_history.specs.Histories.{InvariantBy}
+use Rattle.server_history.specs.Histories.{InvariantByStuck}
 use Rattle.server_history.specs.Turns.{ServePorts, ServesPort, ProbesUnready}
 use Rattle.block_server.specs.Calls.{ServicesBy}
 use Rattle.block_server.proofs.Placing as placing
@@ -18,7 +18,7 @@ pub take_turn-requires-clause-settled : goal.take_turn-requires-clause-settled
 take_turn-requires-clause-settled g c =
     let device = g.A.Adapter.device in
     let v = c.loop-number.self-inside in
-    let s = server_of device (seen v) in (
+    let s = server_of device (server_view_of v) in (
       s,
       its_part ServesPort ProbesUnready c.args.self.now.ports (server_of device c.args.self.now) s (device v.adapter) v.shared v.ports c.loop-number.replies.items c.loop-number.number
           c.loop-number.invariant.turns c.loop-number-test.true _,
@@ -33,7 +33,7 @@ loop-number-preserved g c =
     let small = c.loop-number-test.true in
     let told = c.loop-number.replies.items in
     let first = server_of device c.args.self.now in
-    let s = server_of device (seen v) in
+    let s = server_of device (server_view_of v) in
     let default = c.index-self-number.result in
     let new = c.take_turn.new in
     record {
@@ -46,29 +46,29 @@ loop-number-preserved g c =
     }
 
 -- the ports had their turns
-served : (g : Over) (c : After-loop-number g) → ServePorts 0 c.args.self.now.ports c.loop-number.replies.items (server_of g.A.Adapter.device c.args.self.now) (server_of g.A.Adapter.device (seen c.loop-number.self-inside))
+served : (g : Over) (c : After-loop-number g) → ServePorts 0 c.args.self.now.ports c.loop-number.replies.items (server_of g.A.Adapter.device c.args.self.now) (server_of g.A.Adapter.device (server_view_of c.loop-number.self-inside))
 served g c =
     let device = g.A.Adapter.device in
     let first = c.loop-number.invariant.first in
     let past = c.loop-number-test.false in
     let v = c.loop-number.self-inside in
-    all_turns ServesPort ProbesUnready c.args.self.now.ports (server_of device c.args.self.now) (server_of device (seen v)) (device v.adapter) v.shared v.ports c.loop-number.replies.items c.loop-number.number c.loop-number.invariant.turns
+    all_turns ServesPort ProbesUnready c.args.self.now.ports (server_of device c.args.self.now) (server_of device (server_view_of v)) (device v.adapter) v.shared v.ports c.loop-number.replies.items c.loop-number.number c.loop-number.invariant.turns
     (omega (arith, first, past))
 
 pub invariant_of-self : goal.invariant_of-self
-invariant_of-self g c = subst (λ (b : Bool). InvariantBy b (server_of g.A.Adapter.device (seen c.loop-number.self-inside))) (sym c.loop-number.invariant.on) c.loop-number.invariant.turns.settled
+invariant_of-self g c = subst (λ (b : Bool). InvariantByStuck b (server_of g.A.Adapter.device (server_view_of c.loop-number.self-inside))) (sym c.loop-number.invariant.on) c.loop-number.invariant.turns.settled
 
 pub returns-clause-services : goal.returns-clause-services
 returns-clause-services g c =
     let device = g.A.Adapter.device in (
-      by_on (λ (b : Bool). ServicesBy b c.args.self.now.ports c.loop-number.replies.items (server_of device c.args.self.now) (server_of device (seen c.loop-number.self-inside))) c.self.view_is c.if-self.false (served g c),
+      by_on (λ (b : Bool). ServicesBy b c.args.self.now.ports c.loop-number.replies.items (server_of device c.args.self.now) (server_of device (server_view_of c.loop-number.self-inside))) c.self.view_is c.if-self.false (served g c),
       c.loop-number.invariant.on ∙ by_on (λ (b : Bool). false ≡ b) c.self.view_is c.if-self.false refl,
     )
 
 pub returns-clause-adds : goal.returns-clause-adds
 returns-clause-adds g c =
     let device = g.A.Adapter.device in
-    (c.law_services_extend_history.ensures (server_of device c.args.self.now) (server_of device (seen c.loop-number.self-inside)) c.loop-number.replies.items
+    (c.law_services_extend_history.ensures (server_of device c.args.self.now) (server_of device (server_view_of c.loop-number.self-inside)) c.loop-number.replies.items
     (now_on device c.self.view_is c.if-self.false c.self.invariant) (served g c)).adds
 
 pub loop-number-init : goal.loop-number-init
@@ -80,8 +80,8 @@ loop-number-init g c =
     let four = placing.four_ports v.ports settled.kept.four in
     record {
       first = ap length (sym ports) ∙ length-map v.ports (λ (p : ServedPort). p.found) ∙ four;
-      turns = subst (λ (told : List Reply). TurnsSoFar ServesPort ProbesUnready c.args.self.now.ports (server_of device c.args.self.now) v.ports told (server_of device (seen v)) 0) (sym c.clear.ensures)
-          (none_yet ServesPort ProbesUnready c.args.self.now.ports (server_of device c.args.self.now) v.ports (server_of device (seen v)) four ports settled (ap (server_of device) c.self.view_is));
+      turns = subst (λ (told : List Reply). TurnsSoFar ServesPort ProbesUnready c.args.self.now.ports (server_of device c.args.self.now) v.ports told (server_of device (server_view_of v)) 0) (sym c.clear.ensures)
+          (none_yet ServesPort ProbesUnready c.args.self.now.ports (server_of device c.args.self.now) v.ports (server_of device (server_view_of v)) four ports settled (ap (server_of device) c.self.view_is));
       room = let all = c.law_the_book_stays_in_order.ensures.all v.shared.book settled.kept.ordered in let none = ap length c.clear.ensures in omega (arith, all, none);
       on = c.if-self.false;
       cost = let same = ap (λ (x : ServerView g.row.A.Denot). g.A.Adapter.access_count x.adapter) c.self.view_is in omega (arith, same);

@@ -4,16 +4,16 @@ use Rattle.std.proofs.Math.ListN.{get_or-map}
 use Rattle.std.proofs.lemmas.List.{length-map}
 use Rattle.ata_types.specs.declared.request.Reply.{Reply}
 use Rattle.refinement.specs.Relation.{port_at}
-use Rattle.host_boot.specs.Taken.{probe_result_of}
+use Rattle.host_boot.specs.TakeOver.{probe_result_of}
 use Rattle.request_queue.specs.Entries.{BookEntry, IsOverdue, aged}
 use Rattle.block_machine.specs.Events.{Served, Tick}
 use Rattle.block_server.specs.Calls.{TicksBy}
-use Rattle.server_history.specs.Histories.{ExtendsHistory, InvariantBy}
+use Rattle.server_history.specs.Histories.{ExtendsHistory, InvariantByStuck}
 use Rattle.server_history.specs.Server.{SettledInvariant, ServerState}
 use Rattle.server_history.specs.Turns.{Ticks, TicksPort, a_tick_older, is_ready}
 use Rattle.port_driver.specs.Parts.{IsAtRest, no_port}
 use Rattle.block_server.specs.FourPorts.{by_port}
-use Rattle.block_server.specs.Seen.{seen}
+use Rattle.block_server.specs.Seen.{server_view_of}
 use Rattle.block_server.specs.View.{ServerView, server_of}
 use Rattle.port_driver.specs.declared.served_port.ServedPort.{ServedPort}
 use Rattle.block_server.proofs.Placing as placing
@@ -29,16 +29,16 @@ older g c =
     c.tick-any_overdue.ensures.older_entry
     ∙ (λ i. aged (λ port. (c.ready_ports.ensures port ∙ ap is_ready (sym (get_or-map (λ (p : ServedPort). p.found) c.self.inside.ports port.0 no_port))) i) c.self.inside.shared.book)
 
-older_now : (g : Over) (c : After-overdue_ports-overdue g) → record (server_of g.A.Adapter.device (seen c.self.inside)) { book = c.tick-any_overdue.new.self } ≡ a_tick_older (server_of g.A.Adapter.device c.args.self.now)
+older_now : (g : Over) (c : After-overdue_ports-overdue g) → record (server_of g.A.Adapter.device (server_view_of c.self.inside)) { book = c.tick-any_overdue.new.self } ≡ a_tick_older (server_of g.A.Adapter.device c.args.self.now)
 older_now g c =
-    ap (λ (book : List BookEntry). record (server_of g.A.Adapter.device (seen c.self.inside)) { book = book }) (older g c)
+    ap (λ (book : List BookEntry). record (server_of g.A.Adapter.device (server_view_of c.self.inside)) { book = book }) (older g c)
     ∙ ap (λ (v : ServerView g.row.A.Denot). a_tick_older (server_of g.A.Adapter.device v)) c.self.view_is
 
 pub tick-requires-clause-settled : goal.tick-requires-clause-settled
 tick-requires-clause-settled g c =
     let device = g.A.Adapter.device in
     let v = c.loop-number.self-inside in
-    let s = server_of device (seen v) in
+    let s = server_of device (server_view_of v) in
     let old = a_tick_older (server_of device c.args.self.now) in
     (s, its_part (TicksPort old.book) IsAtRest c.args.self.now.ports old s (device v.adapter) v.shared v.ports c.loop-number.replies.items c.loop-number.number c.loop-number.invariant.turns c.loop-number-test.true _)
 
@@ -51,7 +51,7 @@ loop-number-preserved g c =
     let small = c.loop-number-test.true in
     let told = c.loop-number.replies.items in
     let old = a_tick_older (server_of device c.args.self.now) in
-    let s = server_of device (seen v) in
+    let s = server_of device (server_view_of v) in
     let default = c.index-self-number.result in
     let new = c.tick.new in
     let O : List BookEntry → Type 0 = λ book. IsTrue (slice_index_or c.overdue_ports-overdue.result number false) ↔ IsOverdue (port_at number) book in
@@ -68,24 +68,24 @@ loop-number-preserved g c =
     }
 
 -- the ports had their turns
-ticked : (g : Over) (c : After-loop-number g) → Ticks c.loop-number.replies.items (server_of g.A.Adapter.device c.args.self.now) (server_of g.A.Adapter.device (seen c.loop-number.self-inside))
+ticked : (g : Over) (c : After-loop-number g) → Ticks c.loop-number.replies.items (server_of g.A.Adapter.device c.args.self.now) (server_of g.A.Adapter.device (server_view_of c.loop-number.self-inside))
 ticked g c =
     let device = g.A.Adapter.device in
     let old = server_of device c.args.self.now in
     let first = c.loop-number.invariant.first in
     let past = c.loop-number-test.false in
     let v = c.loop-number.self-inside in
-    all_turns (TicksPort (a_tick_older old).book) IsAtRest c.args.self.now.ports (a_tick_older old) (server_of device (seen v)) (device v.adapter) v.shared v.ports c.loop-number.replies.items c.loop-number.number c.loop-number.invariant.turns
+    all_turns (TicksPort (a_tick_older old).book) IsAtRest c.args.self.now.ports (a_tick_older old) (server_of device (server_view_of v)) (device v.adapter) v.shared v.ports c.loop-number.replies.items c.loop-number.number c.loop-number.invariant.turns
     (omega (arith, first, past))
 
 pub invariant_of-self : goal.invariant_of-self
-invariant_of-self g c = subst (λ (b : Bool). InvariantBy b (server_of g.A.Adapter.device (seen c.loop-number.self-inside))) (sym c.loop-number.invariant.on) c.loop-number.invariant.turns.settled
+invariant_of-self g c = subst (λ (b : Bool). InvariantByStuck b (server_of g.A.Adapter.device (server_view_of c.loop-number.self-inside))) (sym c.loop-number.invariant.on) c.loop-number.invariant.turns.settled
 
 pub returns-clause-ticks : goal.returns-clause-ticks
 returns-clause-ticks g c =
     let device = g.A.Adapter.device in
     record {
-      ticks = by_on (λ (b : Bool). TicksBy b c.loop-number.replies.items (server_of device c.args.self.now) (server_of device (seen c.loop-number.self-inside))) c.self.view_is c.if-self.false (ticked g c);
+      ticks = by_on (λ (b : Bool). TicksBy b c.loop-number.replies.items (server_of device c.args.self.now) (server_of device (server_view_of c.loop-number.self-inside))) c.self.view_is c.if-self.false (ticked g c);
       stuck = c.loop-number.invariant.on ∙ by_on (λ (b : Bool). false ≡ b) c.self.view_is c.if-self.false refl;
       rests = c.loop-number.invariant.rests;
       idle = λ stuck. absurd (false≢true (by_on (λ (b : Bool). false ≡ b) c.self.view_is c.if-self.false refl ∙ stuck));
@@ -94,7 +94,7 @@ returns-clause-ticks g c =
 pub returns-clause-adds : goal.returns-clause-adds
 returns-clause-adds g c =
     let device = g.A.Adapter.device in
-    (c.law_ticks_extend_history.ensures (server_of device c.args.self.now) (server_of device (seen c.loop-number.self-inside)) c.loop-number.replies.items
+    (c.law_ticks_extend_history.ensures (server_of device c.args.self.now) (server_of device (server_view_of c.loop-number.self-inside)) c.loop-number.replies.items
     (now_on device c.self.view_is c.if-self.false c.self.invariant) (ticked g c)).adds
 
 -- since a reset that got stuck there is no ready port
@@ -122,13 +122,13 @@ loop-number-init g c =
     let at = (goal.at.loop-number-init g c).After-overdue_ports-overdue in
     let ports = ap (λ (x : ServerView g.row.A.Denot). x.ports) c.self.view_is in
     let settled = now_on device refl c.if-self.false c.self.invariant in
-    let now : SettledInvariant (record (server_of device (seen v)) { book = c.tick-any_overdue.new.self }) =
-    subst (λ (book : List BookEntry). SettledInvariant (record (server_of device (seen v)) { book = book })) (sym (older g at)) (c.law_aging_keeps_invariant.ensures (server_of device (seen v)) settled) in
+    let now : SettledInvariant (record (server_of device (server_view_of v)) { book = c.tick-any_overdue.new.self }) =
+    subst (λ (book : List BookEntry). SettledInvariant (record (server_of device (server_view_of v)) { book = book })) (sym (older g at)) (c.law_aging_keeps_invariant.ensures (server_of device (server_view_of v)) settled) in
     let four = placing.four_ports v.ports settled.kept.four in
     record {
       first = ap length (sym ports) ∙ length-map v.ports (λ (p : ServedPort). p.found) ∙ four;
-      turns = subst (λ (told : List Reply). TurnsSoFar (TicksPort old.book) IsAtRest c.args.self.now.ports old v.ports told (record (server_of device (seen v)) { book = c.tick-any_overdue.new.self }) 0) (sym c.clear.ensures)
-          (none_yet (TicksPort old.book) IsAtRest c.args.self.now.ports old v.ports (record (server_of device (seen v)) { book = c.tick-any_overdue.new.self }) four ports now (older_now g at));
+      turns = subst (λ (told : List Reply). TurnsSoFar (TicksPort old.book) IsAtRest c.args.self.now.ports old v.ports told (record (server_of device (server_view_of v)) { book = c.tick-any_overdue.new.self }) 0) (sym c.clear.ensures)
+          (none_yet (TicksPort old.book) IsAtRest c.args.self.now.ports old v.ports (record (server_of device (server_view_of v)) { book = c.tick-any_overdue.new.self }) four ports now (older_now g at));
       room = let all = c.law_the_book_stays_in_order.ensures.all c.tick-any_overdue.new.self now.kept.ordered in let none = ap length c.clear.ensures in omega (arith, all, none);
       on = c.if-self.false;
       rests = λ none. ap (λ (x : ServerView g.row.A.Denot). x.adapter) c.self.view_is;

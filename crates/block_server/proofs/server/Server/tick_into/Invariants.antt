@@ -7,14 +7,14 @@ use Rattle.request_queue.specs.Entries.{IsAnyOverdue}
 use Rattle.server_history.specs.Turns.{TicksPort, a_tick_older}
 use Rattle.port_driver.specs.Parts.{IsAtRest}
 use Rattle.block_server.proofs.Turns.{TurnsSoFar}
-use Rattle.block_server.specs.Seen.{seen}
+use Rattle.block_server.specs.Seen.{server_view_of}
 use Rattle.block_server.specs.View.{server_of}
 use Rattle.block_server.proofs.server.Server.tick_into.Given as goal
 
 abbrev pub invariant-loop-number : goal.invariant-loop-number
 invariant-loop-number g l = record {
   first : length l.fn.self.ports ≡ 4;
-  turns : TurnsSoFar (TicksPort (a_tick_older (server_of g.A.Adapter.device l.fn.self)).book) IsAtRest l.fn.self.ports (a_tick_older (server_of g.A.Adapter.device l.fn.self)) l.self-inside.ports l.replies.items (server_of g.A.Adapter.device (seen l.self-inside)) l.number;
+  turns : TurnsSoFar (TicksPort (a_tick_older (server_of g.A.Adapter.device l.fn.self)).book) IsAtRest l.fn.self.ports (a_tick_older (server_of g.A.Adapter.device l.fn.self)) l.self-inside.ports l.replies.items (server_of g.A.Adapter.device (server_view_of l.self-inside)) l.number;
   room : length l.replies.items + length l.self-inside.shared.book ≤ MOST_UNANSWERED;
   on : l.self-inside.stuck ≡ false;
   rests : (IsAnyOverdue (a_tick_older (server_of g.A.Adapter.device l.fn.self)).book → ⊥) → l.self-inside.adapter ≡ l.fn.self.adapter;

@@ -1,5 +1,5 @@
 use Rattle.std.proofs.Common.{rules, ℕ, ◌≡◌, ◌+◌, ◌∙◌, inl, inr, subst, arith, ap}
-use Rattle.device_model.specs.Cached.{HasOldRoom}
+use Rattle.device_model.specs.Cached.{HasRoomForOld}
 use Rattle.device_model.specs.Disks.{disk_over}
 use Rattle.device_model.specs.Trims.{written_ahead}
 use Rattle.device_model.specs.View.{operation_of_kind}
@@ -32,7 +32,7 @@ returns-in-Write g c =
       lasting = search rules;
       cached = search rules;
       old_room = λ n room.
-          let P : ℕ → Type 0 = λ k. HasOldRoom c.args.self.now.cache k in
+          let P : ℕ → Type 0 = λ k. HasRoomForOld c.args.self.now.cache k in
           let one : written_ahead (operation_of_kind c.args.next.command_kind) 1 ≡ 1 =
           let Q : CommandKind → ℕ = λ k. written_ahead (operation_of_kind k) 1 in
           elim c.in-Write.is [ inl plain ↦ ap Q plain | inr queued ↦ ap Q queued ] in

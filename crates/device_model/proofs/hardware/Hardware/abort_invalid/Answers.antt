@@ -2,7 +2,7 @@ use Rattle.std.proofs.Common.{rules, ◌∙◌, ◌<◌, ℕ, arith, inl, inr, l
 use Rattle.adapter.specs.Steps.{MayFetchFault}
 use Rattle.adapter.specs.declared.command.Operation.TheVariants.{Identify}
 use Rattle.device_model.proofs.Absurd.{true-false}
-use Rattle.device_model.specs.Whole.{device_of}
+use Rattle.device_model.specs.WholeAdapter.{device_of}
 use Rattle.device_model.specs.declared.hardware.Hardware.{Hardware}
 use Rattle.device_model.proofs.SlotLemmas.{at_port}
 use Rattle.device_model.proofs.Stepping.{may_fail_senseless, port_fails_senseless}

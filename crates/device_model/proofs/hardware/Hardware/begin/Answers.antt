@@ -2,13 +2,13 @@ use Rattle.std.proofs.Common.{ℕ, false, ◌≡◌, ◌≤◌, ◌+◌, ◌∙�
 use Rattle.std.specs.Vec.{vec_len, vec_capacity}
 use Rattle.adapter.specs.declared.tape.Entry.{Entry}
 use Rattle.device_model.proofs.Absurd.{none_and, some_and, some_one, true-false}
-use Rattle.device_model.specs.Cached.{HasOldRoom}
+use Rattle.device_model.specs.Cached.{HasRoomForOld}
 use Rattle.device_model.specs.Fetched.{bytes_of}
 use Rattle.device_model.specs.Finishing.{MayFinish}
 use Rattle.device_model.specs.Slots.{HasUntaken, WorksOnIn}
 use Rattle.device_model.specs.Trims.{changes_ahead}
 use Rattle.device_model.specs.View.{blank_port, taken_of}
-use Rattle.device_model.specs.Whole.{Outside, device_of}
+use Rattle.device_model.specs.WholeAdapter.{AllMedia, device_of}
 use Rattle.device_model.specs.declared.cache.Cache.{Cache}
 use Rattle.device_model.specs.declared.hardware.Hardware.{Hardware}
 use Rattle.device_model.proofs.Finishing.{fetched_goes}
@@ -37,7 +37,7 @@ returns-in_err-rest-clause-left c = λ _.
 pub returns-then-not-reserve_all-clause-left : goal.returns-then-not-reserve_all-clause-left
 returns-then-not-reserve_all-clause-left c = λ _.
     -- the command that is ready is the one that is held, and so much is left of it
-    let ready_one : (o : Outside) (n m : ℕ) (may : MayFinish (device_of c.args.self.now o) c.args.port c.args.slot n m) (cache : Cache) → (c.in_ok-rest.rest.left ≡ n) × (c.in_ok-rest.rest.clears ≡ m) × (HasOldRoom cache (changes_ahead may.t.meaning.operation (bytes_of c.args.self.now.memory.items) may.t n) → HasOldRoom cache c.reservations_of.result.old_sectors) =
+    let ready_one : (o : AllMedia) (n m : ℕ) (may : MayFinish (device_of c.args.self.now o) c.args.port c.args.slot n m) (cache : Cache) → (c.in_ok-rest.rest.left ≡ n) × (c.in_ok-rest.rest.clears ≡ m) × (HasRoomForOld cache (changes_ahead may.t.meaning.operation (bytes_of c.args.self.now.memory.items) may.t n) → HasRoomForOld cache c.reservations_of.result.old_sectors) =
     λ o n m may cache.
     let h = c.args.self.now in
     let rest = c.in_ok-rest.rest in
@@ -96,9 +96,9 @@ returns-clause-begun c =
     let new : Hardware = record h { tape = c.reserve_all.new.tape } in
     let room : vec_len c.reserve_all.new.tape + c.reservations_of.result.entries ≤ vec_capacity c.reserve_all.new.tape = c.reserve_all.ensures.room c.if-not-reserve_all.false in
     let entries = c.reservations_of.ensures.entries in
-    let ready : (o : Outside) → MayFinish (device_of h o) c.args.port c.args.slot rest.left rest.clears =
+    let ready : (o : AllMedia) → MayFinish (device_of h o) c.args.port c.args.slot rest.left rest.clears =
     ready_to_go h c.from-place.result c.args.port c.args.slot found.0 c.from-place.ensures rest.left rest.clears found.2 held in
-    let same : (o : Outside) → device_of new o ≡ device_of h o = λ o. ap (λ (items : List Entry). record (device_of h o) { tape = items }) c.reserve_all.ensures.items in
+    let same : (o : AllMedia) → device_of new o ≡ device_of h o = λ o. ap (λ (items : List Entry). record (device_of h o) { tape = items }) c.reserve_all.ensures.items in
     record {
       ready = ready;
       going = λ o.

@@ -7,13 +7,13 @@ use Rattle.adapter.specs.Device.{Device}
 use Rattle.adapter.specs.declared.tape.Entry.{Entry}
 use Rattle.device_model.proofs.Absurd.{none_and, some_and, true-false}
 use Rattle.adapter.specs.Decoding.{DecodesTo}
-use Rattle.device_model.specs.Cached.{HasOldRoom}
+use Rattle.device_model.specs.Cached.{HasRoomForOld}
 use Rattle.device_model.specs.Fetched.{bytes_of}
 use Rattle.device_model.specs.Finishing.{MayFinish}
 use Rattle.device_model.specs.Slots.{HasUntaken}
 use Rattle.device_model.specs.Trims.{changes_ahead}
 use Rattle.device_model.specs.View.{blank_port, taken_of}
-use Rattle.device_model.specs.Whole.{Outside, device_of}
+use Rattle.device_model.specs.WholeAdapter.{AllMedia, device_of}
 use Rattle.device_model.specs.declared.hardware.Hardware.{Hardware}
 use Rattle.device_model.specs.declared.cache.Cache.{Cache}
 use Rattle.device_model.proofs.Finishing.{fetched_goes}
@@ -64,7 +64,7 @@ returns-in_err-rest-clause-left c = λ _.
 pub returns-then-not-reserve_all-clause-left : goal.returns-then-not-reserve_all-clause-left
 returns-then-not-reserve_all-clause-left c = λ _.
     -- the command that is ready is the one that its slot's bytes say, and so much is left of it
-    let ready_one : (o : Outside) (n m : ℕ) (may : MayFinish (device_of c.args.self.now o) c.args.port c.args.slot n m) (cache : Cache) → (c.in_ok-rest.rest.left ≡ n) × (c.in_ok-rest.rest.clears ≡ m) × (HasOldRoom cache (changes_ahead may.t.meaning.operation (bytes_of c.args.self.now.memory.items) may.t n) → HasOldRoom cache c.reservations_of.result.old_sectors) =
+    let ready_one : (o : AllMedia) (n m : ℕ) (may : MayFinish (device_of c.args.self.now o) c.args.port c.args.slot n m) (cache : Cache) → (c.in_ok-rest.rest.left ≡ n) × (c.in_ok-rest.rest.clears ≡ m) × (HasRoomForOld cache (changes_ahead may.t.meaning.operation (bytes_of c.args.self.now.memory.items) may.t n) → HasRoomForOld cache c.reservations_of.result.old_sectors) =
     λ o n m ready cache.
     let h = c.args.self.now in
     let rest = c.in_ok-rest.rest in
@@ -111,7 +111,7 @@ returns-then-not-reserve_all-clause-left c = λ _.
     })
 
 -- it is taken
-did : (c : After-self-2-1) (o : Outside) → DoesFetch c.args.port c.args.slot (device_of c.args.self.now o)
+did : (c : After-self-2-1) (o : AllMedia) → DoesFetch c.args.port c.args.slot (device_of c.args.self.now o)
     (device_of (record c.args.self.now { tape = c.reserve_all.new.tape; ports = slice_set c.args.self.now.ports c.from.result c.take.new.self }) o)
 did c o =
     let h = c.args.self.now in
@@ -155,7 +155,7 @@ returns-clause-begun c =
     let alone = rw (at_port c.args.self.now.ports c.from.result c.index-self-from.result small) at (c.may_take_command.ensures.open c.if-not-may_take_command.false) in
     let room : vec_len c.reserve_all.new.tape + c.reservations_of.result.entries ≤ vec_capacity c.reserve_all.new.tape = c.reserve_all.ensures.room c.if-not-reserve_all.false in
     let entries = c.reservations_of.ensures.entries in
-    let ready : (o : Outside) → MayFinish (device_of h o) c.args.port c.args.slot rest.left rest.clears =
+    let ready : (o : AllMedia) → MayFinish (device_of h o) c.args.port c.args.slot rest.left rest.clears =
     ready_to_take h c.from.result c.args.port c.args.slot c.in-Some.command.now c.from.ensures rest.left rest.clears
     (rw c.deref-2.ensures.value at c.in_ok-rest.ensures.rest) said.0 may alone says in
     let new : Hardware = record held { ports = slice_set h.ports c.from.result c.take.new.self } in

@@ -1,6 +1,6 @@
 use Rattle.std.proofs.Common.{rules, ◌<◌, length, Bool, Option, refl, subst, sym}
 use Rattle.device_model.specs.Finishing.{LooksForPage}
-use Rattle.device_model.specs.Whole.{device_of}
+use Rattle.device_model.specs.WholeAdapter.{device_of}
 use Rattle.device_model.proofs.Ready.{finds, page_crowded, page_said, page_unmeant, page_unsaid, page_endless, may_page, ready_may}
 use Rattle.device_model.proofs.SlotLemmas.{at_port}
 use Rattle.device_model.proofs.hardware.Hardware.decodes_page.Goals as goal

@@ -1,6 +1,6 @@
 use Rattle.std.proofs.Common.{false}
 use Rattle.device_model.proofs.Absurd.{fun_ext}
-use Rattle.device_model.specs.Whole.{device_of}
+use Rattle.device_model.specs.WholeAdapter.{device_of}
 use Rattle.device_model.proofs.hardware.Hardware.end_reset.Goals as goal
 
 pub returns-clause-resets : goal.returns-clause-resets

@@ -3,7 +3,7 @@ use Rattle.std.specs.Prelude.{is_some}
 use Rattle.std.proofs.lemmas.Bool.{or_parts}
 use Rattle.device_model.proofs.Absurd.{some_one, true-false}
 use Rattle.device_model.specs.Finishing.{LooksForPage, sends_page}
-use Rattle.device_model.specs.Whole.{device_of}
+use Rattle.device_model.specs.WholeAdapter.{device_of}
 use Rattle.device_model.specs.declared.port.TakenCommand.{TakenCommand}
 use Rattle.device_model.specs.View.{operation_of_kind}
 use Rattle.device_model.proofs.Ready.{Ends, page_barred, page_held, page_unheld, page_unmeant, page_unsaid, page_unused}

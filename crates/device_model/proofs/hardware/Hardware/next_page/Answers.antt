@@ -3,7 +3,7 @@ use Rattle.std.proofs.lemmas.Bool.{cases_lt}
 use Rattle.device_model.proofs.Ready.{page_unused}
 use Rattle.device_model.proofs.SlotLemmas.{at_port}
 use Rattle.device_model.specs.Finishing.{LooksForPage}
-use Rattle.device_model.specs.Whole.{device_of}
+use Rattle.device_model.specs.WholeAdapter.{device_of}
 use Rattle.device_model.proofs.hardware.Hardware.next_page.Goals as goal
 
 pub loop-slot-preserved : goal.loop-slot-preserved

@@ -1,7 +1,7 @@
 use Rattle.std.proofs.Common.{rules, ap, ℕ, ◌<◌, length, ◌∙◌}
 use Rattle.adapter.specs.Access.{noted}
 use Rattle.hba_regs.specs.declared.reg.Reg.TheVariants.{Px}
-use Rattle.device_model.specs.Whole.{device_of}
+use Rattle.device_model.specs.WholeAdapter.{device_of}
 use Rattle.device_model.proofs.Ports.{set_port}
 use Rattle.device_model.proofs.SlotLemmas.{at_port}
 use Rattle.device_model.proofs.hardware.Hardware.note.Goals as goal

@@ -6,7 +6,7 @@ use Rattle.adapter.specs.Memory.{bytes_at}
 use Rattle.adapter.specs.declared.tape.Entry.TheVariants as entry
 use Rattle.device_model.specs.Exchanged.{piece_of}
 use Rattle.device_model.specs.Fetched.{bytes_of}
-use Rattle.device_model.specs.Slots.{IsNext}
+use Rattle.device_model.specs.Slots.{IsNextMove}
 use Rattle.device_model.specs.View.{blank_port, taken_in, operation_of_kind}
 use Rattle.device_model.specs.declared.hardware.Hardware.{Hardware}
 use Rattle.device_model.specs.declared.port.TakenCommand.{TakenCommand}
@@ -66,4 +66,4 @@ returns-clause-after c =
     let next = next_after h c.from.result c.args.port c.args.slot c.args.next t _ c.push_reserved.new.self h.starved is one.0 c.from.ensures small
     (rw (at_port h.ports c.from.result c.index-self-from.result small) at c.advance.ensures.rest)
     ((rw (at_port h.ports c.from.result c.index-self-from.result small) at (c.advance.ensures.held t)) here no_trim) in
-    (u, subst (λ (x : NextMove). IsNext last c.args.port c.args.slot x u) (sym one.1) next))
+    (u, subst (λ (x : NextMove). IsNextMove last c.args.port c.args.slot x u) (sym one.1) next))

@@ -5,7 +5,7 @@ use Rattle.adapter.specs.Steps.{Can}
 use Rattle.adapter.specs.Steps.DeviceTransition.{Fatal}
 use Rattle.device_model.proofs.Absurd.{true-false}
 use Rattle.device_model.specs.View.{blank_port}
-use Rattle.device_model.specs.Whole.{device_of}
+use Rattle.device_model.specs.WholeAdapter.{device_of}
 use Rattle.device_model.specs.declared.hardware.Hardware.{Hardware}
 use Rattle.device_model.proofs.SlotLemmas.{at_port}
 use Rattle.device_model.proofs.Stepping.{is_fatal, port_breaks}

@@ -4,7 +4,7 @@ use Rattle.std.specs.Prelude.{slice_index_or}
 use Rattle.adapter.specs.Asked.{IsScribbled}
 use Rattle.device_model.specs.Fetched.{bytes_of}
 use Rattle.device_model.specs.View.{blank_port, port_of}
-use Rattle.device_model.specs.Whole.{device_of}
+use Rattle.device_model.specs.WholeAdapter.{device_of}
 use Rattle.device_model.specs.declared.hardware.Hardware.{Hardware}
 use Rattle.device_model.specs.declared.port.PortModel.{PortModel}
 use Rattle.device_model.proofs.Filled.{is_held}

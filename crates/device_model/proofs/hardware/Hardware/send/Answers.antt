@@ -4,7 +4,7 @@ use Rattle.std.specs.Vec.{with_items}
 use Rattle.std.proofs.lemmas.List.{with_items_is}
 use Rattle.device_model.proofs.Absurd.{true-false}
 use Rattle.device_model.specs.View.{blank_port}
-use Rattle.device_model.specs.Whole.{device_of}
+use Rattle.device_model.specs.WholeAdapter.{device_of}
 use Rattle.device_model.specs.declared.port.PortModel.{PortModel}
 use Rattle.device_model.proofs.Bytes.{memory_put}
 use Rattle.device_model.proofs.Posting.{received_there}

@@ -9,7 +9,7 @@ use Rattle.fis.specs.declared.SetDeviceBits.{SetDeviceBits}
 use Rattle.adapter.specs.Device.{Device}
 use Rattle.device_model.specs.Sent.{SendsBits, SendsRegisters, SendsSetup, end_fis, page_setup, tag_fis}
 use Rattle.device_model.specs.View.{port_of}
-use Rattle.device_model.specs.Whole.{device_of, no_media}
+use Rattle.device_model.specs.WholeAdapter.{device_of, no_media}
 use Rattle.device_model.proofs.SlotLemmas.{at_port}
 use Rattle.device_model.proofs.hardware.Hardware.send_end.Goals as goal
 

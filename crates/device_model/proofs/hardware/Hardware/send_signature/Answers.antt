@@ -1,7 +1,7 @@
 use Rattle.std.proofs.Common.{rules, ◌<◌, length, ap, subst, arith}
 use Rattle.fis.specs.Encoding.{EncodesDeviceToHost}
 use Rattle.fis.specs.declared.DeviceToHost.{DeviceToHost}
-use Rattle.device_model.specs.Whole.{no_media}
+use Rattle.device_model.specs.WholeAdapter.{no_media}
 use Rattle.device_model.proofs.SlotLemmas.{at_port}
 use Rattle.device_model.proofs.hardware.Hardware.send_signature.Goals as goal
 

@@ -7,7 +7,7 @@ use Rattle.device_model.proofs.Absurd.{true-false}
 use Rattle.device_model.proofs.Own.{own_none, own_on}
 use Rattle.device_model.specs.Settled.{Settles, IsSettledPort}
 use Rattle.device_model.specs.View.{port_of, blank_port}
-use Rattle.device_model.specs.Whole.{device_of}
+use Rattle.device_model.specs.WholeAdapter.{device_of}
 use Rattle.device_model.specs.declared.port.PortModel.{PortModel}
 use Rattle.device_model.proofs.GoingOn.{blank_settled}
 use Rattle.device_model.proofs.hardware.Hardware.settle_state.Goals as goal

@@ -1,7 +1,7 @@
 use Rattle.std.proofs.Common.{◌≡◌, ◌∙◌, length}
 use Rattle.std.specs.Vec.{with_items}
 use Rattle.std.proofs.lemmas.List.{with_items_is}
-use Rattle.device_model.specs.Whole.{device_of}
+use Rattle.device_model.specs.WholeAdapter.{device_of}
 use Rattle.device_model.proofs.Bytes.{memory_put}
 use Rattle.device_model.proofs.hardware.Hardware.store.Goals as goal
 

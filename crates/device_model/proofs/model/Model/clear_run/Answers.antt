@@ -1,13 +1,13 @@
 use Rattle.std.proofs.Common.{ℕ, Bool, true, min, ◌-◌, ◌≡◌, ◌<◌, ◌≤◌, ◌+◌, ◌∙◌, Some, length, refl, sym, ap, subst, arith, inl, inr}
 use Rattle.adapter.specs.declared.access.DeviceStep.TheVariants as asked
 use Rattle.adapter.specs.Steps.{disk_cleared}
-use Rattle.device_model.specs.Cached.{CallFails, HasOldRoom}
-use Rattle.device_model.specs.Disks.{bay_of, disk_over, failing, lasting_of}
+use Rattle.device_model.specs.Cached.{CallFails, HasRoomForOld}
+use Rattle.device_model.specs.Disks.{bay_of, disk_over, bay_failures, lasting_of}
 use Rattle.device_model.specs.Does.{Completes, HasCleared, CommandFails, IsSectorFault, LacksMemory, cleared_on_disk}
-use Rattle.device_model.specs.Modelled.{device_at, media_of, outside_at}
-use Rattle.device_model.specs.Trims.{HasClear, next_uncleared, span}
+use Rattle.device_model.specs.Modelled.{device_at, media_of, all_media_at}
+use Rattle.device_model.specs.Trims.{HasClear, next_uncleared, next_run_length}
 use Rattle.device_model.specs.View.{taken_of}
-use Rattle.device_model.specs.Whole.{Outside}
+use Rattle.device_model.specs.WholeAdapter.{AllMedia}
 use Rattle.device_model.proofs.Absurd.{some_one, true-false}
 use Rattle.device_model.proofs.Caching.{less_room}
 use Rattle.device_model.proofs.Growing.{grown_lasts, grown_left, room_here, room_there}
@@ -29,7 +29,7 @@ use Rattle.device_model.proofs.model.Model.clear_run.Goals.{then-count-on_disk, 
 pub returns-in_default-clause-answers : goal.returns-in_default-clause-answers
 returns-in_default-clause-answers g c =
     let m = c.args.self.now in
-    let o : Outside = outside_at g.S.SectorStore.size g.S.SectorStore.told m in
+    let o : AllMedia = all_media_at g.S.SectorStore.size g.S.SectorStore.told m in
     let starved = c.reserve-room.ensures.starved in
     record {
       device = c.reserve-room.ensures.same o;
@@ -51,7 +51,7 @@ returns-in_default-clause-answers g c =
 pub returns-then-not-room-clause-answers : goal.returns-then-not-room-clause-answers
 returns-then-not-room-clause-answers g c =
     let m = c.args.self.now in
-    let o : Outside = outside_at g.S.SectorStore.size g.S.SectorStore.told m in
+    let o : AllMedia = all_media_at g.S.SectorStore.size g.S.SectorStore.told m in
     let found = c.in-Some.ensures.found in
     let bay = found_bay m c.from-place.result c.args.port.0 _ c.from-place.ensures c.as_slice.ensures.value (sym c.has_disks.ensures.disks ∙ c.if-not-has_disks.false) in
     let has = found_clear c.reserve-room.new.self o _ c.args.port.0 c.args.slot.0 c.args.most c.in-Some.run' found.0
@@ -125,7 +125,7 @@ whole_can : (g : Over) (c : goal.Then-count-run g) →
     HasClear (device_at g.S.SectorStore.size g.S.SectorStore.told c.args.self.now) c.args.port.0 c.args.slot.0 c.args.most (taken_of c.in-Some.ensures.found.0)
 whole_can g c =
     let m = c.args.self.now in
-    let o : Outside = outside_at g.S.SectorStore.size g.S.SectorStore.told m in
+    let o : AllMedia = all_media_at g.S.SectorStore.size g.S.SectorStore.told m in
     let found = c.in-Some.ensures.found in
     found_clear c.reserve-room.new.self o _ c.args.port.0 c.args.slot.0 c.args.most c.in-Some.run' found.0
     (has_disks g.S.SectorStore.size g.S.SectorStore.told m c.args.port.0 c.in-Some-index_mut.bay (whole_was g c)) (c.reserve-room.ensures.same o) found.1
@@ -156,7 +156,7 @@ all g c =
     let p = whole_part g c in
     let able = whole_can g c in
     let one = span_some c.args.most (taken_of found.0) able.some able.enough in
-    let whole : c.in-Some.run'.count ≡ span c.args.most (taken_of found.0) = found.1.count_is in
+    let whole : c.in-Some.run'.count ≡ next_run_length c.args.most (taken_of found.0) = found.1.count_is in
     let same = c.if-count-run.true in
     let some : 1 ≤ c.clear-count.result = omega (arith, one, whole, same) in
     let few = c.clear-count.ensures.zero.few in
@@ -241,7 +241,7 @@ can : (g : Over) (c : goal.After-fail-failed g) →
     HasClear (device_at g.S.SectorStore.size g.S.SectorStore.told c.args.self.now) c.args.port.0 c.args.slot.0 c.args.most (taken_of c.in-Some.ensures.found.0)
 can g c =
     let m = c.args.self.now in
-    let o : Outside = outside_at g.S.SectorStore.size g.S.SectorStore.told m in
+    let o : AllMedia = all_media_at g.S.SectorStore.size g.S.SectorStore.told m in
     let found = c.in-Some.ensures.found in
     found_clear c.reserve-room.new.self o _ c.args.port.0 c.args.slot.0 c.args.most c.in-Some.run' found.0
     (has_disks g.S.SectorStore.size g.S.SectorStore.told m c.args.port.0 c.in-Some-index_mut.bay (was g c)) (c.reserve-room.ensures.same o) found.1
@@ -259,9 +259,9 @@ part g c =
     c.in-Some.run' c.cut-on_disk.result c.sectors.result refl found.1 c.sectors.ensures cut.inside cut.count cut.first zeros.few (then_disk g c) (λ none. zeros.none none ∙ ap g.S.SectorStore.told (then_store g c)) (zeros.sized ∙ ap g.S.SectorStore.size (then_store g c))
     c.clear.ensures.none (λ some o. c.clear.ensures.cleared some o found.0 found.1.holds)
 
-fewer : (g : Over) (c : goal.After-fail-failed g) → c.clear-count.result < span c.args.most (taken_of c.in-Some.ensures.found.0)
+fewer : (g : Over) (c : goal.After-fail-failed g) → c.clear-count.result < next_run_length c.args.most (taken_of c.in-Some.ensures.found.0)
 fewer g c =
-    let whole : c.in-Some.run'.count ≡ span c.args.most (taken_of c.in-Some.ensures.found.0) = c.in-Some.ensures.found.1.count_is in
+    let whole : c.in-Some.run'.count ≡ next_run_length c.args.most (taken_of c.in-Some.ensures.found.0) = c.in-Some.ensures.found.1.count_is in
     let few = c.clear-count.ensures.zero.few in
     let cut = c.cut-on_disk.ensures.count in
     let other = c.if-count-run.false in
@@ -321,7 +321,7 @@ has_failed g c =
     c.in-Some.run'.first c.clear-count.result found.0 c.reserve-room.ensures.same c.requires (can g c) (part g c)
     (fewer g c) c.if-count-on_disk.error c.fail-failed.new.self
     (fine_on g.S.SectorStore.size g.S.SectorStore.told g.S.SectorStore.failures c.args.port c.args.slot c.if-count-on_disk.error _ _ _ f
-    ∙ ap (failing g.S.SectorStore.failures) (seated_here c.args.self.now (mid g c) c.args.port.0 c.in-Some-index_mut.bay c.clear-count.new.self (was g c) (items g c)))
+    ∙ ap (bay_failures g.S.SectorStore.failures) (seated_here c.args.self.now (mid g c) c.args.port.0 c.in-Some-index_mut.bay c.clear-count.new.self (was g c) (items g c)))
     (cause g c).0 found.1.first_is f
 
 pub returns-clause-failed : goal.returns-clause-failed
@@ -361,7 +361,7 @@ pub returns-then-not-reserve-clause-answers : goal.returns-then-not-reserve-clau
 returns-then-not-reserve-clause-answers g c =
     let m = c.args.self.now in
     let a = c.in-Some-index_mut.bay in
-    let o : Outside = outside_at g.S.SectorStore.size g.S.SectorStore.told m in
+    let o : AllMedia = all_media_at g.S.SectorStore.size g.S.SectorStore.told m in
     let found = c.in-Some.ensures.found in
     let t = taken_of found.0 in
     let push_bay = seat_is m c.from-place.result c.args.port.0 c.index_mut.result.now a c.from-place.ensures
@@ -372,12 +372,12 @@ returns-then-not-reserve-clause-answers g c =
     let size : ((device_at g.S.SectorStore.size g.S.SectorStore.told m).port c.args.port.0).disk.size ≡ c.sectors.result =
     ap (λ x. (media_of g.S.SectorStore.size g.S.SectorStore.told x).disk.size) push_bay ∙ sym c.sectors.ensures in
     let cut : c.cut-on_disk.result.count ≡ min c.in-Some.run'.count (c.sectors.result - c.in-Some.run'.first) = c.cut-on_disk.ensures.count in
-    let whole : c.in-Some.run'.count ≡ span c.args.most t = found.1.count_is in
+    let whole : c.in-Some.run'.count ≡ next_run_length c.args.most t = found.1.count_is in
     let start : c.in-Some.run'.first ≡ next_uncleared t = found.1.first_is in
     let here : cleared_on_disk ((device_at g.S.SectorStore.size g.S.SectorStore.told m).port c.args.port.0).disk.size c.args.most t ≡ c.cut-on_disk.result.count =
     sym (cut ∙ (λ i. min (whole i) (sym size i - start i))) in
     let lacks : LacksMemory (asked.Clear c.args.port c.args.slot c.args.most) (device_at g.S.SectorStore.size g.S.SectorStore.told m) m.hardware m.bays.items =
-    (t, has, λ _ old. c.reserve.ensures.lacked c.if-not-reserve.true (subst (HasOldRoom a.cache) here (room_here m c.args.port.0 _ a push_bay old))) in
+    (t, has, λ _ old. c.reserve.ensures.lacked c.if-not-reserve.true (subst (HasRoomForOld a.cache) here (room_here m c.args.port.0 _ a push_bay old))) in
     grown_left g.S.SectorStore.size g.S.SectorStore.told g.S.SectorStore.failures m _ c.args.port.0 a c.reserve.new.self.cache push_bay
     (ap (λ k. slice_set m.bays.items k (Some c.reserve.new.self)) c.from-place.ensures ∙ ap (λ (x : Bay g.row.S.Denot). slice_set m.bays.items c.args.port.0 (Some x)) c.reserve.ensures.rest)
     c.reserve.ensures.same (asked.Clear c.args.port c.args.slot c.args.most) refl (c.reserve-room.ensures.same o) refl refl refl (λ _ _. (lacks, refl)) (λ _. refl)
@@ -392,11 +392,11 @@ returns-then-count-run-clause-old_room g c = λ _ t taken n room.
     let found = c.in-Some.ensures.found in
     let able = whole_can g c in
     let one : t ≡ taken_of found.0 = some_one (sym taken ∙ able.works.taken) in
-    let whole : c.in-Some.run'.count ≡ span c.args.most t = found.1.count_is ∙ ap (span c.args.most) (sym one) in
+    let whole : c.in-Some.run'.count ≡ next_run_length c.args.most t = found.1.count_is ∙ ap (next_run_length c.args.most) (sym one) in
     let few = c.clear-count.ensures.zero.few in
     let cut = c.cut-on_disk.ensures.count in
     let same = c.if-count-run.true in
     room_there (whole_mid g c) c.args.port.0 n c.clear-count.new.self (seated_here m (whole_mid g c) c.args.port.0 a c.clear-count.new.self (whole_was g c) (whole_items g c))
     (c.clear-count.ensures.zero.old_room n
     (c.reserve.ensures.kept (c.cut-on_disk.result.count + n)
-    (less_room a.cache (span c.args.most t + n) (c.cut-on_disk.result.count + n) (omega (arith, whole, cut, few, same)) (room_here m c.args.port.0 (span c.args.most t + n) a (whole_was g c) room))))
+    (less_room a.cache (next_run_length c.args.most t + n) (c.cut-on_disk.result.count + n) (omega (arith, whole, cut, few, same)) (room_here m c.args.port.0 (next_run_length c.args.most t + n) a (whole_was g c) room))))

@@ -3,7 +3,7 @@ use Rattle.std.specs.Global.{Vec}
 use Rattle.std.specs.List.{remove}
 use Rattle.adapter.specs.declared.access.DeviceStep.{DeviceStep}
 use Rattle.device_model.specs.Does.{AnswersStep}
-use Rattle.device_model.specs.Queue.{DoesEach, due, not_due}
+use Rattle.device_model.specs.Queue.{DoesEach, due_steps, later_steps}
 use Rattle.adapter.specs.declared.counting.AccessCounter.{AccessCounter}
 use Rattle.device_model.specs.declared.model.QueuedStep.{QueuedStep}
 use Rattle.device_model.proofs.Doing.{answers_queued, did_or_left_keeps}
@@ -102,10 +102,10 @@ returns g c =
     let at = subst P none c.loop-queued.invariant.at in
     let same = ap (λ (a : AccessCounter). a.shown) c.loop-queued.invariant.same in
     let Q : AccessCounter → Type 0 = λ a.
-    DoesEach g.S.SectorStore.size g.S.SectorStore.told g.S.SectorStore.failures (due a.shown items) (record c.args.self.now { accesses = a; queue = m.queue }) m in
+    DoesEach g.S.SectorStore.size g.S.SectorStore.told g.S.SectorStore.failures (due_steps a.shown items) (record c.args.self.now { accesses = a; queue = m.queue }) m in
     record {
       counted = same ∙ c.add.ensures.shown;
       made = ap (λ (a : AccessCounter). a.count.made) c.loop-queued.invariant.same ∙ c.add.ensures.made;
-      waiting = at_end_left access items m.queue.items c.loop-queued.place DidStep at ∙ ap (λ n. not_due n items) (sym same);
+      waiting = at_end_left access items m.queue.items c.loop-queued.place DidStep at ∙ ap (λ n. later_steps n items) (sym same);
       does = subst Q (sym c.loop-queued.invariant.same) (at_end_did access items m.queue.items c.loop-queued.place DidStep at m.queue);
     }

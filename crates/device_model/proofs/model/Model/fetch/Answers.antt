@@ -3,9 +3,9 @@ use Rattle.adapter.specs.Device.{Device}
 use Rattle.adapter.specs.Steps.{Can, device_after}
 use Rattle.adapter.specs.Steps.DeviceTransition.{FetchFault}
 use Rattle.device_model.specs.Finishing.{IsStepSkipped}
-use Rattle.device_model.specs.Modelled.{outside_at}
+use Rattle.device_model.specs.Modelled.{all_media_at}
 use Rattle.device_model.specs.Sent.{SendsFault}
-use Rattle.device_model.specs.Whole.{Outside, device_of}
+use Rattle.device_model.specs.WholeAdapter.{AllMedia, device_of}
 use Rattle.device_model.specs.declared.hardware.Hardware.{Hardware}
 use Rattle.device_model.proofs.Told.{fetch_answers, senseless_answers}
 use Rattle.device_model.proofs.model.Model.fetch.Goals as goal
@@ -21,7 +21,7 @@ returns-then-fetch g c =
 pub returns-then-not-abort_invalid : goal.returns-then-not-abort_invalid
 returns-then-not-abort_invalid g c =
     let m = c.args.self.now in
-    let o : Outside = outside_at g.S.SectorStore.size g.S.SectorStore.told m in
+    let o : AllMedia = all_media_at g.S.SectorStore.size g.S.SectorStore.told m in
     let f = c.abort_invalid.ensures in
     let kept : c.fetch.new.self ≡ m.hardware = c.fetch.ensures.refused c.if-fetch.false in
     let not : c.abort_invalid.result ≡ false = c.if-not-abort_invalid.true in
@@ -34,7 +34,7 @@ returns-then-not-abort_invalid g c =
 pub returns : goal.returns
 returns g c =
     let m = c.args.self.now in
-    let o : Outside = outside_at g.S.SectorStore.size g.S.SectorStore.told m in
+    let o : AllMedia = all_media_at g.S.SectorStore.size g.S.SectorStore.told m in
     let f = c.abort_invalid.ensures in
     let kept : c.fetch.new.self ≡ m.hardware = c.fetch.ensures.refused c.if-fetch.false in
     let did = f.did c.if-not-abort_invalid.false o in

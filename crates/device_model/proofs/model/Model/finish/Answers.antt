@@ -4,16 +4,16 @@ use Rattle.std.specs.Vec.{with_item}
 use Rattle.adapter.specs.Asked.{DoesFetch}
 use Rattle.adapter.specs.Device.{Device, FetchedCommand}
 use Rattle.adapter.specs.declared.access.DeviceStep.TheVariants as asked
-use Rattle.device_model.specs.Finishing.{HasPageCommand, TapeHasRoom, IsGoing, MayFinish}
-use Rattle.device_model.specs.Cached.{HasOldRoom}
+use Rattle.device_model.specs.Finishing.{HasPageCommand, TapeHasRoom, IsInProgress, MayFinish}
+use Rattle.device_model.specs.Cached.{HasRoomForOld}
 use Rattle.device_model.specs.Disks.{bay_of}
-use Rattle.device_model.specs.Does.{LacksMemory, Possible, answer_of}
-use Rattle.device_model.specs.Modelled.{device_at, outside_at}
+use Rattle.device_model.specs.Does.{LacksMemory, Possible, was_step_done}
+use Rattle.device_model.specs.Modelled.{device_at, all_media_at}
 use Rattle.device_model.specs.Sent.{SendsEnd}
 use Rattle.device_model.specs.Slots.{WorksOnIn}
 use Rattle.device_model.specs.Trims.{HasClear, changes_ahead, uncleared}
 use Rattle.device_model.specs.View.{blank_port, taken_of}
-use Rattle.device_model.specs.Whole.{HasDisks, Outside, device_of}
+use Rattle.device_model.specs.WholeAdapter.{HasDisks, AllMedia, device_of}
 use Rattle.device_model.specs.declared.bay.Bay.{Bay}
 use Rattle.device_model.specs.declared.hardware.Hardware.{Hardware}
 use Rattle.device_model.specs.declared.model.Model.{Model}
@@ -56,7 +56,7 @@ begun_items g c = ap (λ k. slice_set c.args.self.now.bays.items k (Some c.begin
     ∙ ap (λ (x : Bay g.row.S.Denot). slice_set c.args.self.now.bays.items c.args.port.0 (Some x)) c.begin.ensures.rest
 
 begun_outside : (g : Over) (c : goal.In-Some-begin g) →
-    outside_at g.S.SectorStore.size g.S.SectorStore.told (begun_model g c) ≡ outside_at g.S.SectorStore.size g.S.SectorStore.told c.args.self.now
+    all_media_at g.S.SectorStore.size g.S.SectorStore.told (begun_model g c) ≡ all_media_at g.S.SectorStore.size g.S.SectorStore.told c.args.self.now
 begun_outside g c =
     grown_outside g.S.SectorStore.size g.S.SectorStore.told g.S.SectorStore.failures c.args.self.now (begun_model g c) c.args.port.0 c.in-Some.bay c.begin.new.self.cache (was g c) (begun_items g c)
     c.begin.ensures.same
@@ -66,13 +66,13 @@ loop-piece-init g c =
     let m = c.args.self.now in
     let a = c.in-Some.bay in
     let mid = begun_model g c in
-    let start : Outside = outside_at g.S.SectorStore.size g.S.SectorStore.told m in
-    let o : Outside = outside_at g.S.SectorStore.size g.S.SectorStore.told mid in
+    let start : AllMedia = all_media_at g.S.SectorStore.size g.S.SectorStore.told m in
+    let o : AllMedia = all_media_at g.S.SectorStore.size g.S.SectorStore.told mid in
     let behind : o ≡ start = begun_outside g c in
     let old : Device = device_of m.hardware start in
     let new : Device = device_of c.begin.new.hardware o in
     let is = c.in-Some-begin.ensures.begun in
-    let P : Outside → Type 0 = λ x. DoesFetch c.args.port.0 c.args.slot.0 (device_of m.hardware x) new in
+    let P : AllMedia → Type 0 = λ x. DoesFetch c.args.port.0 c.args.slot.0 (device_of m.hardware x) new in
     let did : c.in-Some-begin.field-0.was_taken ≡ true → DoesFetch c.args.port.0 c.args.slot.0 old new = λ e. subst P behind (is.did e o) in
     let same : c.in-Some-begin.field-0.was_taken ≡ false → new ≡ old = λ e. is.same e o ∙ ap (device_of m.hardware) behind in
     record {
@@ -95,7 +95,7 @@ loop-piece-init g c =
       };
       room = let enough = is.room in omega (arith, enough);
       going =
-          let Q : ℕ → Type 0 = λ n. IsGoing new c.args.port.0 c.args.slot.0 n c.in-Some-begin.field-0.rest.clears in
+          let Q : ℕ → Type 0 = λ n. IsInProgress new c.args.port.0 c.args.slot.0 n c.in-Some-begin.field-0.rest.clears in
           let all : c.in-Some-begin.field-0.rest.left ≡ c.in-Some-begin.field-0.rest.left - 0 = omega arith in
           subst Q all (is.going o);
       ahead =
@@ -108,8 +108,8 @@ loop-piece-init g c =
 
 pub loop-piece-preserved : goal.loop-piece-preserved
 loop-piece-preserved g c =
-    let step = did_it g.S.SectorStore.size g.S.SectorStore.told g.S.SectorStore.failures (asked.Move c.args.port c.args.slot) _ _ (answer_of c.move_piece.result)
-    c.move_piece.ensures.answers (ap answer_of c.in-Done.is) in
+    let step = did_it g.S.SectorStore.size g.S.SectorStore.told g.S.SectorStore.failures (asked.Move c.args.port c.args.slot) _ _ (was_step_done c.move_piece.result)
+    c.move_piece.ensures.answers (ap was_step_done c.in-Done.is) in
     let whole = c.move_piece.ensures.whole c.in-Done.is in
     let moved = whole.asked in
     record {
@@ -119,7 +119,7 @@ loop-piece-preserved g c =
       meanwhile = meanwhile_on g.S.SectorStore.size g.S.SectorStore.told g.S.SectorStore.failures c.args.port.0 _ _ _ c.loop-piece.invariant.meanwhile
           (record { held = step.held; says = whole.says; which = step.which; others = step.others; pages = step.pages; keeps = step.keeps; starved = step.starved });
       disks = λ none which.
-          let o : Outside = outside_at g.S.SectorStore.size g.S.SectorStore.told c.args.self.now in
+          let o : AllMedia = all_media_at g.S.SectorStore.size g.S.SectorStore.told c.args.self.now in
           let moves = finish_moves c.args.port c.args.slot c.loop-piece.did _ _ c.in-Some-begin.field-0.rest.left c.in-Some-begin.field-0.rest.clears (found_disks g.S.SectorStore.size g.S.SectorStore.told c.args.self.now c.from.result c.args.port.0 _ c.from.ensures c.as_slice.ensures.value (sym c.has_disks.ensures.disks ∙ c.if-not-has_disks.false))
           (omega (arith, c.loop-piece-test.true)) c.loop-piece.invariant.did c.loop-piece.invariant.refused (c.in-Some-begin.ensures.begun.ready o) in
           step.disks (λ sector. none (moves sector)) which ∙ c.loop-piece.invariant.disks none which;
@@ -127,7 +127,7 @@ loop-piece-preserved g c =
       fine = λ q which. whole.fine refl q which ∙ c.loop-piece.invariant.fine q which;
       room = (c.move_piece.ensures.readies c.in-Done.is).tape _ (omega (arith, c.loop-piece.invariant.room, c.loop-piece-test.true));
       going =
-          let P : ℕ → Type 0 = λ n. IsGoing (device_at g.S.SectorStore.size g.S.SectorStore.told c.loop-piece.self) c.args.port.0 c.args.slot.0 n c.in-Some-begin.field-0.rest.clears in
+          let P : ℕ → Type 0 = λ n. IsInProgress (device_at g.S.SectorStore.size g.S.SectorStore.told c.loop-piece.self) c.args.port.0 c.args.slot.0 n c.in-Some-begin.field-0.rest.clears in
           let next : c.in-Some-begin.field-0.rest.left - c.loop-piece.piece ≡ suc (c.in-Some-begin.field-0.rest.left - (c.loop-piece.piece + 1)) = omega (arith, c.loop-piece-test.true) in
           moved_goes c.args.port.0 c.args.slot.0 (c.in-Some-begin.field-0.rest.left - (c.loop-piece.piece + 1)) c.in-Some-begin.field-0.rest.clears _ _ (subst P next c.loop-piece.invariant.going) moved;
       ahead =
@@ -142,14 +142,14 @@ pub returns-in-Left-clause-answers : goal.returns-in-Left-clause-answers
 returns-in-Left-clause-answers g c =
     let m = c.loop-piece.self in
     let first = c.args.self.now in
-    let o : Outside = outside_at g.S.SectorStore.size g.S.SectorStore.told first in
+    let o : AllMedia = all_media_at g.S.SectorStore.size g.S.SectorStore.told first in
     let is = c.loop-piece.invariant in
     let d : Device = device_at g.S.SectorStore.size g.S.SectorStore.told m in
-    let step = left_it g.S.SectorStore.size g.S.SectorStore.told g.S.SectorStore.failures (asked.Move c.args.port c.args.slot) _ _ (answer_of c.move_piece.result)
-    c.move_piece.ensures.answers (ap answer_of c.in-Left.is) in
+    let step = left_it g.S.SectorStore.size g.S.SectorStore.told g.S.SectorStore.failures (asked.Move c.args.port c.args.slot) _ _ (was_step_done c.move_piece.result)
+    c.move_piece.ensures.answers (ap was_step_done c.in-Left.is) in
     let left = c.in-Some-begin.field-0.rest.left - (c.loop-piece.piece + 1) in
     let clears = c.in-Some-begin.field-0.rest.clears in
-    let P : ℕ → Type 0 = λ n. IsGoing d c.args.port.0 c.args.slot.0 n clears in
+    let P : ℕ → Type 0 = λ n. IsInProgress d c.args.port.0 c.args.slot.0 n clears in
     let next : c.in-Some-begin.field-0.rest.left - c.loop-piece.piece ≡ suc left = omega (arith, c.loop-piece-test.true) in
     let disks : HasDisks (device_at g.S.SectorStore.size g.S.SectorStore.told first) c.args.port.0 = found_disks g.S.SectorStore.size g.S.SectorStore.told c.args.self.now c.from.result c.args.port.0 _ c.from.ensures c.as_slice.ensures.value (sym c.has_disks.ensures.disks ∙ c.if-not-has_disks.false) in
     let going = subst P next is.going in
@@ -165,10 +165,10 @@ returns-in-Left-clause-answers g c =
 pub returns-in-Failed-clause-answers : goal.returns-in-Failed-clause-answers
 returns-in-Failed-clause-answers g c =
     let first = c.args.self.now in
-    let o : Outside = outside_at g.S.SectorStore.size g.S.SectorStore.told first in
+    let o : AllMedia = all_media_at g.S.SectorStore.size g.S.SectorStore.told first in
     let is = c.loop-piece.invariant in
-    let step = did_it g.S.SectorStore.size g.S.SectorStore.told g.S.SectorStore.failures (asked.Move c.args.port c.args.slot) _ _ (answer_of c.move_piece.result)
-    c.move_piece.ensures.answers (ap answer_of c.in-Failed.is) in
+    let step = did_it g.S.SectorStore.size g.S.SectorStore.told g.S.SectorStore.failures (asked.Move c.args.port c.args.slot) _ _ (was_step_done c.move_piece.result)
+    c.move_piece.ensures.answers (ap was_step_done c.in-Failed.is) in
     let failed = c.move_piece.ensures.failed c.in-Failed.is in
     let left = c.in-Some-begin.field-0.rest.left in
     let asks = finish_moves c.args.port c.args.slot c.loop-piece.did _ _ left c.in-Some-begin.field-0.rest.clears (found_disks g.S.SectorStore.size g.S.SectorStore.told c.args.self.now c.from.result c.args.port.0 _ c.from.ensures c.as_slice.ensures.value (sym c.has_disks.ensures.disks ∙ c.if-not-has_disks.false))
@@ -184,8 +184,8 @@ loop-run-init g c =
     let d : Device = device_at g.S.SectorStore.size g.S.SectorStore.told c.loop-piece.self in
     let none : c.in-Some-begin.field-0.rest.left - c.loop-piece.piece ≡ 0 = omega (arith, c.loop-piece-test.false) in
     let all : c.in-Some-begin.field-0.rest.clears ≡ c.in-Some-begin.field-0.rest.clears - 0 = omega arith in
-    let P : ℕ → Type 0 = λ n. IsGoing d c.args.port.0 c.args.slot.0 n c.in-Some-begin.field-0.rest.clears in
-    let Q : ℕ → Type 0 = λ n. IsGoing d c.args.port.0 c.args.slot.0 0 n in
+    let P : ℕ → Type 0 = λ n. IsInProgress d c.args.port.0 c.args.slot.0 n c.in-Some-begin.field-0.rest.clears in
+    let Q : ℕ → Type 0 = λ n. IsInProgress d c.args.port.0 c.args.slot.0 0 n in
     record {
       did = is.did;
       refused = is.refused;
@@ -199,7 +199,7 @@ loop-run-init g c =
     }
 
 -- as many sectors as are left to clear
-as_many : (h : Hardware) (o : Outside) (port slot left clears most : ℕ) (going : IsGoing (device_of h o) port slot left clears) →
+as_many : (h : Hardware) (o : AllMedia) (port slot left clears most : ℕ) (going : IsInProgress (device_of h o) port slot left clears) →
     ((t : TakenCommand) → WorksOnIn (slice_index_or h.ports port blank_port) slot t → most ≡ length (uncleared (taken_of t))) → most ≡ length (uncleared going.t)
 as_many h o port slot left clears most going counted =
     let w = holds h o port slot going.t going.works in
@@ -209,16 +209,16 @@ pub loop-run-preserved : goal.loop-run-preserved
 loop-run-preserved g c =
     let m = c.loop-run.self in
     let first = c.args.self.now in
-    let o : Outside = outside_at g.S.SectorStore.size g.S.SectorStore.told m in
-    let start : Outside = outside_at g.S.SectorStore.size g.S.SectorStore.told first in
+    let o : AllMedia = all_media_at g.S.SectorStore.size g.S.SectorStore.told m in
+    let start : AllMedia = all_media_at g.S.SectorStore.size g.S.SectorStore.told first in
     let is = c.loop-run.invariant in
     let d : Device = device_at g.S.SectorStore.size g.S.SectorStore.told m in
     let most = c.count_uncleared-most.result in
-    let step = did_it g.S.SectorStore.size g.S.SectorStore.told g.S.SectorStore.failures (asked.Clear c.args.port c.args.slot most) _ _ (answer_of c.clear_run.result)
-    c.clear_run.ensures.answers (ap answer_of c.in-Done-clear_run.is) in
+    let step = did_it g.S.SectorStore.size g.S.SectorStore.told g.S.SectorStore.failures (asked.Clear c.args.port c.args.slot most) _ _ (was_step_done c.clear_run.result)
+    c.clear_run.ensures.answers (ap was_step_done c.in-Done-clear_run.is) in
     let whole = c.clear_run.ensures.whole c.in-Done-clear_run.is in
     let left = c.in-Some-begin.field-0.rest.clears - (c.loop-run._run + 1) in
-    let P : ℕ → Type 0 = λ n. IsGoing d c.args.port.0 c.args.slot.0 0 n in
+    let P : ℕ → Type 0 = λ n. IsInProgress d c.args.port.0 c.args.slot.0 0 n in
     let next : c.in-Some-begin.field-0.rest.clears - c.loop-run._run ≡ suc left = omega (arith, c.loop-run-test.true) in
     let going = subst P next is.going in
     let asks = finish_clears c.args.port c.args.slot _ c.in-Some-begin.field-0.rest.left c.in-Some-begin.field-0.rest.clears (found_disks g.S.SectorStore.size g.S.SectorStore.told c.args.self.now c.from.result c.args.port.0 _ c.from.ensures c.as_slice.ensures.value (sym c.has_disks.ensures.disks ∙ c.if-not-has_disks.false)) c.requires
@@ -242,16 +242,16 @@ pub returns-in-Left-clear_run-clause-answers : goal.returns-in-Left-clear_run-cl
 returns-in-Left-clear_run-clause-answers g c =
     let m = c.loop-run.self in
     let first = c.args.self.now in
-    let o : Outside = outside_at g.S.SectorStore.size g.S.SectorStore.told m in
-    let start : Outside = outside_at g.S.SectorStore.size g.S.SectorStore.told first in
+    let o : AllMedia = all_media_at g.S.SectorStore.size g.S.SectorStore.told m in
+    let start : AllMedia = all_media_at g.S.SectorStore.size g.S.SectorStore.told first in
     let is = c.loop-run.invariant in
     let disks : HasDisks (device_at g.S.SectorStore.size g.S.SectorStore.told first) c.args.port.0 = found_disks g.S.SectorStore.size g.S.SectorStore.told c.args.self.now c.from.result c.args.port.0 _ c.from.ensures c.as_slice.ensures.value (sym c.has_disks.ensures.disks ∙ c.if-not-has_disks.false) in
     let d : Device = device_at g.S.SectorStore.size g.S.SectorStore.told m in
     let most = c.count_uncleared-most.result in
-    let step = left_it g.S.SectorStore.size g.S.SectorStore.told g.S.SectorStore.failures (asked.Clear c.args.port c.args.slot most) _ _ (answer_of c.clear_run.result)
-    c.clear_run.ensures.answers (ap answer_of c.in-Left-clear_run.is) in
+    let step = left_it g.S.SectorStore.size g.S.SectorStore.told g.S.SectorStore.failures (asked.Clear c.args.port c.args.slot most) _ _ (was_step_done c.clear_run.result)
+    c.clear_run.ensures.answers (ap was_step_done c.in-Left-clear_run.is) in
     let left = c.in-Some-begin.field-0.rest.clears - (c.loop-run._run + 1) in
-    let P : ℕ → Type 0 = λ n. IsGoing d c.args.port.0 c.args.slot.0 0 n in
+    let P : ℕ → Type 0 = λ n. IsInProgress d c.args.port.0 c.args.slot.0 0 n in
     let next : c.in-Some-begin.field-0.rest.clears - c.loop-run._run ≡ suc left = omega (arith, c.loop-run-test.true) in
     let going = subst P next is.going in
     let whole = as_many m.hardware o c.args.port.0 c.args.slot.0 0 (suc left) most going c.count_uncleared-most.ensures in
@@ -266,11 +266,11 @@ returns-in-Left-clear_run-clause-answers g c =
 pub returns-in-Failed-clear_run-clause-answers : goal.returns-in-Failed-clear_run-clause-answers
 returns-in-Failed-clear_run-clause-answers g c =
     let first = c.args.self.now in
-    let start : Outside = outside_at g.S.SectorStore.size g.S.SectorStore.told first in
+    let start : AllMedia = all_media_at g.S.SectorStore.size g.S.SectorStore.told first in
     let is = c.loop-run.invariant in
     let most = c.count_uncleared-most.result in
-    let step = did_it g.S.SectorStore.size g.S.SectorStore.told g.S.SectorStore.failures (asked.Clear c.args.port c.args.slot most) _ _ (answer_of c.clear_run.result)
-    c.clear_run.ensures.answers (ap answer_of c.in-Failed-clear_run.is) in
+    let step = did_it g.S.SectorStore.size g.S.SectorStore.told g.S.SectorStore.failures (asked.Clear c.args.port c.args.slot most) _ _ (was_step_done c.clear_run.result)
+    c.clear_run.ensures.answers (ap was_step_done c.in-Failed-clear_run.is) in
     let asks = finish_clears c.args.port c.args.slot _ c.in-Some-begin.field-0.rest.left c.in-Some-begin.field-0.rest.clears (found_disks g.S.SectorStore.size g.S.SectorStore.told c.args.self.now c.from.result c.args.port.0 _ c.from.ensures c.as_slice.ensures.value (sym c.has_disks.ensures.disks ∙ c.if-not-has_disks.false)) c.requires
     (omega (arith, c.loop-run-test.true)) (c.in-Some-begin.ensures.begun.ready start) in
     clear_fails g.S.SectorStore.size g.S.SectorStore.told g.S.SectorStore.failures c.args.port c.args.slot c.loop-run.did first _ _
@@ -283,8 +283,8 @@ pub returns-then-done-clause-answers : goal.returns-then-done-clause-answers
 returns-then-done-clause-answers g c =
     let m = c.loop-run.self in
     let first = c.args.self.now in
-    let o : Outside = outside_at g.S.SectorStore.size g.S.SectorStore.told m in
-    let start : Outside = outside_at g.S.SectorStore.size g.S.SectorStore.told first in
+    let o : AllMedia = all_media_at g.S.SectorStore.size g.S.SectorStore.told m in
+    let start : AllMedia = all_media_at g.S.SectorStore.size g.S.SectorStore.told first in
     let is = c.loop-run.invariant in
     let step = did_it g.S.SectorStore.size g.S.SectorStore.told g.S.SectorStore.failures (asked.Done c.args.port c.args.slot) _ _ c.done.result c.done.ensures c.if-done.true in
     let whole = done_whole g.S.SectorStore.size g.S.SectorStore.told g.S.SectorStore.failures c.args.port c.args.slot _ _ step in
@@ -317,8 +317,8 @@ returns-then-done-clause-answers g c =
 end_is_done : (g : Over) (c : goal.Else-done g) → ⊥
 end_is_done g c =
     let m = c.loop-run.self in
-    let o : Outside = outside_at g.S.SectorStore.size g.S.SectorStore.told m in
-    let P : ℕ → Type 0 = λ n. IsGoing (device_at g.S.SectorStore.size g.S.SectorStore.told m) c.args.port.0 c.args.slot.0 0 n in
+    let o : AllMedia = all_media_at g.S.SectorStore.size g.S.SectorStore.told m in
+    let P : ℕ → Type 0 = λ n. IsInProgress (device_at g.S.SectorStore.size g.S.SectorStore.told m) c.args.port.0 c.args.slot.0 0 n in
     let none : c.in-Some-begin.field-0.rest.clears - c.loop-run._run ≡ 0 = omega (arith, c.loop-run-test.false) in
     let going = subst P none c.loop-run.invariant.going in
     let left = left_it g.S.SectorStore.size g.S.SectorStore.told g.S.SectorStore.failures (asked.Done c.args.port c.args.slot) _ _ c.done.result c.done.ensures c.if-done.false in
@@ -331,7 +331,7 @@ returns-else-done-clause-answers g c = absurd (end_is_done g c)
 pub returns-then-port-ge4-clause-answers : goal.returns-then-port-ge4-clause-answers
 returns-then-port-ge4-clause-answers g c =
     let m = c.args.self.now in
-    let o : Outside = outside_at g.S.SectorStore.size g.S.SectorStore.told m in
+    let o : AllMedia = all_media_at g.S.SectorStore.size g.S.SectorStore.told m in
     let four : length m.hardware.ports ≡ 4 = search rules in
     left_same g.S.SectorStore.size g.S.SectorStore.told g.S.SectorStore.failures _ m
     (λ may.
@@ -346,7 +346,7 @@ returns-then-port-ge4-clause-answers g c =
 pub returns-then-port-ge4-clause-sends : goal.returns-then-port-ge4-clause-sends
 returns-then-port-ge4-clause-sends g c = λ disks has.
     let m = c.args.self.now in
-    let o : Outside = outside_at g.S.SectorStore.size g.S.SectorStore.told m in
+    let o : AllMedia = all_media_at g.S.SectorStore.size g.S.SectorStore.told m in
     let four : length m.hardware.ports ≡ 4 = search rules in
     absurd (elim c.then-port-ge4.branch [
       | then-port-ge4-via-then-port-ge4 w ↦
@@ -361,7 +361,7 @@ pub returns-in_default-begin-clause-answers : goal.returns-in_default-begin-clau
 returns-in_default-begin-clause-answers g c =
     let m = c.args.self.now in
     let a = c.in-Some.bay in
-    let o : Outside = outside_at g.S.SectorStore.size g.S.SectorStore.told m in
+    let o : AllMedia = all_media_at g.S.SectorStore.size g.S.SectorStore.told m in
     let here = seat_is c.args.self.now c.from-2.result c.args.port.0 c.index_mut.result.now c.in-Some.bay c.from-2.ensures
     (let there = c.has_disks.ensures.there c.if-not-has_disks.false in
     let long = ap length c.as_slice.ensures.value in
@@ -396,7 +396,7 @@ returns-in-Left-clause-sends g c = λ disks has.
     let d : Device = device_at g.S.SectorStore.size g.S.SectorStore.told m in
     let left = c.in-Some-begin.field-0.rest.left - (c.loop-piece.piece + 1) in
     let clears = c.in-Some-begin.field-0.rest.clears in
-    let P : ℕ → Type 0 = λ n. IsGoing d c.args.port.0 c.args.slot.0 n clears in
+    let P : ℕ → Type 0 = λ n. IsInProgress d c.args.port.0 c.args.slot.0 n clears in
     let next : c.in-Some-begin.field-0.rest.left - c.loop-piece.piece ≡ suc left = omega (arith, c.loop-piece-test.true) in
     let going = subst P next is.going in
     let move = going_has_move d c.args.port.0 c.args.slot.0 left clears (disks_kept g.S.SectorStore.size g.S.SectorStore.told first m c.args.port.0 is.meanwhile.which disks) going in
@@ -416,8 +416,8 @@ returns-in-Failed-clause-sends g c = λ disks has.
 pub returns-then-done-clause-sends : goal.returns-then-done-clause-sends
 returns-then-done-clause-sends g c = λ disks has.
     let m = c.loop-run.self in
-    let o : Outside = outside_at g.S.SectorStore.size g.S.SectorStore.told m in
-    let P : ℕ → Type 0 = λ n. IsGoing (device_at g.S.SectorStore.size g.S.SectorStore.told m) c.args.port.0 c.args.slot.0 0 n in
+    let o : AllMedia = all_media_at g.S.SectorStore.size g.S.SectorStore.told m in
+    let P : ℕ → Type 0 = λ n. IsInProgress (device_at g.S.SectorStore.size g.S.SectorStore.told m) c.args.port.0 c.args.slot.0 0 n in
     let none : c.in-Some-begin.field-0.rest.clears - c.loop-run._run ≡ 0 = omega (arith, c.loop-run-test.false) in
     let going = subst P none c.loop-run.invariant.going in
     let page = page_taken c.args.port.0 c.args.slot.0 c.loop-run.did _ _ c.loop-run.invariant.did c.loop-run.invariant.refused has going.t going.works.taken in (
@@ -431,14 +431,14 @@ returns-else-done-clause-sends g c = λ _ _. absurd (end_is_done g c)
 pub returns-in_default-begin-clause-sends : goal.returns-in_default-begin-clause-sends
 returns-in_default-begin-clause-sends g c = λ disks has.
     let m = c.args.self.now in
-    let o : Outside = outside_at g.S.SectorStore.size g.S.SectorStore.told m in
+    let o : AllMedia = all_media_at g.S.SectorStore.size g.S.SectorStore.told m in
     let ready = has.ready in
     elim (c.in_default-begin.ensures.left refl) [
       | inl never ↦ absurd (never.0 o has.left 0 ready)
       | inr lacks ↦
           let none : changes_ahead ready.t.meaning.operation (device_of m.hardware o).memory ready.t has.left ≡ 0 = page_unchanged ready.t.meaning.operation _ ready.t has.left has.sends in (
             λ never. absurd (let e : false ≡ true = never in cc),
-            λ _. (lacks.told, λ room. lacks.lacks o has.left 0 ready (omega (arith, room)) (subst (HasOldRoom c.begin.new.self.cache) (sym none) (no_room c.begin.new.self.cache))),
+            λ _. (lacks.told, λ room. lacks.lacks o has.left 0 ready (omega (arith, room)) (subst (HasRoomForOld c.begin.new.self.cache) (sym none) (no_room c.begin.new.self.cache))),
           )
     ]
 
@@ -448,10 +448,10 @@ no_clears d port slot left clears has may some = page_asks_none d port slot left
 
 pub returns-in-Left-clear_run-clause-sends : goal.returns-in-Left-clear_run-clause-sends
 returns-in-Left-clear_run-clause-sends g c = λ _ has.
-    let o : Outside = outside_at g.S.SectorStore.size g.S.SectorStore.told c.args.self.now in
+    let o : AllMedia = all_media_at g.S.SectorStore.size g.S.SectorStore.told c.args.self.now in
     absurd (no_clears _ c.args.port.0 c.args.slot.0 _ _ has (c.in-Some-begin.ensures.begun.ready o) (omega (arith, c.loop-run-test.true)))
 
 pub returns-in-Failed-clear_run-clause-sends : goal.returns-in-Failed-clear_run-clause-sends
 returns-in-Failed-clear_run-clause-sends g c = λ _ has.
-    let o : Outside = outside_at g.S.SectorStore.size g.S.SectorStore.told c.args.self.now in
+    let o : AllMedia = all_media_at g.S.SectorStore.size g.S.SectorStore.told c.args.self.now in
     absurd (no_clears _ c.args.port.0 c.args.slot.0 _ _ has (c.in-Some-begin.ensures.begun.ready o) (omega (arith, c.loop-run-test.true)))

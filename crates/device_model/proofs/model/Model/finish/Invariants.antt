@@ -3,10 +3,10 @@ use Rattle.adapter.specs.Asked.{SlotGoesOn}
 use Rattle.adapter.specs.declared.access.DeviceStep.TheVariants as asked
 use Rattle.device_model.specs.Disks.{numbered_disk}
 use Rattle.device_model.specs.Does.{AsksStore, NoCallFailed}
-use Rattle.device_model.specs.Finishing.{TapeHasRoom, IsGoing}
+use Rattle.device_model.specs.Finishing.{TapeHasRoom, IsInProgress}
 use Rattle.device_model.specs.Modelled.{device_at}
 use Rattle.device_model.specs.Sent.{SendsEnd}
-use Rattle.device_model.specs.Slots.{IsNext}
+use Rattle.device_model.specs.Slots.{IsNextMove}
 use Rattle.device_model.specs.declared.port.TakenCommand.{TakenCommand}
 use Rattle.device_model.specs.declared.disks.DiskIndex.{DiskIndex}
 use Rattle.device_model.proofs.Doing.{Meanwhile}
@@ -21,14 +21,14 @@ invariant-loop-piece g l = record {
       device_at g.S.SectorStore.size g.S.SectorStore.told l.self ≡ device_at g.S.SectorStore.size g.S.SectorStore.told l.fn.self;
   size : (device_at g.S.SectorStore.size g.S.SectorStore.told l.self).size ≡ (device_at g.S.SectorStore.size g.S.SectorStore.told l.fn.self).size;
   room : TapeHasRoom l.self.hardware (l.rest.left - l.piece + l.rest.clears + 1);
-  going : IsGoing (device_at g.S.SectorStore.size g.S.SectorStore.told l.self) l.port.0 l.slot.0 (l.rest.left - l.piece) l.rest.clears;
+  going : IsInProgress (device_at g.S.SectorStore.size g.S.SectorStore.told l.self) l.port.0 l.slot.0 (l.rest.left - l.piece) l.rest.clears;
   ahead : RoomAhead g.S.SectorStore.size g.S.SectorStore.told l.self l.port.0 l.slot.0 (l.rest.left - l.piece);
   disks : (AsksStore (asked.Finish l.port l.slot) (device_at g.S.SectorStore.size g.S.SectorStore.told l.fn.self) → ⊥) → (which : DiskIndex) →
       numbered_disk l.self l.port.0 which ≡ numbered_disk l.fn.self l.port.0 which;
   untouched : l.did ≡ false → (which : DiskIndex) → numbered_disk l.self l.port.0 which ≡ numbered_disk l.fn.self l.port.0 which;
   fine : NoCallFailed g.S.SectorStore.failures l.fn.self l.self;
   meanwhile : Meanwhile g.S.SectorStore.size l.port.0 l.fn.self l.self;
-  next : IfSome l.known (λ n. (t : TakenCommand) × IsNext l.self.hardware l.port.0 l.slot.0 n t);
+  next : IfSome l.known (λ n. (t : TakenCommand) × IsNextMove l.self.hardware l.port.0 l.slot.0 n t);
 }
 
 abbrev pub invariant-loop-run : goal.invariant-loop-run
@@ -38,7 +38,7 @@ invariant-loop-run g l = record {
   refused : l.did ≡ false →
       device_at g.S.SectorStore.size g.S.SectorStore.told l.self ≡ device_at g.S.SectorStore.size g.S.SectorStore.told l.fn.self;
   room : TapeHasRoom l.self.hardware (l._run-end - l._run + 1);
-  going : IsGoing (device_at g.S.SectorStore.size g.S.SectorStore.told l.self) l.port.0 l.slot.0 0 (l._run-end - l._run);
+  going : IsInProgress (device_at g.S.SectorStore.size g.S.SectorStore.told l.self) l.port.0 l.slot.0 0 (l._run-end - l._run);
   ahead : RoomAhead g.S.SectorStore.size g.S.SectorStore.told l.self l.port.0 l.slot.0 0;
   disks : (AsksStore (asked.Finish l.port l.slot) (device_at g.S.SectorStore.size g.S.SectorStore.told l.fn.self) → ⊥) → (which : DiskIndex) →
       numbered_disk l.self l.port.0 which ≡ numbered_disk l.fn.self l.port.0 which;

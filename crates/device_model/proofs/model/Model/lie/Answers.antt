@@ -1,6 +1,6 @@
 use Rattle.std.proofs.Common.{ℕ, refl, subst, arith}
 use Rattle.adapter.specs.declared.access.DeviceStep.TheVariants as asked
-use Rattle.device_model.specs.Disks.{SaysOnly}
+use Rattle.device_model.specs.Disks.{OnlyChangesPageSource}
 use Rattle.device_model.specs.Paged.{lying}
 use Rattle.device_model.proofs.Told.{lie_answers}
 use Rattle.device_model.proofs.model.Model.lie.Goals as goal
@@ -8,8 +8,8 @@ use Rattle.device_model.proofs.model.Model.lie.Goals as goal
 pub returns : goal.returns
 returns g c =
     let m = c.args.self.now in
-    let P : ℕ → Type 0 = λ n. SaysOnly (lying c.args.page n c.args.bits) c.from.result m.bays.items c.lie_of.new.bays.items in
-    let Q : ℕ → Type 0 = λ q. SaysOnly (lying c.args.page c.args.offset c.args.bits) q m.bays.items c.lie_of.new.bays.items in
+    let P : ℕ → Type 0 = λ n. OnlyChangesPageSource (lying c.args.page n c.args.bits) c.from.result m.bays.items c.lie_of.new.bays.items in
+    let Q : ℕ → Type 0 = λ q. OnlyChangesPageSource (lying c.args.page c.args.offset c.args.bits) q m.bays.items c.lie_of.new.bays.items in
     let at = c.from-offset.ensures in
     let small = c.if-offset-ge-PAGE_BYTES.false in
     lie_answers g.S.SectorStore.size g.S.SectorStore.told g.S.SectorStore.failures m (asked.Lie c.args.port c.args.page c.args.offset c.args.bits)

@@ -12,17 +12,17 @@ use Rattle.adapter.specs.declared.tape.Entry.{Entry}
 use Rattle.adapter.specs.declared.tape.Entry.TheVariants as entry
 use Rattle.sector_store.specs.declared.store.Failures.{Failures}
 use Rattle.adapter.specs.declared.access.DeviceStep.TheVariants as asked
-use Rattle.device_model.specs.Disks.{bay_of, port_has_cache, disk_in_bay, failing, disk_failures, has_cache, lasting_of}
-use Rattle.device_model.specs.Cached.{CallFails, HasOldRoom}
+use Rattle.device_model.specs.Disks.{bay_of, port_has_cache, disk_in_bay, bay_failures, disk_failures, has_cache, lasting_of}
+use Rattle.device_model.specs.Cached.{CallFails, HasRoomForOld}
 use Rattle.device_model.specs.Does.{Completes, CommandFails, LacksMemory}
 use Rattle.device_model.specs.Exchanged.{TransfersPiece, piece_of}
 use Rattle.device_model.specs.Finishing.{HasMove}
-use Rattle.device_model.specs.Modelled.{device_at, media_of, outside_at}
-use Rattle.device_model.specs.Slots.{IsNext}
+use Rattle.device_model.specs.Modelled.{device_at, media_of, all_media_at}
+use Rattle.device_model.specs.Slots.{IsNextMove}
 use Rattle.device_model.specs.Trims.{written_ahead}
 use Rattle.device_model.specs.View.{Media, operation_of_kind, taken_of}
 use Rattle.device_model.specs.declared.port.CommandKind.{CommandKind}
-use Rattle.device_model.specs.Whole.{Outside, device_of, outside_after}
+use Rattle.device_model.specs.WholeAdapter.{AllMedia, device_of, all_media_after}
 use Rattle.device_model.specs.declared.bay.Bay.{Bay}
 use Rattle.device_model.specs.declared.hardware.Hardware.{Hardware}
 use Rattle.device_model.specs.declared.model.Model.{Model}
@@ -44,7 +44,7 @@ use Rattle.device_model.proofs.model.Model.move_piece.Goals as goal
 
 -- the next move is one still, where the tape has grown
 grow : {old h : Hardware} {next : NextMove} → (port slot : ℕ) → h ≡ record old { tape = h.tape } →
-    (t : TakenCommand) × IsNext old port slot next t → (t : TakenCommand) × IsNext h port slot next t
+    (t : TakenCommand) × IsNextMove old port slot next t → (t : TakenCommand) × IsNextMove h port slot next t
 grow port slot is found = (found.0, next_grown port slot is found.1)
 
 -- there is no move that is possible
@@ -52,7 +52,7 @@ pub returns-in_default-next_move-clause-answers : goal.returns-in_default-next_m
 returns-in_default-next_move-clause-answers g c =
     let m = c.args.self.now in
     let a = c.in-Some.bay in
-    let o : Outside = outside_at g.S.SectorStore.size g.S.SectorStore.told m in
+    let o : AllMedia = all_media_at g.S.SectorStore.size g.S.SectorStore.told m in
     let was = seat_is m c.from-place.result c.args.port.0 c.index_mut.result.now a c.from-place.ensures
     (omega (arith, c.if-place-len.false, c.len.ensures)) c.index_mut.ensures.value c.in-Some.is in
     grown_left g.S.SectorStore.size g.S.SectorStore.told g.S.SectorStore.failures m _ c.args.port.0 a a.cache was
@@ -71,7 +71,7 @@ pub returns-then-not-room-clause-answers : goal.returns-then-not-room-clause-ans
 returns-then-not-room-clause-answers g c =
     let m = c.args.self.now in
     let a = c.in-Some.bay in
-    let o : Outside = outside_at g.S.SectorStore.size g.S.SectorStore.told m in
+    let o : AllMedia = all_media_at g.S.SectorStore.size g.S.SectorStore.told m in
     let found = c.in-Some-next_move.ensures.found in
     let was = seat_is m c.from-place.result c.args.port.0 c.index_mut.result.now a c.from-place.ensures
     (omega (arith, c.if-place-len.false, c.len.ensures)) c.index_mut.ensures.value c.in-Some.is in
@@ -118,7 +118,7 @@ fits : (g : Over) (c : goal.After-note_move g) →
     HasMove (device_at g.S.SectorStore.size g.S.SectorStore.told c.args.self.now) c.args.port.0 c.args.slot.0 (taken_of (grow c.args.port.0 c.args.slot.0 c.reserve-room.ensures.rest c.in-Some-next_move.ensures.found).0)
 fits g c =
     let m = c.args.self.now in
-    let o : Outside = outside_at g.S.SectorStore.size g.S.SectorStore.told m in
+    let o : AllMedia = all_media_at g.S.SectorStore.size g.S.SectorStore.told m in
     next_has_move c.reserve-room.new.self o _ c.args.port.0 c.args.slot.0 c.in-Some-next_move.next (grow c.args.port.0 c.args.slot.0 c.reserve-room.ensures.rest c.in-Some-next_move.ensures.found).0
     (has_disks g.S.SectorStore.size g.S.SectorStore.told m c.args.port.0 c.in-Some.bay (was g c)) (c.reserve-room.ensures.same o) (grow c.args.port.0 c.args.slot.0 c.reserve-room.ensures.rest c.in-Some-next_move.ensures.found).1
 
@@ -128,15 +128,15 @@ moved : (g : Over) (c : goal.After-note_move g) →
 moved g c =
     let m = c.args.self.now in
     let a = c.in-Some.bay in
-    let o : Outside = outside_at g.S.SectorStore.size g.S.SectorStore.told m in
+    let o : AllMedia = all_media_at g.S.SectorStore.size g.S.SectorStore.told m in
     let h = c.reserve-room.new.self in
     let bytes = piece_of c.transfer_piece.new.hardware c.in-Some-next_move.next in
     let did = c.if-not-transfer_piece.false in
     let r : TakenCommand = (grow c.args.port.0 c.args.slot.0 c.reserve-room.ensures.rest c.in-Some-next_move.ensures.found).0 in
-    let is : IsNext h c.args.port.0 c.args.slot.0 c.in-Some-next_move.next r = (grow c.args.port.0 c.args.slot.0 c.reserve-room.ensures.rest c.in-Some-next_move.ensures.found).1 in
+    let is : IsNextMove h c.args.port.0 c.args.slot.0 c.in-Some-next_move.next r = (grow c.args.port.0 c.args.slot.0 c.reserve-room.ensures.rest c.in-Some-next_move.ensures.found).1 in
     let here : Media = media_of g.S.SectorStore.size g.S.SectorStore.told (Some a) in
     let at : here ≡ o.media c.args.port.0 = sym (ap (media_of g.S.SectorStore.size g.S.SectorStore.told) (was g c)) in
-    let behind : outside_at g.S.SectorStore.size g.S.SectorStore.told (moved_model g c) ≡ outside_after o c.args.port.0 (taken_of r) bytes =
+    let behind : all_media_at g.S.SectorStore.size g.S.SectorStore.told (moved_model g c) ≡ all_media_after o c.args.port.0 (taken_of r) bytes =
     outside_moved m (moved_model g c) c.args.port.0 a c.transfer_piece.new.self (was g c) (items g c)
     (exchanged g c).rest g.S.SectorStore.size g.S.SectorStore.told
     c.in-Some-next_move.next r bytes (lasts g c) is.kind_is is.sector_is ((exchanged g c).disk did) in
@@ -151,7 +151,7 @@ moved g c =
           (subst (λ (x : Media). is_ranged (operation_of_kind c.in-Some-next_move.next.command_kind) ≡ true → reads_memory (operation_of_kind c.in-Some-next_move.next.command_kind) ≡ false →
           IfSome x.disk.sectors (λ f. bytes ≡ f c.in-Some-next_move.next.sector)) at ((exchanged g c).gives did))
           (exchanged g c).takes);
-      effect = ap (λ (x : Outside). device_of c.note_move.new.self x) behind
+      effect = ap (λ (x : AllMedia). device_of c.note_move.new.self x) behind
           ∙ (c.note_move.ensures.moved h o r c.transfer_piece.ensures.memory is
           ∙ ap (λ (d : Device). device_after (Move c.args.port.0 c.args.slot.0 (taken_of r) bytes) d)
           (c.reserve-room.ensures.same o));
@@ -181,7 +181,7 @@ returns-clause-answers g c =
     let m = c.args.self.now in
     let a = c.in-Some.bay in
     let b = c.transfer_piece.new.self in
-    let o : Outside = outside_at g.S.SectorStore.size g.S.SectorStore.told m in
+    let o : AllMedia = all_media_at g.S.SectorStore.size g.S.SectorStore.told m in
     let found = (grow c.args.port.0 c.args.slot.0 c.reserve-room.ensures.rest c.in-Some-next_move.ensures.found) in
     let bytes = piece_of c.transfer_piece.new.hardware c.in-Some-next_move.next in
     let noted = c.note_move.ensures.moved c.reserve-room.new.self o found.0 c.transfer_piece.ensures.memory found.1 in
@@ -233,23 +233,23 @@ past_same : (g : Over) (c : goal.After-fail-failed g) →
 past_same g c =
     let m = c.args.self.now in
     let a = c.in-Some.bay in
-    ap (λ (x : Outside). device_of c.reserve-room.new.self x)
+    ap (λ (x : AllMedia). device_of c.reserve-room.new.self x)
     (outside_kept m (past_model g c) c.args.port.0 a a (was_past g c) (past_items g c) refl g.S.SectorStore.size g.S.SectorStore.told refl refl refl)
-    ∙ c.reserve-room.ensures.same (outside_at g.S.SectorStore.size g.S.SectorStore.told m)
+    ∙ c.reserve-room.ensures.same (all_media_at g.S.SectorStore.size g.S.SectorStore.told m)
 
 past_fits : (g : Over) (c : goal.After-fail-failed g) →
     HasMove (device_at g.S.SectorStore.size g.S.SectorStore.told c.args.self.now) c.args.port.0 c.args.slot.0 (taken_of (grow c.args.port.0 c.args.slot.0 c.reserve-room.ensures.rest c.in-Some-next_move.ensures.found).0)
 past_fits g c =
     let m = c.args.self.now in
-    next_has_move c.reserve-room.new.self (outside_at g.S.SectorStore.size g.S.SectorStore.told m) _ c.args.port.0 c.args.slot.0 c.in-Some-next_move.next (grow c.args.port.0 c.args.slot.0 c.reserve-room.ensures.rest c.in-Some-next_move.ensures.found).0
+    next_has_move c.reserve-room.new.self (all_media_at g.S.SectorStore.size g.S.SectorStore.told m) _ c.args.port.0 c.args.slot.0 c.in-Some-next_move.next (grow c.args.port.0 c.args.slot.0 c.reserve-room.ensures.rest c.in-Some-next_move.ensures.found).0
     (has_disks g.S.SectorStore.size g.S.SectorStore.told m c.args.port.0 c.in-Some.bay (was_past g c))
-    (c.reserve-room.ensures.same (outside_at g.S.SectorStore.size g.S.SectorStore.told m)) (grow c.args.port.0 c.args.slot.0 c.reserve-room.ensures.rest c.in-Some-next_move.ensures.found).1
+    (c.reserve-room.ensures.same (all_media_at g.S.SectorStore.size g.S.SectorStore.told m)) (grow c.args.port.0 c.args.slot.0 c.reserve-room.ensures.rest c.in-Some-next_move.ensures.found).1
 
 past : (g : Over) (c : goal.After-fail-failed g) →
     IsFailed g.S.SectorStore.size g.S.SectorStore.told g.S.SectorStore.failures c.args.port c.args.slot 0x10 (taken_of (grow c.args.port.0 c.args.slot.0 c.reserve-room.ensures.rest c.in-Some-next_move.ensures.found).0)
     (past_model g c) c.fail-failed.new.self
 past g c =
-    let o : Outside = outside_at g.S.SectorStore.size g.S.SectorStore.told (past_model g c) in
+    let o : AllMedia = all_media_at g.S.SectorStore.size g.S.SectorStore.told (past_model g c) in
     let found = (grow c.args.port.0 c.args.slot.0 c.reserve-room.ensures.rest c.in-Some-next_move.ensures.found) in
     let works = found.1.holds.works (o.media c.args.port.0) in
     let small = c.if-place-ge-PORTS.false in
@@ -263,7 +263,7 @@ past_ranged : (g : Over) (c : goal.After-fail-failed g) → (next_sector (taken_
     × (is_ranged (operation_of_kind (grow c.args.port.0 c.args.slot.0 c.reserve-room.ensures.rest c.in-Some-next_move.ensures.found).0.command_kind) ≡ true) × (g.S.SectorStore.size c.in-Some.bay.disk.store ≤ c.in-Some-next_move.next.sector)
 past_ranged g c = by (is_ranged (operation_of_kind c.in-Some-next_move.next.command_kind)) refl
   where
-    found : (t : TakenCommand) × IsNext c.reserve-room.new.self c.args.port.0 c.args.slot.0 c.in-Some-next_move.next t
+    found : (t : TakenCommand) × IsNextMove c.reserve-room.new.self c.args.port.0 c.args.slot.0 c.in-Some-next_move.next t
     found = (grow c.args.port.0 c.args.slot.0 c.reserve-room.ensures.rest c.in-Some-next_move.ensures.found)
 
     never : (is_ranged (operation_of_kind c.in-Some-next_move.next.command_kind) ≡ true → c.in-Some-next_move.next.sector < c.sectors.result) → ⊥
@@ -293,7 +293,7 @@ past_failed g c =
     let sector = is.0 in
     let below = is.2 in
     let calls : disk_failures g.S.SectorStore.failures (past_model g c) c.args.port.0 ≡ disk_failures g.S.SectorStore.failures m c.args.port.0 =
-    seated_same m (past_model g c) c.args.port.0 a a (was_past g c) (past_items g c) (failing g.S.SectorStore.failures) refl c.args.port.0 in
+    seated_same m (past_model g c) c.args.port.0 a a (was_past g c) (past_items g c) (bay_failures g.S.SectorStore.failures) refl c.args.port.0 in
     fails_to_move g.S.SectorStore.size g.S.SectorStore.told g.S.SectorStore.failures c.args.port c.args.slot 0x10 (taken_of found.0) m
     (past_model g c) c.fail-failed.new.self (past g c) (past_same g c)
     (store_says m (past_model g c) c.args.port.0 a a (was_past g c) (past_items g c) refl c.args.port.0) (past_fits g c) is.1
@@ -355,16 +355,16 @@ store_fits : (g : Over) (c : goal.After-fail-failed-then-not-transfer_piece g) �
     HasMove (device_at g.S.SectorStore.size g.S.SectorStore.told c.args.self.now) c.args.port.0 c.args.slot.0 (taken_of (grow c.args.port.0 c.args.slot.0 c.reserve-room.ensures.rest c.in-Some-next_move.ensures.found).0)
 store_fits g c =
     let m = c.args.self.now in
-    next_has_move c.reserve-room.new.self (outside_at g.S.SectorStore.size g.S.SectorStore.told m) _ c.args.port.0 c.args.slot.0 c.in-Some-next_move.next (grow c.args.port.0 c.args.slot.0 c.reserve-room.ensures.rest c.in-Some-next_move.ensures.found).0
+    next_has_move c.reserve-room.new.self (all_media_at g.S.SectorStore.size g.S.SectorStore.told m) _ c.args.port.0 c.args.slot.0 c.in-Some-next_move.next (grow c.args.port.0 c.args.slot.0 c.reserve-room.ensures.rest c.in-Some-next_move.ensures.found).0
     (has_disks g.S.SectorStore.size g.S.SectorStore.told m c.args.port.0 c.in-Some.bay (was_store g c))
-    (c.reserve-room.ensures.same (outside_at g.S.SectorStore.size g.S.SectorStore.told m)) (grow c.args.port.0 c.args.slot.0 c.reserve-room.ensures.rest c.in-Some-next_move.ensures.found).1
+    (c.reserve-room.ensures.same (all_media_at g.S.SectorStore.size g.S.SectorStore.told m)) (grow c.args.port.0 c.args.slot.0 c.reserve-room.ensures.rest c.in-Some-next_move.ensures.found).1
 
 store : (g : Over) (c : goal.After-fail-failed-then-not-transfer_piece g) →
     IsFailed g.S.SectorStore.size g.S.SectorStore.told g.S.SectorStore.failures c.args.port c.args.slot 0x40 (taken_of (grow c.args.port.0 c.args.slot.0 c.reserve-room.ensures.rest c.in-Some-next_move.ensures.found).0)
     (store_model g c) c.fail-failed-then-not-transfer_piece.new.self
 store g c =
     let mid = store_model g c in
-    let o : Outside = outside_at g.S.SectorStore.size g.S.SectorStore.told mid in
+    let o : AllMedia = all_media_at g.S.SectorStore.size g.S.SectorStore.told mid in
     let found = (grow c.args.port.0 c.args.slot.0 c.reserve-room.ensures.rest c.in-Some-next_move.ensures.found) in
     let works = (next_over c.args.port.0 c.args.slot.0 c.transfer_piece.ensures.memory found.1).holds.works
     (o.media c.args.port.0) in
@@ -380,13 +380,13 @@ store_same : (g : Over) (c : goal.After-fail-failed-then-not-transfer_piece g) �
     device_at g.S.SectorStore.size g.S.SectorStore.told (store_model g c) ≡ device_at g.S.SectorStore.size g.S.SectorStore.told c.args.self.now
 store_same g c =
     let m = c.args.self.now in
-    ap (λ (x : Outside). device_of c.transfer_piece.new.hardware x)
+    ap (λ (x : AllMedia). device_of c.transfer_piece.new.hardware x)
     (outside_kept m (store_model g c) c.args.port.0 c.in-Some.bay c.transfer_piece.new.self (was_store g c)
     (store_items g c) (exchanged_so g c).rest
     g.S.SectorStore.size g.S.SectorStore.told (exchanged_so g c).sized
     ((exchanged_so g c).kept c.if-not-transfer_piece.true) (lasts_so g c))
-    ∙ (c.transfer_piece.ensures.stays c.if-not-transfer_piece.true (outside_at g.S.SectorStore.size g.S.SectorStore.told m)
-    ∙ c.reserve-room.ensures.same (outside_at g.S.SectorStore.size g.S.SectorStore.told m))
+    ∙ (c.transfer_piece.ensures.stays c.if-not-transfer_piece.true (all_media_at g.S.SectorStore.size g.S.SectorStore.told m)
+    ∙ c.reserve-room.ensures.same (all_media_at g.S.SectorStore.size g.S.SectorStore.told m))
 
 store_failed : (g : Over) (c : goal.After-fail-failed-then-not-transfer_piece g) →
     CommandFails g.S.SectorStore.size g.S.SectorStore.told g.S.SectorStore.failures (asked.Move c.args.port c.args.slot) c.args.self.now c.fail-failed-then-not-transfer_piece.new.self
@@ -406,9 +406,9 @@ store_failed g c =
     let size : ((device_at g.S.SectorStore.size g.S.SectorStore.told m).port c.args.port.0).disk.size ≡ g.S.SectorStore.size a.disk.store =
     ap (λ x. (media_of g.S.SectorStore.size g.S.SectorStore.told x).disk.size) (was_store g c) in
     let sector : c.in-Some-next_move.next.sector ≡ next_sector (taken_of next.0) = next.1.sector_is in
-    let before : disk_failures g.S.SectorStore.failures m c.args.port.0 ≡ g.S.SectorStore.failures a.disk.store = ap (failing g.S.SectorStore.failures) (was_store g c) in
+    let before : disk_failures g.S.SectorStore.failures m c.args.port.0 ≡ g.S.SectorStore.failures a.disk.store = ap (bay_failures g.S.SectorStore.failures) (was_store g c) in
     let now : disk_failures g.S.SectorStore.failures (store_model g c) c.args.port.0 ≡ g.S.SectorStore.failures b.disk.store =
-    ap (failing g.S.SectorStore.failures) (seated_here m (store_model g c) c.args.port.0 a b (was_store g c) (store_items g c)) in
+    ap (bay_failures g.S.SectorStore.failures) (seated_here m (store_model g c) c.args.port.0 a b (was_store g c) (store_items g c)) in
     let R : Option Failures → Option Failures → Type 0 = λ x y. CallFails (port_has_cache m c.args.port.0) (reads_memory (operation_of_kind next.0.command_kind)) (next_sector (taken_of next.0)) x y in
     let called = subst (λ w. Q w (next_sector (taken_of next.0))) writes (subst (Q (reads_memory (operation_of_kind c.in-Some-next_move.next.command_kind))) next.1.sector_is failed) in
     fails_to_move g.S.SectorStore.size g.S.SectorStore.told g.S.SectorStore.failures c.args.port c.args.slot 0x40 (taken_of next.0) m
@@ -459,11 +459,11 @@ returns-clause-readies g c = λ _.
           let m = c.args.self.now in
           let a = c.in-Some.bay in
           let found = (grow c.args.port.0 c.args.slot.0 c.reserve-room.ensures.rest c.in-Some-next_move.ensures.found) in
-          let o : Outside = outside_at g.S.SectorStore.size g.S.SectorStore.told m in
+          let o : AllMedia = all_media_at g.S.SectorStore.size g.S.SectorStore.told m in
           let one : t ≡ taken_of found.0 = some_one (sym taken ∙ (fits g c).works.taken) in
           let kind : written_ahead t.meaning.operation 1 ≡ written_ahead (operation_of_kind c.in-Some-next_move.next.command_kind) 1 =
           ap (λ (x : FetchedCommand). written_ahead x.meaning.operation 1) one ∙ ap (λ (k : CommandKind). written_ahead (operation_of_kind k) 1) (sym found.1.kind_is) in
-          let P : ℕ → Type 0 = λ k. HasOldRoom a.cache (k + n) in
+          let P : ℕ → Type 0 = λ k. HasRoomForOld a.cache (k + n) in
           room_there (moved_model g c) c.args.port.0 n c.transfer_piece.new.self (seated_here m (moved_model g c) c.args.port.0 a c.transfer_piece.new.self (was g c) (items g c))
           ((exchanged g c).old_room n
           (c.reserve.ensures.kept (written_ahead (operation_of_kind c.in-Some-next_move.next.command_kind) 1 + n)
@@ -476,7 +476,7 @@ returns-clause-readies g c = λ _.
 pub returns-in_default-next_move-clause-page : goal.returns-in_default-next_move-clause-page
 returns-in_default-next_move-clause-page g c = λ t taken sends _ move low _.
     let m = c.args.self.now in
-    let o : Outside = outside_at g.S.SectorStore.size g.S.SectorStore.told m in
+    let o : AllMedia = all_media_at g.S.SectorStore.size g.S.SectorStore.told m in
     let found = move_fits m.hardware o _ c.args.port.0 c.args.slot.0 t refl move in
     let one : t ≡ taken_of found.r = some_one (sym move.works.taken ∙ (found.holds.works (o.media c.args.port.0)).taken) in
     let place : next_place t ≡ next_place (taken_of found.r) = ap next_place one in
@@ -485,13 +485,13 @@ returns-in_default-next_move-clause-page g c = λ t taken sends _ move low _.
 -- ---- the cache had no memory for what the sector holds, and that is told
 
 pub transfer_piece-requires-clause-room : goal.transfer_piece-requires-clause-room
-transfer_piece-requires-clause-room g c = subst (HasOldRoom c.reserve.new.self.cache) c.written.ensures (c.reserve.ensures.room c.if-not-reserve.false)
+transfer_piece-requires-clause-room g c = subst (HasRoomForOld c.reserve.new.self.cache) c.written.ensures (c.reserve.ensures.room c.if-not-reserve.false)
 
 pub returns-then-not-reserve-clause-answers : goal.returns-then-not-reserve-clause-answers
 returns-then-not-reserve-clause-answers g c =
     let m = c.args.self.now in
     let a = c.in-Some.bay in
-    let o : Outside = outside_at g.S.SectorStore.size g.S.SectorStore.told m in
+    let o : AllMedia = all_media_at g.S.SectorStore.size g.S.SectorStore.told m in
     let found = (grow c.args.port.0 c.args.slot.0 c.reserve-room.ensures.rest c.in-Some-next_move.ensures.found) in
     let r = found.0 in
     let was = seat_is m c.from-place.result c.args.port.0 c.index_mut.result.now a c.from-place.ensures
@@ -505,7 +505,7 @@ returns-then-not-reserve-clause-answers g c =
       taken_of r,
       fits,
       λ _ old. c.reserve.ensures.lacked c.if-not-reserve.true
-          (subst (HasOldRoom a.cache) changes (room_here m c.args.port.0 (written_ahead (operation_of_kind r.command_kind) 1) a was old)),
+          (subst (HasRoomForOld a.cache) changes (room_here m c.args.port.0 (written_ahead (operation_of_kind r.command_kind) 1) a was old)),
     ) in
     grown_left g.S.SectorStore.size g.S.SectorStore.told g.S.SectorStore.failures m _ c.args.port.0 a c.reserve.new.self.cache was
     (ap (λ k. slice_set m.bays.items k (Some c.reserve.new.self)) c.from-place.ensures ∙ ap (λ (x : Bay g.row.S.Denot). slice_set m.bays.items c.args.port.0 (Some x)) c.reserve.ensures.rest)
@@ -517,7 +517,7 @@ pub returns-then-not-reserve-clause-page : goal.returns-then-not-reserve-clause-
 returns-then-not-reserve-clause-page g c = λ t taken sends _ _ _ _.
     let m = c.args.self.now in
     let a = c.in-Some.bay in
-    let o : Outside = outside_at g.S.SectorStore.size g.S.SectorStore.told m in
+    let o : AllMedia = all_media_at g.S.SectorStore.size g.S.SectorStore.told m in
     let found = (grow c.args.port.0 c.args.slot.0 c.reserve-room.ensures.rest c.in-Some-next_move.ensures.found) in
     let P : Device → Type 0 = λ d. (d.port c.args.port.0).taken c.args.slot.0 ≡ Some (taken_of found.0) in
     let here = subst P (c.reserve-room.ensures.same o) (found.1.holds.works (o.media c.args.port.0)).taken in
@@ -525,4 +525,4 @@ returns-then-not-reserve-clause-page g c = λ t taken sends _ _ _ _.
     let none : written_ahead (operation_of_kind found.0.command_kind) 1 ≡ 0 =
     ap (λ (x : FetchedCommand). written_ahead x.meaning.operation 1) (sym one) ∙ page_unwritten t.meaning.operation 1 sends in
     let changes : written_ahead (operation_of_kind found.0.command_kind) 1 ≡ c.written.result = ap (λ (k : CommandKind). written_ahead (operation_of_kind k) 1) (sym found.1.kind_is) ∙ sym c.written.ensures in
-    c.reserve.ensures.lacked c.if-not-reserve.true (subst (HasOldRoom a.cache) (sym none ∙ changes) (no_room a.cache))
+    c.reserve.ensures.lacked c.if-not-reserve.true (subst (HasRoomForOld a.cache) (sym none ∙ changes) (no_room a.cache))

@@ -3,8 +3,8 @@ use Rattle.std.specs.Prelude.{IfSome}
 use Rattle.adapter.specs.Device.{Device}
 use Rattle.device_model.specs.Finishing.{LooksForPage}
 use Rattle.device_model.specs.Held.{IsPortLoose}
-use Rattle.device_model.specs.Modelled.{device_at, outside_at}
-use Rattle.device_model.specs.Whole.{HasDisks, Outside, device_of}
+use Rattle.device_model.specs.Modelled.{device_at, all_media_at}
+use Rattle.device_model.specs.WholeAdapter.{HasDisks, AllMedia, device_of}
 use Rattle.device_model.specs.declared.hardware.Hardware.{Hardware}
 use Rattle.device_model.specs.declared.steps.PendingPage.{PendingPage}
 use Rattle.device_model.proofs.Absurd.{true-false}
@@ -14,20 +14,20 @@ use Rattle.device_model.proofs.model.Model.next_page.Goals as goal
 use Rattle.device_model.proofs.model.Model.next_page.Goals.{then-not-left_out-from+then-has_disks+else-is_some, else-not-left_out-from, else-not-left_out-from-via-then-not-left_out-from+else-has_disks, else-not-left_out-from-via-else-not-left_out-from}
 
 -- what was found is of the port that it names
-named : (h : Hardware) (o : Outside) (port : ℕ) (r : Option PendingPage) → IfSome r (λ found. found.port ≡ port) →
-    IfSome r (λ found. (o : Outside) → LooksForPage (device_of h o) port found.slot (Some found.ends)) → IfSome r (λ found. LooksForPage (device_of h o) found.port found.slot (Some found.ends))
+named : (h : Hardware) (o : AllMedia) (port : ℕ) (r : Option PendingPage) → IfSome r (λ found. found.port ≡ port) →
+    IfSome r (λ found. (o : AllMedia) → LooksForPage (device_of h o) port found.slot (Some found.ends)) → IfSome r (λ found. LooksForPage (device_of h o) found.port found.slot (Some found.ends))
 named h o port None at found = found
 named h o port (Some f) at found = subst (λ q. LooksForPage (device_of h o) q f.slot (Some f.ends)) (sym at) (found o)
 
 pub returns-then-is_some-clause-found : goal.returns-then-is_some-clause-found
 returns-then-is_some-clause-found g c =
     let m = c.args.self.now in
-    named m.hardware (outside_at g.S.SectorStore.size g.S.SectorStore.told m) c.loop-port.port c.next_page-found.result c.next_page-found.ensures.port c.next_page-found.ensures.found
+    named m.hardware (all_media_at g.S.SectorStore.size g.S.SectorStore.told m) c.loop-port.port c.next_page-found.result c.next_page-found.ensures.port c.next_page-found.ensures.found
 
 pub loop-port-preserved : goal.loop-port-preserved
 loop-port-preserved g c = λ port slot small.
     let m = c.args.self.now in
-    let o : Outside = outside_at g.S.SectorStore.size g.S.SectorStore.told m in
+    let o : AllMedia = all_media_at g.S.SectorStore.size g.S.SectorStore.told m in
     let d : Device = device_at g.S.SectorStore.size g.S.SectorStore.told m in
     let P : ℕ → Type 0 = λ k. (slot : ℕ) → IsPortLoose c.args.left_out.now k → HasDisks d k → slot < 32 → LooksForPage d k slot None in
     let here : P c.loop-port.port = elim c.if-not-left_out-from.branch [

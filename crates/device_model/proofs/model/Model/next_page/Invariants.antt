@@ -2,7 +2,7 @@ use Rattle.std.proofs.Common.{ℕ, ◌<◌, None}
 use Rattle.device_model.specs.Finishing.{LooksForPage}
 use Rattle.device_model.specs.Held.{IsPortLoose}
 use Rattle.device_model.specs.Modelled.{device_at}
-use Rattle.device_model.specs.Whole.{HasDisks}
+use Rattle.device_model.specs.WholeAdapter.{HasDisks}
 use Rattle.device_model.proofs.model.Model.next_page.Given as goal
 
 -- none was found on the ports below

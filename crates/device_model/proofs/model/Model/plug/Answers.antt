@@ -1,8 +1,8 @@
 use Rattle.std.proofs.Common.{rules, ℕ, Some, ◌<◌, ◌∙◌, length, refl, sym, ap, inl, inr, arith}
 use Rattle.std.specs.Prelude.{slice_set}
 use Rattle.adapter.specs.Device.{Device}
-use Rattle.device_model.specs.Modelled.{outside_at}
-use Rattle.device_model.specs.Whole.{Outside}
+use Rattle.device_model.specs.Modelled.{all_media_at}
+use Rattle.device_model.specs.WholeAdapter.{AllMedia}
 use Rattle.device_model.specs.declared.bay.Bay.{Bay}
 use Rattle.device_model.proofs.Absurd.{true-false}
 use Rattle.device_model.proofs.Doing.{left_same}
@@ -15,7 +15,7 @@ use Rattle.device_model.proofs.model.Model.plug.Goals as goal
 pub returns-then-not-plug : goal.returns-then-not-plug
 returns-then-not-plug g c =
     let m = c.args.self.now in
-    let o : Outside = outside_at g.S.SectorStore.size g.S.SectorStore.told m in
+    let o : AllMedia = all_media_at g.S.SectorStore.size g.S.SectorStore.told m in
     let a = c.in-Some-index_mut.bay in
     let p : ℕ = c.from-place.result in
     let long : p < length m.hardware.ports = search rules in
@@ -58,7 +58,7 @@ returns g c =
     c.put_in.ensures.cached
     c.put_in.ensures.lasting
     (omega (arith, small, at))
-    (λ d is. ap (λ (x : Device). (x.port c.args.port.0).present) is ∙ c.plug.ensures.free yes (outside_at g.S.SectorStore.size g.S.SectorStore.told m))
+    (λ d is. ap (λ (x : Device). (x.port c.args.port.0).present) is ∙ c.plug.ensures.free yes (all_media_at g.S.SectorStore.size g.S.SectorStore.told m))
     g.met.S.SectorStore.tells_sectors (λ o disk name same. c.plug.ensures.did yes o disk (name ∙ (sym c.in-Some.ensures.found ∙ sym c.number.ensures)) (c.is.ensures ∙ same)) (c.plug.ensures.fed yes)
 
 -- a disk is in

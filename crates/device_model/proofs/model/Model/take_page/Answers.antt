@@ -8,8 +8,8 @@ use Rattle.adapter.specs.Steps.{Can}
 use Rattle.adapter.specs.Steps.DeviceTransition.{Fetch}
 use Rattle.adapter.specs.declared.tape.Entry.{Entry}
 use Rattle.adapter.proofs.Going.{goes_one}
-use Rattle.device_model.specs.Modelled.{device_at, outside_at}
-use Rattle.device_model.specs.Whole.{device_of}
+use Rattle.device_model.specs.Modelled.{device_at, all_media_at}
+use Rattle.device_model.specs.WholeAdapter.{device_of}
 use Rattle.device_model.specs.declared.hardware.Hardware.{Hardware}
 use Rattle.device_model.specs.Sent.{SendsEnd}
 use Rattle.device_model.proofs.GoingOn.{gone_settled}
@@ -22,7 +22,7 @@ pub returns : goal.returns
 returns g c =
     let was = c.args.self.now in
     let is = record was { hardware = c.fetch-taken.new.self } in
-    let o = outside_at g.S.SectorStore.size g.S.SectorStore.told was in
+    let o = all_media_at g.S.SectorStore.size g.S.SectorStore.told was in
     let port : ℕ = c.args.port in
     let slot : ℕ = c.args.slot in
     let old : Device = device_at g.S.SectorStore.size g.S.SectorStore.told was in

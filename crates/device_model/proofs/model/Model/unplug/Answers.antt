@@ -1,12 +1,12 @@
 use Rattle.std.proofs.Common.{arith}
-use Rattle.device_model.specs.Modelled.{outside_at}
-use Rattle.device_model.specs.Whole.{Outside}
+use Rattle.device_model.specs.Modelled.{all_media_at}
+use Rattle.device_model.specs.WholeAdapter.{AllMedia}
 use Rattle.device_model.proofs.Told.{unplug_answers}
 use Rattle.device_model.proofs.model.Model.unplug.Goals as goal
 
 pub returns-then-port-lt4 : goal.returns-then-port-lt4
 returns-then-port-lt4 g c =
     let f = c.unplug.ensures in
-    let o : Outside = outside_at g.S.SectorStore.size g.S.SectorStore.told c.args.self.now in
+    let o : AllMedia = all_media_at g.S.SectorStore.size g.S.SectorStore.told c.args.self.now in
     unplug_answers g.S.SectorStore.size g.S.SectorStore.told g.S.SectorStore.failures c.args.self.now c.unplug.new.self c.args.port c.unplug.result (omega (arith, c.if-port-lt4.true))
     (λ e. f.did e o) (λ e. f.refused e o) (λ e. f.left e o) f.fed

@@ -1,4 +1,4 @@
-use Rattle.device_model.specs.Modelled.{outside_at}
+use Rattle.device_model.specs.Modelled.{all_media_at}
 use Rattle.device_model.proofs.Queueing.{begins_steps}
 use Rattle.device_model.proofs.model.ModelAdapter.load.Goals as goal
 
@@ -10,5 +10,5 @@ returns-clause-loads g c =
     let m = c.do_queued_steps.new.self in
     record {
       steps = begins_steps g.S.SectorStore.size g.S.SectorStore.told g.S.SectorStore.failures _ _ c.do_queued_steps.ensures;
-      shows = c.load.ensures.shows (outside_at g.S.SectorStore.size g.S.SectorStore.told m);
+      shows = c.load.ensures.shows (all_media_at g.S.SectorStore.size g.S.SectorStore.told m);
     }

@@ -7,8 +7,8 @@ use Rattle.adapter.specs.declared.tape.Entry.{Entry}
 use Rattle.device_model.specs.Finishing.{HasPageCommand, MayTakePage}
 use Rattle.device_model.specs.Held.{IsPortHeld}
 use Rattle.device_model.specs.Settled.{DoesOwn, EndsReset, IsSettled}
-use Rattle.device_model.specs.Modelled.{device_at, outside_at}
-use Rattle.device_model.specs.Whole.{HasDisks, Outside, device_of}
+use Rattle.device_model.specs.Modelled.{device_at, all_media_at}
+use Rattle.device_model.specs.WholeAdapter.{HasDisks, AllMedia, device_of}
 use Rattle.device_model.proofs.TwoDisks.{disks_kept, identity_kept}
 use Rattle.device_model.proofs.Paging.{noted_page, noted_may}
 use Rattle.device_model.proofs.Own.{own_steps, reset_steps}
@@ -25,8 +25,8 @@ note-requires g c = has_port_read c.args.r _ c.requires
 
 pub returns-clause-reads : goal.returns-clause-reads
 returns-clause-reads g c =
-    let o : Outside = outside_at g.S.SectorStore.size g.S.SectorStore.told c.do_queued_steps.new.self in
-    let last : Outside = outside_at g.S.SectorStore.size g.S.SectorStore.told c.send_pages.new.self in
+    let o : AllMedia = all_media_at g.S.SectorStore.size g.S.SectorStore.told c.do_queued_steps.new.self in
+    let last : AllMedia = all_media_at g.S.SectorStore.size g.S.SectorStore.told c.send_pages.new.self in
     let settled = c.settle_state.ensures.own o in
     record {
       mid = device_of c.send_pages.new.self.hardware last;
@@ -38,8 +38,8 @@ returns-clause-reads g c =
 
 pub returns-clause-settled : goal.returns-clause-settled
 returns-clause-settled g c =
-    let o : Outside = outside_at g.S.SectorStore.size g.S.SectorStore.told c.do_queued_steps.new.self in
-    let last : Outside = outside_at g.S.SectorStore.size g.S.SectorStore.told c.send_pages.new.self in
+    let o : AllMedia = all_media_at g.S.SectorStore.size g.S.SectorStore.told c.do_queued_steps.new.self in
+    let last : AllMedia = all_media_at g.S.SectorStore.size g.S.SectorStore.told c.send_pages.new.self in
     let P : Device → Type 0 = λ d. IsSettled c.send_pages.new.self.held d in
     let Q : List Bool → Type 0 = λ held. IsSettled held (device_of c.send_pages.new.self.hardware last) in
     subst P (sym (c.note.ensures.notes last))
@@ -48,7 +48,7 @@ returns-clause-settled g c =
 
 pub returns-clause-left : goal.returns-clause-left
 returns-clause-left g c =
-    let last : Outside = outside_at g.S.SectorStore.size g.S.SectorStore.told c.send_pages.new.self in
+    let last : AllMedia = all_media_at g.S.SectorStore.size g.S.SectorStore.told c.send_pages.new.self in
     let Q : ℕ → Bool → Type 0 = λ port starved. IsPortHeld c.send_pages.new.self.held port ⊎ (starved ≡ true) in
     let sent : Device = device_of c.send_pages.new.self.hardware last in
     let had : (port : ℕ) → HasDisks (device_of c.note.new.self last) port → HasDisks sent port =
@@ -69,8 +69,8 @@ returns-clause-left g c =
 pub returns-clause-alone : goal.returns-clause-alone
 returns-clause-alone g c =
     let mid = c.do_queued_steps.new.self in
-    let o : Outside = outside_at g.S.SectorStore.size g.S.SectorStore.told mid in
-    let last : Outside = outside_at g.S.SectorStore.size g.S.SectorStore.told c.send_pages.new.self in
+    let o : AllMedia = all_media_at g.S.SectorStore.size g.S.SectorStore.told mid in
+    let last : AllMedia = all_media_at g.S.SectorStore.size g.S.SectorStore.told c.send_pages.new.self in
     let after = record mid { hardware = c.settle_state.new.self; held = c.settle_state.new.held } in
     let settled = c.settle_state.ensures.own o in
     let own = c.send_pages.ensures.rest in

@@ -1,7 +1,7 @@
 use Rattle.std.proofs.Common.{ℕ, List, ◌≡◌, ◌∙◌, ◌+◌, Option, Some, sym, ap}
 use Rattle.adapter.specs.Device.{FetchedCommand}
 use Rattle.adapter.specs.Memory.{changed}
-use Rattle.adapter.specs.Steps.{block_after, noted_bytes}
+use Rattle.adapter.specs.Steps.{block_after, snapshot_of_bytes}
 use Rattle.device_model.proofs.Absurd.{some_one, true-false}
 use Rattle.device_model.specs.Block.{brought}
 use Rattle.device_model.specs.View.{taken_in, media_after, operation_of_kind, port_of, taken_slots, taken_of}
@@ -23,7 +23,7 @@ returns-then-is_trim-clause-moved c = λ m t held.
     let was : ℕ → Option TakenCommand = taken_in c.args.self.now.taken in
     let slot : ℕ = c.args.slot in
     let bytes : List ℕ = c.args.bytes.now in
-    let u : TakenCommand = record t { moved = t.moved + 1; block = Some (noted_bytes bytes) } in
+    let u : TakenCommand = record t { moved = t.moved + 1; block = Some (snapshot_of_bytes bytes) } in
     let kind : t.command_kind ≡ Trim =
     same_kind (was slot) c.requires.held.0 t c.args.command_kind c.requires.held.1 c.requires.held.2 held ∙ c.is_trim.ensures.0 c.if-is_trim.true in
     let kept : block_after (operation_of_kind t.command_kind) bytes (brought t.block) ≡ bytes = ap (λ (k : CommandKind). block_after (operation_of_kind k) bytes (brought t.block)) kind in

@@ -1,6 +1,6 @@
 use Rattle.std.proofs.Common.{ap, arith, sym, ◌∙◌}
 use Rattle.adapter.specs.Device.{DevicePort}
-use Rattle.device_model.specs.Whole.{no_media}
+use Rattle.device_model.specs.WholeAdapter.{no_media}
 use Rattle.device_model.proofs.port.PortModel.link.Goals as goal
 
 pub returns-then-may-clause-up : goal.returns-then-may-clause-up

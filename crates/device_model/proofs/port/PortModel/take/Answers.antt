@@ -8,7 +8,7 @@ use Rattle.device_model.specs.Bits.{word_bits}
 use Rattle.device_model.specs.View.{taken_in, operation_of_kind, port_of, taken_slots, taken_of}
 use Rattle.device_model.specs.declared.port.PortModel.{PortModel}
 use Rattle.device_model.specs.declared.port.TakenCommand.{TakenCommand}
-use Rattle.device_model.specs.Whole.{no_media}
+use Rattle.device_model.specs.WholeAdapter.{no_media}
 use Rattle.device_model.proofs.Transfers.{both_queued}
 use Rattle.device_model.proofs.SlotLemmas.{slot_taken, slots_begun}
 use Rattle.device_model.proofs.port.PortModel.take.Goals as goal

@@ -1,7 +1,7 @@
 use Rattle.std.proofs.Common.{rules, arith, ◌<◌, ◌+◌, ◌^◌, ◌∙◌, Some, length, ap, sym, subst, refl}
 use Rattle.std.proofs.lemmas.List.{length-set}
 use Rattle.adapter.specs.Memory.{changed}
-use Rattle.adapter.specs.Steps.{noted_bytes}
+use Rattle.adapter.specs.Steps.{snapshot_of_bytes}
 use Rattle.device_model.proofs.Rooms.{in_it, in_taken_room, room_brings, room_changed}
 use Rattle.device_model.specs.View.{taken_in}
 use Rattle.device_model.specs.declared.port.TakenCommand.{TakenCommand}
@@ -25,7 +25,7 @@ invariant_of-self c =
     let new : TakenCommand = record now { moved = now.moved + 1; block = Some c.of.result } in (
       simp length-set c.self.invariant.0,
       room_brings is c.self.inside.block c.args.bytes.now c.self.invariant.1 new refl refl
-          (ap (λ (t : TakenCommand). t.command_kind) (in_it is trim.0 trim.1) ∙ trim.2) (λ i. Some (noted_bytes (c.of.ensures i))),
+          (ap (λ (t : TakenCommand). t.command_kind) (in_it is trim.0 trim.1) ∙ trim.2) (λ i. Some (snapshot_of_bytes (c.of.ensures i))),
     )
 
 pub returns : goal.returns
@@ -37,4 +37,4 @@ returns c = λ t held.
     let one = in_it is t held in
     room_changed is (record now { moved = now.moved + 1; block = Some c.of.result })
     ∙ (λ i. changed (taken_in c.args.self.now) c.args.slot
-    (Some (record (one i) { moved = (one i).moved + 1; block = Some (noted_bytes (c.of.ensures i)) })))
+    (Some (record (one i) { moved = (one i).moved + 1; block = Some (snapshot_of_bytes (c.of.ensures i)) })))

@@ -9,7 +9,7 @@ read-shown-requires g c =
     let old = device c.args.self.now.model in
     let mid = device c.prepare_read-said.new.self.model in
     let steps = c.prepare_read-said.ensures.goes old (c.law_steps_compose.ensures.none old) in
-    may_read_still c.args.r old mid (c.law_steps_guarantee.ensures old mid steps) c.requires
+    may_read_still c.args.r old mid (c.law_step_lists_keep_what_steps_keep.ensures old mid steps) c.requires
 
 pub returns-clause-reads : goal.returns-clause-reads
 returns-clause-reads g c =

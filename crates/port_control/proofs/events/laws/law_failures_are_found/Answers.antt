@@ -4,10 +4,10 @@ use Rattle.port_control.proofs.events.laws.law_failures_are_found.Goals as goal
 
 pub returns-clause-look : goal.returns-clause-look
 returns-clause-look c = λ port old new on l st recorded.
-    let laws = c.law_base.ensures in
+    let laws = c.law_prerequisites.ensures in
     ((finds_fault laws port old new on l st recorded).halted, finds_link laws port old new on l st recorded)
 
 pub returns-clause-reads : goal.returns-clause-reads
 returns-clause-reads c = λ port r v old new on reads other st recorded halted.
-    let laws = c.law_base.ensures in
+    let laws = c.law_prerequisites.ensures in
     ((reading_on laws port (Px port r) v old new on reads (record { st = st; recorded = recorded; halted = halted })).halted, law_link_stays laws port r v old new other reads)

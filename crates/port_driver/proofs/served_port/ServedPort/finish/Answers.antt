@@ -7,7 +7,7 @@ use Rattle.port_driver.specs.Ports.{HasDonePort, HasFoundPort, with_answers}
 use Rattle.server_history.specs.Served.{AnswersDone, done_reply}
 use Rattle.server_history.specs.Server.{ServerState, state_of}
 use Rattle.ata_types.specs.declared.PortState.TheVariants.{Ready}
-use Rattle.host_boot.specs.Taken.{probe_result_of}
+use Rattle.host_boot.specs.TakeOver.{probe_result_of}
 use Rattle.hba_regs.specs.Bits.{bit}
 use Rattle.refinement.specs.Slots.{IsOver}
 use Rattle.port_driver.proofs.Finishing as finishing

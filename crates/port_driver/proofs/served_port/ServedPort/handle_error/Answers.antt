@@ -3,7 +3,7 @@ use Rattle.std.specs.List.Sorted.{IsPermutation}
 use Rattle.std.proofs.lemmas.List.{length-append, set-set}
 use Rattle.port_driver.specs.Parts.{TakesTurn, with_served_port}
 use Rattle.port_driver.specs.Recovery.{HandlesPortErrorOf, IsInError}
-use Rattle.port_driver.specs.Dispositions.{HaveLoanRoom, holding}
+use Rattle.port_driver.specs.Dispositions.{HaveLoanRoom, book_and_loans}
 use Rattle.port_driver.specs.Ports.{HasFoundPort, with_port_slots}
 use Rattle.block_machine.specs.declared.due.QueueMode.{QueueMode}
 use Rattle.host_boot.specs.declared.ProbeResult.{ProbeResult}
@@ -23,7 +23,7 @@ use Rattle.port_driver.proofs.Restoring as restoring
 use Rattle.port_driver.proofs.Restoring.{Ordered, Recovery, Restoration}
 use Rattle.port_driver.proofs.served_port.ServedPort.handle_error.Given.{Over}
 use Rattle.port_driver.proofs.served_port.ServedPort.handle_error.Goals as goal
-use Rattle.port_driver.proofs.served_port.ServedPort.handle_error.Goals.{After-complete_and_recover-failed, After-order_from-arg-1, After-issue_where_ready}
+use Rattle.port_driver.proofs.served_port.ServedPort.handle_error.Goals.{After-complete_and_recover-failed, After-sort_replies_from-arg-1, After-issue_where_ready}
 
 -- a server whose port, which is this one, told of the error
 abbrev Has : (g : Over) (c : After-complete_and_recover-failed g) → ServerState → Type 0
@@ -61,7 +61,7 @@ recovered g c s h =
     }
 
 -- what the port is once it was found so
-abbrev found_so : (g : Over) (c : After-order_from-arg-1 g) → Option DiskInfo → ServedPort
+abbrev found_so : (g : Over) (c : After-sort_replies_from-arg-1 g) → Option DiskInfo → ServedPort
 found_so g c disk = record c.complete_and_recover-failed.new.self {
   found = c.resume_or_reboot-found.result.0;
   remembered = disk;
@@ -70,7 +70,7 @@ found_so g c disk = record c.complete_and_recover-failed.new.self {
 }
 
 -- its disk is the one that it was ready with
-is_anew : (g : Over) (c : After-order_from-arg-1 g) → c.note_probe_result.new.self ≡ found_so g c (Some c.in-Ready.was)
+is_anew : (g : Over) (c : After-sort_replies_from-arg-1 g) → c.note_probe_result.new.self ≡ found_so g c (Some c.in-Ready.was)
 is_anew g c =
     let then = c.complete_and_recover-failed.new.self in
     c.note_probe_result.ensures.fields
@@ -107,25 +107,25 @@ resolve-requires-clause-places g c =
     let x = recovered g a c.requires.sees.0 c.requires.sees.1 in
     subst (HaveLoanRoom (requests_of c.args.port x.b)) (sym (ap (λ (p : ServedPort). p.kept) c.note_probe_result.ensures.fields ∙ same_kept g a c.requires.sees.0 c.requires.sees.1)) (restoring.have_places x c.args.port.0 refl [])
 
-pub order_from-requires : goal.order_from-requires
-order_from-requires g c =
-    let r = (recovered g (goal.at.order_from-requires g c).After-complete_and_recover-failed c.requires.sees.0 c.requires.sees.1).rest in
+pub sort_replies_from-requires : goal.sort_replies_from-requires
+sort_replies_from-requires g c =
+    let r = (recovered g (goal.at.sort_replies_from-requires g c).After-complete_and_recover-failed c.requires.sees.0 c.requires.sees.1).rest in
     let all = ap length c.resolve.ensures.resolves.1 ∙ length-append c.complete_and_recover-failed.new.replies.items c.resolve.ensures.resolves.0 in
     let told = ap length r.told ∙ length-append c.args.replies.now.items (map done_reply r.error_handled.requests) in
     let first = c.len-first.ensures.value in
     omega (arith, all, told, first)
 
-abbrev at_mending : (g : Over) (c : After-order_from-arg-1 g) → After-complete_and_recover-failed g
-at_mending g c = (goal.at.order_from-requires g c).After-complete_and_recover-failed
+abbrev at_mending : (g : Over) (c : After-sort_replies_from-arg-1 g) → After-complete_and_recover-failed g
+at_mending g c = (goal.at.sort_replies_from-requires g c).After-complete_and_recover-failed
 
 -- what the port was found to be then, and how its requests were resolved
-abbrev restored : (g : Over) (c : After-order_from-arg-1 g) (s : ServerState) (h : Has g (at_mending g c) s) → Restoration (recovered g (at_mending g c) s h)
+abbrev restored : (g : Over) (c : After-sort_replies_from-arg-1 g) (s : ServerState) (h : Has g (at_mending g c) s) → Restoration (recovered g (at_mending g c) s h)
 restored g c s h =
     let device = g.A.Adapter.device in
     let x = recovered g (at_mending g c) s h in
     let met = c.resolve.ensures.resolves in
-    let now = holding c.resolve.new.self.book c.resolve.new.self.table.value c.resolve.new.kept in
-    let K : List Lending → Type 0 = λ loans. AreResolved (disposition_of c.complete_and_recover-failed.result.0 c.revalidation_of-revalidation.result) (requests_of c.args.port x.b) met.0 (holding x.b x.t loans) now in
+    let now = book_and_loans c.resolve.new.self.book c.resolve.new.self.table.value c.resolve.new.kept in
+    let K : List Lending → Type 0 = λ loans. AreResolved (disposition_of c.complete_and_recover-failed.result.0 c.revalidation_of-revalidation.result) (requests_of c.args.port x.b) met.0 (book_and_loans x.b x.t loans) now in
     let W : Wanted → Type 0 = λ wanted. IsRevalidated wanted c.args.port c.args.port_error c.in-Ready.was x.next x.one (device c.resume_or_reboot-found.new.adapter) c.resume_or_reboot-found.result.0 in
     let wanted_is = (ap (λ (p : ServedPort). p.wanted) c.complete_and_recover-failed.ensures.rest ∙ sym h.before.parts.port_is.wanted_is) in
     record {
@@ -146,7 +146,7 @@ restored g c s h =
     }
 
 -- and it has what issuing asks
-lends_anew : (g : Over) (c : After-order_from-arg-1 g) (s : ServerState) (h : Has g (at_mending g c) s)
+lends_anew : (g : Over) (c : After-sort_replies_from-arg-1 g) (s : ServerState) (h : Has g (at_mending g c) s)
     → HasFoundPort (restoring.then (recovered g (at_mending g c) s h) (restored g c s h)) (g.A.Adapter.device c.resume_or_reboot-found.new.adapter) c.resolve.new.self.book c.note_probe_result.new.self.slots c.args.port c.note_probe_result.new.self.mode c.note_probe_result.new.self.found
 lends_anew g c s h =
     let x = recovered g (at_mending g c) s h in
@@ -156,15 +156,15 @@ lends_anew g c s h =
 
 pub issue_where_ready-requires : goal.issue_where_ready-requires
 issue_where_ready-requires g c =
-    let a = (goal.at.issue_where_ready-requires g c).After-order_from-arg-1 in
+    let a = (goal.at.issue_where_ready-requires g c).After-sort_replies_from-arg-1 in
     let s = c.requires.sees.0 in
     let x = recovered g (at_mending g a) s c.requires.sees.1 in
     let y = restored g a s c.requires.sees.1 in
     record { lends = (restoring.then x y, lends_anew g a s c.requires.sees.1) }
 
 -- the port's error was handled, with as many replies as there were before they were put in order
-abbrev at_order : (g : Over) (c : After-issue_where_ready g) → After-order_from-arg-1 g
-at_order g c = (goal.at.returns-clause-room g c).After-order_from-arg-1
+abbrev at_order : (g : Over) (c : After-issue_where_ready g) → After-sort_replies_from-arg-1 g
+at_order g c = (goal.at.returns-clause-room g c).After-sort_replies_from-arg-1
 
 module _ (g : Over) (c : After-issue_where_ready g) (s : ServerState) (h : IsInError s (g.A.Adapter.device c.args.adapter.now) c.args.shared.now c.args.port c.args.self.now c.args.port_error) where
   abbrev x : Recovery
@@ -175,8 +175,8 @@ module _ (g : Over) (c : After-issue_where_ready g) (s : ServerState) (h : IsInE
 
   o : Ordered x y
   o =
-      let sorted = c.order_from.ensures in
-      let X : ℕ → Type 0 = λ n. (c.order_from.new.replies.items ≡ take n c.resolve.new.replies.items ++ sorted.0) × IsPermutation sorted.0 (drop n c.resolve.new.replies.items) in
+      let sorted = c.sort_replies_from.ensures in
+      let X : ℕ → Type 0 = λ n. (c.sort_replies_from.new.replies.items ≡ take n c.resolve.new.replies.items ++ sorted.0) × IsPermutation sorted.0 (drop n c.resolve.new.replies.items) in
       let moved = subst X c.len-first.ensures.value (sorted.1, sorted.2) in
       record {
         settled = h.before.settled;
@@ -186,7 +186,7 @@ module _ (g : Over) (c : After-issue_where_ready g) (s : ServerState) (h : IsInE
         issues = c.issue_where_ready.ensures.issues (restoring.then x y) (lends_anew g (at_order g c) s h);
         all = c.resolve.new.replies.items;
         its = sorted.0;
-        after = c.order_from.new.replies.items;
+        after = c.sort_replies_from.new.replies.items;
         all_is = c.resolve.ensures.resolves.1;
         sorted = moved.0;
         moved = moved.1;
@@ -218,15 +218,15 @@ module _ (g : Over) (c : After-issue_where_ready g) (s : ServerState) (h : IsInE
       ∙ ap (λ (list : List PortSlots). record (restoring.then x y) { device = three; slots = list; book = c.issue_where_ready.new.book })
       (sym (set-set s.slots c.args.port.0 c.note_probe_result.new.self.slots c.issue_where_ready.new.self.slots))
 
-  handled : TakesTurn (HandlesPortErrorOf c.args.port c.args.port_error) c.args.replies.now.items c.order_from.new.replies.items s
+  handled : TakesTurn (HandlesPortErrorOf c.args.port c.args.port_error) c.args.replies.now.items c.sort_replies_from.new.replies.items s
       (with_served_port s (g.A.Adapter.device c.issue_where_ready.new.adapter) shared c.args.port c.issue_where_ready.new.self)
   unfolding o
   handled =
       let done = restoring.error_handled x y o in
-      subst (TakesTurn (HandlesPortErrorOf c.args.port c.args.port_error) c.args.replies.now.items c.order_from.new.replies.items s) (sym placed)
-      (record { its = c.order_from.ensures.0; told = restoring.replies_are x y o; does = done.0; settled = done.1 })
+      subst (TakesTurn (HandlesPortErrorOf c.args.port c.args.port_error) c.args.replies.now.items c.sort_replies_from.new.replies.items s) (sym placed)
+      (record { its = c.sort_replies_from.ensures.0; told = restoring.replies_are x y o; does = done.0; settled = done.1 })
 
-  as_many : length c.order_from.new.replies.items ≡ length c.resolve.new.replies.items
+  as_many : length c.sort_replies_from.new.replies.items ≡ length c.resolve.new.replies.items
   unfolding o
   as_many = restoring.as_many_replies x y o
 

@@ -8,11 +8,11 @@ use Rattle.adapter.specs.Device.{Device}
 use Rattle.block_machine.specs.Due.{AreAllDueInOrder, due_of, is_plain}
 use Rattle.block_machine.specs.declared.due.QueueMode.{QueueMode}
 use Rattle.block_machine.specs.declared.due.Unanswered.{Unanswered}
-use Rattle.commands.specs.Batches.{AreUnused, IsBatchIssued, IsBatchStored, SlotTask, StoresTransfer}
+use Rattle.commands.specs.Batches.{AreUnused, IsBatchIssued, IsBatchStored, PlacedTask, StoresTransfer}
 use Rattle.commands.specs.Issuing.{MayIssueTransfer}
 use Rattle.refinement.specs.Slots.{Free}
 use Rattle.request_queue.specs.Entries.{BookEntry, BookIsInOrder, asks_of, due_ids, issue, update_if_id}
-use Rattle.server_history.specs.Served.{IssuesBatchOf, IssuesTogether, LeavesBookInOrder, MayTakeSlot, PutsInSlots, task_of, use_for}
+use Rattle.server_history.specs.Served.{IssuesTogetherIfAny, IssuesTogether, ChangesSlotsAndBook, FindsSlotFor, PutsInSlots, task_of, use_for}
 use Rattle.server_history.specs.Server.{ServerState}
 use Rattle.slots.specs.Uses.{IsLowestFree, IsTaken, PortSlots, with_use}
 use Rattle.port_driver.specs.Ports.{HasFoundPort, with_port_slots}
@@ -92,14 +92,14 @@ module _ (g : Over) (c : After-deref g) where
     abbrev mid : ServerState
     mid = batching.mid preparing s l
 
-    pub goes_on : LeavesBookInOrder s mid
+    pub goes_on : ChangesSlotsAndBook s mid
     goes_on = c.law_due_requests_get_slots.ensures.goes_on s mid preparing.port preparing.ids preparing.tasks l.kept (preparing.puts s l)
 
     pub full : ((slot : ℕ) → slot < preparing.slots.usable → IsTaken preparing.slots slot) → ⊥
     full all = c.law_due_requests_get_slots.ensures.full s mid preparing.port preparing.ids preparing.tasks preparing.turn.0 l.kept (preparing.puts s l) preparing.turn.1 preparing.turn.3 (batching.mid_due preparing s l)
         (subst (λ (u : PortSlots). (slot : ℕ) → slot < u.usable → IsTaken u slot) (sym (batching.mid_slots preparing s l)) all)
 
-    pub may_take : (slot : ℕ) → IsLowestFree preparing.slots slot → MayTakeSlot s preparing.port preparing.tasks preparing.turn.0 slot
+    pub may_take : (slot : ℕ) → IsLowestFree preparing.slots slot → FindsSlotFor s preparing.port preparing.tasks preparing.turn.0 slot
     may_take slot lowest = c.law_due_requests_get_slots.ensures.lowest s mid preparing.port preparing.ids preparing.tasks preparing.turn.0 l.kept (preparing.puts s l) preparing.turn.1 preparing.turn.3 (batching.mid_due preparing s l)
         slot (subst (λ (u : PortSlots). IsLowestFree u slot) (sym (batching.mid_slots preparing s l)) lowest)
 
@@ -130,7 +130,7 @@ unreachable-requires g c =
 
 module _ (g : Over) (c : After-frames g) where
   abbrev d : After-deref g
-  d = (goal.at.prepare-requires g c).After-deref
+  d = (goal.at.store_transfer-requires g c).After-deref
 
   abbrev x : Preparing
   x = preparing g d
@@ -147,7 +147,7 @@ module _ (g : Over) (c : After-frames g) where
   abbrev l0 : HasFoundPort s0 x.start x.first_book x.first_slots x.port x.mode x.found
   l0 = c.requires.may.lends.1
 
-  takes : MayTakeSlot s0 x.port x.tasks x.turn.0 slot
+  takes : FindsSlotFor s0 x.port x.tasks x.turn.0 slot
   takes = may_take g d s0 l0 slot c.in-Some.ensures.lowest
 
   pub slot_small : slot < 32
@@ -156,10 +156,10 @@ module _ (g : Over) (c : After-frames g) where
   pub queued : is_plain x.mode x.turn.0.entry.op ≡ false
   queued = is_queued g d s0 l0 slot c.in-Some.ensures.lowest
 
-  abbrev pub t : SlotTask
+  abbrev pub t : PlacedTask
   t = record { slot = slot; task = task_of x.mode x.turn.0; frames = x.turn.0.frames }
 
-  pub made_is : ◌≡◌ {A = SlotTask} (record { slot = slot; task = record { op = c.entry.result.0.now.op; range = c.entry.result.0.now.range; queued = true }; frames = c.frames.result.now }) t
+  pub made_is : ◌≡◌ {A = PlacedTask} (record { slot = slot; task = record { op = c.entry.result.0.now.op; range = c.entry.result.0.now.range; queued = true }; frames = c.frames.result.now }) t
   made_is = batching.task_made x s0 l0 (goes_on g d s0 l0) c.law_an_id_is_one_request.ensures.one c.entry.result.0.now c.entry.result.1.now.frames c.entry.ensures.held c.entry.ensures.id.0 queued slot c.frames.result.now c.frames.ensures.frames
 
   pub grows : MayIssueTransfer x.port t.slot t.task t.frames now × ((new : Device) → StoresTransfer x.port t now new → IsBatchStored x.port (x.tasks ++ t ∷ []) x.start new)
@@ -169,8 +169,8 @@ module _ (g : Over) (c : After-frames g) where
       (batching.fits x s0 l0 (goes_on g d s0 l0) queued slot (λ plain. takes.head (ap (λ (m : QueueMode). is_plain m x.turn.0.entry.op) l0.mode_is ∙ plain)))
       (ap not queued)
 
-pub prepare-requires : goal.prepare-requires
-prepare-requires g c = record { may = subst (λ (u : SlotTask). MayIssueTransfer c.args.port u.slot u.task u.frames (g.A.Adapter.device c.loop-place.adapter)) (sym (made_is g c)) (grows g c).0 }
+pub store_transfer-requires : goal.store_transfer-requires
+store_transfer-requires g c = record { may = subst (λ (u : PlacedTask). MayIssueTransfer c.args.port u.slot u.task u.frames (g.A.Adapter.device c.loop-place.adapter)) (sym (made_is g c)) (grows g c).0 }
 
 pub issue-requires : goal.issue-requires
 issue-requires g c =
@@ -191,7 +191,7 @@ loop-place-preserved g c =
     let task = t g f in
     let later = c.issue.new.self in
     let used = c.take.new.self in
-    let then = g.A.Adapter.device c.prepare.new.adapter in
+    let then = g.A.Adapter.device c.store_transfer.new.adapter in
     let next = drop_more items place no_id (in_list g e) in
     let ids_are : take place items ++ x.id ∷ [] ≡ take (place + 1) items = ap (λ (i : RequestId). take place items ++ i ∷ []) (id_is g e) ∙ sym (take_more items place no_id (in_list g e)) in
     let used_is : used ≡ with_use x.slots c.in-Some.slot.0 (Some (use_for x.mode (sending.with_id x.id x.turn.0))) = c.in-Some.ensures.taken ∙ ap (λ (b : Rattle.std.proofs.Common.Bool). with_use x.slots c.in-Some.slot.0 (Some (record { id = x.id; queued = b }))) (sym (ap not (queued g f))) in
@@ -201,7 +201,7 @@ loop-place-preserved g c =
     record {
       batch = (
         x.tasks ++ task ∷ [],
-        (grows g f).1 then (subst (λ (u : SlotTask). StoresTransfer x.port u (g.A.Adapter.device c.loop-place.adapter) then) (made_is g f) c.prepare.ensures.stores),
+        (grows g f).1 then (subst (λ (u : PlacedTask). StoresTransfer x.port u (g.A.Adapter.device c.loop-place.adapter) then) (made_is g f) c.store_transfer.ensures.stores),
         c.law_batch_masks_grow.ensures.more x.tasks task c.loop-place.mask c.with_bit-mask.result c.loop-place.invariant.fits c.with_bit-mask.type_inv c.loop-place.invariant.batch.2
             (subst (λ (n : ℕ). bit c.with_bit-mask.result n ≡ true) c.from.ensures c.with_bit-mask.ensures.set) (λ k small other. c.with_bit-mask.ensures.others k small (λ same. other (same ∙ c.from.ensures))),
         λ s l. subst (λ (ids : List RequestId). PutsInSlots x.port ids (x.tasks ++ task ∷ []) s (with_port_slots s x.start later used x.port)) ids_are
@@ -213,7 +213,7 @@ loop-place-preserved g c =
       many = ap length c.issue.ensures ∙ length-map x.book (update_if_id x.id issue) ∙ c.loop-place.invariant.many;
       port = ap (λ (p : ServedPort). record p { slots = used }) c.loop-place.invariant.port;
       fits = c.with_bit-mask.type_inv;
-      cost = let cost = c.prepare.ensures.cost in let before = c.loop-place.invariant.cost in omega (arith, cost, before);
+      cost = let cost = c.store_transfer.ensures.cost in let before = c.loop-place.invariant.cost in omega (arith, cost, before);
     }
 
 pub issue_all-requires : goal.issue_all-requires
@@ -243,8 +243,8 @@ returns g c =
             issued = subst (λ (d : Device). IsBatchIssued port b.0 d then) (sym l.device_is) (c.issue_all.ensures.issued start b.0 b.1 b.2);
             server = refl;
           } in
-          let M : QueueMode → Type 0 = λ mode. IssuesBatchOf port (due_ids mode port (asks_of s.book)) s after in
-          subst M (sym l.mode_is) (subst (λ (ids : List RequestId). IssuesBatchOf port ids s after)
+          let M : QueueMode → Type 0 = λ mode. IssuesTogetherIfAny port (due_ids mode port (asks_of s.book)) s after in
+          subst M (sym l.mode_is) (subst (λ (ids : List RequestId). IssuesTogetherIfAny port ids s after)
           (c.requires.due ∙ ap (λ (book : List BookEntry). due_ids self.mode port (asks_of book)) (sym l.book_is)) (batching.as_batch port items s after several together));
       rest = c.loop-place.invariant.port;
       as_many = c.loop-place.invariant.many;

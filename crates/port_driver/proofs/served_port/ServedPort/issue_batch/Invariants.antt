@@ -1,7 +1,7 @@
 use Rattle.std.proofs.Common.{◌≡◌, ◌*◌, ◌^◌, ◌<◌, List, drop, length, take}
 use Rattle.adapter.specs.Counted.{MakesAtMost}
 use Rattle.block_machine.specs.Due.{AreAllDueInOrder}
-use Rattle.commands.specs.Batches.{HasBitsOf, IsBatchStored, SlotTask}
+use Rattle.commands.specs.Batches.{HasBitsOf, IsBatchStored, PlacedTask}
 use Rattle.command_table.specs.Costs.{TABLE_ACCESSES}
 use Rattle.port_driver.specs.Ports.{HasFoundPort, with_port_slots}
 use Rattle.request_queue.specs.Entries.{asks_of}
@@ -11,7 +11,7 @@ use Rattle.port_driver.proofs.served_port.ServedPort.issue_batch.Given as goal
 
 abbrev pub invariant-loop-place : goal.invariant-loop-place
 invariant-loop-place g l = record {
-  batch : (tasks : List SlotTask) × IsBatchStored l.port tasks (g.A.Adapter.device l.fn.adapter) (g.A.Adapter.device l.adapter) × HasBitsOf tasks l.mask
+  batch : (tasks : List PlacedTask) × IsBatchStored l.port tasks (g.A.Adapter.device l.fn.adapter) (g.A.Adapter.device l.adapter) × HasBitsOf tasks l.mask
       × ((s : ServerState) → HasFoundPort s (g.A.Adapter.device l.fn.adapter) l.fn.book l.fn.self.slots l.port l.fn.self.mode l.fn.self.found
       → PutsInSlots l.port (take l.place l.due.items) tasks s (with_port_slots s (g.A.Adapter.device l.fn.adapter) l.book l.self.slots l.port));
   turns : AreAllDueInOrder l.fn.self.mode l.port (drop l.place l.due.items) (asks_of l.book);

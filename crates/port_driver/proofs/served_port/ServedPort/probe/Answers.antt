@@ -1,6 +1,6 @@
 use Rattle.std.proofs.Common.{Bool, true, false, ◌≡◌, refl, sym, ap, ◌∙◌, subst}
 use Rattle.adapter.specs.Device.{Device}
-use Rattle.host_boot.specs.Taken.{probe_result_of}
+use Rattle.host_boot.specs.TakeOver.{probe_result_of}
 use Rattle.host_boot.specs.declared.ProbeResult.{ProbeResult}
 use Rattle.host_boot.specs.declared.ProbeResult.TheVariants.{Unready}
 use Rattle.identify.specs.declared.wanted.Wanted.{Wanted}

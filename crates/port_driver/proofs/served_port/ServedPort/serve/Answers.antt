@@ -1,7 +1,7 @@
 use Rattle.std.proofs.Common.{◌≡◌, ◌≢◌, [], Some, append-nil, refl, sym, ap, ◌∙◌, subst}
 use Rattle.ata_types.specs.declared.PortState.TheVariants.{Ready as ReadyState}
 use Rattle.adapter.specs.Device.{Device}
-use Rattle.host_boot.specs.Taken.{probe_result_of}
+use Rattle.host_boot.specs.TakeOver.{probe_result_of}
 use Rattle.refinement.specs.Driven.{AnyUse, IsSimulated}
 use Rattle.server_history.specs.ErrorHandling.{ErrorIsFound}
 use Rattle.server_history.specs.Served.{IsMaskOf}

@@ -10,7 +10,7 @@ use Rattle.request_queue.specs.Dispositions.{IsResolved, disposition_of, keeps_l
 use Rattle.request_queue.specs.declared.PendingRequest.{PendingRequest}
 use Rattle.request_queue.specs.declared.disposition.Disposition.{Disposition}
 use Rattle.port_driver.specs.declared.served_port.Shared.{Shared}
-use Rattle.port_driver.specs.Dispositions.{HaveLoanRoom, BookIsSound, MayAnswerAll, holding}
+use Rattle.port_driver.specs.Dispositions.{HaveLoanRoom, BookIsSound, MayAnswerAll, book_and_loans}
 use Rattle.port_driver.proofs.Settling.{again, ends_back, ends_kept, kept_issued, left_each, may_go_again, places_kept, places_left, shorter, sound_back}
 use Rattle.port_driver.proofs.served_port.Shared.resolve_one.Goals as goal
 use Rattle.port_driver.proofs.served_port.Shared.resolve_one.Goals.{then-keeps_loan, else-keeps_loan}
@@ -32,7 +32,7 @@ returns-in-Wait-clause-resolves c = λ request here its.
     let same : r.0 ≡ request = c.law_an_id_is_one_request.ensures.one c.args.self.now.book r.0 request c.requires.may.sound.ordered r.1 here (ap (λ (e : PendingRequest). e.id) r.2 ∙ r.3 ∙ sym its) in
     let entry : request.entry ≡ c.request-entry.result = ap (λ (h : BookEntry). h.entry) (sym same) ∙ r.2 in
     let disposition = ap (disposition_of c.args.failed.now c.args.revalidation) entry ∙ sym c.disposition.ensures ∙ c.in-Wait.is in
-    let h = holding c.args.self.now.book c.args.self.now.table.value c.args.kept.now in
+    let h = book_and_loans c.args.self.now.book c.args.self.now.table.value c.args.kept.now in
     ([], sym (append-nil c.args.replies.now.items), subst (λ (f : Disposition). IsResolved request f [] h h) (sym disposition) (refl, refl))
 
 pub returns-in-Requeue-clause-resolves : goal.returns-in-Requeue-clause-resolves
@@ -41,8 +41,8 @@ returns-in-Requeue-clause-resolves c = λ request here its.
     let same : r.0 ≡ request = c.law_an_id_is_one_request.ensures.one c.args.self.now.book r.0 request c.requires.may.sound.ordered r.1 here (ap (λ (e : PendingRequest). e.id) r.2 ∙ r.3 ∙ sym its) in
     let entry : request.entry ≡ c.request-entry.result = ap (λ (h : BookEntry). h.entry) (sym same) ∙ r.2 in
     let disposition = ap (disposition_of c.args.failed.now c.args.revalidation) entry ∙ sym c.disposition.ensures ∙ c.in-Requeue.is in
-    let h = holding c.args.self.now.book c.args.self.now.table.value c.args.kept.now in
-    let n = holding c.requeue.new.self c.args.self.now.table.value c.args.kept.now in
+    let h = book_and_loans c.args.self.now.book c.args.self.now.table.value c.args.kept.now in
+    let n = book_and_loans c.requeue.new.self c.args.self.now.table.value c.args.kept.now in
     ([], sym (append-nil c.args.replies.now.items), subst (λ (f : Disposition). IsResolved request f [] h n) (sym disposition) (refl, again c.args.id request.entry.id c.args.self.now.book c.requeue.new.self c.args.self.now.table.value c.args.kept.now its c.requeue.ensures))
 
 pub returns-after-keeps_loan-clause-resolves : goal.returns-after-keeps_loan-clause-resolves

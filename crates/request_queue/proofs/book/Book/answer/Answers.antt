@@ -2,7 +2,7 @@ use Rattle.std.proofs.Common.{◌∙◌, List, ap, subst, arith}
 use Rattle.std.proofs.lemmas.Option.{slice_get_within}
 use Rattle.std.specs.List.{Contains}
 use Rattle.request_queue.specs.Entries.{BookEntry, without_entry}
-use Rattle.request_queue.proofs.Beside as beside
+use Rattle.request_queue.proofs.BookIndexes as beside
 use Rattle.request_queue.proofs.Changing.{there}
 use Rattle.request_queue.proofs.book.Book.answer.Goals as goal
 
@@ -11,7 +11,7 @@ take_beside-requires-clause-place c = let found = c.place_of-place.ensures in sl
 
 pub take_beside-requires-clause-beside : goal.take_beside-requires-clause-beside
 take_beside-requires-clause-beside c =
-    beside.parts_beside c.self.inside.store c.self.inside.conflicts c.self.inside.holders.items c.self.inside.counts c.self.invariant
+    beside.parts_beside c.self.inside.store c.self.inside.conflicts c.self.inside.blockers.items c.self.inside.counts c.self.invariant
 
 pub invariant_of-self : goal.invariant_of-self
 invariant_of-self c =
@@ -20,8 +20,8 @@ invariant_of-self c =
     let room = it.ensures in
     let had = c.self.invariant in
     beside.parts_less c.self.inside.store c.place_of-place.result c.args.id found.0 had.0 found.1 found.2 c.remove.new.self c.remove.ensures.rest
-    it.new.conflicts it.new.holders.items it.new.counts it.ensures.beside
-    (let a = room.holders in let b = had.3 in omega (arith, a, b))
+    it.new.conflicts it.new.blockers.items it.new.counts it.ensures.beside
+    (let a = room.blockers in let b = had.3 in omega (arith, a, b))
 
 pub returns-clause-entry : goal.returns-clause-entry
 returns-clause-entry c =

@@ -1,9 +1,9 @@
 use Rattle.std.proofs.Common.{refl, ◌≡◌, ◌∙◌, ℕ, suc, ◌+◌, true, arith, List, sym, ap, subst, map, set}
 use Rattle.std.proofs.lemmas.Option.{same_Some}
 use Rattle.request_queue.specs.Conflicts.{AreConflictLists}
-use Rattle.request_queue.specs.Holders.{AreHolders}
-use Rattle.request_queue.specs.Counts.{AreCounts}
-use Rattle.request_queue.proofs.Counts.{counts_at}
+use Rattle.request_queue.specs.Blockers.{AreBlockers}
+use Rattle.request_queue.specs.ClientCounts.{AreClientCounts}
+use Rattle.request_queue.proofs.ClientCounts.{counts_at}
 use Rattle.request_queue.proofs.Holding.{issued_holders}
 use Rattle.request_queue.proofs.Conflicting.{issued_lists}
 use Rattle.request_queue.specs.Entries.{BookEntry, asks_of, update_if_id, issue, BookIsInOrder, IsWaiting}
@@ -26,10 +26,10 @@ invariant_of-self c =
     let waits = subst (λ (es : List BookEntry). IsWaiting c.args.id es) (sym c.self.view_is) c.requires in (
       subst (λ (es : List BookEntry). BookIsInOrder es) (sym changed) (issued_in_order store c.args.id waits.0 c.self.invariant.0 waits.1 waits.2 waits.3),
       subst (λ (es : List BookEntry). AreConflictLists (asks_of es) c.self.inside.conflicts) (sym changed) (issued_lists store c.args.id c.self.inside.conflicts c.self.invariant.1),
-      subst (λ (es : List BookEntry). AreHolders (asks_of es) (set c.self.inside.holders.items c.place_of-place.result c.nobody.result)) (sym here)
-          (rw c.nobody.ensures (issued_holders store c.self.inside.holders.items c.place_of-place.result e.0 c.self.invariant.2 e.1)),
+      subst (λ (es : List BookEntry). AreBlockers (asks_of es) (set c.self.inside.blockers.items c.place_of-place.result c.nobody.result)) (sym here)
+          (rw c.nobody.ensures (issued_holders store c.self.inside.blockers.items c.place_of-place.result e.0 c.self.invariant.2 e.1)),
       c.self.invariant.3,
-      subst (λ (es : List BookEntry). AreCounts es c.self.inside.counts) (sym changed) (counts_at store c.args.id issue c.self.inside.counts (λ r. refl) c.self.invariant.4),
+      subst (λ (es : List BookEntry). AreClientCounts es c.self.inside.counts) (sym changed) (counts_at store c.args.id issue c.self.inside.counts (λ r. refl) c.self.invariant.4),
     )
 
 pub returns : goal.returns

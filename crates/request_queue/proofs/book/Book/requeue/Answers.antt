@@ -2,9 +2,9 @@ use Rattle.std.proofs.Common.{refl, Some, ◌≡◌, ◌∙◌, List, sym, ap, s
 use Rattle.std.proofs.lemmas.Option.{same_Some}
 use Rattle.std.specs.List.{slice_get}
 use Rattle.request_queue.specs.Conflicts.{AreConflictLists}
-use Rattle.request_queue.specs.Holders.{AreHolders, IsHolderOf}
-use Rattle.request_queue.specs.Counts.{AreCounts}
-use Rattle.request_queue.proofs.Counts.{counts_at}
+use Rattle.request_queue.specs.Blockers.{AreBlockers, IsBlockerOf}
+use Rattle.request_queue.specs.ClientCounts.{AreClientCounts}
+use Rattle.request_queue.proofs.ClientCounts.{counts_at}
 use Rattle.request_queue.proofs.Holding.{requeued_holders}
 use Rattle.request_queue.proofs.Conflicting.{requeued_lists, in_book}
 use Rattle.request_queue.specs.Entries.{BookEntry, asks_of, update_if_id, requeued_entry, BookIsInOrder, MayGoAgain}
@@ -24,15 +24,15 @@ invariant_of-self c =
     let changed = here ∙ changed_at store place e.0 c.args.id requeued_entry c.self.invariant.0.ordered e.1 named in
     let waits = subst (λ (es : List BookEntry). MayGoAgain c.args.id es) (sym c.self.view_is) c.requires in
     let lists = subst (λ (es : List BookEntry). AreConflictLists (asks_of es) c.self.inside.conflicts) (sym changed) (requeued_lists store c.args.id c.self.inside.conflicts c.self.invariant.1) in
-    let h = c.holder-holder.result in (
+    let h = c.blocker-blocker.result in (
       subst (λ (es : List BookEntry). BookIsInOrder es) (sym changed) (waiting_in_order store c.args.id waits.0 c.self.invariant.0 waits.1 waits.2 waits.4),
       lists,
-      subst (λ (es : List BookEntry). AreHolders (asks_of es) (set c.self.inside.holders.items place h)) (sym here)
-          (requeued_holders store c.self.inside.holders.items place e.0 c.asks.result h c.self.invariant.2 e.1
+      subst (λ (es : List BookEntry). AreBlockers (asks_of es) (set c.self.inside.blockers.items place h)) (sym here)
+          (requeued_holders store c.self.inside.blockers.items place e.0 c.asks.result h c.self.invariant.2 e.1
           (subst (λ (es : List BookEntry). slice_get (asks_of es) place ≡ Some c.asks.result) here c.asks.ensures)
-          (subst (λ (es : List BookEntry). IsHolderOf (asks_of es) c.asks.result h) here (c.holder-holder.ensures (asks_of c.replace.new.self) lists (in_book (asks_of c.replace.new.self) place c.asks.result c.asks.ensures)))),
+          (subst (λ (es : List BookEntry). IsBlockerOf (asks_of es) c.asks.result h) here (c.blocker-blocker.ensures (asks_of c.replace.new.self) lists (in_book (asks_of c.replace.new.self) place c.asks.result c.asks.ensures)))),
       c.self.invariant.3,
-      subst (λ (es : List BookEntry). AreCounts es c.self.inside.counts) (sym changed) (counts_at store c.args.id requeued_entry c.self.inside.counts (λ r. refl) c.self.invariant.4),
+      subst (λ (es : List BookEntry). AreClientCounts es c.self.inside.counts) (sym changed) (counts_at store c.args.id requeued_entry c.self.inside.counts (λ r. refl) c.self.invariant.4),
     )
 
 pub returns : goal.returns

@@ -7,4 +7,4 @@ pub invariant_of-self : goal.invariant_of-self
 invariant_of-self c =
     let ports = is_among c.args.ports.now in
     parts_stay (older_entry ports) (older_spares ports) c.self.inside.store c.age.new.store c.age.ensures.older_entry
-    c.self.inside.conflicts c.self.inside.holders.items c.self.inside.counts c.self.invariant
+    c.self.inside.conflicts c.self.inside.blockers.items c.self.inside.counts c.self.invariant

@@ -2,7 +2,7 @@ use Rattle.std.proofs.Common.{◌++◌, ◌∷◌, [], List, sym, ap, ◌∙◌,
 use Rattle.block_machine.specs.declared.due.Unanswered.{Unanswered}
 use Rattle.request_queue.specs.Conflicts.{AreConflictLists, ConflictLists}
 use Rattle.request_queue.specs.Entries.{asks_of}
-use Rattle.request_queue.specs.Flushes.{flushes_of}
+use Rattle.request_queue.specs.Flushes.{flushes_among}
 use Rattle.request_queue.specs.Sectors.{AreIndexed}
 use Rattle.request_queue.specs.declared.flushes.Flush.{Flush}
 use Rattle.request_queue.proofs.Alone.{one_of}
@@ -14,9 +14,9 @@ returns-then-self-clause-lists c =
     let book = asks_of c.args.store.now in
     let r = c.asks.result in
     let view = c.self.view_is in
-    let all = when_lone book c.args.self.now c.requires (sym (ap (λ (l : ConflictLists). l.lone) view) ∙ c.if-self.true) in
+    let all = when_lone book c.args.self.now c.requires (sym (ap (λ (l : ConflictLists). l.unlisted) view) ∙ c.if-self.true) in
     let new = c.list_last.new in
-    subst (λ (one : List Unanswered). AreConflictLists one (record { sectors = new.sectors; flushes = new.flushes.items; lone = false })) (sym (one_of book r all.2 c.asks.ensures))
+    subst (λ (one : List Unanswered). AreConflictLists one (record { sectors = new.sectors; flushes = new.flushes.items; unlisted = false })) (sym (one_of book r all.2 c.asks.ensures))
     (all_listed (r ∷ []) new.sectors new.flushes.items
     (c.list_last.ensures.sectors [] (subst (λ (l : ConflictLists). AreIndexed [] l.sectors) (sym view) all.0) (λ k d lt. absurd (omega (arith, lt))))
-    (c.list_last.ensures.flushes ∙ ap (λ (fs : List Flush). fs ++ flushes_of (r ∷ [])) (ap (λ (l : ConflictLists). l.flushes) view ∙ all.1)))
+    (c.list_last.ensures.flushes ∙ ap (λ (fs : List Flush). fs ++ flushes_among (r ∷ [])) (ap (λ (l : ConflictLists). l.flushes) view ∙ all.1)))

@@ -2,7 +2,7 @@ use Rattle.std.proofs.Common.{sym, ap, ◌∙◌}
 use Rattle.std.specs.List.{remove}
 use Rattle.request_queue.specs.Conflicts.{ConflictLists}
 use Rattle.request_queue.specs.Entries.{asks_of}
-use Rattle.request_queue.specs.Flushes.{flushes_of}
+use Rattle.request_queue.specs.Flushes.{flushes_among}
 use Rattle.request_queue.proofs.Changing.{asks_in_order}
 use Rattle.request_queue.proofs.Conflicting.{flag_down, when_listed}
 use Rattle.request_queue.proofs.Flushing.{fewer_flushes}
@@ -19,8 +19,8 @@ returns c =
     let place = c.args.place in
     let r = c.request-request.result in
     let view = c.self.view_is in
-    let lone = c.if-self.false in
-    let all = when_listed (asks_of es) c.args.self.now c.requires.lists (sym (ap (λ (l : ConflictLists). l.lone) view) ∙ lone) in
-    flag_down (remove (asks_of es) place) c.take_sectors.new.sectors c.take_flush.new.flushes.items c.self.inside.lone lone c.take_sectors.ensures
+    let unlisted = c.if-self.false in
+    let all = when_listed (asks_of es) c.args.self.now c.requires.lists (sym (ap (λ (l : ConflictLists). l.unlisted) view) ∙ unlisted) in
+    flag_down (remove (asks_of es) place) c.take_sectors.new.sectors c.take_flush.new.flushes.items c.self.inside.unlisted unlisted c.take_sectors.ensures
     (fewer_flushes es r.id c.self.inside.flushes.items c.take_flush.new.flushes.items (ap (λ (l : ConflictLists). l.flushes) view ∙ all.1) c.take_flush.ensures.list
-    ∙ ap flushes_of (ap asks_of (sym (dropped es place r c.requires.place c.requires.ordered c.request-request.ensures)) ∙ asks_less es place))
+    ∙ ap flushes_among (ap asks_of (sym (dropped es place r c.requires.place c.requires.ordered c.request-request.ensures)) ∙ asks_less es place))

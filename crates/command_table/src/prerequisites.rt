@@ -1,0 +1,22 @@
+// What laws of the crates below say of stores of tables, for this crate's proofs. Nothing comes of calling it.
+ghost use Rattle.command_table.specs.Laws.{Laws};
+
+use adapter::laws::law_memory_reads_back;
+use refinement::kinds::law_fragment_prerequisites;
+use refinement::laws::{
+    law_bytes_to_store_are_free, law_free_slots_are_left, law_stored_commands_stay,
+};
+use refinement::port_facts::law_adapter_stays;
+use std::marker::Brand;
+
+/// The laws that the proofs of this crate rest on.
+pub fn law_prerequisites()
+    ensures { Laws }
+{
+    law_memory_reads_back();
+    law_adapter_stays();
+    law_bytes_to_store_are_free();
+    law_free_slots_are_left();
+    law_stored_commands_stay();
+    law_fragment_prerequisites::<Brand>();
+}

@@ -1,0 +1,74 @@
+-- The state of the whole adapter that a model stands for.
+use Rattle.std.specs.Prelude.{ℕ, Bool, ◌<◌, ◌≢◌, ◌++◌, ◌∷◌, List, [], length, Some, if◌then◌else◌, nat_eq, slice_index, slice_index_or}
+use Rattle.adapter.specs.Device.{Disk, FetchedCommand, Device}
+use Rattle.adapter.specs.Memory.{changed}
+use Rattle.adapter.specs.declared.command.Operation.{Operation}
+use Rattle.hba_regs.specs.declared.reg.Reg.{Reg}
+use Rattle.hba_regs.specs.declared.reg.Reg.TheVariants.{Px}
+use Rattle.device_model.specs.View.{Media, media_after, media_cleared, media_ended, port_of, blank_port}
+use Rattle.device_model.specs.declared.hardware.Hardware.{Hardware}
+
+-- what is outside the hardware: what is behind each port, and whether all disks tell their sectors
+pub record AllMedia : Type 0 where
+  pub telling : Bool
+  pub media : ℕ → Media
+
+-- the same after the next piece of a command of this port, these bytes, was moved
+abbrev pub all_media_after : AllMedia → ℕ → FetchedCommand → List ℕ → AllMedia
+all_media_after o port t bytes = record o { media = changed o.media port (media_after (o.media port) t bytes) }
+
+-- the same after sectors of this port's disk were cleared
+abbrev pub all_media_cleared : AllMedia → (port first count : ℕ) → AllMedia
+all_media_cleared o port first count =
+    record o { media = changed o.media port (media_cleared (o.media port) first count) }
+
+-- the same after such a command of this port has ended
+abbrev pub all_media_ended : AllMedia → ℕ → Operation → AllMedia
+all_media_ended o port operation = record o { media = changed o.media port (media_ended (o.media port) operation) }
+
+abbrev pub device_of : Hardware → AllMedia → Device
+device_of h o =
+    record {
+      telling = o.telling;
+      size = length h.memory.items;
+      memory = λ at. slice_index h.memory.items at;
+      cap = h.cap;
+      pi = h.pi;
+      hr = h.hr;
+      ae = h.ae;
+      ie = h.ie;
+      port = λ port. port_of (slice_index_or h.ports port blank_port) (o.media port);
+      tape = h.tape.items;
+    }
+
+-- a register of the adapter, or of a port that is there
+abbrev pub HasRegister : Reg → Type 0
+HasRegister (Px port r) = port.0 < 4
+HasRegister _ = Unit {0}
+
+-- no disk, ever
+abbrev pub no_media : Media
+no_media =
+    record {
+      disk = record { name = 0; size = 0; sectors = Some (λ k. []) };
+      plugged = [];
+      lasting = Some (λ k. []);
+    }
+
+-- what is behind a port after this disk was put in
+abbrev pub media_plugged : Media → Disk → Media
+media_plugged m disk =
+    record {
+      disk = disk;
+      plugged = m.plugged ++ disk ∷ [];
+      lasting = if nat_eq disk.name m.disk.name then m.lasting else disk.sectors;
+    }
+
+-- the same after this disk was put into a port
+abbrev pub all_media_plugged : AllMedia → ℕ → Disk → AllMedia
+all_media_plugged o port disk =
+    record o { media = changed o.media port (media_plugged (o.media port) disk) }
+
+-- The port is one that has disks: one was put in, or was in at first.
+abbrev pub HasDisks : Device → ℕ → Type 0
+HasDisks d port = (d.port port).plugged ≢ []

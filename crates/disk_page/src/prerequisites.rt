@@ -1,0 +1,45 @@
+// What laws of the crates below say of this crate's accesses, for its proofs. Nothing comes of calling it.
+ghost use Rattle.disk_page.specs.Laws.{Laws};
+
+use adapter::laws::{
+    law_kept_controls_compose, law_port_register_accesses, law_step_lists_keep_what_steps_keep,
+};
+use command_table::laws::law_stores_are_of_one_port;
+use refinement::fragments::{
+    law_agreeing_goes_on, law_other_ports_are_left, law_tape_prerequisites,
+    law_unused_slots_are_silent,
+};
+use refinement::kinds::law_fragment_prerequisites;
+use refinement::laws::{
+    law_own_issuing_is_permitted, law_pages_come_when_asked, law_pages_may_be_loaded,
+    law_putting_is_of_one_slot,
+};
+use refinement::port_facts::{
+    law_adapter_stays, law_faults_are_recorded, law_over_stays, law_page_is_awaited,
+};
+use refinement::recovering::law_halt_is_ended;
+use std::marker::Brand;
+
+/// The laws that the proofs of this crate rest on.
+pub fn law_prerequisites()
+    ensures { Laws }
+{
+    law_kept_controls_compose();
+    law_port_register_accesses();
+    law_step_lists_keep_what_steps_keep();
+    law_adapter_stays();
+    law_faults_are_recorded();
+    law_over_stays();
+    law_page_is_awaited();
+    law_fragment_prerequisites::<Brand>();
+    law_own_issuing_is_permitted();
+    law_pages_may_be_loaded();
+    law_pages_come_when_asked();
+    law_putting_is_of_one_slot();
+    law_halt_is_ended();
+    law_tape_prerequisites();
+    law_unused_slots_are_silent();
+    law_agreeing_goes_on();
+    law_other_ports_are_left();
+    law_stores_are_of_one_port();
+}

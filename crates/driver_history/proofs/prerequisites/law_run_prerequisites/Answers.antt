@@ -1,0 +1,11 @@
+use Rattle.driver_history.proofs.prerequisites.law_run_prerequisites.Goals as goal
+
+pub returns : goal.returns
+returns c = record {
+  legal = c.law_runs_are_legal.ensures.legal;
+  touches = c.law_runs_are_legal.ensures.touches;
+  reads = c.law_every_read_holds.ensures;
+  joined = c.law_histories_compose.ensures.after;
+  told = c.law_histories_compose.ensures.told;
+  lived = c.law_frame_holder_was_accepted.ensures;
+}

@@ -1,0 +1,53 @@
+// What laws of the crates below say of this crate's accesses, for its proofs. Nothing comes of calling it.
+ghost use Rattle.error_recovery.specs.Laws.{Laws};
+
+use adapter::laws::law_port_register_accesses;
+use disk_page::laws::{law_asking_is_of_one_port, law_what_is_told_of_waits_stays};
+use port_control::laws::law_what_is_told_of_engines_stays;
+use refinement::fragments::{
+    law_other_ports_are_left, law_tape_prerequisites, law_unused_slots_are_silent,
+};
+use refinement::giving_up::{law_fault_is_outstanding, law_slots_are_given_up};
+use refinement::kinds::{law_controls_are_of_a_port, law_fragment_prerequisites};
+use refinement::laws::law_putting_is_of_one_slot;
+use refinement::port_facts::{
+    law_adapter_stays, law_cleared_stays, law_controls_stay, law_errors_are_shown,
+    law_fault_is_found, law_faults_are_recorded, law_notes_stay, law_plugging_is_found,
+    law_running_well_is_found,
+};
+use refinement::recovering::{
+    law_faults_show_before_the_end, law_link_stays_online, law_plain_work_stays,
+    law_running_goes_on,
+};
+use std::marker::Brand;
+
+/// The laws that the proofs of this crate rest on.
+pub fn law_prerequisites()
+    ensures { Laws }
+{
+    law_port_register_accesses();
+    law_adapter_stays();
+    law_cleared_stays();
+    law_controls_stay();
+    law_errors_are_shown();
+    law_fault_is_found();
+    law_faults_are_recorded();
+    law_notes_stay();
+    law_plugging_is_found();
+    law_running_well_is_found();
+    law_fault_is_outstanding();
+    law_slots_are_given_up();
+    law_fragment_prerequisites::<Brand>();
+    law_controls_are_of_a_port::<Brand>();
+    law_putting_is_of_one_slot();
+    law_plain_work_stays();
+    law_faults_show_before_the_end();
+    law_link_stays_online();
+    law_running_goes_on();
+    law_other_ports_are_left();
+    law_tape_prerequisites();
+    law_unused_slots_are_silent();
+    law_asking_is_of_one_port();
+    law_what_is_told_of_waits_stays();
+    law_what_is_told_of_engines_stays();
+}

@@ -1,0 +1,6 @@
+use Rattle.host_boot.specs.Laws.{AccessPurpose, slot_uses_for, accesses_for}
+use Rattle.host_boot.proofs.prerequisites.law_prerequisites.Given as goal
+
+-- The laws on fragments are asked of this crate's kinds of accesses.
+abbrev pub ghosts-law_fragment_prerequisites : goal.ghosts-law_fragment_prerequisites
+ghosts-law_fragment_prerequisites a = record { Kind = AccessPurpose; may = accesses_for; fits = slot_uses_for }

@@ -1,0 +1,211 @@
+-- An adapter that is taken over: which of its ports are served, and what stands behind what each was found to be (this
+-- project's own; the way: AHCI 1.3.1, 10.1.2).
+use Rattle.std.specs.Prelude.{ℕ, [], ◌∷◌, true, ◌≡◌, ◌≢◌, ◌+◌, ◌/◌, ◌%◌, ◌<◌, ◌≤◌, ◌⊎◌, List, length, slice_index_or}
+use Rattle.ata_types.specs.declared.Port.{Port}
+use Rattle.ata_types.specs.declared.PortState.{PortState as ShownState}
+use Rattle.ata_types.specs.declared.PortState.TheVariants.{Foreign, Unfit, Dead}
+use Rattle.ata_types.specs.declared.memory.TheConstants.{DRIVER_BYTES}
+use Rattle.hba_regs.specs.Bits.{bit}
+use Rattle.hba_regs.specs.declared.reg.Reg.TheVariants.{Cap, Ghc, Pi}
+use Rattle.adapter.specs.Access.{Access, Writes}
+use Rattle.adapter.specs.Access.Access.{Reading, Writing}
+use Rattle.adapter.specs.Device.{DevicePort, Device}
+use Rattle.adapter.specs.Idle.{IsIdlePort}
+use Rattle.adapter.specs.Rules.{IsOn}
+use Rattle.adapter.specs.declared.command.Operation.TheVariants.{Identify}
+use Rattle.refinement.specs.Relation.{port_at}
+use Rattle.refinement.specs.Driven.{RelatesWith, IsRelated, OnPortWriting, IsDrivenBy, IsSimulatedTo, SameUses, LeavesPort}
+use Rattle.refinement.specs.Driver.{AllFree}
+use Rattle.refinement.specs.Halting.{HaltIsOfTaken}
+use Rattle.refinement.specs.Links.{SameAdapter}
+use Rattle.refinement.specs.Slots.{Free, Own, SlotStates}
+use Rattle.identify.specs.Wanted.{serial_of}
+use Rattle.identify.specs.declared.DiskInfo.{DiskInfo}
+use Rattle.identify.specs.declared.wanted.Wanted.{Wanted}
+use Rattle.identify.specs.declared.wanted.Wanted.TheVariants.{Nothing}
+use Rattle.port_control.specs.Engines.{StopsBoth, EngineSticks}
+use Rattle.port_control.specs.Ports.{IsCommandRegister}
+use Rattle.port_boot.specs.States.{BacksState, EndsBeforeStart, EndsAfterStart, BringsReady, HasFitDisk, IsBoot, IsBootTo, IsBeforeStart, IsAfterStart, IsOfBoot, IsReady, ShowsOnlyNewErrors}
+use Rattle.host_boot.specs.declared.ProbeResult.{ProbeResult}
+use Rattle.host_boot.specs.declared.ProbeResult.TheVariants.{Unserved, Ready, Unready}
+use Rattle.host_boot.specs.declared.Host.{Host}
+
+-- ---- ports
+
+-- what is wanted of a port, by its number
+abbrev pub wanted_of : List Wanted → ℕ → Wanted
+wanted_of wanted port = slice_index_or wanted port Nothing
+
+-- what a port was found to be
+abbrev pub probe_result_of : List ProbeResult → ℕ → ProbeResult
+probe_result_of ports port = slice_index_or ports port Unserved
+
+-- a disk is wanted in the port, and the adapter has it
+abbrev pub IsServed : Wanted → ℕ → Device → Type 0
+IsServed wanted port d = (wanted ≢ Nothing) × (bit d.pi port ≡ true)
+
+-- in the port a disk was found that isn't served
+abbrev pub FoundBadDisk : ShownState → Type 0
+FoundBadDisk Foreign = Unit {0}
+FoundBadDisk (Unfit n) = Unit {0}
+FoundBadDisk _ = ⊥
+
+-- What stands behind what a port was found to be. One that isn't served is as idle as it was; what stands behind the
+-- others is what their boot found.
+abbrev pub BacksProbeResult : Wanted → ProbeResult → ℕ → Device → Type 0
+BacksProbeResult wanted Unserved port d = (IsServed wanted port d → ⊥) × IsIdlePort (d.port port)
+BacksProbeResult wanted (Ready info) port d = IsServed wanted port d × IsReady (serial_of wanted) port d info
+BacksProbeResult wanted (Unready state) port d = IsServed wanted port d × BacksState (serial_of wanted) state port d
+
+-- What still stands behind it as long as the port isn't booted anew: behind a ready port, which takes commands, a disk
+-- that fits.
+abbrev pub StillBacksProbeResult : Wanted → ProbeResult → ℕ → Device → Type 0
+StillBacksProbeResult wanted (Ready info) port d = IsServed wanted port d × HasFitDisk (serial_of wanted) port d info
+StillBacksProbeResult wanted found port d = BacksProbeResult wanted found port d
+
+-- What has to be left of a port for that: of a ready one, DET of PxSCTL, PxIE, and when PxSCTL was written; any other
+-- is left to the device.
+abbrev pub LeavesFoundPort : ProbeResult → DevicePort → DevicePort → Type 0
+LeavesFoundPort (Ready info) old new =
+    (new.sctl_det ≡ old.sctl_det) × (new.ie ≡ old.ie) × (new.notes.sctl_written_at ≡ old.notes.sctl_written_at)
+LeavesFoundPort found old new = LeavesPort old new
+
+-- PxSCTL of the port was written after the tape was so long, unless the port isn't served, or was dead before that
+abbrev pub WroteSctl : ProbeResult → ℕ → ℕ → Device → Type 0
+WroteSctl Unserved port since d = Unit {0}
+WroteSctl (Unready Dead) port since d = Unit {0}
+WroteSctl _ port since d = since ≤ (d.port port).notes.sctl_written_at
+
+-- what halts a port that was found ready is of a command that is taken
+abbrev pub ReadyHaltOfTaken : ProbeResult → ℕ → Device → Type 0
+ReadyHaltOfTaken found port d = (info : DiskInfo) → found ≡ Ready info → HaltIsOfTaken (d.port port)
+
+-- What accesses tell of the engines of a port that was found to be this: both fell, as was read after each was cleared.
+-- Of a dead port 64 readings in a row showed one that runs still; and one that isn't served wasn't stopped.
+abbrev pub TellsEngines : Port → ProbeResult → List Access → Type 0
+TellsEngines port Unserved accesses = Unit {0}
+TellsEngines port (Unready Dead) accesses = EngineSticks port accesses
+TellsEngines port _ accesses = StopsBoth port accesses
+
+-- A port that isn't served isn't touched; another was stopped and booted, and its accesses tell of its engines.
+abbrev pub Boots : Port → ProbeResult → Device → Device → Type 0
+Boots port Unserved old new = new ≡ old
+Boots port (Ready info) old new = IsBoot (StopsBoth port) port old new
+Boots port (Unready state) old new = IsBootTo (StopsBoth port) port state old new
+
+-- ---- accesses
+
+-- it reads CAP or PI, or writes GHC with AE alone, or with AE and IE
+abbrev pub IsOfHost : Access → Type 0
+IsOfHost (Reading Cap v) = Unit {0}
+IsOfHost (Reading Pi v) = Unit {0}
+IsOfHost (Writing Ghc v) = (v ≡ 0x80000000) ⊎ (v ≡ 0x80000002)
+IsOfHost access = ⊥
+
+-- it reads CAP or PI
+abbrev pub ReadsCapOrPi : Access → Type 0
+ReadsCapOrPi (Reading Cap v) = Unit {0}
+ReadsCapOrPi (Reading Pi v) = Unit {0}
+ReadsCapOrPi access = ⊥
+
+-- it is one of these, or one of the boot of a port in which a disk is wanted
+abbrev pub IsOfTakeOver : List Wanted → Access → Type 0
+IsOfTakeOver wanted access = IsOfHost access ⊎ ((port : Port) × (wanted_of wanted port.0 ≢ Nothing)
+    × IsOfBoot port access)
+
+-- every port is left to the device
+abbrev pub LeavesPorts : Device → Device → Type 0
+LeavesPorts old new = (port : ℕ) → LeavesPort (old.port port) (new.port port)
+
+-- ---- the way
+
+-- By accesses of a boot of this port alone 64 readings in a row showed one of its engines that was cleared, and runs
+-- still.
+pub record SticksOnWay (port : Port) (old new : Device) : Type 0 where
+  pub driven : IsDrivenBy (IsOfBoot port) old new
+  pub sticks : EngineSticks port driven.accesses
+
+-- The port was stopped, and then booted, by accesses of a boot of this port alone: it is ready, and each access of that
+-- is told, with what it shows of trouble; or it isn't, and what was seen is told. Of each dead one the engine that is
+-- stuck is told.
+abbrev pub StopsAndBootsPort : Port → ProbeResult → Device → Device → Type 0
+StopsAndBootsPort port Unserved old new = new ≡ old
+StopsAndBootsPort port (Ready info) old new = (stopped : Device)
+    × IsDrivenBy (OnPortWriting IsCommandRegister port) old stopped
+    × IsDrivenBy (IsOfBoot port) stopped new × BringsReady port stopped new × ShowsOnlyNewErrors port.0 stopped new
+StopsAndBootsPort port (Unready state) old new = (stopped : Device)
+    × IsDrivenBy (OnPortWriting IsCommandRegister port) old stopped
+    × IsDrivenBy (IsOfBoot port) stopped new × (IsBeforeStart state → EndsBeforeStart port state stopped new)
+    × (IsAfterStart state → EndsAfterStart port stopped new) × (state ≡ Dead → SticksOnWay port old new)
+
+-- ---- one port
+
+-- An idle port may be booted, if it is wanted and the adapter has it: the ports that it has are these, by bit; memory
+-- has the driver's areas; and no slot of the port is used.
+pub record MayBootIdle (port : Port) (implemented : ℕ) (d : Device) : Type 0 where
+  pub on : IsOn d
+  pub small : port.0 < 4
+  pub there : implemented ≡ d.pi
+  pub room : DRIVER_BYTES ≤ d.size
+  pub agreed : RelatesWith (λ uses. AllFree uses port.0) d
+  pub idle : IsIdlePort (d.port port.0)
+
+-- It was found to be this: what stands behind that; PxSCTL was written in it; what halts a ready one is of a command
+-- that is taken; what it is to a machine that agrees; and its way.
+pub record FindsPort (wanted : Wanted) (port : Port) (found : ProbeResult) (old new : Device) : Type 0 where
+  pub stands : BacksProbeResult wanted found port.0 new
+  pub reset : WroteSctl found port.0 (length old.tape) new
+  pub halts : ReadyHaltOfTaken found port.0 new
+  pub boots : Boots port found old new
+  pub way : StopsAndBootsPort port found old new
+
+-- ---- the whole way
+
+-- so it was with these ports, one after another, of which the first has this number
+abbrev pub FindsEachPort : ℕ → List ProbeResult → Device → Device → Type 0
+FindsEachPort port [] old new = new ≡ old
+FindsEachPort port (found ∷ rest) old new = (mid : Device) × StopsAndBootsPort (port_at port) found old mid
+    × FindsEachPort (port + 1) rest mid new
+
+-- The adapter was switched on with interrupts off, and CAP and PI were read; then each port went its way, in rising
+-- number; and last of all the adapter was let interrupt (AHCI 1.3.1, 3.1.2 and 10.1.2).
+pub record SwitchesOnAndBoots (ports : List ProbeResult) (old new : Device) : Type 0 where
+  pub switched : Device
+  pub switches : Writes Ghc 0x80000000 old switched
+  pub surveyed : Device
+  pub surveys : IsDrivenBy ReadsCapOrPi switched surveyed
+  pub booted : Device
+  pub boots : FindsEachPort 0 ports surveyed booted
+  pub enables : Writes Ghc 0x80000002 booted new
+
+-- ---- the whole
+
+-- no slot is used
+abbrev pub unused_slots : SlotStates
+unused_slots = λ port slot. Free
+
+-- A slot isn't used; or it is slot 0 of a port that is dead, which may have IDENTIFY DEVICE still.
+abbrev pub IsUnusedOrDead : List ProbeResult → SlotStates → ℕ → ℕ → Type 0
+IsUnusedOrDead ports uses port slot = (uses port slot ≡ Free)
+    ⊎ ((slot ≡ 0) × (uses port 0 ≡ Own Identify) × (probe_result_of ports port ≡ Unready Dead))
+
+-- An idle adapter was taken over: it is on, and may interrupt; what is told of it is so; each of its ports is as it was
+-- found, by a COMRESET of this very call; what halts a ready one is of a command that is taken; and the machine
+-- followed, by steps of the device alone, over accesses that tell of each port's engines.
+pub record TakesOver (wanted : List Wanted) (host : Host) (old new : Device) : Type 0 where
+  pub on : IsOn new
+  pub interrupts : new.ie ≡ true
+  pub same : SameAdapter old new
+  pub slots : host.slots ≡ new.cap / 256 % 32 + 1
+  pub queued : host.queued ≡ bit new.cap 30
+  pub stands : (port : ℕ) → port < 4 → BacksProbeResult (wanted_of wanted port) (probe_result_of host.ports port) port
+      new
+  pub reset : (port : ℕ) → port < 4 → WroteSctl (probe_result_of host.ports port) port (length old.tape) new
+  pub halts : (port : ℕ) → port < 4 → ReadyHaltOfTaken (probe_result_of host.ports port) port new
+  pub way : SwitchesOnAndBoots host.ports old new
+  pub uses : SlotStates
+  pub left : (port slot : ℕ) → IsUnusedOrDead host.ports uses port slot
+  pub followed : IsSimulatedTo (IsOfTakeOver wanted) (SameUses unused_slots) (λ _. uses) old new
+  pub engines : (port : ℕ) → port < 4
+      → TellsEngines (port_at port) (probe_result_of host.ports port) followed.driven.accesses
+  pub agreed : IsRelated uses new

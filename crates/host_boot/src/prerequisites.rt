@@ -1,0 +1,47 @@
+// What laws of the crates below say of this crate's accesses, for its proofs. Nothing comes of calling it.
+ghost use Rattle.host_boot.specs.Laws.{Laws};
+
+use adapter::laws::{law_accesses_compose, law_step_lists_keep_what_steps_keep};
+use port_boot::laws::{
+    law_a_boot_is_of_its_port, law_a_disk_is_in_where_one_shows, law_a_port_runs_on,
+    law_boots_are_driven, law_what_was_found_goes_on,
+};
+use port_control::laws::{law_calls_are_of_one_port, law_what_is_told_of_engines_stays};
+use refinement::disks::{law_no_disk_comes_in, law_reset_is_idle};
+use refinement::fragments::{
+    law_agreeing_goes_on, law_other_ports_are_left, law_tape_prerequisites,
+};
+use refinement::kinds::law_fragment_prerequisites;
+use refinement::laws::law_putting_is_of_one_slot;
+use refinement::port_facts::{
+    law_adapter_stays, law_disk_in_stays_shown, law_reset_is_found, law_writing_ghc_switches_on,
+};
+use refinement::recovering::law_halts_are_of_taken_commands;
+use std::marker::Brand;
+
+/// The laws that the proofs of this crate rest on.
+pub fn law_prerequisites()
+    ensures { Laws }
+{
+    law_accesses_compose();
+    law_step_lists_keep_what_steps_keep();
+    law_no_disk_comes_in();
+    law_adapter_stays();
+    law_disk_in_stays_shown();
+    law_reset_is_found();
+    law_reset_is_idle();
+    law_writing_ghc_switches_on();
+    law_fragment_prerequisites::<Brand>();
+    law_putting_is_of_one_slot();
+    law_halts_are_of_taken_commands();
+    law_agreeing_goes_on();
+    law_other_ports_are_left();
+    law_tape_prerequisites();
+    law_a_boot_is_of_its_port();
+    law_a_disk_is_in_where_one_shows();
+    law_a_port_runs_on();
+    law_boots_are_driven();
+    law_what_was_found_goes_on();
+    law_calls_are_of_one_port();
+    law_what_is_told_of_engines_stays();
+}

@@ -1,9 +1,0 @@
-use Rattle.std.proofs.Common.{ℕ, ◌<◌, get_or}
-use Rattle.ata_types.specs.declared.grant.GrantRow.{GrantRow}
-use Rattle.block_machine.specs.Rules.{Names}
-use Rattle.machine_rules.specs.Plain.{situation_in, RowHas}
-use Rattle.machine_rules.proofs.refuse.PlainSituation.some_row_has.Given as goal
-
-abbrev pub invariant-loop-row : goal.invariant-loop-row
-invariant-loop-row l = (k : ℕ) (d : GrantRow) → k < l.row-index → Names l.request.client l.request.grant (get_or l.row-items k d)
-    → RowHas (situation_in l.self) l.request l.cause (get_or l.row-items k d) → ⊥

@@ -1,5 +1,0 @@
-use Rattle.block_machine.proofs.Setting.{empty, empty_starts}
-use Rattle.machine_runs.proofs.laws.law_a_start_exists.Goals as goal
-
-pub returns : goal.returns
-returns c = (empty, empty_starts)

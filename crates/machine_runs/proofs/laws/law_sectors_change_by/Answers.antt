@@ -1,5 +1,0 @@
-use Rattle.machine_runs.proofs.Changes.{law_sectors_change_by}
-use Rattle.machine_runs.proofs.laws.law_sectors_change_by.Goals as goal
-
-pub returns : goal.returns
-returns c = law_sectors_change_by

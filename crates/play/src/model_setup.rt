@@ -1,0 +1,65 @@
+// The model behind the server, as a configuration says.
+ghost use Rattle.std.specs.Prelude.{◌≡◌, IfOk, string_bytes};
+ghost use Rattle.block_server.specs.Made.{IsReadyFor};
+ghost use Rattle.configuration.specs.Rules.{LacksEveryFault, IsTrimWord};
+ghost use Rattle.device_model.specs.Modelled.{device_at};
+ghost use Rattle.play.specs.Played.{IsModelOf, IsModelWith, trim_word_of};
+
+use configuration::Config;
+use device_model::{Disks, Model, ModelConfig, NoMemory, Trim};
+use sector_store::SectorStore;
+use std::alloc::Global;
+
+/// Ports 0 to 3 are there, as bits of PI.
+const ALL_PORTS: u8 = 0x0f;
+
+/// The promise on trims that a configuration's word names.
+fn trim_of(word: &str) -> Trim
+    requires { IsTrimWord word.now }
+    ensures { trim_word_of result ≡ word.now }
+{
+    match word {
+        "full" => Trim::Full,
+        "weak" => Trim::Weak,
+        _ => Trim::Without,
+    }
+}
+
+/// A new modelled adapter as the configuration says. The image is disk 0 of port 0, which is in it, and the blank disk
+/// is disk 1, which can be put in for it.
+#[inline(never)]
+pub fn new_model<S: SectorStore>(
+    alloc: Global,
+    config: &Config,
+    image: S,
+    blank: S,
+) -> Result<Model<S>, NoMemory>
+    requires { LacksEveryFault config.now }
+    ensures ready { IfOk result (λ m. IsReadyFor config.now (device_at S.size S.told m)) }
+    ensures made { IfOk result (IsModelOf S.size S.told config.now image blank) }
+{
+    model_with(alloc, config, Disks::of_port_0(image, blank))
+}
+
+/// A new modelled adapter as the configuration says, with these disks.
+#[inline(never)]
+pub fn model_with<S: SectorStore>(
+    alloc: Global,
+    config: &Config,
+    disks: Disks<S>,
+) -> Result<Model<S>, NoMemory>
+    requires { LacksEveryFault config.now }
+    ensures ready { IfOk result (λ m. IsReadyFor config.now (device_at S.size S.told m)) }
+    ensures made { IfOk result (IsModelWith S.size S.told config.now disks) }
+{
+    let settings = ModelConfig {
+        frames: config.frames as u16,
+        pi: ALL_PORTS,
+        slots: config.slots as u8,
+        ncq: config.ncq,
+        depth: config.depth as u8,
+        trim: trim_of(config.trim.as_str()),
+        cache: config.cache,
+    };
+    Model::with_disks(alloc, settings, disks)
+}

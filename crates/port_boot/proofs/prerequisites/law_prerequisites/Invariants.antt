@@ -1,0 +1,9 @@
+use Rattle.port_boot.specs.Laws.{AccessPurpose, RegisterSet, slot_uses_for, accesses_for, registers_of}
+use Rattle.port_boot.proofs.prerequisites.law_prerequisites.Given as goal
+
+-- The laws on fragments are asked of this crate's kinds of accesses.
+abbrev pub ghosts-law_fragment_prerequisites : goal.ghosts-law_fragment_prerequisites
+ghosts-law_fragment_prerequisites a = record { Kind = AccessPurpose; may = accesses_for; fits = slot_uses_for }
+
+abbrev pub ghosts-law_controls_are_of_a_port : goal.ghosts-law_controls_are_of_a_port
+ghosts-law_controls_are_of_a_port a = record { Set = RegisterSet; has = registers_of }

@@ -1,0 +1,51 @@
+// What laws of the crates below say of the accesses of looks, for their proofs and those above. Nothing comes of
+// calling it.
+ghost use Rattle.port_control.specs.EventLaws.{Laws};
+
+use adapter::laws::{
+    law_port_register_accesses, law_step_lists_keep_what_steps_keep, law_steps_compose,
+};
+use refinement::disks::law_looks_tell_trouble;
+use refinement::fragments::{law_other_ports_are_left, law_tape_prerequisites};
+use refinement::kinds::law_fragment_prerequisites;
+use refinement::laws::{
+    law_acknowledging_is_permitted, law_clear_bits_stay, law_writing_is_permitted,
+};
+use refinement::port_facts::{
+    law_adapter_stays, law_cleared_stays, law_controls_stay, law_errors_are_kept,
+    law_errors_are_shown, law_fault_is_found, law_faults_are_recorded, law_healthy_stays,
+    law_link_stays, law_loads_and_stores_leave_ports, law_notes_are_set, law_notes_stay,
+    law_plugging_is_found, law_running_well_is_found, law_trouble_is_shown,
+};
+use std::marker::Brand;
+
+/// The laws that the proofs on looks rest on.
+pub fn law_prerequisites()
+    ensures { Laws }
+{
+    law_port_register_accesses();
+    law_steps_compose();
+    law_step_lists_keep_what_steps_keep();
+    law_looks_tell_trouble();
+    law_adapter_stays();
+    law_cleared_stays();
+    law_controls_stay();
+    law_errors_are_kept();
+    law_errors_are_shown();
+    law_fault_is_found();
+    law_faults_are_recorded();
+    law_healthy_stays();
+    law_link_stays();
+    law_loads_and_stores_leave_ports();
+    law_notes_are_set();
+    law_notes_stay();
+    law_plugging_is_found();
+    law_running_well_is_found();
+    law_trouble_is_shown();
+    law_fragment_prerequisites::<Brand>();
+    law_acknowledging_is_permitted();
+    law_clear_bits_stay();
+    law_writing_is_permitted();
+    law_other_ports_are_left();
+    law_tape_prerequisites();
+}

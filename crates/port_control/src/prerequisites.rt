@@ -1,0 +1,60 @@
+// What laws of the crates below say of accesses that control a port, for their proofs. Nothing comes of calling it.
+ghost use Rattle.port_control.specs.Laws.{Laws};
+
+use adapter::laws::{
+    law_accesses_compose, law_port_register_accesses, law_step_lists_keep_what_steps_keep,
+};
+use refinement::fragments::{
+    law_causes_stay_clear, law_other_ports_are_left, law_tape_prerequisites, law_written_notes_stay,
+};
+use refinement::giving_up::law_stopped_slots_tell;
+use refinement::kinds::{law_controls_are_of_a_port, law_fragment_prerequisites};
+use refinement::laws::{
+    law_clear_bits_stay, law_placing_areas_is_permitted, law_slots_are_disarmed,
+    law_writing_cmd_is_permitted, law_writing_is_permitted,
+};
+use refinement::port_facts::{
+    law_adapter_stays, law_controls_are_set, law_controls_stay, law_errors_are_cleared,
+    law_faults_are_recorded, law_link_comes_up, law_link_is_awaited, law_notes_are_set,
+    law_notes_stay, law_quiet_is_found, law_reset_is_found, law_running_well_is_found,
+    law_stop_is_found, law_stopped_engine_stays,
+};
+use refinement::recovering::{law_link_stays_online, law_running_goes_on};
+use std::marker::Brand;
+
+/// The laws that the proofs on controlling a port rest on.
+pub fn law_prerequisites()
+    ensures { Laws }
+{
+    law_accesses_compose();
+    law_port_register_accesses();
+    law_step_lists_keep_what_steps_keep();
+    law_adapter_stays();
+    law_controls_are_set();
+    law_controls_stay();
+    law_errors_are_cleared();
+    law_faults_are_recorded();
+    law_stopped_engine_stays();
+    law_link_comes_up();
+    law_link_is_awaited();
+    law_notes_are_set();
+    law_notes_stay();
+    law_quiet_is_found();
+    law_reset_is_found();
+    law_running_well_is_found();
+    law_stop_is_found();
+    law_stopped_slots_tell();
+    law_fragment_prerequisites::<Brand>();
+    law_controls_are_of_a_port::<Brand>();
+    law_slots_are_disarmed();
+    law_clear_bits_stay();
+    law_writing_cmd_is_permitted();
+    law_placing_areas_is_permitted();
+    law_writing_is_permitted();
+    law_link_stays_online();
+    law_running_goes_on();
+    law_causes_stay_clear();
+    law_other_ports_are_left();
+    law_tape_prerequisites();
+    law_written_notes_stay();
+}

@@ -1,0 +1,16 @@
+use Rattle.std.proofs.Common.{refl, inl, inr}
+use Rattle.refinement.proofs.driver.ComposedMoves.{goes_access, goes_ending, goes_own, goes_still}
+use Rattle.refinement.proofs.acts.law_accesses_and_decisions_are_acts.Goals as goal
+
+pub returns-clause-access : goal.returns-clause-access
+returns-clause-access c = λ k later m access adds reached x does.
+    let y = goes_access k later m adds reached x in (y.0, y.1, record { leads = does; one = inl y.1; goes = y.2 })
+
+pub returns-clause-ends : goal.returns-clause-ends
+returns-clause-ends c = λ k later m access own e decides does. record { leads = does; one = inr (own, e.steps, refl, decides, e.only); goes = goes_ending k later m own e }
+
+pub returns-clause-own : goal.returns-clause-own
+returns-clause-own c = λ k later m step own may same x. record { leads = same; one = inr (step, own, refl); goes = goes_own k later m step own may same x }
+
+pub returns-clause-still : goal.returns-clause-still
+returns-clause-still c = λ k later m same x. record { leads = same; one = inl refl; goes = goes_still k later m same x }

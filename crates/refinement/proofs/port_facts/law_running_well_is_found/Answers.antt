@@ -1,0 +1,28 @@
+use Rattle.refinement.proofs.device.RestartedPort.{started_up}
+use Rattle.refinement.proofs.device.RunningPort.{steps_started, access_started, well_of, started_well}
+use Rattle.refinement.proofs.device.BootedPort.{start_is_made, well_is_told, well_is_found}
+use Rattle.refinement.proofs.port_facts.law_running_well_is_found.Goals as goal
+
+pub returns-clause-starts : goal.returns-clause-starts
+returns-clause-starts c = start_is_made c.law_prerequisites.ensures
+
+pub returns-clause-steps : goal.returns-clause-steps
+returns-clause-steps c = steps_started c.law_prerequisites.ensures
+
+pub returns-clause-access : goal.returns-clause-access
+returns-clause-access c = access_started c.law_prerequisites.ensures
+
+pub returns-clause-well : goal.returns-clause-well
+returns-clause-well c = well_of
+
+pub returns-clause-started : goal.returns-clause-started
+returns-clause-started c = started_well
+
+pub returns-clause-told : goal.returns-clause-told
+returns-clause-told c = well_is_told c.law_prerequisites.ensures
+
+pub returns-clause-found : goal.returns-clause-found
+returns-clause-found c = well_is_found c.law_prerequisites.ensures
+
+pub returns-clause-up : goal.returns-clause-up
+returns-clause-up c = started_up

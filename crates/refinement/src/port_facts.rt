@@ -1,0 +1,690 @@
+// Laws of what a driver learns from the device, for the crates above: the clause is the theorem. Nothing that runs
+// calls these functions.
+ghost use Rattle.std.specs.Prelude.{ℕ, true, false, ◌≡◌, ◌≢◌, ◌≤◌, ◌+◌, ◌*◌, ◌/◌, ◌%◌, ◌++◌, List, length, drop, Some, None, Contains, All};
+ghost use Rattle.ata_types.specs.declared.Port.{Port};
+ghost use Rattle.ata_types.specs.declared.memory.TheConstants.{DRIVER_FRAMES, FRAME_BYTES};
+ghost use Rattle.ata_types.specs.declared.request.Frame.{Frame};
+ghost use Rattle.ata_types.specs.declared.request.RequestId.{RequestId};
+ghost use Rattle.hba_regs.specs.Bits.{bit};
+ghost use Rattle.hba_regs.specs.declared.reg.Reg.{Reg};
+ghost use Rattle.hba_regs.specs.declared.reg.Reg.TheVariants.{Ghc, Px};
+ghost use Rattle.hba_regs.specs.declared.reg.PortReg.TheVariants.{Is, Ie, Cmd, Tfd, Sig, Ssts, Sctl, Serr, Ci, Sact, Clb, Clbu, Fb, Fbu};
+ghost use Rattle.hba_regs.specs.declared.reg.PortReg.{PortReg};
+ghost use Rattle.adapter.specs.Access.{Reads, Writes, Loads, Stores, Access, Does, DoesAll, PortShows, note};
+ghost use Rattle.adapter.specs.Access.Access.{Writing};
+ghost use Rattle.adapter.specs.Device.{Device, DevicePort};
+ghost use Rattle.adapter.specs.Device.Halt.{HaltedPlain};
+ghost use Rattle.adapter.specs.FirstRead.{first_read_device};
+ghost use Rattle.adapter.specs.Idle.{IsIdle, IsIdlePort};
+ghost use Rattle.adapter.specs.Rules.{IsUnowned, IsOn, MayWrite, IsStable};
+ghost use Rattle.adapter.specs.Steps.{Steps};
+ghost use Rattle.adapter.specs.declared.command.Operation.{Operation};
+ghost use Rattle.adapter.specs.declared.tape.Entry.{Entry};
+ghost use Rattle.block_machine.specs.Events.{AllByDevice};
+ghost use Rattle.block_machine.specs.Histories.{IsReachable, IsSimulatedBySteps};
+ghost use Rattle.block_machine.specs.Expected.{after};
+ghost use Rattle.block_machine.specs.State.{Pending, Machine};
+ghost use Rattle.block_machine.specs.Steps.{Step, Release, MayStillMove, NoneQuarantined, after_step};
+ghost use Rattle.refinement.specs.Relation.{StateRelation};
+ghost use Rattle.refinement.specs.Awaits.{AwaitsPage};
+ghost use Rattle.refinement.specs.Booted.{BootWitness};
+ghost use Rattle.refinement.specs.Driven.{TapeGrows};
+ghost use Rattle.refinement.specs.Driver.{DriverState, DriverRelation, IsOwnPrepared};
+ghost use Rattle.refinement.specs.Errors.{KeepsErrors, NoDiskComes, ChangesByDisks, StaysClear, NoneFatal, NoneFails, ChangesByErrors, IsLeftByReset, ShowsResetState, IsCompositional, IsWork};
+ghost use Rattle.refinement.specs.PortFacts.{IsEngineStopped, IsQuiescentPort, FindsOwnPage, DeviceSparesFrame, CommandsAreOver, RunsWell, Undisturbed, ShowsNoTrouble, TellsNoTrouble, ClearsNoTrouble, IsFaulted, ShowsFault, RecordsFaults, FaultsOnRecord, ShowsDrqTillLink, StoppedTfesClear, IsCleanToStart, KeepsFaultRecord, EndedIn, IsSlotClear};
+ghost use Rattle.refinement.specs.Links.{DoesNotWrite, SameAdapter, LeavesControls, NoPlugEvents, LeavesDisk, LeavesLink, ShowsDiskIfIn};
+ghost use Rattle.refinement.specs.Noted.{LeavesNotes, NotesLast};
+ghost use Rattle.refinement.specs.Places.{scratch_of};
+ghost use Rattle.refinement.specs.Slots.{SlotStates, Free, Own, Serves, IsOver, PageStandsInScratch, put};
+ghost use Rattle.refinement.specs.Spares.{IsOfAnother};
+ghost use Rattle.refinement.specs.Started.{IsUp, IsComingUp, IsStarted, SetsNoStart, ClearsNoStart};
+
+use super::prerequisites::law_prerequisites;
+use adapter::laws::law_step_lists_keep_what_steps_keep;
+
+/// A port that has halted stays so, whatever the device does, also over a reset of the adapter that ends, over
+/// readings, and over each write that may be made and doesn't set its ST; and an idle port has halted.
+pub fn law_stopped_engine_stays()
+    ensures steps { (port : ℕ) (old new : Device) → Steps old new → IsEngineStopped (old.port port)
+        → IsEngineStopped (new.port port) }
+    ensures reads { (port : ℕ) (r : Reg) (v : ℕ) (old new : Device) → Reads r v old new
+        → IsEngineStopped (old.port port)
+        → IsEngineStopped (new.port port) }
+    ensures writes { (port : Port) (r : Reg) (v : ℕ) (old new : Device) → IsStable (MayWrite r v) old
+        → (r ≡ Px port Cmd → bit v 0 ≡ false) → Writes r v old new → IsEngineStopped (old.port port.0)
+        → IsEngineStopped (new.port port.0) }
+    ensures idle { (p : DevicePort) → IsIdlePort p → IsEngineStopped p }
+{
+    law_prerequisites();
+}
+
+/// ST is 0 and CR is read 0: the port has halted.
+pub fn law_stop_is_found()
+    ensures { (uses : SlotStates) (m : Machine) (port : Port) (v : ℕ) (old new : Device) → IsReachable m
+        → StateRelation uses m old
+        → (old.port port.0).st ≡ false → Reads (Px port Cmd) v old new → bit v 15 ≡ false
+        → IsEngineStopped (new.port port.0) }
+{
+    law_prerequisites();
+}
+
+/// HR of GHC begins a reset of the adapter, and is read 1 while it is pending. Once it is read 0, each port is as the
+/// reset left it, but for what the device did since, which alone made steps before it, too: its engines stand, no bit
+/// of PxIS is set, and what comes since sets N or X. Its engines stand on, whatever the device does, over readings,
+/// and over each write that may be made and sets neither its ST nor its FRE. A port is after a reset exactly if it is
+/// idle.
+pub fn law_reset_is_found()
+    ensures begins { (v : ℕ) (old new : Device) → bit v 0 ≡ true → Writes Ghc v old new → new.hr ≡ true }
+    ensures told { (v : ℕ) (old new : Device) → Reads Ghc v old new → (new.hr ≡ bit v 0) × (new.ae ≡ bit v 31) }
+    ensures reset { (v : ℕ) (old new : Device) → old.hr ≡ true → Reads Ghc v old new → bit v 0 ≡ false
+        → (port : ℕ) → IsQuiescentPort (new.port port) }
+    ensures left { (v : ℕ) (old new : Device) → old.hr ≡ true → Reads Ghc v old new → bit v 0 ≡ false
+        → (mid : Device) × (mid.hr ≡ false) × ((port : ℕ) → IsLeftByReset (mid.port port)) × Steps mid new
+        × Steps old mid }
+    ensures cleared { (v : ℕ) (old new : Device) → old.hr ≡ true → Reads Ghc v old new → bit v 0 ≡ false
+        → (port : ℕ) → ShowsResetState (new.port port) }
+    ensures stays { (port : ℕ) (old new : Device) → Steps old new → IsQuiescentPort (old.port port)
+        → IsQuiescentPort (new.port port) }
+    ensures reads { (port : ℕ) (r : Reg) (v : ℕ) (old new : Device) → Reads r v old new
+        → IsQuiescentPort (old.port port)
+        → IsQuiescentPort (new.port port) }
+    ensures writes { (port : Port) (r : Reg) (v : ℕ) (old new : Device) → IsStable (MayWrite r v) old
+        → (r ≡ Px port Cmd → (bit v 0 ≡ false) × (bit v 4 ≡ false)) → Writes r v old new
+        → IsQuiescentPort (old.port port.0) → IsQuiescentPort (new.port port.0) }
+    ensures idle { (p : DevicePort) → IsIdlePort p → IsQuiescentPort p }
+    ensures is_idle { (p : DevicePort) → IsQuiescentPort p → IsIdlePort p }
+{
+    law_prerequisites();
+}
+
+/// A request of the book that has ended is issued still. One that may move and has ended leaves its slot clear, also
+/// where ST is 0. And on a running port a slot that serves a request and whose bits are both clear has ended it.
+pub fn law_ended_is_clear()
+    ensures issued { (m : Machine) (e : Pending) → IsReachable m → Contains m.book e → e.ended ≡ true
+        → e.issued ≡ true }
+    ensures clears { (uses : SlotStates) (m : Machine) (d : Device) (port : Port) (slot : ℕ) (e : Pending)
+        → IsReachable m
+        → StateRelation uses m d → MayStillMove m e → e.ended ≡ true → uses port.0 slot ≡ Serves e.request.id
+        → IsSlotClear (d.port port.0) slot × EndedIn m port e.request.id }
+    ensures ends { (uses : SlotStates) (m : Machine) (d : Device) (port : Port) (slot : ℕ) (id : RequestId)
+        → StateRelation uses m d
+        → uses port.0 slot ≡ Serves id → (d.port port.0).st ≡ true → (d.port port.0).ci slot ≡ false
+        → (d.port port.0).sact slot ≡ false → IsSlotClear (d.port port.0) slot × EndedIn m port id }
+{}
+
+/// A slot's command that is over stays so, and so do its clear bits, whatever the device does, and over each access
+/// that doesn't write the slot's bit of PxCI or PxSACT. And a request that was ended stays so over the device's own
+/// steps, and over each step that isn't of it, so that several that were found ended are answered one after another;
+/// Release alone gives back what is kept.
+pub fn law_over_stays()
+    ensures over { (port slot : ℕ) (old new : Device) → Steps old new → IsOver (old.port port) slot
+        → IsOver (new.port port) slot }
+    ensures over_access { (port : Port) (slot : ℕ) (access : Access) (old new : Device)
+        → ((v : ℕ) → access ≡ Writing (Px port Ci) v → bit v slot ≡ false) → Does access old new
+        → IsOver (old.port port.0) slot → IsOver (new.port port.0) slot }
+    ensures clear { (port slot : ℕ) (old new : Device) → Steps old new → IsSlotClear (old.port port) slot
+        → IsSlotClear (new.port port) slot }
+    ensures clear_access { (port : Port) (slot : ℕ) (access : Access) (old new : Device)
+        → ((v : ℕ) → access ≡ Writing (Px port Ci) v → bit v slot ≡ false)
+        → ((v : ℕ) → access ≡ Writing (Px port Sact) v → bit v slot ≡ false) → Does access old new
+        → IsSlotClear (old.port port.0) slot → IsSlotClear (new.port port.0) slot }
+    ensures ended { (m : Machine) (steps : List Step) (port : Port) (id : RequestId) → AllByDevice steps
+        → EndedIn m port id → EndedIn (after m steps) port id }
+    ensures ended_beside { (m : Machine) (step : Step) (port : Port) (id : RequestId) → IsOfAnother id step
+        → step ≢ Release → EndedIn m port id → EndedIn (after_step m step) port id }
+    ensures ended_released { (m : Machine) (port : Port) (id : RequestId) → NoneQuarantined m port → EndedIn m port id
+        → EndedIn (after_step m Release) port id }
+{
+    law_prerequisites();
+}
+
+/// While the driver waits for the page of a command of its own, over as many readings as it takes. The write of PxCI
+/// begins it; and it goes on, whatever the device does, and over each access that doesn't clear ST and leaves no reset
+/// pending. Once PxCI is read with bit 0 clear, the page that stands in the scratch frame was brought since that
+/// write; and a load of the frame then gives its bytes.
+pub fn law_page_is_awaited()
+    ensures issued { (uses : SlotStates) (m : Machine) (port : Port) (o : Operation) (v : ℕ) (old new : Device)
+        → IsReachable m
+        → StateRelation uses m old → old.hr ≡ false → IsOwnPrepared uses old port.0 o v → Writes (Px port Ci) v old new
+        → AwaitsPage (put uses port.0 0 (Own o)) port.0 o (length new.tape) new }
+    ensures steps { (uses : SlotStates) (m : Machine) (port : ℕ) (o : Operation) (since : ℕ) (old new : Device)
+        → IsReachable m
+        → StateRelation uses m old → Steps old new → AwaitsPage uses port o since old
+        → AwaitsPage uses port o since new }
+    ensures access { (uses : SlotStates) (m : Machine) (port : Port) (o : Operation) (since : ℕ) (access : Access)
+        (old new : Device)
+        → IsReachable m → StateRelation uses m old → ClearsNoStart port access → new.hr ≡ false → Does access old new
+        → AwaitsPage uses port.0 o since old → AwaitsPage uses port.0 o since new }
+    ensures found { (uses : SlotStates) (m : Machine) (port : Port) (o : Operation) (since v : ℕ) (old new : Device)
+        → IsReachable m → StateRelation uses m old → AwaitsPage uses port.0 o since old → Reads (Px port Ci) v old new
+        → bit v 0 ≡ false → FindsOwnPage uses m port.0 o old new
+        × PageStandsInScratch new.memory new.tape port.0 o since }
+    ensures loaded { (uses : SlotStates) (m : Machine) (port : ℕ) (o : Operation) (since : ℕ) (bytes : List ℕ)
+        (old new : Device)
+        → IsReachable m → StateRelation uses m old → AwaitsPage uses port o since old → IsOver (old.port port) 0
+        → Loads (scratch_of port) bytes old new → length bytes ≡ 512
+        → (b : PageStandsInScratch new.memory new.tape port o since) × (bytes ≡ b.move.bytes.value) }
+{
+    law_prerequisites();
+}
+
+/// Where the commands of a request are over, the device uses none of the frames that are lent to it any more, whatever
+/// it does; so they may leave the loan. (One slot alone serves a request.) Nor does it use a client's frame that is
+/// lent to nobody, nor any frame where it is idle. The bytes of such a frame may be loaded and stored.
+pub fn law_device_spares_frames()
+    ensures lent { (uses : SlotStates) (m : Machine) (d : Device) (frame : Frame) (id : RequestId) → IsReachable m
+        → StateRelation uses m d → m.lent frame ≡ Some id → CommandsAreOver uses d id
+        → IsStable (DeviceSparesFrame frame) d }
+    ensures unlent { (uses : SlotStates) (m : Machine) (d : Device) (frame : Frame) → IsReachable m
+        → StateRelation uses m d
+        → m.lent frame ≡ None → DRIVER_FRAMES ≤ frame.0 → IsStable (DeviceSparesFrame frame) d }
+    ensures over { (uses : SlotStates) (m : Machine) (d : Device) (port slot : ℕ) (id : RequestId)
+        → StateRelation uses m d
+        → uses port slot ≡ Serves id → IsOver (d.port port) slot → CommandsAreOver uses d id }
+    ensures idle { (d : Device) (frame : Frame) → IsIdle d → IsStable (DeviceSparesFrame frame) d }
+    ensures free { (d : Device) (frame : Frame) (offset n : ℕ) → IsStable (DeviceSparesFrame frame) d
+        → FRAME_BYTES * frame.0 + FRAME_BYTES ≤ d.size → offset + n ≤ FRAME_BYTES
+        → IsStable (IsUnowned (FRAME_BYTES * frame.0 + offset) n) d }
+{}
+
+/// While no reset is pending, a healthy port on which nothing goes wrong stays healthy, whatever else the device does,
+/// over readings, and over writes that neither clear ST nor write SCTL. There is one.
+pub fn law_healthy_stays()
+    ensures steps { (port : ℕ) (old new : Device) → old.hr ≡ false → Steps old new → Undisturbed port old new
+        → RunsWell (old.port port) → RunsWell (new.port port) }
+    ensures reads { (port : ℕ) (r : Reg) (v : ℕ) (old new : Device) → old.hr ≡ false → Reads r v old new
+        → Undisturbed port old new → RunsWell (old.port port) → RunsWell (new.port port) }
+    ensures writes { (port : Port) (r : Reg) (v : ℕ) (old new : Device) → old.hr ≡ false
+        → (r ≡ Px port Cmd → bit v 0 ≡ true) → r ≢ Px port Sctl → Writes r v old new → Undisturbed port.0 old new
+        → RunsWell (old.port port.0) → RunsWell (new.port port.0) }
+    ensures exists { RunsWell (first_read_device.port 0) }
+{
+    law_prerequisites();
+}
+
+/// While no reset is pending, whatever goes wrong on a port sets a bit of PxIS or of PxSERR, which stays until the
+/// driver clears it: where none is set, none was, and nothing went wrong. PxIS alone tells of each, and a healthy port
+/// has none; so where it is read with none, or with none of its own and then PxSERR with none, a port that was healthy
+/// is so still when PxIS is read.
+pub fn law_trouble_is_shown()
+    ensures steps { (port : ℕ) (old new : Device) → old.hr ≡ false → Steps old new → ShowsNoTrouble (new.port port)
+        → ShowsNoTrouble (old.port port) × Undisturbed port old new }
+    ensures reads { (port : ℕ) (r : Reg) (v : ℕ) (old new : Device) → old.hr ≡ false → Reads r v old new
+        → ShowsNoTrouble (new.port port) → ShowsNoTrouble (old.port port) × Undisturbed port old new }
+    ensures stores { (port at : ℕ) (bytes : List ℕ) (old new : Device) → old.hr ≡ false → Stores at bytes old new
+        → ShowsNoTrouble (new.port port) → ShowsNoTrouble (old.port port) × Undisturbed port old new }
+    ensures writes { (port : Port) (r : Reg) (v : ℕ) (old new : Device) → old.hr ≡ false → ClearsNoTrouble port r v
+        → Writes r v old new → ShowsNoTrouble (new.port port.0) → ShowsNoTrouble (old.port port.0)
+        × Undisturbed port.0 old new }
+    ensures told { (port : Port) (v : ℕ) (old new : Device) → old.hr ≡ false → Reads (Px port Is) v old new
+        → TellsNoTrouble v → ShowsNoTrouble (new.port port.0) }
+    ensures tells { (port : Port) (v : ℕ) (old new : Device) → old.hr ≡ false → Reads (Px port Is) v old new
+        → ShowsNoTrouble (new.port port.0) → TellsNoTrouble v }
+    ensures back { (port : Port) (v : ℕ) → TellsNoTrouble v → ClearsNoTrouble port (Px port Is) v }
+    ensures healthy { (p : DevicePort) → RunsWell p → ShowsNoTrouble p }
+    ensures found { (port : Port) (v : ℕ) (old new : Device) → old.hr ≡ false → Reads (Px port Is) v old new
+        → TellsNoTrouble v → RunsWell (old.port port.0) → Undisturbed port.0 old new × RunsWell (new.port port.0) }
+    ensures both { (port : Port) (v errors : ℕ) (old mid new : Device) → old.hr ≡ false → Reads (Px port Is) v old mid
+        → Reads (Px port Serr) errors mid new → ((place : ℕ) → 27 ≤ place → place ≤ 30 → bit v place ≡ false)
+        → bit errors 16 ≡ false → bit errors 26 ≡ false → RunsWell (old.port port.0)
+        → Undisturbed port.0 old mid × RunsWell (mid.port port.0) }
+{
+    law_prerequisites();
+}
+
+/// And each error sets bits of its own, which stay until PxIS is written, while no reset is pending: where TFES, bit
+/// 30, is clear, it was, and no fault of the port came; and where 27 to 29 are clear, they were, and no fatal error
+/// came.
+pub fn law_errors_are_shown()
+    ensures fault { (port : ℕ) (old new : Device) → old.hr ≡ false → Steps old new → (new.port port).is 30 ≡ false
+        → ((old.port port).is 30 ≡ false) × NoneFails port old new }
+    ensures fault_access { (port : Port) (access : Access) (old new : Device) → old.hr ≡ false
+        → DoesNotWrite (Px port Is) access → Does access old new → (new.port port.0).is 30 ≡ false
+        → ((old.port port.0).is 30 ≡ false) × NoneFails port.0 old new }
+    ensures fatal { (port : ℕ) (old new : Device) → old.hr ≡ false → Steps old new
+        → ((place : ℕ) → 27 ≤ place → place ≤ 29 → (new.port port).is place ≡ false)
+        → ((place : ℕ) → 27 ≤ place → place ≤ 29 → (old.port port).is place ≡ false) × NoneFatal port old new }
+    ensures fatal_access { (port : Port) (access : Access) (old new : Device) → old.hr ≡ false
+        → DoesNotWrite (Px port Is) access → Does access old new
+        → ((place : ℕ) → 27 ≤ place → place ≤ 29 → (new.port port.0).is place ≡ false)
+        → ((place : ℕ) → 27 ≤ place → place ≤ 29 → (old.port port.0).is place ≡ false) × NoneFatal port.0 old new }
+{
+    law_step_lists_keep_what_steps_keep();
+}
+
+/// From COMRESET or a reset of the adapter on, while the engine stands and the tape tells of no disk of the port that
+/// comes: where PxSSTS.DET is read 3, the link is up. Whatever the device does, also over a reset that ends, and over
+/// each access that doesn't set ST. So it is where no device shows. While no reset is pending, a link that is up stays
+/// so, too, but for a write of PxSCTL, where no disk goes or comes; and whether the engine stands or runs, where the
+/// tape tells of no disturbance of the port.
+pub fn law_link_comes_up()
+    ensures comreset { (port : Port) (v : ℕ) (old new : Device) → (old.port port.0).cr ≡ false → v % 16 ≡ 1
+        → Writes (Px port Sctl) v old new → IsComingUp (new.port port.0) }
+    ensures reset { (v : ℕ) (old new : Device) → old.hr ≡ true → Reads Ghc v old new → bit v 0 ≡ false
+        → (port : ℕ) → NoDiskComes port old new → IsComingUp (new.port port) }
+    ensures unlinked { (p : DevicePort) → p.cr ≡ false → p.ssts_det ≢ 3 → IsComingUp p }
+    ensures steps { (port : ℕ) (old new : Device) → NoDiskComes port old new → Steps old new
+        → IsComingUp (old.port port)
+        → IsComingUp (new.port port) }
+    ensures access { (port : Port) (access : Access) (old new : Device) → SetsNoStart port access → Does access old new
+        → NoDiskComes port.0 old new → IsComingUp (old.port port.0) → IsComingUp (new.port port.0) }
+    ensures found { (port : Port) (v : ℕ) (old new : Device) → NoDiskComes port.0 old new
+        → Reads (Px port Ssts) v old new
+        → v % 16 ≡ 3 → IsComingUp (old.port port.0) → IsUp (new.port port.0) }
+    ensures stays { (port : ℕ) (old new : Device) → old.hr ≡ false → (old.port port).cr ≡ false
+        → NoPlugEvents port old new
+        → Steps old new → IsUp (old.port port) → IsUp (new.port port) }
+    ensures stays_access { (port : Port) (access : Access) (old new : Device) → old.hr ≡ false
+        → (old.port port.0).cr ≡ false → SetsNoStart port access → DoesNotWrite (Px port Sctl) access
+        → NoPlugEvents port.0 old new → Does access old new → IsUp (old.port port.0) → IsUp (new.port port.0) }
+    ensures undisturbed { (port : ℕ) (old new : Device) → old.hr ≡ false → Undisturbed port old new → Steps old new
+        → IsUp (old.port port) → IsUp (new.port port) }
+    ensures undisturbed_access { (port : Port) (access : Access) (old new : Device) → old.hr ≡ false
+        → DoesNotWrite (Px port Sctl) access → Undisturbed port.0 old new → Does access old new
+        → IsUp (old.port port.0) → IsUp (new.port port.0) }
+{
+    law_prerequisites();
+}
+
+/// ST is set while the engine stands and the link is up, no reset is pending, and the tape tells of no disk that goes
+/// or comes: the port is started. So it stays, unless the tape tells of a disturbance of the port, whatever else the
+/// device does, and over each access that neither clears ST nor writes PxSCTL. Where no bit tells of trouble, it runs
+/// well; and so it does where PxIS is read with none. So where ST is set with the link up, and PxIS is read with no
+/// trouble right after that, the port runs well, whatever the tape tells. A port that was started has its link up,
+/// unless COMRESET is being sent: so it may be stopped and started again.
+pub fn law_running_well_is_found()
+    ensures starts { (port : Port) (v : ℕ) (old new : Device) → old.hr ≡ false → (old.port port.0).st ≡ false
+        → (old.port port.0).cr ≡ false → bit v 0 ≡ true → Writes (Px port Cmd) v old new → IsUp (old.port port.0)
+        → NoPlugEvents port.0 old new → IsStarted (new.port port.0) }
+    ensures steps { (port : ℕ) (old new : Device) → old.hr ≡ false → Undisturbed port old new → Steps old new
+        → IsStarted (old.port port) → IsStarted (new.port port) }
+    ensures access { (port : Port) (access : Access) (old new : Device) → old.hr ≡ false → ClearsNoStart port access
+        → DoesNotWrite (Px port Sctl) access → Undisturbed port.0 old new → Does access old new
+        → IsStarted (old.port port.0) → IsStarted (new.port port.0) }
+    ensures well { (p : DevicePort) → IsStarted p → ShowsNoTrouble p → RunsWell p }
+    ensures started { (p : DevicePort) → RunsWell p → IsStarted p }
+    ensures up { (p : DevicePort) → IsStarted p → p.sctl_det ≢ 1 → IsUp p }
+    ensures told { (port : Port) (v : ℕ) (old new : Device) → old.hr ≡ false → Reads (Px port Is) v old new
+        → TellsNoTrouble v → IsStarted (old.port port.0) → RunsWell (new.port port.0) }
+    ensures found { (port : Port) (v causes : ℕ) (old mid new : Device) → old.hr ≡ false → (old.port port.0).st ≡ false
+        → (old.port port.0).cr ≡ false → bit v 0 ≡ true → IsUp (old.port port.0) → Writes (Px port Cmd) v old mid
+        → Reads (Px port Is) causes mid new → TellsNoTrouble causes → RunsWell (new.port port.0) }
+{
+    law_prerequisites();
+}
+
+/// There is a boot for these laws: COMRESET, the link's coming up, what clears the port's errors, the start, and
+/// readings that tell so; and each write of it is permitted when it is made.
+pub fn law_a_boot_runs_well()
+    ensures { BootWitness }
+{
+    law_prerequisites();
+}
+
+/// While no reset is pending and no link of the port is due, as on a port that runs: each bit that tells of trouble and
+/// is clear stays so, unless the tape tells of a disturbance of the port, whatever else the device does, and over each
+/// access. So where none is set, none is then. Those of PxIS rise with their own errors alone, whatever the link does,
+/// and also where a reset is pending or ends: 27 to 29 only where the tape tells of a fatal error of the port, and 30
+/// only where it tells of a fault of it.
+pub fn law_cleared_stays()
+    ensures steps { (port : ℕ) (old new : Device) → old.hr ≡ false → (old.port port).link_due ≡ false
+        → Undisturbed port old new → Steps old new → StaysClear (old.port port) (new.port port) }
+    ensures access { (port : Port) (access : Access) (old new : Device) → old.hr ≡ false
+        → (old.port port.0).link_due ≡ false → Undisturbed port.0 old new → Does access old new
+        → StaysClear (old.port port.0) (new.port port.0) }
+    ensures none { (p new : DevicePort) → StaysClear p new → ShowsNoTrouble p → ShowsNoTrouble new }
+    ensures causes { (port : ℕ) (old new : Device) → Steps old new → ChangesByErrors port old new }
+    ensures causes_access { (port : Port) (access : Access) (old new : Device) → Does access old new
+        → ChangesByErrors port.0 old new }
+{
+    law_prerequisites();
+}
+
+/// What the tape tells nothing of in two parts of a call it tells nothing of in the whole, and the other way round: all
+/// that goes wrong with a port, its disks that go or come, its disks that come, its fatal errors, and its faults.
+pub fn law_tape_absence_composes()
+    ensures calm { IsCompositional Undisturbed }
+    ensures plugs { IsCompositional NoPlugEvents }
+    ensures comes { IsCompositional NoDiskComes }
+    ensures fatal { IsCompositional NoneFatal }
+    ensures fails { IsCompositional NoneFails }
+{}
+
+/// Where nothing goes wrong with a port, the tape tells of no disk that goes or comes, of no fatal error and of no
+/// fault; and where none goes or comes, none comes.
+pub fn law_undisturbed_ports_tell_nothing()
+    ensures plugs { (port : ℕ) (old new : Device) → Undisturbed port old new → NoPlugEvents port old new }
+    ensures comes { (port : ℕ) (old new : Device) → NoPlugEvents port old new → NoDiskComes port old new }
+    ensures fatal { (port : ℕ) (old new : Device) → Undisturbed port old new → NoneFatal port old new }
+    ensures fails { (port : ℕ) (old new : Device) → Undisturbed port old new → NoneFails port old new }
+{}
+
+/// What the adapter is stays over each access: its memory's size, its capabilities and its ports; and so over one
+/// fragment after another. One that is switched on, with no reset pending, stays so over each access but a write of GHC
+/// that clears AE or sets HR, and over any that don't write it.
+pub fn law_adapter_stays()
+    ensures same { (access : Access) (old new : Device) → Does access old new → SameAdapter old new }
+    ensures same_none { (d : Device) → SameAdapter d d }
+    ensures same_more { (old mid new : Device) → SameAdapter old mid → SameAdapter mid new → SameAdapter old new }
+    ensures on { (access : Access) (old new : Device) → IsOn old
+        → ((v : ℕ) → access ≡ Writing Ghc v → (bit v 31 ≡ true) × (bit v 0 ≡ false)) → Does access old new → IsOn new }
+    ensures on_all { (accesses : List Access) (old new : Device) → IsOn old → All (DoesNotWrite Ghc) accesses
+        → DoesAll accesses old new → IsOn new }
+{}
+
+/// While no reset is pending, a write of GHC with AE and without HR switches the adapter on.
+pub fn law_writing_ghc_switches_on()
+    ensures { (v : ℕ) (old new : Device) → old.hr ≡ false → bit v 31 ≡ true → bit v 0 ≡ false → Writes Ghc v old new
+        → IsOn new }
+{
+    law_prerequisites();
+}
+
+/// A load is steps of the device, and a store is such steps with memory changed after them: so what holds of ports and
+/// of the tape over the device's steps holds over loads and stores.
+pub fn law_loads_and_stores_leave_ports()
+    ensures load { (at : ℕ) (bytes : List ℕ) (old new : Device) → Loads at bytes old new → Steps old new }
+    ensures store { (at : ℕ) (bytes : List ℕ) (old new : Device) → Stores at bytes old new
+        → (mid : Device) × Steps old mid × ((port : ℕ) → new.port port ≡ mid.port port) × (new.tape ≡ mid.tape)
+        × (new.hr ≡ mid.hr) }
+{}
+
+/// While no reset is pending, what the driver has written of a port's controls stays over each access but a write of
+/// the register: ST and FRE, and when ST was set, and a port that runs goes on running; DET of PxSCTL, and when it was
+/// written; PxIE; and the addresses.
+pub fn law_controls_stay()
+    ensures { (port : Port) (access : Access) (old new : Device) → old.hr ≡ false → Does access old new
+        → LeavesControls access port (old.port port.0) (new.port port.0) }
+{
+    law_prerequisites();
+}
+
+/// And a write of the register sets it: ST and FRE of PxCMD, and with ST going to 1 also CR, and when it was set; DET
+/// of PxSCTL, and when it was written; PxIE; and the addresses.
+pub fn law_controls_are_set()
+    ensures command { (port : Port) (v : ℕ) (old new : Device) → Writes (Px port Cmd) v old new
+        → ((new.port port.0).st ≡ bit v 0) × ((new.port port.0).fre ≡ bit v 4) }
+    ensures start { (port : Port) (v : ℕ) (old new : Device) → (old.port port.0).st ≡ false → bit v 0 ≡ true
+        → Writes (Px port Cmd) v old new
+        → ((new.port port.0).cr ≡ true) × ((new.port port.0).notes.st_set_at ≡ length new.tape) }
+    ensures control { (port : Port) (v : ℕ) (old new : Device) → Writes (Px port Sctl) v old new
+        → ((new.port port.0).sctl_det ≡ v % 16) × ((new.port port.0).notes.sctl_written_at ≡ length new.tape) }
+    ensures interrupts { (port : Port) (v : ℕ) (old new : Device) → Writes (Px port Ie) v old new
+        → (new.port port.0).ie ≡ v }
+    ensures list { (port : Port) (v : ℕ) (old new : Device) → Writes (Px port Clb) v old new
+        → ((new.port port.0).bases.clb ≡ v) × ((new.port port.0).bases.clb_set ≡ true) }
+    ensures list_upper { (port : Port) (v : ℕ) (old new : Device) → Writes (Px port Clbu) v old new
+        → (new.port port.0).bases.clbu_set ≡ true }
+    ensures received { (port : Port) (v : ℕ) (old new : Device) → Writes (Px port Fb) v old new
+        → ((new.port port.0).bases.fb ≡ v) × ((new.port port.0).bases.fb_set ≡ true) }
+    ensures received_upper { (port : Port) (v : ℕ) (old new : Device) → Writes (Px port Fbu) v old new
+        → (new.port port.0).bases.fbu_set ≡ true }
+{
+    law_prerequisites();
+}
+
+/// While no reset is pending, N of PxSERR tells each disk that goes or comes, until PxSERR is written: where it is 0
+/// after the device's steps or an access, or is read 0, no disk of the port went or came, and it was 0 before. A disk
+/// that goes and comes between the link's coming up and the clearing of PxSERR sets N alone, which the link may have
+/// set, too: that is found only where N is read 0 before it is cleared.
+pub fn law_plugging_is_found()
+    ensures steps { (port : ℕ) (old new : Device) → old.hr ≡ false → Steps old new → (new.port port).serr_n ≡ false
+        → ((old.port port).serr_n ≡ false) × NoPlugEvents port old new }
+    ensures access { (port : Port) (access : Access) (old new : Device) → old.hr ≡ false
+        → DoesNotWrite (Px port Serr) access → Does access old new → (new.port port.0).serr_n ≡ false
+        → ((old.port port.0).serr_n ≡ false) × NoPlugEvents port.0 old new }
+    ensures read { (port : Port) (v : ℕ) (old new : Device) → old.hr ≡ false → Reads (Px port Serr) v old new
+        → bit v 16 ≡ false
+        → ((new.port port.0).serr_n ≡ false) × ((old.port port.0).serr_n ≡ false) × NoPlugEvents port.0 old new }
+{
+    law_prerequisites();
+}
+
+/// Where the tape tells of no disk of the port that goes or comes, the same disk is in, or out, whatever else the
+/// device does, also over a reset of the adapter that ends, and over each access.
+pub fn law_disk_stays()
+    ensures steps { (port : ℕ) (old new : Device) → Steps old new → NoPlugEvents port old new
+        → LeavesDisk (old.port port) (new.port port) }
+    ensures access { (port : ℕ) (access : Access) (old new : Device) → Does access old new → NoPlugEvents port old new
+        → LeavesDisk (old.port port) (new.port port) }
+{
+    law_prerequisites();
+}
+
+/// Where the tape tells of no disk of the port that goes or comes, and no reset is pending, the port's link stays as it
+/// was, or one that was due has come up: whatever else the device does, and over each access but a write of PxSCTL.
+pub fn law_link_stays()
+    ensures steps { (port : ℕ) (old new : Device) → old.hr ≡ false → Steps old new → NoPlugEvents port old new
+        → LeavesLink (old.port port) (new.port port) }
+    ensures access { (port : Port) (access : Access) (old new : Device) → old.hr ≡ false
+        → DoesNotWrite (Px port Sctl) access → Does access old new → NoPlugEvents port.0 old new
+        → LeavesLink (old.port port.0) (new.port port.0) }
+{
+    law_prerequisites();
+}
+
+/// While no reset is pending, a port whose PxSSTS.DET is 3 or that has no disk in goes on so: a disk that comes shows
+/// at once, and so does a link that comes up. Whatever the device does, and over each access but a write of PxSCTL.
+pub fn law_disk_in_stays_shown()
+    ensures steps { (port : ℕ) (old new : Device) → old.hr ≡ false → Steps old new → ShowsDiskIfIn (old.port port)
+        → ShowsDiskIfIn (new.port port) }
+    ensures access { (port : Port) (access : Access) (old new : Device) → old.hr ≡ false
+        → DoesNotWrite (Px port Sctl) access → Does access old new → ShowsDiskIfIn (old.port port.0)
+        → ShowsDiskIfIn (new.port port.0) }
+{
+    law_prerequisites();
+}
+
+/// The faults of a port since its ST was set stand on the tape, and the task file shows the last one: so it stays,
+/// whatever the device does, over readings, and over each write that may be made, where ST is set on a quiet port
+/// alone: what is asked of the write stays so until it is made, and nothing is asked where commands are issued. Nor is
+/// it of any access that writes neither PxCMD nor PxSCTL of the port. So it is while ST is 0, on a port that runs, and
+/// on one that has failed.
+pub fn law_faults_are_recorded()
+    ensures steps { (port : ℕ) (old new : Device) → Steps old new → FaultsOnRecord old.tape (old.port port) port
+        → FaultsOnRecord new.tape (new.port port) port }
+    ensures reads { (port : ℕ) (r : Reg) (v : ℕ) (old new : Device) → Reads r v old new
+        → FaultsOnRecord old.tape (old.port port) port → FaultsOnRecord new.tape (new.port port) port }
+    ensures writes { (port : ℕ) (r : Reg) (v : ℕ) (old new : Device) → IsStable (MayWrite r v) old
+        → IsStable (KeepsFaultRecord r v) old → Writes r v old new → FaultsOnRecord old.tape (old.port port) port
+        → FaultsOnRecord new.tape (new.port port) port }
+    ensures issues { (port : ℕ) (at : Port) (v : ℕ) (old new : Device) → Writes (Px at Ci) v old new
+        → FaultsOnRecord old.tape (old.port port) port → FaultsOnRecord new.tape (new.port port) port }
+    ensures access { (port : Port) (access : Access) (old new : Device) → DoesNotWrite (Px port Cmd) access
+        → DoesNotWrite (Px port Sctl) access → Does access old new → FaultsOnRecord old.tape (old.port port.0) port.0
+        → FaultsOnRecord new.tape (new.port port.0) port.0 }
+    ensures asked { (r : Reg) (v : ℕ) (d : Device) → d.hr ≡ false → KeepsFaultRecord r v d
+        → IsStable (KeepsFaultRecord r v) d }
+    ensures idle { (tape : List Entry) (p : DevicePort) (port : ℕ) → p.st ≡ false → FaultsOnRecord tape p port }
+    ensures runs { RecordsFaults first_read_device.tape (first_read_device.port 0) 0 }
+    ensures failed { (new : Device) × Steps first_read_device new × ((new.port 0).halt ≡ HaltedPlain)
+        × RecordsFaults new.tape (new.port 0) 0 }
+{}
+
+/// From COMRESET until the link comes up the engine stands, and the task file shows DRQ: COMRESET begins it, and so
+/// does a reset of the adapter; and so it stays, whatever the device does, over readings, over each write that may be
+/// made and keeps the record of faults, and over each access that writes neither PxCMD nor PxSCTL of the port. So it is
+/// where no link is due and PxSCTL.DET isn't 1, as on a port that runs.
+pub fn law_link_is_awaited()
+    ensures begins { (port : Port) (v : ℕ) (old new : Device) → (old.port port.0).cr ≡ false → v % 16 ≡ 1
+        → Writes (Px port Sctl) v old new → ShowsDrqTillLink (new.port port.0) }
+    ensures steps { (port : ℕ) (old new : Device) → Steps old new → ShowsDrqTillLink (old.port port)
+        → ShowsDrqTillLink (new.port port) }
+    ensures reads { (port : ℕ) (r : Reg) (v : ℕ) (old new : Device) → Reads r v old new
+        → ShowsDrqTillLink (old.port port)
+        → ShowsDrqTillLink (new.port port) }
+    ensures writes { (port : ℕ) (r : Reg) (v : ℕ) (old new : Device) → IsStable (MayWrite r v) old
+        → IsStable (KeepsFaultRecord r v) old → Writes r v old new → ShowsDrqTillLink (old.port port)
+        → ShowsDrqTillLink (new.port port) }
+    ensures access { (port : Port) (access : Access) (old new : Device) → DoesNotWrite (Px port Cmd) access
+        → DoesNotWrite (Px port Sctl) access → Does access old new → ShowsDrqTillLink (old.port port.0)
+        → ShowsDrqTillLink (new.port port.0) }
+    ensures reset { (v : ℕ) (old new : Device) → old.hr ≡ true → Reads Ghc v old new → bit v 0 ≡ false
+        → (port : ℕ) → ShowsDrqTillLink (new.port port) }
+    ensures undue { (p : DevicePort) → p.link_due ≡ false → p.sctl_det ≢ 1 → ShowsDrqTillLink p }
+    ensures runs { ShowsDrqTillLink (first_read_device.port 0) }
+{
+    law_prerequisites();
+}
+
+/// A port is quiet, so that ST may be set and faults go on to be recorded: PxIS is written with TFES while the engine
+/// stands, TFD is read without DRQ, and then it stays so, whatever the device does, over readings, and over writes that
+/// neither set its ST nor send COMRESET on it.
+pub fn law_quiet_is_found()
+    ensures cleared { (port : Port) (v : ℕ) (old new : Device) → (old.port port.0).cr ≡ false → bit v 30 ≡ true
+        → Writes (Px port Is) v old new → StoppedTfesClear (new.port port.0) }
+    ensures steps { (port : ℕ) (old new : Device) → Steps old new → StoppedTfesClear (old.port port)
+        → StoppedTfesClear (new.port port) }
+    ensures reads { (port : ℕ) (r : Reg) (v : ℕ) (old new : Device) → Reads r v old new
+        → StoppedTfesClear (old.port port)
+        → StoppedTfesClear (new.port port) }
+    ensures writes { (port : Port) (r : Reg) (v : ℕ) (old new : Device) → (r ≡ Px port Cmd → bit v 0 ≡ false)
+        → Writes r v old new → StoppedTfesClear (old.port port.0) → StoppedTfesClear (new.port port.0) }
+    ensures found { (port : Port) (v : ℕ) (old new : Device) → ShowsDrqTillLink (old.port port.0)
+        → StoppedTfesClear (old.port port.0) → Reads (Px port Tfd) v old new → bit v 3 ≡ false
+        → IsCleanToStart (new.port port.0) }
+    ensures stays { (port : ℕ) (old new : Device) → Steps old new → IsCleanToStart (old.port port)
+        → IsCleanToStart (new.port port) }
+    ensures stays_read { (port : ℕ) (r : Reg) (v : ℕ) (old new : Device) → Reads r v old new
+        → IsCleanToStart (old.port port)
+        → IsCleanToStart (new.port port) }
+    ensures stays_written { (port : Port) (r : Reg) (v : ℕ) (old new : Device) → (r ≡ Px port Cmd → bit v 0 ≡ false)
+        → (r ≡ Px port Sctl → v % 16 ≢ 1) → Writes r v old new → IsCleanToStart (old.port port.0)
+        → IsCleanToStart (new.port port.0) }
+    ensures exists { IsCleanToStart (first_read_device.port 1) }
+{
+    law_prerequisites();
+}
+
+/// A fault has halted a running port: TFES of PxIS tells it, and so it stays while ST is 1, whatever the device does,
+/// over readings, and over writes, PxIS among them. TFD then shows status and error of the port's last fault since ST
+/// was set. And where the machine agrees with the device, the slot of a fault that the task file shows, which is still
+/// in use, isn't a free one.
+pub fn law_fault_is_found()
+    ensures told { (port : Port) (v : ℕ) (old new : Device) → old.hr ≡ false → (old.port port.0).st ≡ true
+        → FaultsOnRecord old.tape (old.port port.0) port.0 → Reads (Px port Is) v old new → bit v 30 ≡ true
+        → IsFaulted (new.port port.0).halt }
+    ensures steps { (port : ℕ) (old new : Device) → old.hr ≡ false → (old.port port).st ≡ true
+        → FaultsOnRecord old.tape (old.port port) port → IsFaulted (old.port port).halt → Steps old new
+        → IsFaulted (new.port port).halt }
+    ensures reads { (port : ℕ) (r : Reg) (v : ℕ) (old new : Device) → old.hr ≡ false → (old.port port).st ≡ true
+        → FaultsOnRecord old.tape (old.port port) port → IsFaulted (old.port port).halt → Reads r v old new
+        → IsFaulted (new.port port).halt }
+    ensures writes { (port : ℕ) (r : Reg) (v : ℕ) (old new : Device) → old.hr ≡ false → (old.port port).st ≡ true
+        → FaultsOnRecord old.tape (old.port port) port → IsFaulted (old.port port).halt → Writes r v old new
+        → IsFaulted (new.port port).halt }
+    ensures shown { (port : Port) (v : ℕ) (old new : Device) → old.hr ≡ false → (old.port port.0).st ≡ true
+        → FaultsOnRecord old.tape (old.port port.0) port.0 → IsFaulted (old.port port.0).halt
+        → Reads (Px port Tfd) v old new
+        → (s : ShowsFault (drop (new.port port.0).notes.st_set_at new.tape) (new.port port.0) port.0)
+        × (v % 256 ≡ s.fault.status) × (v / 256 % 256 ≡ s.fault.error) }
+    ensures slot { (uses : SlotStates) (m : Machine) (d : Device) (port : ℕ) (entries : List Entry)
+        → StateRelation uses m d
+        → (s : ShowsFault entries (d.port port) port) → uses port s.fault.slot.0 ≢ Free }
+{
+    law_prerequisites();
+}
+
+/// While no reset is pending, each bit of PxIS that is set stays so until PxIS is written, and N and X of PxSERR until
+/// that is: whatever the device does, and over each access.
+pub fn law_errors_are_kept()
+    ensures steps { (port : ℕ) (old new : Device) → old.hr ≡ false → Steps old new
+        → KeepsErrors (old.port port) (new.port port) }
+    ensures causes { (port : Port) (access : Access) (old new : Device) → old.hr ≡ false
+        → DoesNotWrite (Px port Is) access → Does access old new → (place : ℕ) → (old.port port.0).is place ≡ true
+        → (new.port port.0).is place ≡ true }
+    ensures errors { (port : Port) (access : Access) (old new : Device) → old.hr ≡ false
+        → DoesNotWrite (Px port Serr) access → Does access old new
+        → ((old.port port.0).serr_n ≡ true → (new.port port.0).serr_n ≡ true)
+        × ((old.port port.0).serr_x ≡ true → (new.port port.0).serr_x ≡ true) }
+{
+    law_prerequisites();
+}
+
+/// While no reset is pending and no link of the port is due, N of PxSERR rises only for a disk that goes or comes, and
+/// X only for one that comes; and where PxSSTS.DET is 3 and no disk has come, it was 3 before, and none has gone:
+/// whatever the device does, and over each access, and over one fragment after another. No link is due then either, but
+/// after a write of PxSCTL.
+pub fn law_errors_rise_by_disks()
+    ensures steps { (port : ℕ) (old new : Device) → old.hr ≡ false → (old.port port).link_due ≡ false → Steps old new
+        → ChangesByDisks port old new }
+    ensures access { (port : Port) (access : Access) (old new : Device) → old.hr ≡ false
+        → (old.port port.0).link_due ≡ false → Does access old new → ChangesByDisks port.0 old new }
+    ensures none { (port : ℕ) (d : Device) → ChangesByDisks port d d }
+    ensures more { (port : ℕ) (old mid new : Device) → TapeGrows old mid → TapeGrows mid new
+        → ChangesByDisks port old mid
+        → ChangesByDisks port mid new → ChangesByDisks port old new }
+    ensures due { (port : ℕ) (old new : Device) → old.hr ≡ false → (old.port port).link_due ≡ false → Steps old new
+        → (new.port port).link_due ≡ false }
+    ensures due_access { (port : Port) (access : Access) (old new : Device) → old.hr ≡ false
+        → (old.port port.0).link_due ≡ false → DoesNotWrite (Px port Sctl) access → Does access old new
+        → (new.port port.0).link_due ≡ false }
+{
+    law_prerequisites();
+}
+
+/// While a port's engine stands, no move, clearing, end, fault or fatal error of the port comes; and where no disk
+/// comes either, the disk holds what it did: whatever the device does, also over a reset of the adapter that ends, and
+/// over each access, also the write of ST itself.
+pub fn law_stopped_engine_is_silent()
+    ensures steps { (port : ℕ) (old new : Device) (gained : List Entry) → (old.port port).cr ≡ false → Steps old new
+        → new.tape ≡ old.tape ++ gained → All (λ e. IsWork port e → ⊥) gained }
+    ensures access { (port : ℕ) (access : Access) (old new : Device) (gained : List Entry) → (old.port port).cr ≡ false
+        → Does access old new → new.tape ≡ old.tape ++ gained → All (λ e. IsWork port e → ⊥) gained }
+    ensures disk { (port : ℕ) (old new : Device) → (old.port port).cr ≡ false → Steps old new → NoDiskComes port old new
+        → (new.port port).disk ≡ (old.port port).disk }
+    ensures disk_access { (port : ℕ) (access : Access) (old new : Device) → (old.port port).cr ≡ false
+        → Does access old new → NoDiskComes port old new → (new.port port).disk ≡ (old.port port).disk }
+{
+    law_prerequisites();
+}
+
+/// A write of PxSCTL with DET 1 sends COMRESET: no device shows in PxSSTS, and the status is 7Fh. While no reset is
+/// pending, one with DET 0 after it makes the link due, and no other write of PxSCTL does.
+pub fn law_link_is_reset()
+    ensures comreset { (port : Port) (v : ℕ) (old new : Device) → v % 16 ≡ 1 → Writes (Px port Sctl) v old new
+        → ((new.port port.0).ssts_det ≡ 0) × ((new.port port.0).tfd % 256 ≡ 0x7f) }
+    ensures due { (port : Port) (v : ℕ) (old new : Device) → old.hr ≡ false → (old.port port.0).sctl_det ≡ 1
+        → v % 16 ≡ 0 → Writes (Px port Sctl) v old new → (new.port port.0).link_due ≡ true }
+    ensures undue { (port : Port) (v : ℕ) (old new : Device) → old.hr ≡ false → (old.port port.0).link_due ≡ false
+        → ((old.port port.0).sctl_det ≡ 1 → v % 16 ≢ 0) → Writes (Px port Sctl) v old new
+        → (new.port port.0).link_due ≡ false }
+{
+    law_prerequisites();
+}
+
+/// A write of PxSERR clears N and X where it has their bits, 16 and 26, and one of PxIS clears each bit that it has.
+pub fn law_errors_are_cleared()
+    ensures errors { (port : Port) (v : ℕ) (old new : Device) → Writes (Px port Serr) v old new
+        → (bit v 16 ≡ true → (new.port port.0).serr_n ≡ false) × (bit v 26 ≡ true → (new.port port.0).serr_x ≡ false) }
+    ensures causes { (port : Port) (v : ℕ) (old new : Device) → Writes (Px port Is) v old new → (place : ℕ)
+        → bit v place ≡ true → (new.port port.0).is place ≡ false }
+{}
+
+/// A reading of a port's register notes the value as the last one read. While no reset is pending it counts the
+/// readings in a row, too, as the adapter's notes do, and shows what the port has then.
+pub fn law_notes_are_set()
+    ensures command { NotesLast Cmd (λ n. n.last_cmd) }
+    ensures link { NotesLast Ssts (λ n. n.last_ssts) }
+    ensures file { NotesLast Tfd (λ n. n.last_tfd) }
+    ensures issued { NotesLast Ci (λ n. n.last_ci) }
+    ensures active { NotesLast Sact (λ n. n.last_sact) }
+    ensures signature { NotesLast Sig (λ n. n.last_sig) }
+    ensures counts { (port : Port) (r : PortReg) (v : ℕ) (old new : Device) → old.hr ≡ false
+        → Reads (Px port r) v old new → (new.port port.0).notes ≡ note r v (old.port port.0) }
+    ensures shows { (port : Port) (r : PortReg) (v : ℕ) (old new : Device) → old.hr ≡ false
+        → Reads (Px port r) v old new → PortShows r v (new.port port.0) }
+{
+    law_prerequisites();
+}
+
+/// What the readings of a port noted stays, whatever the device does, and over each access: each value but for a
+/// reading of its register, and so its count; those of the link, of busy and of the command also but for a write of
+/// PxSCTL.
+pub fn law_notes_stay()
+    ensures steps { (port : ℕ) (old new : Device) → Steps old new → (new.port port).notes ≡ (old.port port).notes }
+    ensures access { (port : Port) (access : Access) (old new : Device) → Does access old new
+        → LeavesNotes access port (old.port port.0).notes (new.port port.0).notes }
+{
+    law_prerequisites();
+}

@@ -1,0 +1,14 @@
+// What laws of the crates below say, for this crate's proofs. Nothing comes of calling it.
+ghost use Rattle.refinement.specs.Below.{StepLaws};
+
+use adapter::laws::{law_port_register_accesses, law_step_lists_keep_what_steps_keep};
+use block_machine::laws::law_step_lists_compose;
+
+/// The laws that the proofs of this crate rest on.
+pub fn law_prerequisites()
+    ensures { StepLaws }
+{
+    law_step_lists_keep_what_steps_keep();
+    law_port_register_accesses();
+    law_step_lists_compose();
+}

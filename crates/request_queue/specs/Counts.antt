@@ -1,8 +1,0 @@
--- How many requests each client has, as a book notes it (this project's own).
-use Rattle.std.specs.Prelude.{ℕ, ◌≡◌, ◌<◌, List, length, slice_index_or}
-use Rattle.request_queue.specs.Entries.{BookEntry, unanswered_entries}
-
--- Each client's count, by its number. The numbers of clients are 1 to 8, so there are nine.
-pub record AreCounts (entries : List BookEntry) (counts : List ℕ) : Type 0 where
-  pub nine : length counts ≡ 9
-  pub each : (client : ℕ) → client < 9 → slice_index_or counts client 0 ≡ unanswered_entries entries client

@@ -1,0 +1,278 @@
+// What laws of the crates below say, for this crate's proofs. Nothing comes of calling these functions.
+ghost use Rattle.server_history.specs.After.{RecoveryLaws, PortErrorLaws};
+ghost use Rattle.server_history.specs.Basics.{AgeLaws, BasicLaws, FrameHolderLaws, SlotLaws};
+ghost use Rattle.server_history.specs.Prerequisites.{PrerequisiteLaws};
+ghost use Rattle.server_history.specs.Calls.{CallLaws, LookLaws};
+
+use adapter::laws::law_accesses_compose;
+use adapter::laws::law_decoding_is_unique;
+use adapter::laws::law_port_register_accesses;
+use adapter::laws::law_step_lists_keep_what_steps_keep;
+use adapter::laws::law_steps_never_switch_on;
+use block_machine::laws::law_a_name_is_of_one_row;
+use block_machine::laws::law_accepted_is_granted;
+use block_machine::laws::law_due_depends_on_own_port;
+use block_machine::laws::law_due_in_turn;
+use block_machine::laws::law_due_is_exact;
+use block_machine::laws::law_ended_is_issued;
+use block_machine::laws::law_frame_holder_was_accepted;
+use block_machine::laws::law_frames_are_their_clients;
+use block_machine::laws::law_lent_frame_is_its_own;
+use block_machine::laws::law_limits_hold;
+use block_machine::laws::law_one_id_is_in_the_book_once;
+use block_machine::laws::law_one_id_is_one_request;
+use block_machine::laws::law_other_ports_requests_stay;
+use block_machine::laws::law_ready_ports_are_served;
+use block_machine::laws::law_rows_shrink_and_owners_stay;
+use block_machine::laws::law_step_lists_compose;
+use block_machine::laws::law_what_is_kept_was_answered;
+use commands::laws::law_batch_issues_come_last;
+use commands::laws::law_calls_are_of_one_port;
+use commands::laws::law_finding_is_followed;
+use driver_history::laws::law_a_turns_evidence_is_the_calls;
+use driver_history::laws::law_driver_invariant_holds;
+use driver_history::laws::law_histories_reach_their_machines;
+use driver_history::troubles::law_a_fatal_error_of_a_part_is_of_the_whole;
+use driver_history::troubles::law_a_fault_alone_in_a_call_is_alone_in_a_turn;
+use driver_history::troubles::law_a_port_that_was_stopped_was_set_since;
+use driver_history::troubles::law_a_turn_that_probes_a_disk_is_the_calls;
+use driver_history::troubles::law_a_turns_errors_are_the_calls;
+use driver_history::troubles::law_ordinary_accesses_lose_no_error;
+use driver_history::troubles::law_what_is_untroubled_since_st_was_set_is_calm;
+use error_recovery::laws::law_recovery_is_of_its_port;
+use error_recovery::laws::law_what_stands_behind_a_fault_stays;
+use host_boot::laws::law_what_was_booted_again_may_be_served;
+use host_boot::laws::law_what_was_found_still_stands;
+use port_boot::laws::law_a_boot_is_of_its_port;
+use port_boot::laws::law_a_disk_is_in_where_one_shows;
+use port_boot::laws::law_a_port_runs_on;
+use port_control::events::laws::law_errors_are_heeded;
+use port_control::events::laws::law_errors_are_seen;
+use port_control::events::laws::law_failures_are_found;
+use port_control::events::laws::law_looks_are_of_one_port;
+use port_control::events::laws::law_looks_are_services;
+use port_control::events::laws::law_port_events_tell;
+use port_control::events::laws::law_services_keep_ports_running;
+use port_control::events::laws::law_services_spare_registers;
+use port_control::events::prerequisites::law_prerequisites;
+use port_control::laws::law_what_is_told_of_engines_stays;
+use refinement::acts::law_acts_advance_driver;
+use refinement::disks::law_no_disk_comes_in;
+use refinement::fragments::law_other_ports_are_left;
+use refinement::giving_up::law_fault_is_outstanding;
+use refinement::giving_up::law_given_up_requests_are_parked;
+use refinement::giving_up::law_slots_are_given_up;
+use refinement::kinds::law_fragment_prerequisites;
+use refinement::laws::law_accepting_agrees;
+use refinement::laws::law_advances_compose;
+use refinement::laws::law_an_idle_device_agrees;
+use refinement::laws::law_answering_agrees;
+use refinement::laws::law_backing_composes;
+use refinement::laws::law_client_bytes_are_free;
+use refinement::laws::law_client_load_is_followed;
+use refinement::laws::law_client_store_is_followed;
+use refinement::laws::law_device_steps_are_parts;
+use refinement::laws::law_disks_are_told;
+use refinement::laws::law_going_again_agrees;
+use refinement::laws::law_keeping_agrees;
+use refinement::laws::law_own_steps_are_backed;
+use refinement::laws::law_pages_come_when_asked;
+use refinement::laws::law_parking_agrees;
+use refinement::laws::law_parking_frees;
+use refinement::laws::law_putting_is_of_one_slot;
+use refinement::laws::law_revoking_agrees;
+use refinement::laws::law_slots_are_counted;
+use refinement::laws::law_steps_spare_the_book;
+use refinement::laws::law_ticking_agrees;
+use refinement::laws::law_waiting_has_no_slot;
+use refinement::port_facts::law_disk_in_stays_shown;
+use refinement::port_facts::law_disk_stays;
+use refinement::port_facts::law_ended_is_clear;
+use refinement::port_facts::law_errors_are_shown;
+use refinement::port_facts::law_notes_are_set;
+use refinement::port_facts::law_over_stays;
+use refinement::port_facts::law_plugging_is_found;
+use refinement::port_facts::law_undisturbed_ports_tell_nothing;
+use refinement::port_facts::law_writing_ghc_switches_on;
+use refinement::readying::law_stored_stays;
+use refinement::readying::law_stored_stays_over_acts;
+use refinement::recovering::law_halts_are_of_taken_commands;
+use request_queue::laws::law_accepted_is_preserved;
+use request_queue::laws::law_an_id_is_one_request;
+use request_queue::laws::law_answers_of_one_outcome_are_one_change;
+use request_queue::laws::law_client_counts_agree;
+use request_queue::laws::law_operations_change_one_request;
+use request_queue::laws::law_operations_change_what_is_due;
+use request_queue::laws::law_steps_change_the_book;
+use request_queue::laws::law_the_book_stays_in_order;
+use std::marker::Brand;
+
+/// What steps and accesses do, one after another.
+fn law_basics()
+    ensures { BasicLaws }
+{
+    law_step_lists_keep_what_steps_keep();
+    law_device_steps_are_parts();
+    law_driver_invariant_holds();
+    law_ready_ports_are_served();
+    law_steps_never_switch_on();
+    law_step_lists_compose();
+    law_histories_reach_their_machines();
+    law_one_id_is_in_the_book_once();
+    law_ended_is_issued();
+    law_steps_spare_the_book();
+    law_accesses_compose();
+}
+
+/// What holds of requests that are unanswered, or kept.
+pub fn law_frame_holder_prerequisites()
+    ensures { FrameHolderLaws }
+{
+    law_limits_hold();
+    law_frame_holder_was_accepted();
+    law_accepted_is_granted();
+    law_rows_shrink_and_owners_stay();
+    law_a_name_is_of_one_row();
+    law_lent_frame_is_its_own();
+    law_one_id_is_one_request();
+    law_what_is_kept_was_answered();
+}
+
+/// What becomes of slots, and of the requests in them.
+fn law_slots()
+    ensures { SlotLaws }
+{
+    law_accepting_agrees();
+    law_revoking_agrees();
+    law_parking_agrees();
+    law_parking_frees();
+    law_ended_is_clear();
+    law_answering_agrees();
+    law_going_again_agrees();
+    law_keeping_agrees();
+    law_acts_advance_driver();
+    law_pages_come_when_asked();
+    law_over_stays();
+    law_slots_are_given_up();
+    law_given_up_requests_are_parked();
+    law_putting_is_of_one_slot();
+    law_waiting_has_no_slot();
+    law_decoding_is_unique();
+    law_stored_stays_over_acts();
+    law_stored_stays();
+    law_fault_is_outstanding();
+}
+
+/// What becomes of requests that get older.
+fn law_ages()
+    ensures { AgeLaws }
+{
+    law_ticking_agrees();
+    law_steps_change_the_book();
+    law_the_book_stays_in_order();
+    law_accepted_is_preserved();
+    law_operations_change_what_is_due();
+}
+
+/// What looks at ports tell, and what they leave.
+fn law_looks()
+    ensures { LookLaws }
+{
+    law_port_register_accesses();
+    law_notes_are_set();
+    law_disk_in_stays_shown();
+    law_fragment_prerequisites::<Brand>();
+    law_other_ports_are_left();
+    law_failures_are_found();
+    law_errors_are_seen();
+    law_port_events_tell();
+    law_errors_are_heeded();
+    law_looks_are_services();
+    law_looks_are_of_one_port();
+    law_services_keep_ports_running();
+    law_services_spare_registers();
+}
+
+/// What a port's recovery leaves.
+fn law_recoveries()
+    ensures { RecoveryLaws }
+{
+    law_slots_are_counted();
+    law_advances_compose();
+    law_putting_is_of_one_slot();
+    law_other_ports_are_left();
+    law_a_disk_is_in_where_one_shows();
+    law_what_was_booted_again_may_be_served();
+    law_what_was_found_still_stands();
+}
+
+/// What is shown of a port's trouble.
+fn law_port_errors()
+    ensures { PortErrorLaws }
+{
+    law_errors_are_shown();
+    law_plugging_is_found();
+    law_undisturbed_ports_tell_nothing();
+    law_disk_stays();
+    law_halts_are_of_taken_commands();
+}
+
+/// What a port's turn is to the whole call.
+fn law_calls()
+    ensures { CallLaws }
+{
+    law_a_turns_evidence_is_the_calls();
+    law_ordinary_accesses_lose_no_error();
+    law_a_fault_alone_in_a_call_is_alone_in_a_turn();
+    law_a_turns_errors_are_the_calls();
+    law_a_turn_that_probes_a_disk_is_the_calls();
+    law_a_port_that_was_stopped_was_set_since();
+    law_a_fatal_error_of_a_part_is_of_the_whole();
+    law_what_is_untroubled_since_st_was_set_is_calm();
+}
+
+/// The laws of the crates below that the proofs of this crate rest on.
+pub fn law_history_prerequisites()
+    ensures { PrerequisiteLaws }
+{
+    law_basics();
+    law_frame_holder_prerequisites();
+    law_slots();
+    law_ages();
+    law_looks();
+    law_recoveries();
+    law_port_errors();
+    law_calls();
+    law_steps_change_the_book();
+    law_client_counts_agree();
+    law_an_id_is_one_request();
+    law_the_book_stays_in_order();
+    law_operations_change_one_request();
+    law_accepted_is_preserved();
+    law_answers_of_one_outcome_are_one_change();
+    law_backing_composes();
+    law_own_steps_are_backed();
+    law_operations_change_what_is_due();
+    law_due_is_exact();
+    law_due_in_turn();
+    law_due_depends_on_own_port();
+    law_other_ports_requests_stay();
+    law_prerequisites();
+    law_batch_issues_come_last();
+    law_calls_are_of_one_port();
+    law_finding_is_followed();
+    law_writing_ghc_switches_on();
+    law_other_ports_are_left();
+    law_a_port_runs_on();
+    law_recovery_is_of_its_port();
+    law_a_boot_is_of_its_port();
+    law_what_is_told_of_engines_stays();
+    law_what_stands_behind_a_fault_stays();
+    law_no_disk_comes_in();
+    law_disks_are_told();
+    law_an_idle_device_agrees();
+    law_frames_are_their_clients();
+    law_client_store_is_followed();
+    law_client_load_is_followed();
+    law_client_bytes_are_free();
+}
