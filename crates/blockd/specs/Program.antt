@@ -6,6 +6,7 @@ use Rattle.std.specs.Io.KnownBytes.{Keeps}
 use Rattle.sector_store.specs.declared.disks.DiskStore.{DiskStore}
 use Rattle.sector_store.specs.declared.disks.DiskStore.TheVariants.{File, Memory}
 use Rattle.sector_store.specs.declared.file.FileStore.{FileStore}
+use Rattle.sector_store.specs.Stores.{followed_by_zeros}
 use Rattle.sector_store.specs.declared.store.MemStore.{MemStore}
 use Rattle.blockd.specs.declared.command_line.Args.{Args}
 use Rattle.device_model.specs.declared.model.Model.{Model}
@@ -61,7 +62,8 @@ pub record AreDisksOver (image : FileStore) (first second : DiskStore) : Type 0 
   pub first_is : first ≡ File image
   pub blank : MemStore
   pub second_is : second ≡ Memory blank
-  pub zeros : blank.sectors.items ≡ replicate 2048 (replicate 512 0)
+  pub size : blank.size ≡ 2048
+  pub zeros : followed_by_zeros blank.size blank.written.items ≡ replicate 2048 (replicate 512 0)
 
 -- What is told is how the play ended; or, where that was well, that the output failed to hand on what it had gathered.
 abbrev pub TellsEnd : Ended → Result (Unit {0}) BlockdError → Type 0

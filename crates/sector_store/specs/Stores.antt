@@ -1,5 +1,5 @@
 -- What stores hold.
-use Rattle.std.specs.Prelude.{ℕ, Bool, true, false, ◌≡◌, ◌+◌, ◌-◌, ◌%◌, ◌^◌, ◌<◌, ◌≤◌, ◌⊎◌, List, [], Option, Some, IfSome, All, if◌then◌else◌, length, nat_eq, option_map, slice_index_or}
+use Rattle.std.specs.Prelude.{ℕ, Bool, true, false, ◌≡◌, ◌+◌, ◌-◌, ◌%◌, ◌^◌, ◌<◌, ◌≤◌, ◌⊎◌, ◌++◌, List, [], Option, Some, IfSome, All, if◌then◌else◌, length, nat_eq, option_map, replicate, slice_index_or}
 use Rattle.sector_store.specs.declared.store.Failures.{Failures}
 
 -- the bytes of a sector
@@ -14,9 +14,9 @@ replaced told sector bytes = λ k. if nat_eq k sector then bytes else told k
 abbrev pub AreSectors : ℕ → Option (ℕ → List ℕ) → Type 0
 AreSectors size told = IfSome told (λ f. (k : ℕ) → k < size → IsStoredSector (f k))
 
--- each item is a sector
-abbrev pub HoldSectors : List (List ℕ) → Type 0
-HoldSectors items = (k : ℕ) → k < length items → IsStoredSector (slice_index_or items k [])
+-- so many sectors, these and zeros behind them
+abbrev pub followed_by_zeros : ℕ → List (List ℕ) → List (List ℕ)
+followed_by_zeros size sectors = sectors ++ replicate (size - length sectors) (replicate 512 0)
 
 -- the first of so many sectors that stand at the end of a room
 abbrev pub first_untaken_sector : (room : List (List ℕ)) → ℕ → List ℕ

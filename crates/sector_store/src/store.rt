@@ -1,6 +1,6 @@
 // Stores of sectors of 512 bytes.
-ghost use Rattle.std.specs.Prelude.{◌≡◌, ◌<◌, ◌^◌, ℕ, List, Option, None, Some, IfOk, replicate, true, length, slice_index_or, []};
-ghost use Rattle.sector_store.specs.Stores.{AreSectors, FailsOn, HoldSectors, ReadsSector, WritesSector};
+ghost use Rattle.std.specs.Prelude.{◌≡◌, ◌<◌, ◌≤◌, ◌^◌, ℕ, List, Option, None, Some, IfOk, replicate, true, length, slice_index_or, vec_capacity, []};
+ghost use Rattle.sector_store.specs.Stores.{AreSectors, FailsOn, ReadsSector, WritesSector, followed_by_zeros};
 ghost use Rattle.sector_store.specs.declared.store.Failures.{Failures};
 
 use crate::sector_file::copy;
@@ -57,31 +57,50 @@ pub trait SectorStore: Drop {
     ghost fits: { (s : Self) → size s < 2 ^ 64 };
 }
 
-/// Sectors in memory, which the store tells.
+/// Sectors in memory, which the store tells. They are zeros at first; those behind the last one that was written have
+/// their place in memory reserved, and take none.
 #[derive(Drop)]
 pub struct MemStore {
-    sectors: Vec<[u8; 512]>,
-    ghost are_sectors: { HoldSectors sectors.items },
-    ghost few: { length sectors.items < 2 ^ 64 },
+    /// How many there are.
+    size: usize,
+    /// Those up to the last one that was written.
+    written: Vec<[u8; 512]>,
+    ghost are_sectors: { AreSectors size (Some (λ k. slice_index_or (followed_by_zeros size written.items) k [])) },
+    ghost inside: { length written.items ≤ size },
+    ghost reserved: { size ≤ vec_capacity written },
+    ghost few: { size < 2 ^ 64 },
 }
 
 impl MemStore {
     /// That many sectors of zeros.
     pub fn new(alloc: Global, sectors: u32) -> Result<MemStore, AllocError>
-        ensures { IfOk result (λ s. s.sectors.items ≡ replicate sectors (replicate 512 0)) }
+        ensures size { IfOk result (λ s. s.size ≡ sectors) }
+        ensures zeros { IfOk result (λ s.
+            followed_by_zeros s.size s.written.items ≡ replicate sectors (replicate 512 0)) }
     {
-        let mut zeros = Vec::with_capacity(alloc, sectors as usize)?;
-        for _sector in 0..sectors {
-            zeros.push([0; 512])?;
+        let size = sectors as usize;
+        let written = Vec::with_capacity(alloc, size)?;
+        Ok(MemStore { size, written })
+    }
+
+    /// Has all sectors up to this one in memory.
+    fn extend_to(&mut self, sector: usize)
+        requires { sector < self.old.size }
+        ensures kept { followed_by_zeros self.new.size self.new.written.items
+            ≡ followed_by_zeros self.old.size self.old.written.items }
+        ensures size { self.new.size ≡ self.old.size }
+        ensures there { sector < length self.new.written.items }
+    {
+        for _sector in self.written.len()..sector + 1 {
+            self.written.push_reserved([0; 512]);
         }
-        Ok(MemStore { sectors: zeros })
     }
 }
 
 impl SectorStore for MemStore {
-    ghost size = { λ s. length s.sectors.items };
+    ghost size = { λ s. s.size };
 
-    ghost told = { λ s. Some (λ k. slice_index_or s.sectors.items k []) };
+    ghost told = { λ s. Some (λ k. slice_index_or (followed_by_zeros s.size s.written.items) k []) };
 
     ghost failures = { λ _. None };
 
@@ -90,22 +109,26 @@ impl SectorStore for MemStore {
     ghost fits = { λ s. s.few };
 
     fn sectors(&self) -> u64 {
-        self.sectors.len() as u64
+        self.size as u64
     }
 
     fn read(&mut self, sector: u64, out: &mut [u8; 512]) -> bool {
-        if sector >= self.sectors.len() as u64 {
+        if sector < self.written.len() as u64 {
+            copy(&self.written[sector as usize], out);
+        } else if sector < self.size as u64 {
+            *out = [0; 512];
+        } else {
             return false;
         }
-        copy(&self.sectors[sector as usize], out);
         true
     }
 
     fn write(&mut self, sector: u64, bytes: &[u8; 512]) -> bool {
-        if sector >= self.sectors.len() as u64 {
+        if sector >= self.size as u64 {
             return false;
         }
-        self.sectors[sector as usize] = *bytes;
+        self.extend_to(sector as usize);
+        self.written[sector as usize] = *bytes;
         true
     }
 }

@@ -1,13 +1,29 @@
-use Rattle.std.proofs.Common.{rules, ap, Some, ℕ, List, ◌<◌, length}
-use Rattle.sector_store.proofs.Sectors.{sectors_set}
+use Rattle.std.proofs.Common.{◌∙◌, [], Some, List, ℕ, ap, sym, subst, rules, slice_index_or}
+use Rattle.std.proofs.Common.{length-set}
+use Rattle.std.proofs.lemmas.Grind.{get_or_default_zero}
+use Rattle.sector_store.specs.Stores.{AreSectors, followed_by_zeros, replaced}
+use Rattle.sector_store.proofs.Sectors.{sector_rewritten, replaced_are_sectors}
 use Rattle.sector_store.proofs.store.MemStoreSectorStore.write.Goals as goal
+
+pub invariant_of-self-clause-are_sectors : goal.invariant_of-self-clause-are_sectors
+invariant_of-self-clause-are_sectors c =
+    let now = c.extend_to.new.self in
+    subst (λ (told : ℕ → List ℕ). AreSectors now.size (Some told))
+    (sym (sector_rewritten now.size c.args.sector now.written.items c.args.bytes.now c.extend_to.ensures.there))
+    (replaced_are_sectors now.size c.args.sector (λ k. slice_index_or (followed_by_zeros now.size now.written.items) k []) c.args.bytes.now now.are_sectors
+    (search rules, λ k d lt. rw (get_or_default_zero c.args.bytes.now k d lt) (c.fits-bytes k)))
+
+pub invariant_of-self-clause-inside : goal.invariant_of-self-clause-inside
+invariant_of-self-clause-inside c = let now = c.extend_to.new.self in rw (length-set now.written.items c.args.sector c.args.bytes.now) now.inside
 
 pub returns : goal.returns
 returns c =
-    let small : c.args.sector < length c.args.self.now.sectors.items = search rules in
+    let now = c.extend_to.new.self in
     record {
       inside = search rules;
-      puts = λ _. ap (λ (f : ℕ → List ℕ). Some f) (sectors_set c.args.self.now.sectors.items c.args.sector c.args.bytes.now small);
+      puts = λ _. ap (λ (f : ℕ → List ℕ). Some f)
+          (sector_rewritten now.size c.args.sector now.written.items c.args.bytes.now c.extend_to.ensures.there
+          ∙ ap (λ (l : List (List ℕ)). replaced (λ k. slice_index_or l k []) c.args.sector c.args.bytes.now) c.extend_to.ensures.kept);
       kept = search rules;
       serves = search rules;
       fails = search rules;

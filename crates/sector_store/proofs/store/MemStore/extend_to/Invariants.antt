@@ -1,0 +1,9 @@
+use Rattle.std.proofs.Common.{◌≡◌, length}
+use Rattle.sector_store.specs.Stores.{followed_by_zeros}
+use Rattle.sector_store.proofs.store.MemStore.extend_to.Given as goal
+
+abbrev pub invariant-loop-sector : goal.invariant-loop-sector
+invariant-loop-sector l =
+    (l.self.size ≡ l.initial.self.size) × (length l.self.written.items ≡ l._sector)
+    × (followed_by_zeros l.self.size l.self.written.items
+    ≡ followed_by_zeros l.initial.self.size l.initial.self.written.items)
