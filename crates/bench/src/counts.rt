@@ -11,36 +11,20 @@ use sector_store::MemStore;
 use std::alloc::Global;
 use std::io;
 
-const CONFIGURATION: &str = "frames = 256
-slots = 32
-ncq = true
-depth = 32
-trim = \"full\"
-[[port]]
-number = 0
-[[client]]
-id = 1
-first_frame = 76
-frames = 40
-[[client]]
-id = 2
-first_frame = 116
-frames = 40
-[[grant]]
-client = 1
-number = 0
-port = 0
-first = 0
-count = 256
-rights = \"rw\"
-[[grant]]
-client = 2
-number = 0
-port = 0
-first = 0
-count = 256
-rights = \"r\"
-";
+/// A configuration with these clients. Each has a number, 40 frames from one on, and a grant of all sectors with these
+/// rights.
+macro_rules! text_with {
+    ($($client:literal: $first_frame:literal, $rights:literal);+) => {
+        concat!(
+            "frames = 256\nslots = 32\nncq = true\ndepth = 32\ntrim = \"full\"\n[[port]]\nnumber = 0\n"
+            $(, "[[client]]\nid = ", $client, "\nfirst_frame = ", $first_frame, "\nframes = 40\n")+
+            $(, "[[grant]]\nclient = ", $client, "\nnumber = 0\nport = 0\nfirst = 0\ncount = 256\n",
+                "rights = \"", $rights, "\"\n")+
+        )
+    };
+}
+
+const CONFIGURATION: &str = text_with!(1: 76, "rw"; 2: 116, "r");
 
 /// The sectors of the disk.
 const SECTORS: u32 = 256;

@@ -7,7 +7,9 @@
 //! so it has those laws alone that they build on; `machine_runs` has the others.
 #![tactic(auto)]
 
+mod counts;
 mod due;
 pub mod laws;
 
+pub use counts::{frame_count, is_count};
 pub use due::{QueueMode, Unanswered, changes_sectors, conflict, is_plain, waits_for};

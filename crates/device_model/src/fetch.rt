@@ -19,6 +19,7 @@ use ata_types::{
     WRITE_FPDMA_QUEUED,
 };
 use byteorder::{ByteOrder, LittleEndian};
+use fis::are_zero;
 
 /// The log of queued commands' errors (ACS-3, A.14).
 const ERROR_LOG: u8 = 0x10;
@@ -63,20 +64,6 @@ pub fn copy_bytes(memory: &[u8], at: usize, out: &mut [u8])
         Some(part) => out.copy_from_slice(part),
         None => copy_end(memory, at, out),
     }
-}
-
-/// Whether the bytes of these places, up to the end, are zero.
-fn are_zero(bytes: &[u8], from: usize, to: usize) -> bool
-    requires order { from ≤ to }
-    requires room { to ≤ length bytes.now }
-    ensures { IsTrue result ↔ AreZero bytes.now from to }
-{
-    for place in from..to {
-        if bytes[place] != 0 {
-            return false;
-        }
-    }
-    true
 }
 
 /// The header that the bytes are, if they are one of a command that reads memory, or doesn't: the W bit tells (AHCI

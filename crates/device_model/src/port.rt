@@ -97,14 +97,10 @@ impl CommandKind {
     pub fn reads_memory(self) -> bool
         ensures { result ≡ reads_memory (operation_of_kind self) }
     {
-        match self {
-            CommandKind::Write | CommandKind::WriteQueued | CommandKind::Trim => true,
-            CommandKind::Read
-            | CommandKind::ReadQueued
-            | CommandKind::Identify
-            | CommandKind::Flush
-            | CommandKind::ReadLog => false,
-        }
+        matches!(
+            self,
+            CommandKind::Write | CommandKind::WriteQueued | CommandKind::Trim
+        )
     }
 
     /// How many sectors it writes to the disk, of so many pieces that are left to move.
@@ -113,12 +109,7 @@ impl CommandKind {
     {
         match self {
             CommandKind::Write | CommandKind::WriteQueued => left,
-            CommandKind::Read
-            | CommandKind::ReadQueued
-            | CommandKind::Identify
-            | CommandKind::Flush
-            | CommandKind::Trim
-            | CommandKind::ReadLog => 0,
+            _ => 0,
         }
     }
 
@@ -126,15 +117,7 @@ impl CommandKind {
     pub fn is_queued(self) -> bool
         ensures { result ≡ is_queued (operation_of_kind self) }
     {
-        match self {
-            CommandKind::ReadQueued | CommandKind::WriteQueued => true,
-            CommandKind::Read
-            | CommandKind::Write
-            | CommandKind::Identify
-            | CommandKind::Flush
-            | CommandKind::Trim
-            | CommandKind::ReadLog => false,
-        }
+        matches!(self, CommandKind::ReadQueued | CommandKind::WriteQueued)
     }
 
     /// How many pieces it moves, for so many sectors.
@@ -164,14 +147,13 @@ impl CommandKind {
     pub fn is_ranged(self) -> bool
         ensures { result ≡ is_ranged (operation_of_kind self) }
     {
-        match self {
+        matches!(
+            self,
             CommandKind::Read
-            | CommandKind::Write
-            | CommandKind::ReadQueued
-            | CommandKind::WriteQueued => true,
-            CommandKind::Identify | CommandKind::Flush | CommandKind::Trim | CommandKind::ReadLog =>
-                false,
-        }
+                | CommandKind::Write
+                | CommandKind::ReadQueued
+                | CommandKind::WriteQueued
+        )
     }
 
     /// Whether it sends a page to the driver itself.

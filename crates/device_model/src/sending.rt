@@ -101,14 +101,11 @@ impl PortModel {
     fn signature(&self) -> DeviceToHost
         ensures { (m : Media) → result ≡ signature_fis (port_of self.now m) }
     {
-        let (status, error) = self.status_and_error();
         DeviceToHost {
             interrupt: false,
-            status,
-            error,
             lba: 1,
-            device: 0,
             count: 1,
+            ..self.end_registers()
         }
     }
 }

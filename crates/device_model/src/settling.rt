@@ -7,6 +7,13 @@ ghost use Rattle.device_model.specs.View.{Media, port_of};
 use crate::halt::Halting;
 use crate::port::PortModel;
 
+/// Gives fields of a port one value.
+macro_rules! set {
+    ($port:ident, $value:tt: $($field:ident),+) => {
+        $($port.$field = $value;)+
+    };
+}
+
 impl PortModel {
     /// PxCMD.CR falls where ST is zero (AHCI 1.3.1, 3.3.7): no command is taken any more.
     fn fall(&mut self)
@@ -87,24 +94,12 @@ impl PortModel {
         ensures { (m : Media) → port_of self.new m ≡ with_reset (port_of self.old m) }
     {
         self.link_due = self.link_due || self.sctl_det % 16 == 1;
-        self.sctl_det = 0;
-        self.enabled = 0;
-        self.st = false;
-        self.cr = false;
-        self.fre = false;
-        self.fr = false;
-        self.ci = 0;
-        self.sact = 0;
-        self.is = 0;
-        self.ips = false;
-        self.other_causes = false;
-        self.serr_n = false;
-        self.serr_x = false;
-        self.detected = false;
-        self.tfd = None;
-        self.sig = None;
+        set!(self, 0: sctl_det, enabled);
+        set!(self, false: st, cr, fre, fr);
+        set!(self, 0: ci, sact, is);
+        set!(self, false: ips, other_causes, serr_n, serr_x, detected);
+        set!(self, None: tfd, sig);
         self.taken.clear();
-        self.fresh = false;
-        self.broken = false;
+        set!(self, false: fresh, broken);
     }
 }

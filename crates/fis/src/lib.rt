@@ -90,7 +90,7 @@ const BOTH_BITS: u8 = INTERRUPT_BIT + TO_HOST_BIT;
 const UNSET_STATUS: u8 = 0x88;
 
 /// Whether the bytes of these places, up to the end, are all zero.
-fn are_zero(bytes: &[u8], from: usize, to: usize) -> bool
+pub fn are_zero(bytes: &[u8], from: usize, to: usize) -> bool
     requires order { from ≤ to }
     requires room { to ≤ length bytes.now }
     ensures { IsTrue result ↔ AreZero bytes.now from to }

@@ -296,32 +296,36 @@ impl<A: Inspectable, P: Peer> Followed<A, P> {
         }
     }
 
-    /// Goes on with the slots whose bits of PxCI have fallen.
-    fn follow_issued(&mut self, port: Port, said: u32)
-        requires { port.0 < 4 }
+    /// Goes on with a slot whose bit of PxCI, or else of PxSACT, has fallen: then a queued command has ended.
+    fn leave_slot(&mut self, port: Port, r: PortReg, slot: u32)
+        requires port { port.0 < 4 }
+        requires slot { slot < 32 }
         ensures goes { GoesOnBySteps (A.device self.old.model) (A.device self.new.model) }
         ensures counted { A.access_count self.new.model ≡ A.access_count self.old.model }
     {
-        let failed = self.differing.failed[usize::from(port.0)];
-        for slot in 0..32 {
-            let issued = self.model.shown(Reg::Px(port, PortReg::Ci));
-            if is_set(issued & !said & !failed, slot) {
-                self.leave_issued(port, slot);
+        match r {
+            PortReg::Ci => self.leave_issued(port, slot),
+            _ => {
+                let _ended = self.go(DeviceStep::Finish(port, Slot(slot as u8)));
             }
         }
     }
 
-    /// Ends the queued commands whose bits of PxSACT have fallen.
-    fn follow_active(&mut self, port: Port, said: u32)
+    /// Goes on with the slots whose bits of PxCI, or else of PxSACT, have fallen, but for those that are known to have
+    /// fallen otherwise.
+    fn follow_fallen(&mut self, port: Port, r: PortReg, said: u32)
         requires { port.0 < 4 }
         ensures goes { GoesOnBySteps (A.device self.old.model) (A.device self.new.model) }
         ensures counted { A.access_count self.new.model ≡ A.access_count self.old.model }
     {
-        let untaken = self.differing.untaken[usize::from(port.0)];
+        let known = match r {
+            PortReg::Ci => self.differing.failed[usize::from(port.0)],
+            _ => self.differing.untaken[usize::from(port.0)],
+        };
         for slot in 0..32 {
-            let active = self.model.shown(Reg::Px(port, PortReg::Sact));
-            if is_set(active & !said & !untaken, slot) {
-                let _ended = self.go(DeviceStep::Finish(port, Slot(slot as u8)));
+            let shown = self.model.shown(Reg::Px(port, r));
+            if is_set(shown & !said & !known, slot) {
+                self.leave_slot(port, r, slot);
             }
         }
     }
@@ -369,8 +373,8 @@ impl<A: Inspectable, P: Peer> Followed<A, P> {
             self.fail_lowest(port, self.outstanding(port), TaskFile(task_file));
             return;
         }
-        self.follow_issued(port, issued);
-        self.follow_active(port, left);
+        self.follow_fallen(port, PortReg::Ci, issued);
+        self.follow_fallen(port, PortReg::Sact, left);
         self.differing.untaken[usize::from(port.0)] = issued;
         let taken = queued & left & !issued;
         let open = if taken == 0 { queued & left } else { taken };
@@ -461,8 +465,7 @@ impl<A: Inspectable, P: Peer> Followed<A, P> {
     {
         let shown = self.model.shown(Reg::Px(port, r));
         match r {
-            PortReg::Ci => self.follow_issued(port, said),
-            PortReg::Sact => self.follow_active(port, said),
+            PortReg::Ci | PortReg::Sact => self.follow_fallen(port, r, said),
             PortReg::Is => self.follow_causes(port, PortInterrupts(shown), PortInterrupts(said)),
             PortReg::Ssts => self.follow_link(port, SataStatus(shown), SataStatus(said)),
             PortReg::Tfd => self.follow_task_file(port, TaskFile(shown), TaskFile(said)),
@@ -501,8 +504,8 @@ impl<A: Inspectable, P: Peer> Followed<A, P> {
         let outstanding = self.outstanding(port);
         if outstanding != 0 {
             if let Some(left) = self.in_flight(port) {
-                self.follow_active(port, left);
-                self.follow_issued(port, left);
+                self.follow_fallen(port, PortReg::Sact, left);
+                self.follow_fallen(port, PortReg::Ci, left);
             }
         }
         self.differing.failed[usize::from(port.0)] = 0;

@@ -8,14 +8,15 @@ ghost use Rattle.std.specs.Prelude.{◌≡◌, ◌≢◌, ◌≤◌, ◌<◌, �
 ghost use Rattle.ata_types.specs.SectorGrants.{CoversSectors};
 ghost use Rattle.ata_types.specs.declared.grant.GrantRow.{GrantRow};
 ghost use Rattle.ata_types.specs.declared.request.Op.TheVariants.{Flush};
-ghost use Rattle.block_machine.specs.Rules.{Names, DifferInName, HasRow, without_row, IsAllowedCount, frame_count_for, BreaksNone, IsFirstBroken};
+ghost use Rattle.block_machine.specs.Rules.{Names, DifferInName, HasRow, without_row, BreaksNone, IsFirstBroken};
 ghost use Rattle.dma_frames.specs.Table.{owner_of, lent_to};
 ghost use Rattle.grants.specs.Names.{AreInOrder, IsPlaceOf, IsRowAt, name_of};
 ghost use Rattle.grants.specs.Rows.{SameRows};
 
 mod key;
 
-use ata_types::{ClientId, GrantRow, MOST_REQUEST_SECTORS, Op, Request, Rule};
+use ata_types::{ClientId, GrantRow, Op, Request, Rule};
+use block_machine::{frame_count, is_count};
 use dma_frames::FrameTable;
 pub use key::Comparisons;
 use key::GrantKey;
@@ -167,27 +168,6 @@ pub fn decide(request: &Request, grants: &Grants, table: &FrameTable) -> Result<
     match table.check(request.client, request.frames.as_slice()) {
         Ok(()) => Ok(()),
         Err(fault) => Err(Rule::Frames(fault)),
-    }
-}
-
-/// Whether the operation may have so many sectors.
-fn is_count(op: Op, count: u32) -> bool
-    ensures { IsTrue result ↔ IsAllowedCount op count }
-{
-    match op {
-        Op::Read | Op::Write => 1 <= count && count <= MOST_REQUEST_SECTORS,
-        Op::Trim => 1 <= count && count <= 4_194_240,
-        Op::Flush => count == 0,
-    }
-}
-
-/// How many frames the operation has for so many sectors: one for eight, rounded up, where bytes are moved.
-fn frame_count(op: Op, count: u32) -> usize
-    ensures { result ≡ frame_count_for op count }
-{
-    match op {
-        Op::Read | Op::Write => (count as usize + 7) / 8,
-        Op::Trim | Op::Flush => 0,
     }
 }
 

@@ -2,15 +2,16 @@
 // then the first that applies.
 ghost use Rattle.std.specs.Prelude.{false, ◌≡◌, ◌⊎◌, ◌<◌, ◌≤◌, ◌↔◌, IsTrue, IfSome, IfNone, slice_get, count_by, ◌==◌};
 ghost use Rattle.ata_types.specs.SectorGrants.{AllowsOp, CoversSectors};
-ghost use Rattle.block_machine.specs.Rules.{IsNamed, Names, IsAllowedCount, frame_count_for, Breaks, HasFault, BreaksNone, IsFirstBroken, rank};
+ghost use Rattle.block_machine.specs.Rules.{IsNamed, Names, Breaks, HasFault, BreaksNone, IsFirstBroken, rank};
 ghost use Rattle.block_machine.specs.Refusals.{Applies, IsAcceptable, IsFirstRefusal, MemFaultApplies, MayAccessFrame, IsFirstMemFault};
 ghost use Rattle.machine_rules.specs.Reference.{frame_or_none, port_or_absent, situation_in, RowTriggersCause, SomeRowTriggersCause, IsFirstOfNumber};
 
 use arrayvec::ArrayVec;
 use ata_types::{
-    ClientId, FRAME_BYTES, Frame, FrameFault, GrantRow, MOST_REQUEST_SECTORS, MemFault, Op, Port,
-    PortState, Refusal, Request, RequestId, Rule,
+    ClientId, FRAME_BYTES, Frame, FrameFault, GrantRow, MemFault, Op, Port, PortState, Refusal,
+    Request, RequestId, Rule,
 };
+use block_machine::{frame_count, is_count};
 
 /// What a port shows of itself.
 #[derive(Clone, Copy, Debug, PartialEq, Eq)]
@@ -49,27 +50,6 @@ pub struct ReferenceSituation {
     pub unanswered: ArrayVec<ClientId, 128>,
     /// The last id that was handed out; 0 where none was.
     pub last: u64,
-}
-
-/// Whether the operation may have so many sectors.
-fn is_count(op: Op, count: u32) -> bool
-    ensures { IsTrue result ↔ IsAllowedCount op count }
-{
-    match op {
-        Op::Read | Op::Write => 1 <= count && count <= MOST_REQUEST_SECTORS,
-        Op::Trim => 1 <= count && count <= 4_194_240,
-        Op::Flush => count == 0,
-    }
-}
-
-/// How many frames the operation has for so many sectors.
-fn frame_count(op: Op, count: u32) -> usize
-    ensures { result ≡ frame_count_for op count }
-{
-    match op {
-        Op::Read | Op::Write => (count as usize + 7) / 8,
-        Op::Trim | Op::Flush => 0,
-    }
 }
 
 /// The fault with this number at this place.

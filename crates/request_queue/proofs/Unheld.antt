@@ -3,6 +3,7 @@ use Rattle.std.proofs.Common.{◌≡◌, ℕ, zero, suc, ◌-◌, ◌<◌, ◌�
 use Rattle.std.specs.List.{Contains, count_by, filter, list_any}
 use Rattle.std.specs.Prelude.{nat_lt}
 use Rattle.std.proofs.lemmas.Bool.{and_parts, and_from, or_cases, or_right, cond-true, cond-false, not-true, both_ways, false_from_ne_true}
+use Rattle.std.proofs.lemmas.List.Elements.{All-contains, All-contains_itself, All-filter, filter_passes}
 use Rattle.std.proofs.lemmas.List.Folds.{list_any_at, Any-from_list_any}
 use Rattle.ata_types.specs.declared.Port.{Port}
 use Rattle.ata_types.specs.declared.request.Op.{Op}
@@ -40,15 +41,8 @@ one_found p xs is = let any = Any-from_list_any p xs is in (any.1, (any.0, any.2
 
 -- what a filter leaves is of the list, and passes
 pub of_filter : {X : Type 0} (p : X → Bool) (xs : List X) (x : X) → Contains (filter p xs) x → Contains xs x × (p x ≡ true)
-of_filter p [] x there = absurd (contains_none x there)
-of_filter {X} p (y ∷ ys) x there = go (of_filter p ys x) (p y) refl there
-  where
-    go : (Contains (filter p ys) x → Contains ys x × (p x ≡ true)) → (b : Bool) → p y ≡ b → Contains (cond b (y ∷ filter p ys) (filter p ys)) x → Contains (y ∷ ys) x × (p x ≡ true)
-    go later_one true is h = ⊎_elim
-        (λ (same : x ≡ y). (contains_here y ys x same, ap p same ∙ is))
-        (λ (later : Contains (filter p ys) x). let rest = later_one later in (contains_there y ys x rest.0, rest.1))
-        (contains_cases y (filter p ys) x h)
-    go later_one false is h = let rest = later_one h in (contains_there y ys x rest.0, rest.1)
+of_filter p xs x there =
+    (All-contains (Contains xs) (filter p xs) x (All-filter p (Contains xs) xs (All-contains_itself xs)) there, All-contains (λ y. p y ≡ true) (filter p xs) x (filter_passes p xs) there)
 
 -- a filter of what a filter leaves
 pub filtered_twice : {X : Type 0} (p q t : X → Bool) (xs : List X) → ((x : X) → Contains xs x → t x ≡ (p x && q x)) → filter t xs ≡ filter q (filter p xs)

@@ -3,6 +3,7 @@ pub mod Pages
 pub mod Members
 pub mod Devices
 pub mod Holding
+pub mod Client
 pub mod Command
 pub mod Submitting
 pub mod Losing

@@ -92,7 +92,7 @@ abbrev pub issued_at : ℕ → JointState Device
 issued_at age = record { device = submitted; abstract = record { machine = issued_for age; ports = both } }
 
 may_issue : May (after start (Accept (issuing_on.accepted submission) ∷ [])) (Issue plain waits)
-may_issue = ((0, omega arith, refl), record { here = (0, omega arith, refl); clear = refl; slot = λ h. absurd (true≢false h) }, λ e h. absurd (nowhere e h), granted 0 (0, omega arith, refl) refl)
+may_issue = ((0, omega arith, refl), record { here = (0, omega arith, refl); clear = refl; slot = λ h. absurd (true≢false h) }, λ e h. absurd (nowhere e h), granted)
 
 stands : Stands issued
 stands = record { same = refl; quiet = λ place from. refl }

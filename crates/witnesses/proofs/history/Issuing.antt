@@ -1,12 +1,15 @@
 -- A read of one sector is accepted, and issued in the same call; nothing else is done meanwhile.
-use Rattle.std.proofs.Common.{ℕ, zero, suc, ◌≡◌, ◌<◌, ◌≤◌, ◌^◌, ◌∙◌, ◌↔◌, ◌++◌, List, [], ◌∷◌, map, None, Some, inr, ⊎_elim, refl, sym, ap, subst, arith, append-nil}
-use Rattle.std.specs.Prelude.{Ok}
+use Rattle.std.proofs.Common.{ℕ, zero, suc, ◌≡◌, ◌<◌, ◌≤◌, ◌^◌, ◌∙◌, ◌↔◌, ◌++◌, List, [], ◌∷◌, false, map, None, Some, inr, ⊎_elim, refl, sym, ap, subst, arith, append-nil}
+use Rattle.std.specs.Prelude.{Ok, is_some, slice_get}
 use Rattle.std.proofs.lemmas.Bool.{true≢false}
 use Rattle.std.specs.List.{All, Contains}
 use Rattle.std.proofs.lemmas.List.Elements.{All-nil}
 use Rattle.ata_types.specs.declared.Port.{Port}
 use Rattle.ata_types.specs.declared.grant.GrantRow.{GrantRow}
+use Rattle.ata_types.specs.SectorGrants.{CoversSectors}
+use Rattle.ata_types.specs.declared.refusal.FrameFault.TheVariants.{FrameForeign, FrameLent, FrameTwice}
 use Rattle.ata_types.specs.declared.refusal.Refusal.TheVariants as refused
+use Rattle.ata_types.specs.declared.refusal.Rule.TheVariants.{BadCount, FrameCount, Frames, NoGrant, NoRight, OutsideGrant}
 use Rattle.ata_types.specs.declared.request.Frame.{Frame}
 use Rattle.ata_types.specs.declared.request.Op.TheVariants.{Read, Trim}
 use Rattle.ata_types.specs.declared.request.Request.{Request}
@@ -26,6 +29,7 @@ use Rattle.block_machine.specs.Histories.{JointState, JointEvent}
 use Rattle.block_machine.specs.Expected.{after}
 use Rattle.block_machine.specs.Ports.{Evidence}
 use Rattle.block_machine.specs.Refusals.{IsAcceptable}
+use Rattle.block_machine.specs.Rules.{IsNamed}
 use Rattle.block_machine.specs.State.{Accepted, Block, Machine, block_of, unanswered}
 use Rattle.block_machine.specs.Steps.{Step, Accept, Issue, MayAccept, May, newly_accepted, unanswered_count}
 use Rattle.block_machine.specs.declared.due.Unanswered.{Unanswered}
@@ -38,14 +42,14 @@ use Rattle.witnesses.specs.RunningAdapter.{port_or_empty, queueing_cap}
 use Rattle.witnesses.proofs.history.Holding.{IsCalm, IsUnnamed, each, no_trouble, unnamed_evidenced}
 use Rattle.witnesses.proofs.history.Members.{nowhere, only}
 use Rattle.witnesses.proofs.history.Pages.{Kind}
-use Rattle.witnesses.proofs.history.Ready.{Agreeing, Stands, acceptable, client, fit_ready, frame, holds, instant_with, its_row, request, row, served_ready, shows_none, two_ready, two_rows}
+use Rattle.witnesses.proofs.history.Ready.{Agreeing, Stands, client, fit_ready, frame, holds, instant_with, its_row, row, served_ready, shows_none, two_ready, two_rows, two_states}
 use Rattle.witnesses.proofs.history.Submitting.{second}
 
 -- ---- the request
 
 -- a read of sector k into the first 512 bytes of frame n
 abbrev pub reading : ℕ → ℕ → Request
-reading k n = request 0 Read k 1 (frame n ∷ [])
+reading k n = record { client = client; grant = 0; op = Read; first = record { 0 = k }; count = 1; frames = record { items = frame n ∷ [] } }
 
 abbrev pub accepted_as : RequestId → ℕ → ℕ → (ℕ → Block) → Accepted
 accepted_as id k n held = record { id = id; port = port_at 0; asked = reading k n; held = held }
@@ -63,36 +67,41 @@ pub record MayTake (disk : Kind) (m : Machine) (id : RequestId) (k n : ℕ) : Ty
   pub on_disk : k < disk.info.sectors
 
 module _ (disk : Kind) (m : Machine) (id : RequestId) (k n : ℕ) (may : MayTake disk m id k n) where
+  -- the request names one row, and has one frame
+  named_row : (r : GrantRow) → IsNamed m.rows (reading k n) r → r ≡ row 0
+  named_row r named = its_row r (subst (λ (rows : List GrantRow). Contains rows r) may.rows named.0) ∙ ap row named.1.1
+
+  its_frame : (i : ℕ) (f : Frame) → slice_get (frame n ∷ []) i ≡ Some f → (i ≡ 0) × (frame n ≡ f)
+  its_frame zero f e = (refl, cc)
+  its_frame (suc i) f e = absurd (let none : None ≡ Some f = e in cc)
+
   pub is_acceptable : IsAcceptable (situation_of (record { machine = m; ports = two_ready disk })) (reading k n)
-  is_acceptable =
+  is_acceptable (refused.Rule NoGrant) h = h (row 0) (subst (λ (rows : List GrantRow). Contains rows (row 0)) (sym may.rows) (0, omega arith, refl), (refl, refl))
+  is_acceptable (refused.Rule NoRight) (r, named, not_allowed) = not_allowed (ap (λ (x : GrantRow). x.rights.read) (named_row r named))
+  is_acceptable (refused.Rule BadCount) h = h (omega arith, omega arith)
+  is_acceptable (refused.Rule OutsideGrant) (_, (r, named, uncovered)) =
       let from = may.from in
       let to = may.to in
+      uncovered (subst (λ (x : GrantRow). CoversSectors x k 1) (sym (named_row r named)) (from, omega (arith, to)))
+  is_acceptable (refused.Rule FrameCount) h = h refl
+  is_acceptable (refused.Rule (Frames (FrameForeign i))) (f, there, foreign) = foreign (subst (λ (x : Frame). m.owner x ≡ Some client) (its_frame i f there).1 may.owned)
+  is_acceptable (refused.Rule (Frames (FrameTwice i))) (f, j, earlier, _, there) = let last = (its_frame i f there).0 in omega (arith, earlier, last)
+  is_acceptable (refused.Rule (Frames (FrameLent i))) (f, there, lent) = true≢false (sym lent ∙ subst (λ (x : Frame). is_some (m.lent x) ≡ false) (its_frame i f there).1 (ap is_some may.free))
+  is_acceptable (refused.PortNotReady state) (not_ready, (r, named, is)) = not_ready (sym is ∙ ap (λ (x : GrantRow). two_states x.port) (named_row r named))
+  is_acceptable refused.OutsideDisk (_, (r, named, small)) =
       let on_disk = may.on_disk in
-      acceptable 0 (situation_of (record { machine = m; ports = two_ready disk })) (reading k n) (record {
-        rows = may.rows;
-        mine = (0, omega arith, refl);
-        client_is = refl;
-        grant = refl;
-        allowed = refl;
-        count = (omega arith, omega arith);
-        covered = λ _. (from, omega (arith, to));
-        frames = refl;
-        single = omega arith;
-        owned = λ f e. let g : frame n ≡ f = cc in subst (λ (x : Frame). m.owner x ≡ Some client) g may.owned;
-        free = λ f e. let g : frame n ≡ f = cc in subst (λ (x : Frame). m.lent x ≡ None) g may.free;
-        ready = refl;
-        on_disk = λ _. omega (arith, on_disk);
-        no_trim = λ e. let x : Read ≡ Trim = e in cc;
-        few = may.few;
-        ids = may.left;
-      })
+      let size = ap (λ (x : GrantRow). (situation_of (record { machine = m; ports = two_ready disk })).sectors x.port) (named_row r named) in
+      omega (arith, on_disk, size, small)
+  is_acceptable refused.TrimUnsupported h = let is : Read ≡ Trim = h.0 in cc
+  is_acceptable refused.ClientFull many = let few = may.few in omega (arith, few, many)
+  is_acceptable refused.IdsSpent spent = let left = may.left in omega (arith, left, spent)
 
   pub is_new : MayAccept m (accepted_as id k n (block_of m.memory (frame n ∷ [])))
   is_new = record {
     id = may.id_is;
     id_left = may.left;
     unbroken = λ rule h. is_acceptable (refused.Rule rule) h;
-    port = λ x named. sym (ap (λ (r : GrantRow). r.port) (its_row x (subst (λ (rows : List GrantRow). Contains rows x) may.rows named.0) ∙ ap row named.1.1));
+    port = λ x named. sym (ap (λ (r : GrantRow). r.port) (named_row x named));
     few = may.few;
     held = refl;
   }

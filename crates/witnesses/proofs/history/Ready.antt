@@ -15,17 +15,16 @@ use Rattle.refinement.specs.Relation.{ServeApart, HaveSlots, HasReceivedArea, Sa
 use Rattle.refinement.specs.Driver.{DriverRelation}
 use Rattle.refinement.specs.Slots.{Free, Serves, IsEmptySlot, IsMove, RelatesSlot}
 use Rattle.block_machine.specs.Histories.{JointState}
-use Rattle.block_machine.specs.Expected.{IsInitial}
 use Rattle.block_machine.specs.Ports.{Ports, PortsWellFormed}
 use Rattle.block_machine.specs.State.{Machine, Pending}
 use Rattle.block_machine.specs.Steps.{NoneQuarantined}
-pub use Rattle.block_machine.proofs.Setting.{acceptable, client, empty, empty_starts, frame, granted, its_row, request, row, two_rows}
 use Rattle.driver_history.specs.Evidence.{ShowsFailure, ShowsLoss}
 use Rattle.driver_history.specs.Histories.{IsFirstInstant}
 use Rattle.driver_history.specs.PortInvariants.{ReadySlotsInvariant, PortStateInvariant, DriverInvariantWith, IsReadyAt, mode_of_disk}
 use Rattle.host_boot.specs.TakeOver.{IsServed, wanted_of}
 use Rattle.identify.specs.declared.wanted.Wanted.TheVariants.{Any, Nothing}
 use Rattle.port_control.specs.Ports.{programmed}
+pub use Rattle.witnesses.proofs.history.Client.{client, frame, granted, its_row, row, start, starts, two_rows}
 use Rattle.witnesses.specs.RunningAdapter.{device_with, port_or_empty, page_entry, queueing_cap, running_port, ports_with_disks}
 use Rattle.witnesses.proofs.history.Still.{all_still, first_lasting, still_bytes}
 use Rattle.witnesses.proofs.history.Holding.{fit_disk, no_slots, requests_none, runs_on, unfailing, unlost, unserved_at}
@@ -34,21 +33,6 @@ use Rattle.witnesses.proofs.history.Memory.{tells}
 use Rattle.witnesses.proofs.history.Members.{nowhere}
 use Rattle.witnesses.proofs.history.Pages.{Kind}
 use Rattle.witnesses.proofs.history.Submitting.{second, sent}
-
--- ---- the machine
-
--- it begins with two disks, and frames of zeros
-abbrev pub start : Machine
-start = record empty {
-  present = λ p. slice_index_or (true ∷ true ∷ []) p.0 false;
-  sizes = λ p. slice_index_or (256 ∷ 256 ∷ []) p.0 0;
-  disks = λ p k b. k;
-}
-
-pub starts : IsInitial start
-starts =
-    let s : IsInitial empty = empty_starts in
-    record { book = s.book; kept = s.kept; lent = s.lent; next = s.next; few = s.few; rows = s.rows; configured = s.configured; owned = s.owned }
 
 -- ---- device and machine agree
 

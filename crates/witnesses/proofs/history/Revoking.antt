@@ -55,14 +55,14 @@ unanswered_then e o here = let same : Answer e o ≡ Revoke client 0 = only (Rev
 
 happens : Happens (issued_at 0).abstract revoke.event
 happens = record {
-  may = (tt, granted 0 (0, omega arith, refl) refl);
+  may = (tt, granted);
   belong = (tt, inr (refl, refl));
   last = (tt, λ id handled issued_in. absurd (true≢false (sym handled)));
   lawful = tt;
   fit = fit_ready plain_disks;
   disks = λ e o here there same. (refl, refl);
   answered = record {
-    there = granted 0 (0, omega arith, refl) refl;
+    there = granted;
     rows = refl;
     tells = record { answers = []; same = IsPermutation-refl _; ordered = λ i j d less low. absurd (omega (arith, less, low)); told = refl };
     told = λ e. (

@@ -124,7 +124,7 @@ one_agrees : Agreeing queueing_disks first_slots first_issuing [] one_memory one
 one_agrees = agrees_one queueing_disks first_issuing [] one_memory one_issued (queued_read 100) 100 100 held 0 has_one
 
 may_first : May (after start (Accept (issued_on.accepted submission_one) ∷ [])) (Issue queued (newly_accepted (issued_on.accepted submission_one)))
-may_first = ((0, omega arith, refl), record { here = (0, omega arith, refl); clear = refl; slot = λ _. omega arith }, λ e h. absurd (nowhere e h), granted 0 (0, omega arith, refl) refl)
+may_first = ((0, omega arith, refl), record { here = (0, omega arith, refl); clear = refl; slot = λ _. omega arith }, λ e h. absurd (nowhere e h), granted)
 
 pub issued_first : IsIssued submission_one
 unfolding one_memory
@@ -222,7 +222,7 @@ abbrev waits_second : Pending
 waits_second = newly_accepted (issued_on.accepted submission_two)
 
 may_second : May (after first_issuing (Accept (issued_on.accepted submission_two) ∷ [])) (Issue queued waits_second)
-may_second = ((1, omega arith, refl), record { here = (1, omega arith, refl); clear = refl; slot = λ _. omega arith }, λ e h. absurd (nowhere e h), granted 0 (0, omega arith, refl) refl)
+may_second = ((1, omega arith, refl), record { here = (1, omega arith, refl); clear = refl; slot = λ _. omega arith }, λ e h. absurd (nowhere e h), granted)
 
 due_second : (port : Port) → IssuesDue queued (issued_on.submit_steps submission_two) both_issuing port
 due_second port r here at_port = ⊎_elim

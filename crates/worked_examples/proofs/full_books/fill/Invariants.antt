@@ -1,6 +1,0 @@
-use Rattle.std.proofs.Common.{◌≤◌, ◌≡◌, [], All}
-use Rattle.worked_examples.proofs.full_books.fill.Given as goal
-
--- the ids so far, and that nothing is lent
-abbrev pub invariant-loop-number : goal.invariant-loop-number
-invariant-loop-number g l = All (λ e. e.entry.id.0 ≤ l.number) l.book × All (λ e. e.frames ≡ []) l.book
