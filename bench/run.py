@@ -4,13 +4,14 @@
     run.py [REQUESTS]    times, instructions and memory
     run.py --store       instructions alone, which are stored in bench/figures.txt
     run.py --check       instructions alone, beside those that are stored: it fails where one rose by more than 2 in 100
+                         and by one, or by a tenth where it is below 100
 
 Each script is of requests of eight sectors, if not said otherwise: asked, done by the disk, and answered; in one of
 them each is asked after the last is answered, in another 16 at a time, which one service answers. A time is the least
 of five runs, less that of a script of one line; `bench` plays the same over a disk in memory. Instructions are those
 that callgrind counts: what more requests take, less what fewer take, for each. What plays a line has the server's calls
-compiled into it, so the server's own part is what that takes without the model, without reading and printing lines, and
-without as many lines that ask nothing of it but what a port's state is.
+compiled into it, so the server's own part is what that takes without the model, without what it calls of `script` and
+`std` and for printing, and without as many lines that ask nothing of it but what a port's state is.
 """
 import collections
 import os
@@ -26,14 +27,14 @@ from typing import Callable
 
 ROOT = pathlib.Path(__file__).resolve().parent.parent
 FIGURES = ROOT / "bench" / "figures.txt"
-# How much a figure may rise, in hundredths, and besides by how many instructions.
-MOST_RISE, MOST_MORE = 2, 1
+# How much a figure may rise, in hundredths, and besides by how many instructions, if it is large or small.
+MOST_RISE, MOST_MORE, MOST_MORE_OF_SMALL, SMALL = 2, 1, 0.1, 100
 RUNS = 5
 SECTORS = 70_000
 MEBIBYTE = 1 << 20
 # What plays a line of a script, the functions by which the server reaches the model, and what isn't the server's of
 # what plays a line.
-PLAYS = r"session::perform"
+PLAYS = r"session::play_lines\b"
 MODEL = r"device_model::model::(ModelAdapter::(read|write|load|store)|Model::do_step)\b"
 LINES = (
     r"^(main::)?(script::|play::printed|std::|core::|__mem|alloc::)"
@@ -53,6 +54,8 @@ PLACES = 16
 # The first frame that isn't the driver's.
 FIRST_FRAME = 76
 FEW, MORE = 320, 960
+# What the figures of a case are.
+PARTS = ("all", "the model", "the server")
 
 
 def configuration(clients=1, grants=1):
@@ -157,10 +160,12 @@ def taken(program, room, config, text):
         # What is refused, or a step that isn't possible, would measure something else.
         assert not re.search(r"^(refused|no)\b", told, re.M), "a line of the script is not done"
         own, calls = counted(folder / "profile")
+    assert any(re.search(PLAYS, name) for name in own), "nothing plays lines"
     into_model = {(caller, callee): cost for (caller, callee), cost in calls.items() if re.search(MODEL, callee)}
     model = sum(cost for (caller, _), cost in into_model.items() if not re.search("device_model", caller))
     of_lines = sum(cost for (caller, callee), cost in calls.items()
                    if re.search(PLAYS, caller) and re.search(LINES, callee))
+    assert into_model and of_lines, "no calls of the model, or none that read and print"
     played = sum(cost for name, cost in own.items() if re.search(PLAYS, name))
     played += sum(cost for (caller, _), cost in calls.items() if re.search(PLAYS, caller))
     return Taken(sum(own.values()), model, played - of_lines - model)
@@ -227,7 +232,7 @@ def measured(program, room, case):
 
 
 def of_a_tick(program, room):
-    """What each request that isn't answered, nor issued, adds to a tick. A second one would let the first wait end."""
+    """What each request that isn't answered, nor issued, adds to a tick. With a third one the first wait would end."""
     config = configuration(8, 8)
     costs = []
     for count in TICKED:
@@ -250,7 +255,7 @@ def all_figures(program, room):
     figures = {STATE.name: (state.whole,)}
     for case, future in zip(CASES, found):
         it = future.result()
-        figures[case.name] = (it.whole, it.model, max(it.played - case.lines * state.played, 0))
+        figures[case.name] = (it.whole, it.model, it.played - case.lines * state.played)
     for (name, first, then, _), (fewer, more) in zip(SLOPES, slopes):
         figures[name] = ((more.result().whole - fewer.result().whole) / (then - first),)
     figures["a request that isn't answered, to a tick"] = (tick.result(),)
@@ -274,6 +279,7 @@ def build(program):
     subprocess.run(["rt", "check"], cwd=folder, stdout=subprocess.DEVNULL, check=True)
     # Without words the one ends with status 2.
     subprocess.run(["rt", "run"], cwd=folder, stdout=subprocess.DEVNULL, stderr=subprocess.DEVNULL, check=False)
+    assert built.stat().st_mtime >= max(it.stat().st_mtime for it in sources), f"{program} isn't built"
     return str(built)
 
 
@@ -308,8 +314,14 @@ def most_memory(program, room, text):
     """The most memory of a run of this script, in MiB, as GNU time tells it."""
     prepare(room, long=text)
     call = ["/usr/bin/time", "-f", "%M", *words(program, "long")]
-    told = subprocess.run(call, cwd=room, stdout=subprocess.DEVNULL, stderr=subprocess.PIPE, text=True, check=True).stderr
-    return int(told) * 1024 / MEBIBYTE
+    ran = subprocess.run(call, cwd=room, stdout=subprocess.DEVNULL, stderr=subprocess.PIPE, text=True, check=True)
+    return int(ran.stderr) * 1024 / MEBIBYTE
+
+
+def print_row(head, unit, row):
+    """A table of one row."""
+    print(f"\n| {head} | " + " | ".join(row) + " |\n|---|" + "---|" * len(row))
+    print(f"| {unit} | " + " | ".join(row.values()) + " |")
 
 
 def print_tables(requests, blockd, room):
@@ -322,19 +334,15 @@ def print_tables(requests, blockd, room):
     for name, row in figures.items():
         if len(row) == 3:
             print(f"| {name} | " + " | ".join(f"{it:,.0f}" for it in row) + " |")
-    print("\n| Each adds | instructions |\n|---|---|")
-    for name, row in figures.items():
-        if len(row) == 1:
-            print(f"| {name} | {row[0]:,.{1 if row[0] < 100 else 0}f} |")
+    adds = {name: f"{row[0]:,.{1 if row[0] < 100 else 0}f}" for name, row in figures.items() if len(row) == 1}
+    print_row("Each adds", "instructions", adds)
     scripts = {
         "one line": "service\n",
         "1,000,000 lines `state 0`": "state 0\n" * 1_000_000,
         "1,000,000 reads": script(1_000_000),
         "10,000 reads of 1,024 sectors": script(10_000, sectors=1024),
     }
-    print("\n| Memory | MiB |\n|---|---|")
-    for name, text in scripts.items():
-        print(f"| {name} | {most_memory(blockd, room, text):.1f} |")
+    print_row("Most memory of", "MiB", {name: f"{most_memory(blockd, room, it):.1f}" for name, it in scripts.items()})
 
 
 def stored():
@@ -353,11 +361,13 @@ def store(blockd, room):
 
 def check(blockd, room):
     """Tells each figure that rose, and gives how many did."""
-    before = stored()
+    before, figures = stored(), all_figures(blockd, room)
+    assert before.keys() == figures.keys(), "other figures are stored than measured"
     passed = failed = 0
-    for name, row in all_figures(blockd, room).items():
-        for part, was, now in zip(("all", "the model", "the server"), before[name], row, strict=True):
-            is_risen = now > was * (1 + MOST_RISE / 100) + MOST_MORE
+    for name, row in figures.items():
+        for part, was, now in zip(PARTS[: len(row)], before[name], row, strict=True):
+            more = MOST_MORE if was >= SMALL else MOST_MORE_OF_SMALL
+            is_risen = now > was * (1 + MOST_RISE / 100) + more
             passed, failed = passed + (not is_risen), failed + is_risen
             if is_risen:
                 print(f"{name}, {part}: {now:,.1f} instructions, and {was:,.1f} are stored")

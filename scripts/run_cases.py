@@ -82,7 +82,7 @@ def given(name):
     raise Misspelled(f"no file {name}")
 
 
-def with_fault(case, number, told):
+def port_after_fault(case, number, told):
     """A case that ends with this status, and tells this."""
     return dataclasses.replace(case, status=number, told=f"blockd: {told}\n".encode() if told else b"")
 
@@ -103,7 +103,7 @@ def with_head(case, key, value):
         return dataclasses.replace(case, words=f"{FILES} {value}")
     if key == "ends":
         number, _, told = value.partition(" ")
-        return with_fault(case, int(number), told)
+        return port_after_fault(case, int(number), told)
     if numbers := re.fullmatch(r"sector (\d+)|sectors (\d+) to (\d+)", key):
         one, first, last = numbers.groups()
         sector = bytes.fromhex(value).ljust(SECTOR, b"\0")
@@ -164,7 +164,7 @@ def bad_lines(file):
     for number, line in rows(file):
         bad, _, script = line.partition(" ")
         case = Case(f"{file.name}:{number}: {script}", given("full.toml"), unescaped(script))
-        yield with_fault(case, 3, f"line {int(bad)}: bad")
+        yield port_after_fault(case, 3, f"line {int(bad)}: bad")
 
 
 def configurations(file):
@@ -181,7 +181,7 @@ def configurations(file):
         if kind == "0":
             yield dataclasses.replace(case, script=b"service\n", printed=b"quiet\n")
         else:
-            yield with_fault(dataclasses.replace(case, script=b"no line\n"), 1, f"config {int(kind)}")
+            yield port_after_fault(dataclasses.replace(case, script=b"no line\n"), 1, f"config {int(kind)}")
 
 
 def formats(file):

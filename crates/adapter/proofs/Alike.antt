@@ -3,7 +3,7 @@ use Rattle.std.proofs.Common.{ℕ, ◌≡◌, ◌+◌, Option, refl, sym, ◌∙
 use Rattle.hba_regs.specs.declared.reg.Reg.{Reg}
 use Rattle.hba_regs.specs.declared.reg.Reg.TheVariants.{Cap, Ghc, Is, Pi, Vs, Cap2, Bohc, Px}
 use Rattle.adapter.specs.Device.{FetchedCommand, Bases, DevicePort, Device}
-use Rattle.adapter.specs.Kept.{KeepsPort}
+use Rattle.adapter.specs.KeptBySteps.{KeepsPort}
 use Rattle.adapter.specs.Steps.{with_port}
 use Rattle.adapter.specs.Access.{Reads, note, noted}
 use Rattle.adapter.specs.Guarded.{MissesRange, IsGuardedSlot, IsGuarded}
@@ -56,18 +56,18 @@ module _ (Tables Kept : ℕ → Type 0) where
   -- what is guarded is guarded in a state that is alike
   pub guard_alike : (old new : Device) → IsAlike old new → IsGuarded Tables Kept old → IsGuarded Tables Kept new
   guard_alike old new a g = record {
-    within = g.within;
-    port = λ q.
+    tables_are_kept = g.tables_are_kept;
+    ports_are_guarded = λ q.
         let k : KeepsPort (old.port q) (new.port q) = still (old.port q) (new.port q) (a.port q) in
         record {
-          slot = λ slot used.
+          slots_are_guarded = λ slot used.
               let P : (ℕ → ℕ) → Type 0 = λ memory. IsGuardedSlot Tables Kept memory (new.port q).bases.clb slot in
               let Q : Bases → Type 0 = λ b. IsGuardedSlot Tables Kept old.memory b.clb slot in
-              subst P (sym a.memory) (subst Q (sym k.bases) ((g.port q).slot slot (in_use_before (old.port q) (new.port q) k slot used)));
-          taken = λ slot t is. (g.port q).taken slot t (sym (ap (λ (f : ℕ → Option FetchedCommand). f slot) ((a.port q).7)) ∙ is);
-          received = λ set.
+              subst P (sym a.memory) (subst Q (sym k.bases) ((g.ports_are_guarded q).slots_are_guarded slot (in_use_before (old.port q) (new.port q) k slot used)));
+          taken_pieces_are_not_kept = λ slot t is. (g.ports_are_guarded q).taken_pieces_are_not_kept slot t (sym (ap (λ (f : ℕ → Option FetchedCommand). f slot) ((a.port q).7)) ∙ is);
+          received_fis_is_not_kept = λ set.
               let P : Bases → Type 0 = λ b. MissesRange Kept b.fb (b.fb + 256) in
-              subst P (sym k.bases) ((g.port q).received (sym ((a.port q).2) ∙ set));
+              subst P (sym k.bases) ((g.ports_are_guarded q).received_fis_is_not_kept (sym ((a.port q).2) ∙ set));
         };
   }
 

@@ -5,7 +5,7 @@ use Rattle.hba_regs.specs.declared.reg.PortReg.{PortReg}
 use Rattle.hba_regs.specs.declared.reg.PortReg.TheVariants.{Clb, Clbu, Fb, Fbu, Is, Ie, Cmd, Tfd, Sig, Ssts, Sctl, Serr, Sact, Ci}
 use Rattle.ata_types.specs.declared.Port.{Port}
 use Rattle.adapter.specs.Device.{Notes, DevicePort, Device}
-use Rattle.adapter.specs.Kept.{Keeps, KeepsOutsideReset, KeepsPort, KeepsControls}
+use Rattle.adapter.specs.KeptBySteps.{Keeps, KeepsOutsideReset, KeepsPort, KeepsControls}
 use Rattle.adapter.specs.Rules.{IsOn}
 pub use Rattle.adapter.specs.RegisterEffects.{KeepsOverDeviceSteps, PortRegisterRead, PortRegisterWritten}
 use Rattle.adapter.specs.Steps.{Steps, with_port}
@@ -16,17 +16,17 @@ use Rattle.adapter.proofs.KeptLemmas.{law_step_lists_keep_what_steps_keep, same_
 -- ---- lists of accesses
 
 pub driven_none : (d : Device) → IsDriven d d
-driven_none d = record { accesses = []; all = refl }
+driven_none d = record { accesses = []; does_all = refl }
 
 pub driven_one : (access : Access) (old new : Device) → Does access old new → IsDriven old new
-driven_one access old new does = record { accesses = access ∷ []; all = (new, does, refl) }
+driven_one access old new does = record { accesses = access ∷ []; does_all = (new, does, refl) }
 
 pub does_append : (first then : List Access) (old mid new : Device) → DoesAll first old mid → DoesAll then mid new → DoesAll (first ++ then) old new
 does_append [] then old mid new e rest = let P : Device → Type 0 = λ d. DoesAll then d new in subst P e rest
 does_append (access ∷ accesses) then old mid new (one, does, more) rest = (one, does, does_append accesses then one mid new more rest)
 
 pub driven_then : {old mid new : Device} → IsDriven old mid → IsDriven mid new → IsDriven old new
-driven_then {old} {mid} {new} a b = record { accesses = a.accesses ++ b.accesses; all = does_append a.accesses b.accesses old mid new a.all b.all }
+driven_then {old} {mid} {new} a b = record { accesses = a.accesses ++ b.accesses; does_all = does_append a.accesses b.accesses old mid new a.does_all b.does_all }
 
 -- ---- rules that last
 
@@ -34,7 +34,7 @@ pub on_after : {old new : Device} → IsOn old → KeepsOutsideReset old new →
 on_after on keeps = record { ae = keeps.ae ∙ on.ae; no_reset = keeps.no_reset }
 
 pub on_stays : {old new : Device} → IsOn old → Steps old new → IsOn new
-on_stays on steps = let k = law_step_lists_keep_what_steps_keep steps in on_after on (k.on on.no_reset)
+on_stays on steps = let k = law_step_lists_keep_what_steps_keep steps in on_after on (k.keeps_outside_reset on.no_reset)
 
 -- ---- a register of a port is read
 
@@ -60,17 +60,17 @@ KeepsOverDeviceSteps-trans a b = record {
   size = b.size ∙ a.size;
   cap = b.cap ∙ a.cap;
   pi = b.pi ∙ a.pi;
-  on = record {
-    no_reset = b.on.no_reset;
-    ae = b.on.ae ∙ a.on.ae;
-    ie = b.on.ie ∙ a.on.ie;
-    controls = λ q. KeepsControls-trans (a.on.controls q) (b.on.controls q);
+  keeps_outside_reset = record {
+    no_reset = b.keeps_outside_reset.no_reset;
+    ae = b.keeps_outside_reset.ae ∙ a.keeps_outside_reset.ae;
+    ie = b.keeps_outside_reset.ie ∙ a.keeps_outside_reset.ie;
+    controls = λ q. KeepsControls-trans (a.keeps_outside_reset.controls q) (b.keeps_outside_reset.controls q);
   };
-  port = λ q. KeepsPort-trans (a.port q) (b.port q);
+  ports_are_kept = λ q. KeepsPort-trans (a.ports_are_kept q) (b.ports_are_kept q);
 }
 
 pub steps_keep_all : {old new : Device} → old.hr ≡ false → Steps old new → KeepsOverDeviceSteps old new
-steps_keep_all h steps = let k = law_step_lists_keep_what_steps_keep steps in record { size = k.size; cap = k.cap; pi = k.pi; on = k.on h; port = k.port }
+steps_keep_all h steps = let k = law_step_lists_keep_what_steps_keep steps in record { size = k.size; cap = k.cap; pi = k.pi; keeps_outside_reset = k.keeps_outside_reset h; ports_are_kept = k.ports_are_kept }
 
 module _ (port : Port) (r : PortReg) (v : ℕ) (old new : Device) (call : Reads (Px port r) v old new) (h : old.hr ≡ false) where
   kept : Keeps old call.mid
@@ -86,18 +86,18 @@ module _ (port : Port) (r : PortReg) (v : ℕ) (old new : Device) (call : Reads 
   noted_keeps : KeepsOverDeviceSteps call.mid (with_port call.mid port.0 there)
   unfolding there
   noted_keeps =
-      let on : KeepsOutsideReset old call.mid = kept.on h in
+      let on : KeepsOutsideReset old call.mid = kept.keeps_outside_reset h in
       record {
         size = refl;
         cap = refl;
         pi = refl;
-        on = record {
+        keeps_outside_reset = record {
           no_reset = on.no_reset;
           ae = refl;
           ie = refl;
           controls = changed_each call.mid.port port.0 there (λ q p. KeepsControls (call.mid.port q) p) (calm (call.mid.port port.0) there (same_controls (call.mid.port port.0))) (λ q. KeepsControls-refl (call.mid.port q));
         };
-        port = changed_each call.mid.port port.0 there (λ q p. KeepsPort (call.mid.port q) p) (still (call.mid.port port.0) there (same_engine (call.mid.port port.0))) (λ q. KeepsPort-refl (call.mid.port q));
+        ports_are_kept = changed_each call.mid.port port.0 there (λ q p. KeepsPort (call.mid.port q) p) (still (call.mid.port port.0) there (same_engine (call.mid.port port.0))) (λ q. KeepsPort-refl (call.mid.port q));
       }
 
   seen_keeps : KeepsOverDeviceSteps old new
@@ -117,27 +117,27 @@ module _ (port : Port) (r : PortReg) (v : ℕ) (old new : Device) (call : Reads 
   seen_notes =
       let P : DevicePort → Type 0 = λ p. p.notes ≡ note r v (record p { notes = (old.port port.0).notes }) in
       let Q : Notes → Type 0 = λ n. note r v (call.mid.port port.0) ≡ note r v (record (call.mid.port port.0) { notes = n }) in
-      subst P (sym is_there) (subst Q (kept.notes port.0) refl)
+      subst P (sym is_there) (subst Q (kept.notes_are_kept port.0) refl)
 
   seen_others : (q : ℕ) → q ≢ port.0 → (new.port q).notes ≡ (old.port q).notes
   unfolding there
   seen_others q ne =
-      ap (λ (d : Device). (d.port q).notes) call.effect ∙ (ap (λ (p : DevicePort). p.notes) (changed_other call.mid.port port.0 there q ne) ∙ kept.notes q)
+      ap (λ (d : Device). (d.port q).notes) call.effect ∙ (ap (λ (p : DevicePort). p.notes) (changed_other call.mid.port port.0 there q ne) ∙ kept.notes_are_kept q)
 
   pub seen : PortRegisterRead port.0 r v old new
-  seen = record { keeps = seen_keeps; shows = seen_shows; notes = seen_notes; others = seen_others }
+  seen = record { keeps = seen_keeps; shows = seen_shows; notes = seen_notes; other_notes_are_kept = seen_others }
 
 -- ---- a register of a port is written: the port has it, after what the device did first; the others have what that left
 
 pub put : (port : Port) (r : PortReg) (v : ℕ) (old new : Device) → Writes (Px port r) v old new → old.hr ≡ false → PortRegisterWritten port.0 r v old new
 put port r v old new call h =
     let k : Keeps old call.mid = law_step_lists_keep_what_steps_keep call.steps in
-    let on : KeepsOutsideReset old call.mid = k.on h in
+    let on : KeepsOutsideReset old call.mid = k.keeps_outside_reset h in
     record {
       mid = call.mid;
       steps = call.steps;
       keeps = steps_keep_all h call.steps;
-      notes = k.notes;
+      notes = k.notes_are_kept;
       hr = ap (λ (d : Device). d.hr) call.effect ∙ on.no_reset;
       ae = ap (λ (d : Device). d.ae) call.effect ∙ on.ae;
       ie = ap (λ (d : Device). d.ie) call.effect ∙ on.ie;
@@ -146,6 +146,6 @@ put port r v old new call h =
       pi = ap (λ (d : Device). d.pi) call.effect ∙ k.pi;
       memory = ap (λ (d : Device). d.memory) call.effect;
       tape = ap (λ (d : Device). d.tape) call.effect;
-      here = ap (λ (d : Device). d.port port.0) call.effect ∙ changed_same call.mid.port port.0 _;
-      others = λ q ne. ap (λ (d : Device). d.port q) call.effect ∙ changed_other call.mid.port port.0 _ q ne;
+      port_is_written = ap (λ (d : Device). d.port port.0) call.effect ∙ changed_same call.mid.port port.0 _;
+      other_ports_are_kept = λ q ne. ap (λ (d : Device). d.port q) call.effect ∙ changed_other call.mid.port port.0 _ q ne;
     }

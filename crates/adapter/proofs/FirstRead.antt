@@ -8,7 +8,7 @@ use Rattle.adapter.specs.Memory.{patched, bytes_at, changed}
 use Rattle.adapter.specs.Device.{Disk, IsSector, IsDisk, HasKnownSectors, DevicePort, Device}
 use Rattle.adapter.specs.FirstRead.{header_bytes, command_fis_bytes, prd_bytes, first_memory, first_disk_sector, first_disk, no_disk, empty_port, reading_port, first_read_device}
 use Rattle.adapter.specs.Idle.{IsIdlePort, HoldsBytesAndTellsDisks}
-use Rattle.adapter.specs.OneCommand.{HasOneCommand, SaysCommand, CommandLayout, layout_of, is_in_span, is_of_pieces, is_read_only, is_written, is_unwritten, IsElsewhere}
+use Rattle.adapter.specs.OneCommand.{HasOneCommand, SaysCommand, CommandLayout, layout_of, is_in_span, is_in_pieces, is_read_only, is_written, is_unwritten, IsElsewhere}
 use Rattle.adapter.specs.ReadDone.{read_of, IsReadDone}
 use Rattle.adapter.specs.Rules.{IsUnowned, IsStable}
 use Rattle.adapter.specs.Decoding.{DecodesTo, IsWholePieces, piece_addresses}
@@ -50,14 +50,14 @@ first_says = record {
   prds = prd ∷ [];
   header = record {
     size = refl;
-    first = refl;
-    points = refl;
+    dword0_is = refl;
+    table_address_is = refl;
     aligned = refl;
     zeros = λ i low high. bytes_index first_memory 0 32 i high ∙ zero_between (0 + i) (omega (arith, low)) (omega (arith, high));
   };
   fis = record {
     size = refl;
-    kind = refl;
+    fis_type = refl;
     c_bit = refl;
     code = refl;
     features = refl;
@@ -70,20 +70,20 @@ first_says = record {
     ranged = λ _. (omega arith, omega arith, omega arith);
     not_ranged = λ h. true-false refl h;
   };
-  stand = (
+  prds_stand = (
     record {
       size = refl;
-      allowed = record { even_address = refl; even_bytes = refl; some = omega arith; limit = omega arith };
+      allowed = record { even_address = refl; even_bytes = refl; is_not_empty = omega arith; is_at_most_4_mib = omega arith };
       address = refl;
-      upper = refl;
-      count = refl;
+      upper_is_zero = refl;
+      byte_count_is = refl;
     },
     tt,
   );
-  few = omega arith;
-  whole = all_one;
-  in_order = refl;
-  as_many = refl;
+  prd_count_is_allowed = omega arith;
+  prds_are_whole_pieces = all_one;
+  places_are = refl;
+  place_count_is = refl;
 }
 
 -- ---- the rest of the adapter
@@ -132,9 +132,9 @@ first_small =
 
 pub first_sane : HoldsBytesAndTellsDisks first_read_device
 first_sane = record {
-  bytes = first_small;
-  disk = changed_each (λ _. empty_port) 0 reading_port (λ q p. IsDisk p.disk) (told_sectors first_disk first_disk_sector refl (λ k small. sector_is k small)) (λ q. told_sectors no_disk (λ k. []) refl (λ k small. absurd (omega arith)));
-  told = λ _. changed_each (λ _. empty_port) 0 reading_port (λ q p. HasKnownSectors p.disk) (first_disk_sector, refl) (λ q. (λ k. [], refl));
+  memory_holds_bytes = first_small;
+  disks_hold_sectors = changed_each (λ _. empty_port) 0 reading_port (λ q p. IsDisk p.disk) (told_sectors first_disk first_disk_sector refl (λ k small. sector_is k small)) (λ q. told_sectors no_disk (λ k. []) refl (λ k small. absurd (omega arith)));
+  disks_are_told = λ _. changed_each (λ _. empty_port) 0 reading_port (λ q p. HasKnownSectors p.disk) (first_disk_sector, refl) (λ q. (λ k. [], refl));
 }
 
 -- ---- tests of bytes
@@ -148,7 +148,7 @@ from_no first n at (inl before) = rw (lt-leb first at before) refl
 from_no first n at (inr past) = rw (le-leb first at (omega (arith, past)), le-ltb at (first + n) past) refl
 
 -- a byte outside a run of pieces is in none
-pieces_no : (first n at : ℕ) → (at < first) ⊎ (first + 512 * n ≤ at) → is_of_pieces (piece_addresses first n) at ≡ false
+pieces_no : (first n at : ℕ) → (at < first) ⊎ (first + 512 * n ≤ at) → is_in_pieces (piece_addresses first n) at ≡ false
 pieces_no first zero at outside = refl
 pieces_no first (suc n) at (inl before) = rw (from_no first 512 at (inl before), pieces_no (first + 512) n at (inl (omega (arith, before)))) refl
 pieces_no first (suc n) at (inr past) = rw (from_no first 512 at (inr (omega (arith, past))), pieces_no (first + 512) n at (inr (omega (arith, past)))) refl
@@ -177,7 +177,7 @@ one_of false false c h = inr (inr h)
 
 unwritten : (at : ℕ) → (at < 4) ⊎ (8 ≤ at) → (at < 0x400) ⊎ (0x500 ≤ at) → (at < 0x64000) ⊎ (0x65000 ≤ at) → is_written stands at ≡ false
 unwritten at count area frame =
-    none_of (is_in_span 4 4 at) (is_of_pieces (piece_addresses 0x64000 8) at) (is_in_span 0x400 256 at) (from_no 4 4 at count) (pieces_no 0x64000 8 at frame) (from_no 0x400 256 at area)
+    none_of (is_in_span 4 4 at) (is_in_pieces (piece_addresses 0x64000 8) at) (is_in_span 0x400 256 at) (from_no 4 4 at count) (pieces_no 0x64000 8 at frame) (from_no 0x400 256 at area)
 
 stands_apart : (at : ℕ) → is_read_only stands at ≡ true → is_unwritten stands at ≡ true
 stands_apart at h =
@@ -196,10 +196,10 @@ stands_apart at h =
 pub first_command : HasOneCommand first_read_device 0 0
 unfolding changed
 first_command = record {
-  used = inl refl;
+  slot_is_used = inl refl;
   command = command;
   taken = λ t is. some-none is refl;
-  apart = let P : CommandLayout → Type 0 = λ s. (at : ℕ) → is_read_only s at ≡ true → is_unwritten s at ≡ true in subst P (sym stands_is) stands_apart;
+  reads_apart_from_writes = let P : CommandLayout → Type 0 = λ s. (at : ℕ) → is_read_only s at ≡ true → is_unwritten s at ≡ true in subst P (sym stands_is) stands_apart;
   other_slots = λ k ne. record { ci = changed_other (λ _. false) 0 true k ne; taken = refl };
   other_ports = λ q ne. let P : DevicePort → Type 0 = λ p. IsIdlePort p in subst P (sym (changed_other (λ _. empty_port) 0 reading_port q ne)) quiet;
 }
@@ -233,17 +233,17 @@ unfolding changed
 first_done =
     read_done first_read_device 0 0 100 8 (piece_addresses 0x64000 8) first_disk_sector
     (record {
-      fetch = record {
+      may_be_fetched = record {
         fetchable = record { st = refl; issued = refl; free = refl };
         working = record { running = refl; present = refl; fresh = refl; admitted = refl; whole = refl };
-        alone = λ slot t is. some-none is refl;
+        is_unmixed = λ slot t is. some-none is refl;
         says = first_says;
       };
-      disk = first_sane.disk 0;
+      disk_holds_sectors = first_sane.disks_hold_sectors 0;
       told_is = refl;
       on_disk = omega arith;
       inside = λ k small. let place = cut_index 0x64000 8 k small in omega (arith, place, small);
-      apart = λ j k before small.
+      pieces_are_apart = λ j k before small.
           let first = cut_index 0x64000 8 j (omega (arith, before, small)) in
           let then = cut_index 0x64000 8 k small in
           inl (omega (arith, first, then, before));

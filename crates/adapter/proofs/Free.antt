@@ -1,7 +1,7 @@
 -- Kept bytes that are no command's may be loaded and stored, whatever the device does first.
 use Rattle.std.proofs.Common.{ℕ, ◌≡◌, ◌<◌, ◌≤◌, ◌+◌, List, length, ap, subst, inl, inr, arith}
 use Rattle.adapter.specs.Device.{Bases, Device}
-use Rattle.adapter.specs.Kept.{Keeps, KeepsPort}
+use Rattle.adapter.specs.KeptBySteps.{Keeps, KeepsPort}
 use Rattle.adapter.specs.Steps.{Steps}
 use Rattle.adapter.specs.Rules.{DeviceOwns, IsUnowned, IsStable, InDataBlocks}
 use Rattle.adapter.specs.Guarded.{IsGuardedSlot, IsGuarded, IsApart}
@@ -14,23 +14,23 @@ module _ (Tables Kept : ℕ → Type 0) (at n : ℕ) where
       (port slot a : ℕ) → at ≤ a → a < at + n → DeviceOwns d (d.port port) slot a → ⊥
   unused_byte d g apart port slot a low high (inl (used, inl header)) = apart.no_header port slot a used low high header.0 header.1
   unused_byte d g apart port slot a low high (inl (used, inr (m, places, s, inl table))) =
-      let h : IsGuardedSlot Tables Kept d.memory (d.port port).bases.clb slot = (g.port port).slot slot used in
+      let h : IsGuardedSlot Tables Kept d.memory (d.port port).bases.clb slot = (g.ports_are_guarded port).slots_are_guarded slot used in
       let t : s.table ≡ h.says.table = says_table d.memory (d.port port).bases.clb slot m h.meaning places h.places s h.says in
       let e : length s.prds ≡ length h.says.prds =
       ap length (says_prds d.memory (d.port port).bases.clb slot m h.meaning places h.places s h.says) in
-      apart.no_table a low high (h.table a (omega (arith, t, table.0)) (omega (arith, t, e, table.1)))
+      apart.no_table a low high (h.table_is_guarded a (omega (arith, t, table.0)) (omega (arith, t, e, table.1)))
   unused_byte d g apart port slot a low high (inl (used, inr (m, places, s, inr place))) =
-      let h : IsGuardedSlot Tables Kept d.memory (d.port port).bases.clb slot = (g.port port).slot slot used in
+      let h : IsGuardedSlot Tables Kept d.memory (d.port port).bases.clb slot = (g.ports_are_guarded port).slots_are_guarded slot used in
       let e : places ≡ h.places = says_places d.memory (d.port port).bases.clb slot m h.meaning places h.places s h.says in
       let P : List ℕ → Type 0 = λ l. InDataBlocks l a in
       h.places_avoid a (apart.kept a low high) (subst P e place)
   unused_byte d g apart port slot a low high (inr (inl (t, is, place))) =
-      (g.port port).taken slot t is a (apart.kept a low high) place
+      (g.ports_are_guarded port).taken_pieces_are_not_kept slot t is a (apart.kept a low high) place
   unused_byte d g apart port slot a low high (inr (inr (fre, from, to))) =
-      (g.port port).received fre a from to (apart.kept a low high)
+      (g.ports_are_guarded port).received_fis_is_not_kept fre a from to (apart.kept a low high)
 
   apart_free : (d : Device) → IsGuarded Tables Kept d → IsApart Tables Kept at n d → IsUnowned at n d
-  apart_free d g apart = record { inside = apart.inside; unused = unused_byte d g apart }
+  apart_free d g apart = record { inside = apart.inside; is_not_owned = unused_byte d g apart }
 
   apart_stays : (old mid : Device) → IsApart Tables Kept at n old → Steps old mid → IsApart Tables Kept at n mid
   apart_stays old mid apart steps =
@@ -40,7 +40,7 @@ module _ (Tables Kept : ℕ → Type 0) (at n : ℕ) where
         kept = apart.kept;
         no_table = apart.no_table;
         no_header = λ port slot a used low high from to.
-            let p : KeepsPort (old.port port) (mid.port port) = k.port port in
+            let p : KeepsPort (old.port port) (mid.port port) = k.ports_are_kept port in
             let list = ap (λ (b : Bases). b.clb) p.bases in
             apart.no_header port slot a (in_use_before (old.port port) (mid.port port) p slot used) low high (omega (arith, list, from)) (omega (arith, list, to));
       }

@@ -13,7 +13,7 @@ use Rattle.adapter.specs.declared.access.DeviceStep.{DeviceStep}
 use Rattle.adapter.specs.declared.access.DeviceStep.TheVariants as asked
 use Rattle.adapter.proofs.Runs.{Steps-refl, Steps-one, Steps-trans}
 use Rattle.adapter.proofs.Scribbling.{area_filled, one_filled, scribbled_is_one}
-use Rattle.adapter.specs.Asked.{DoesClear, DoesSlotStep, DoesSlotSteps, Fails, FailsAfter, FailsToldStep, SlotGoesOn, MayPost, Asked, DoesToldStep, DoesScribble, IsScribbled, busy, fatal_bit, memory_filled}
+use Rattle.adapter.specs.ToldSteps.{DoesClear, DoesSlotStep, DoesSlotSteps, Fails, FailsAfter, FailsToldStep, SlotGoesOn, MayPost, DoesOrFailsStep, DoesToldStep, DoesScribble, IsScribbled, busy, fatal_bit, memory_filled}
 
 module _ (Posts : (port flag : ℕ) → Operation → Device → Device → Type 0) where
   pub goes_one : (port slot : ℕ) (old new : Device) → DoesSlotStep Posts port slot old new → SlotGoesOn Posts port slot old new
@@ -35,15 +35,15 @@ post_steps port flag operation old new (inr post) =
     (record { fre = post.2.receives; place = inl (post.2.from, post.2.to); are_bytes = post.2.are_bytes }) post.2.effect
 
 clear_steps : (port slot most : ℕ) (old new : Device) → DoesClear port slot most old new → Steps old new
-clear_steps port slot most old new c = Steps-one (Clear port slot c.t c.first c.count) old new c.can c.effect
+clear_steps port slot most old new c = Steps-one (Clear port slot c.fetched_command c.first c.count) old new c.can c.effect
 
 one_steps : (port slot : ℕ) (old new : Device) → DoesSlotStep MayPost port slot old new → Steps old new
 one_steps port slot old new (inl f) = Steps-one (Fetch port slot f.meaning f.places) old new f.can f.effect
-one_steps port slot old new (inr (inl m)) = Steps-one (Move port slot m.t m.bytes) old new m.can m.effect
+one_steps port slot old new (inr (inl m)) = Steps-one (Move port slot m.fetched_command m.bytes) old new m.can m.effect
 one_steps port slot old new (inr (inr (inr c))) = clear_steps port slot c.0 old new c.1
 one_steps port slot old new (inr (inr (inl e))) =
-    Steps-trans (Steps-one (Done port slot e.done.flag e.done.t) old e.mid e.done.can e.done.effect)
-    (post_steps port e.done.flag e.done.t.meaning.operation e.mid new e.posts)
+    Steps-trans (Steps-one (Done port slot e.done.flag e.done.fetched_command) old e.mid e.done.can e.done.effect)
+    (post_steps port e.done.flag e.done.fetched_command.meaning.operation e.mid new e.posts)
 
 some_steps : (n port slot : ℕ) (old new : Device) → DoesSlotSteps MayPost n port slot old new → Steps old new
 some_steps zero port slot old new e = let P : Device → Type 0 = λ d. Steps old d in subst P (sym e) (Steps-refl old)
@@ -51,13 +51,13 @@ some_steps (suc n) port slot old new s = Steps-trans (some_steps n port slot old
 
 fault_steps : (port slot error kept : ℕ) (old new : Device) → Fails MayPost port slot error kept old new → Steps old new
 fault_steps port slot error kept old new f =
-    Steps-trans (Steps-one (Fault port slot error kept f.fault.t) old f.mid f.fault.can f.fault.effect)
-    (post_steps port 30 f.fault.t.meaning.operation f.mid new f.posts)
+    Steps-trans (Steps-one (Fault port slot error kept f.fault.fetched_command) old f.mid f.fault.can f.fault.effect)
+    (post_steps port 30 f.fault.fetched_command.meaning.operation f.mid new f.posts)
 
 -- a command failed after some steps, or none
 fails_steps : (Part : Device → Device → Type 0) → ((old new : Device) → Part old new → Steps old new) → (port slot : ℕ) (old new : Device) →
     FailsAfter MayPost Part port slot old new → Steps old new
-fails_steps Part steps port slot old new f = Steps-trans (before f.before) (fault_steps port slot f.error 0 f.mid new f.fails)
+fails_steps Part steps port slot old new f = Steps-trans (before f.part_is_done) (fault_steps port slot f.error 0 f.mid new f.fails)
   where
     before : (f.mid ≡ old) ⊎ Part old f.mid → Steps old f.mid
     before (inl same) = let P : Device → Type 0 = λ d. Steps old d in subst P (sym same) (Steps-refl old)
@@ -149,6 +149,6 @@ failed_steps (asked.Unplug p) old new f = absurd f
 failed_steps (asked.Plug p number) old new f = absurd f
 failed_steps (asked.LosePlug p) old new f = absurd f
 
-pub asked_steps : (s : DeviceStep) (old new : Device) → Asked s old new → Steps old new
+pub asked_steps : (s : DeviceStep) (old new : Device) → DoesOrFailsStep s old new → Steps old new
 asked_steps s old new (inl did) = done_steps s old new did
 asked_steps s old new (inr failed) = failed_steps s old new failed

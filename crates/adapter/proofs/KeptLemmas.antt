@@ -5,7 +5,7 @@ use Rattle.adapter.proofs.Changed.{changed_each}
 use Rattle.adapter.specs.Memory.{changed}
 use Rattle.adapter.specs.Commands.{is_queued}
 use Rattle.adapter.specs.Device.{FetchedCommand, DevicePort, Device}
-use Rattle.adapter.specs.Kept.{Keeps, KeepsOutsideReset, KeepsPort, KeepsControls}
+use Rattle.adapter.specs.KeptBySteps.{Keeps, KeepsOutsideReset, KeepsPort, KeepsControls}
 use Rattle.adapter.specs.Steps.{DeviceTransition, Can, device_after, TransitionsLead, Steps, with_port}
 use Rattle.adapter.specs.Steps.DeviceTransition.{Fetch, FetchFault, Move, Clear, Done, Fault, Fatal, Fall, FrFall, LinkUp, Unplug, Plug, ResetEnds, Scribble}
 use Rattle.adapter.specs.declared.tape.Entry.{Entry}
@@ -52,9 +52,9 @@ still old new (bases, st, fre, cr, fr, ci, sact, taken) =
       fr = λ h. fr ∙ h;
       ci = λ k h. ap (λ (f : ℕ → Bool). f k) ci ∙ h;
       sact = λ k h. ap (λ (f : ℕ → Bool). f k) sact ∙ h;
-      idle = λ quiet none slot. at slot ∙ none slot;
-      fallen = λ ran quiet. true-false ran (sym cr ∙ quiet);
-      free = λ slot unset none. at slot ∙ none;
+      stays_without_commands = λ quiet none slot. at slot ∙ none slot;
+      fall_drops_commands = λ ran quiet. true-false ran (sym cr ∙ quiet);
+      slots_stay_free = λ slot unset none. at slot ∙ none;
     }
 
 pub KeepsPort-refl : (p : DevicePort) → KeepsPort p p
@@ -79,7 +79,7 @@ calm old new (st, fre, det, ie, is, ips, n, x, cr) = record {
   ips = ips;
   serr_n = λ h. n ∙ h;
   serr_x = λ h. x ∙ h;
-  runs = λ _ ran. cr ∙ ran;
+  engine_stays_running = λ _ ran. cr ∙ ran;
 }
 
 pub KeepsControls-refl : (p : DevicePort) → KeepsControls p p
@@ -96,7 +96,7 @@ flagged p place new (st, fre, det, ie, is, ips, n, x, cr) = record {
   ips = ips;
   serr_n = λ h. n ∙ h;
   serr_x = λ h. x ∙ h;
-  runs = λ _ ran. cr ∙ ran;
+  engine_stays_running = λ _ ran. cr ∙ ran;
 }
 
 -- a slot that was in use holds something else now
@@ -116,9 +116,9 @@ worked p slot t u new running is (bases, st, fre, cr, fr, ci, sact, taken) = rec
   fr = λ h. fr ∙ h;
   ci = λ k h. ap (λ (f : ℕ → Bool). f k) ci ∙ h;
   sact = λ k h. ap (λ (f : ℕ → Bool). f k) sact ∙ h;
-  idle = λ quiet. true-false running quiet;
-  fallen = λ ran quiet. true-false ran (sym cr ∙ quiet);
-  free = λ k unset none. ap (λ (f : ℕ → Option FetchedCommand). f k) taken ∙ slot_keeps p slot (Some u) (λ _ n. some-none is n) k unset none;
+  stays_without_commands = λ quiet. true-false running quiet;
+  fall_drops_commands = λ ran quiet. true-false ran (sym cr ∙ quiet);
+  slots_stay_free = λ k unset none. ap (λ (f : ℕ → Option FetchedCommand). f k) taken ∙ slot_keeps p slot (Some u) (λ _ n. some-none is n) k unset none;
 }
 
 -- ---- one step, at its port
@@ -141,11 +141,11 @@ module _ (d : Device) (port : ℕ) (new : DevicePort) (keeps : KeepsPort (d.port
     size = refl;
     cap = refl;
     pi = refl;
-    port = ports;
-    notes = all_notes;
-    gained = gained;
-    tape = refl;
-    on = λ h. record { no_reset = h; ae = refl; ie = refl; controls = all_controls };
+    ports_are_kept = ports;
+    notes_are_kept = all_notes;
+    new_entries = gained;
+    tape_grows = refl;
+    keeps_outside_reset = λ h. record { no_reset = h; ae = refl; ie = refl; controls = all_controls };
   }
 
   keeps_quiet : Keeps d (with_port d port new)
@@ -154,11 +154,11 @@ module _ (d : Device) (port : ℕ) (new : DevicePort) (keeps : KeepsPort (d.port
     size = refl;
     cap = refl;
     pi = refl;
-    port = ports;
-    notes = all_notes;
-    gained = [];
-    tape = sym (append-nil d.tape);
-    on = λ h. record { no_reset = h; ae = refl; ie = refl; controls = all_controls };
+    ports_are_kept = ports;
+    notes_are_kept = all_notes;
+    new_entries = [];
+    tape_grows = sym (append-nil d.tape);
+    keeps_outside_reset = λ h. record { no_reset = h; ae = refl; ie = refl; controls = all_controls };
   }
 
 pub Keeps-refl : (d : Device) → Keeps d d
@@ -167,11 +167,11 @@ Keeps-refl d = record {
   size = refl;
   cap = refl;
   pi = refl;
-  port = λ q. KeepsPort-refl (d.port q);
-  notes = λ q. refl;
-  gained = [];
-  tape = sym (append-nil d.tape);
-  on = λ h. record { no_reset = h; ae = refl; ie = refl; controls = λ q. KeepsControls-refl (d.port q) };
+  ports_are_kept = λ q. KeepsPort-refl (d.port q);
+  notes_are_kept = λ q. refl;
+  new_entries = [];
+  tape_grows = sym (append-nil d.tape);
+  keeps_outside_reset = λ h. record { no_reset = h; ae = refl; ie = refl; controls = λ q. KeepsControls-refl (d.port q) };
 }
 
 pub step_keeps : (step : DeviceTransition) (d : Device) → Can step d → Keeps d (device_after step d)
@@ -186,9 +186,9 @@ step_keeps (Fetch port slot meaning places) d can =
       fr = λ h. h;
       ci = λ k h. fall_if (is_queued meaning.operation) p.ci slot k h;
       sact = λ k h. h;
-      idle = λ quiet. true-false can.working.running quiet;
-      fallen = λ ran quiet. true-false ran quiet;
-      free = slot_keeps p slot _ (λ unset _. true-false can.fetchable.issued unset);
+      stays_without_commands = λ quiet. true-false can.working.running quiet;
+      fall_drops_commands = λ ran quiet. true-false ran quiet;
+      slots_stay_free = slot_keeps p slot _ (λ unset _. true-false can.fetchable.issued unset);
     })
     (calm _ _ (same_controls p))
     refl
@@ -209,9 +209,9 @@ step_keeps (Done port slot flag t) d can =
       fr = λ h. h;
       ci = λ k h. fall_unless (is_queued t.meaning.operation) p.ci slot k h;
       sact = λ k h. fall_if (is_queued t.meaning.operation) p.sact slot k h;
-      idle = λ quiet. true-false can.works.working.running quiet;
-      fallen = λ ran quiet. true-false ran quiet;
-      free = slot_keeps p slot None (λ _ _. refl);
+      stays_without_commands = λ quiet. true-false can.works.working.running quiet;
+      fall_drops_commands = λ ran quiet. true-false ran quiet;
+      slots_stay_free = slot_keeps p slot None (λ _ _. refl);
     })
     (flagged p flag _ (same_controls (record p { is = changed p.is flag true })))
     refl d.memory _
@@ -229,9 +229,9 @@ step_keeps (Fall port) d can =
       fr = λ h. h;
       ci = λ k h. h;
       sact = λ k h. h;
-      idle = λ quiet none slot. refl;
-      fallen = λ ran quiet slot. refl;
-      free = λ slot unset none. refl;
+      stays_without_commands = λ quiet none slot. refl;
+      fall_drops_commands = λ ran quiet slot. refl;
+      slots_stay_free = λ slot unset none. refl;
     })
     (record {
       st = refl;
@@ -242,7 +242,7 @@ step_keeps (Fall port) d can =
       ips = refl;
       serr_n = λ h. h;
       serr_x = λ h. h;
-      runs = λ st ran. true-false st can.0;
+      engine_stays_running = λ st ran. true-false st can.0;
     })
     refl
 step_keeps (FrFall port) d can =
@@ -255,9 +255,9 @@ step_keeps (FrFall port) d can =
       fr = λ _. refl;
       ci = λ k h. h;
       sact = λ k h. h;
-      idle = λ quiet none. none;
-      fallen = λ ran quiet. true-false ran quiet;
-      free = λ slot unset none. none;
+      stays_without_commands = λ quiet none. none;
+      fall_drops_commands = λ ran quiet. true-false ran quiet;
+      slots_stay_free = λ slot unset none. none;
     })
     (calm _ _ (same_controls (d.port port)))
     refl
@@ -272,7 +272,7 @@ step_keeps (LinkUp port sig n) d can =
       ips = refl;
       serr_n = or_keeps (d.port port).serr_n n;
       serr_x = λ _. refl;
-      runs = λ st ran. ran;
+      engine_stays_running = λ st ran. ran;
     })
     refl
 step_keeps (Unplug port) d can =
@@ -286,7 +286,7 @@ step_keeps (Unplug port) d can =
       ips = refl;
       serr_n = λ _. refl;
       serr_x = λ h. h;
-      runs = λ st ran. ran;
+      engine_stays_running = λ st ran. ran;
     })
     refl d.memory _
 step_keeps (Plug port disk) d can =
@@ -300,7 +300,7 @@ step_keeps (Plug port disk) d can =
       ips = refl;
       serr_n = λ _. refl;
       serr_x = λ _. refl;
-      runs = λ st ran. ran;
+      engine_stays_running = λ st ran. ran;
     })
     refl d.memory _
 step_keeps ResetEnds d can = record {
@@ -308,7 +308,7 @@ step_keeps ResetEnds d can = record {
   size = refl;
   cap = refl;
   pi = refl;
-  port = λ q. record {
+  ports_are_kept = λ q. record {
     bases = refl;
     st = λ _. refl;
     fre = λ _. refl;
@@ -316,25 +316,25 @@ step_keeps ResetEnds d can = record {
     fr = λ _. refl;
     ci = λ k _. refl;
     sact = λ k _. refl;
-    idle = λ quiet none slot. refl;
-    fallen = λ ran quiet slot. refl;
-    free = λ slot unset none. refl;
+    stays_without_commands = λ quiet none slot. refl;
+    fall_drops_commands = λ ran quiet slot. refl;
+    slots_stay_free = λ slot unset none. refl;
   };
-  notes = λ q. refl;
-  gained = [];
-  tape = sym (append-nil d.tape);
-  on = λ h. true-false can h;
+  notes_are_kept = λ q. refl;
+  new_entries = [];
+  tape_grows = sym (append-nil d.tape);
+  keeps_outside_reset = λ h. true-false can h;
 }
 step_keeps (Scribble port slot at bytes) d can = record {
   telling = refl;
   size = refl;
   cap = refl;
   pi = refl;
-  port = λ q. KeepsPort-refl (d.port q);
-  notes = λ q. refl;
-  gained = [];
-  tape = sym (append-nil d.tape);
-  on = λ h. record { no_reset = h; ae = refl; ie = refl; controls = λ q. KeepsControls-refl (d.port q) };
+  ports_are_kept = λ q. KeepsPort-refl (d.port q);
+  notes_are_kept = λ q. refl;
+  new_entries = [];
+  tape_grows = sym (append-nil d.tape);
+  keeps_outside_reset = λ h. record { no_reset = h; ae = refl; ie = refl; controls = λ q. KeepsControls-refl (d.port q) };
 }
 
 -- ---- lists of steps
@@ -342,8 +342,8 @@ step_keeps (Scribble port slot at bytes) d can = record {
 module _ {old mid new : DevicePort} (a : KeepsPort old mid) (b : KeepsPort mid new) where
   -- CR fell in the first part or in the second
   fell_between : (cr : Bool) → mid.cr ≡ cr → old.cr ≡ true → new.cr ≡ false → (slot : ℕ) → new.taken slot ≡ None
-  fell_between true is ran quiet = b.fallen is quiet
-  fell_between false is ran quiet = b.idle is (a.fallen ran is)
+  fell_between true is ran quiet = b.fall_drops_commands is quiet
+  fell_between false is ran quiet = b.stays_without_commands is (a.fall_drops_commands ran is)
 
   pub KeepsPort-trans : KeepsPort old new
   KeepsPort-trans = record {
@@ -354,9 +354,9 @@ module _ {old mid new : DevicePort} (a : KeepsPort old mid) (b : KeepsPort mid n
     fr = λ h. b.fr (a.fr h);
     ci = λ k h. b.ci k (a.ci k h);
     sact = λ k h. b.sact k (a.sact k h);
-    idle = λ quiet none. b.idle (a.cr quiet) (a.idle quiet none);
-    fallen = λ ran quiet. fell_between mid.cr refl ran quiet;
-    free = λ slot unset none. b.free slot (a.ci slot unset) (a.free slot unset none);
+    stays_without_commands = λ quiet none. b.stays_without_commands (a.cr quiet) (a.stays_without_commands quiet none);
+    fall_drops_commands = λ ran quiet. fell_between mid.cr refl ran quiet;
+    slots_stay_free = λ slot unset none. b.slots_stay_free slot (a.ci slot unset) (a.slots_stay_free slot unset none);
   }
 
 pub KeepsControls-trans : {old mid new : DevicePort} → KeepsControls old mid → KeepsControls mid new → KeepsControls old new
@@ -369,7 +369,7 @@ KeepsControls-trans a b = record {
   ips = b.ips ∙ a.ips;
   serr_n = λ h. b.serr_n (a.serr_n h);
   serr_x = λ h. b.serr_x (a.serr_x h);
-  runs = λ st ran. b.runs (a.st ∙ st) (a.runs st ran);
+  engine_stays_running = λ st ran. b.engine_stays_running (a.st ∙ st) (a.engine_stays_running st ran);
 }
 
 pub KeepsOutsideReset-trans : {old mid new : Device} → KeepsOutsideReset old mid → KeepsOutsideReset mid new → KeepsOutsideReset old new
@@ -386,11 +386,11 @@ Keeps-trans {old} {mid} {new} a b = record {
   size = b.size ∙ a.size;
   cap = b.cap ∙ a.cap;
   pi = b.pi ∙ a.pi;
-  port = λ q. KeepsPort-trans (a.port q) (b.port q);
-  notes = λ q. b.notes q ∙ a.notes q;
-  gained = a.gained ++ b.gained;
-  tape = b.tape ∙ (ap (λ t. t ++ b.gained) a.tape ∙ append_assoc old.tape a.gained b.gained);
-  on = λ h. let first : KeepsOutsideReset old mid = a.on h in KeepsOutsideReset-trans first (b.on first.no_reset);
+  ports_are_kept = λ q. KeepsPort-trans (a.ports_are_kept q) (b.ports_are_kept q);
+  notes_are_kept = λ q. b.notes_are_kept q ∙ a.notes_are_kept q;
+  new_entries = a.new_entries ++ b.new_entries;
+  tape_grows = b.tape_grows ∙ (ap (λ t. t ++ b.new_entries) a.tape_grows ∙ append_assoc old.tape a.new_entries b.new_entries);
+  keeps_outside_reset = λ h. let first : KeepsOutsideReset old mid = a.keeps_outside_reset h in KeepsOutsideReset-trans first (b.keeps_outside_reset first.no_reset);
 }
 
 leads_keeps : (steps : List DeviceTransition) (old new : Device) → TransitionsLead steps old new → Keeps old new

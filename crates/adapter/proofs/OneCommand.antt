@@ -6,7 +6,7 @@ use Rattle.adapter.specs.Device.{DevicePort, Device}
 use Rattle.adapter.specs.Idle.{IsIdle, IsIdlePort}
 use Rattle.adapter.specs.Rules.{InUse, InDataBlocks, IsUnowned, IsStable}
 use Rattle.adapter.specs.Guarded.{PassesTest, MissesRange, MissesPieces, IsGuardedSlot, IsGuardedPort, IsGuarded}
-use Rattle.adapter.specs.OneCommand.{CommandLayout, is_in_span, is_of_pieces, is_read_only, is_written, is_unwritten, IsFreeSlot, layout_of, HasOneCommand, NoneHasCommand, IsElsewhere}
+use Rattle.adapter.specs.OneCommand.{CommandLayout, is_in_span, is_in_pieces, is_read_only, is_written, is_unwritten, IsFreeSlot, layout_of, HasOneCommand, NoneHasCommand, IsElsewhere}
 use Rattle.adapter.proofs.Absurd.{true-false, some-none}
 use Rattle.adapter.proofs.Free.{apart_free_stays}
 
@@ -23,7 +23,7 @@ or_two : (a b : Bool) → b ≡ true → a || b ≡ true
 or_two true b h = refl
 or_two false b h = h
 
-is_of_pieces_yes : (places : List ℕ) (k at : ℕ) → k < length places → slice_index places k ≤ at → at < slice_index places k + 512 → is_of_pieces places at ≡ true
+is_of_pieces_yes : (places : List ℕ) (k at : ℕ) → k < length places → slice_index places k ≤ at → at < slice_index places k + 512 → is_in_pieces places at ≡ true
 is_of_pieces_yes [] k at small low high = absurd (omega arith)
 is_of_pieces_yes (place ∷ places) zero at small low high = rw (is_from_yes place 512 at low high) refl
 is_of_pieces_yes (place ∷ places) (suc k) at small low high =
@@ -50,13 +50,13 @@ module _ (s : CommandLayout) (at : ℕ) where
   reads_table low high = third_of (is_in_span s.header 4 at) (is_in_span (s.header + 8) 24 at) (is_in_span s.table (TABLE_HEAD + PRD_BYTES * s.entries) at) (is_from_yes s.table (TABLE_HEAD + PRD_BYTES * s.entries) at low (omega (arith, high)))
 
   writes_count : s.header + 4 ≤ at → at < s.header + 8 → is_written s at ≡ true
-  writes_count low high = first_of (is_in_span (s.header + 4) 4 at) (is_of_pieces s.places at) (is_in_span s.received 256 at) (is_from_yes (s.header + 4) 4 at low (omega (arith, high)))
+  writes_count low high = first_of (is_in_span (s.header + 4) 4 at) (is_in_pieces s.places at) (is_in_span s.received 256 at) (is_from_yes (s.header + 4) 4 at low (omega (arith, high)))
 
   writes_piece : InDataBlocks s.places at → is_written s at ≡ true
-  writes_piece w = second_of (is_in_span (s.header + 4) 4 at) (is_of_pieces s.places at) (is_in_span s.received 256 at) (is_of_pieces_yes s.places w.number at w.listed w.from w.to)
+  writes_piece w = second_of (is_in_span (s.header + 4) 4 at) (is_in_pieces s.places at) (is_in_span s.received 256 at) (is_of_pieces_yes s.places w.number at w.listed w.from w.to)
 
   writes_area : s.received ≤ at → at < s.received + 256 → is_written s at ≡ true
-  writes_area low high = third_of (is_in_span (s.header + 4) 4 at) (is_of_pieces s.places at) (is_in_span s.received 256 at) (is_from_yes s.received 256 at low high)
+  writes_area low high = third_of (is_in_span (s.header + 4) 4 at) (is_in_pieces s.places at) (is_in_span s.received 256 at) (is_from_yes s.received 256 at low high)
 
 -- a byte that is written isn't unwritten
 written_not : {A : Type 0} (s : CommandLayout) (at : ℕ) → is_written s at ≡ true → is_unwritten s at ≡ true → A
@@ -71,9 +71,9 @@ free_unused p slot f (inr (t, is)) = some-none is f.taken
 port_unused : (Tables Kept : ℕ → Type 0) (memory : ℕ → ℕ) (p : DevicePort) → ((slot : ℕ) → IsFreeSlot p slot) →
     (p.fre ≡ true → MissesRange Kept p.bases.fb (p.bases.fb + 256)) → IsGuardedPort Tables Kept memory p
 port_unused Tables Kept memory p free area = record {
-  slot = λ slot used. free_unused p slot (free slot) used;
-  taken = λ slot t is. some-none is (free slot).taken;
-  received = area;
+  slots_are_guarded = λ slot used. free_unused p slot (free slot) used;
+  taken_pieces_are_not_kept = λ slot t is. some-none is (free slot).taken;
+  received_fis_is_not_kept = area;
 }
 
 port_idle : (Tables Kept : ℕ → Type 0) (memory : ℕ → ℕ) (p : DevicePort) → IsIdlePort p → IsGuardedPort Tables Kept memory p
@@ -84,14 +84,14 @@ pub unused_guarded : (kept : ℕ → Bool) (d : Device) → NoneHasCommand d →
     ((port : ℕ) → (d.port port).fre ≡ true → MissesRange (PassesTest kept) (d.port port).bases.fb ((d.port port).bases.fb + 256)) →
     IsGuarded (PassesTest (λ _. false)) (PassesTest kept) d
 unused_guarded kept d none area = record {
-  within = λ at table. true-false table refl;
-  port = λ q. port_unused (PassesTest (λ _. false)) (PassesTest kept) d.memory (d.port q) (none q) (area q);
+  tables_are_kept = λ at table. true-false table refl;
+  ports_are_guarded = λ q. port_unused (PassesTest (λ _. false)) (PassesTest kept) d.memory (d.port q) (none q) (area q);
 }
 
 pub idle_guarded : (kept : ℕ → Bool) (d : Device) → IsIdle d → IsGuarded (PassesTest (λ _. false)) (PassesTest kept) d
 idle_guarded kept d i = record {
-  within = λ at table. true-false table refl;
-  port = λ q. port_idle (PassesTest (λ _. false)) (PassesTest kept) d.memory (d.port q) (i.port q);
+  tables_are_kept = λ at table. true-false table refl;
+  ports_are_guarded = λ q. port_idle (PassesTest (λ _. false)) (PassesTest kept) d.memory (d.port q) (i.ports_are_idle q);
 }
 
 pub idle_free : (at n : ℕ) (d : Device) → IsIdle d → at + n ≤ d.size → IsStable (IsUnowned at n) d
@@ -101,7 +101,7 @@ idle_free at n d i inside =
       inside = inside;
       kept = λ a low high. refl;
       no_table = λ a low high table. true-false table refl;
-      no_header = λ q slot a used low high from to. free_unused (d.port q) slot (record { ci = (i.port q).ci slot; taken = (i.port q).taken slot }) used;
+      no_header = λ q slot a used low high from to. free_unused (d.port q) slot (record { ci = (i.ports_are_idle q).ci slot; taken = (i.ports_are_idle q).taken slot }) used;
     })
 
 -- ---- one command
@@ -124,36 +124,36 @@ module _ (d : Device) (port slot : ℕ) (c : HasOneCommand d port slot) where
     meaning = c.command.meaning;
     places = c.command.places;
     says = c.command.says;
-    head = λ at low high. reads_head s at low high;
-    rest = λ at low high. reads_rest s at low high;
-    table = λ at low high. reads_table s at low high;
-    count = λ at low high kept. written_not s at (writes_count s at low high) kept;
+    header_start_is_table = λ at low high. reads_head s at low high;
+    header_end_is_table = λ at low high. reads_rest s at low high;
+    table_is_guarded = λ at low high. reads_table s at low high;
+    prdbc_is_not_kept = λ at low high kept. written_not s at (writes_count s at low high) kept;
     places_avoid = places_avoid;
   }
 
   port_guarded : IsGuardedPort Tables Kept d.memory (d.port port)
   port_guarded = record {
-    slot = λ k used.
+    slots_are_guarded = λ k used.
         elim (cases_eq k slot) [
           | inl e ↦
               let P : ℕ → Type 0 = λ n. IsGuardedSlot Tables Kept d.memory (d.port port).bases.clb n in
               subst P (sym e) command_guarded
           | inr ne ↦ free_unused (d.port port) k (c.other_slots k ne) used
         ];
-    taken = λ k t is.
+    taken_pieces_are_not_kept = λ k t is.
         elim (cases_eq k slot) [
           | inl e ↦
               let P : List ℕ → Type 0 = λ places. MissesPieces Kept places in
               subst P (sym (c.taken t (ap (d.port port).taken (sym e) ∙ is))) places_avoid
           | inr ne ↦ some-none is (c.other_slots k ne).taken
         ];
-    received = λ fre at low high kept. written_not s at (writes_area s at low high) kept;
+    received_fis_is_not_kept = λ fre at low high kept. written_not s at (writes_area s at low high) kept;
   }
 
   pub command_is_guarded : IsGuarded (PassesTest (is_read_only (layout_of d port slot c.command))) (PassesTest (is_unwritten (layout_of d port slot c.command))) d
   command_is_guarded = record {
-    within = c.apart;
-    port = λ q.
+    tables_are_kept = c.reads_apart_from_writes;
+    ports_are_guarded = λ q.
         elim (cases_eq q port) [
           | inl e ↦
               let P : ℕ → Type 0 = λ n. IsGuardedPort Tables Kept d.memory (d.port n) in

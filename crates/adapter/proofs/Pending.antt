@@ -13,12 +13,12 @@ use Rattle.hba_regs.specs.declared.reg.Reg.TheVariants.{Cap, Ghc, Pi, Vs, Cap2, 
 use Rattle.hba_regs.specs.declared.reg.Reg.TheVariants as adapter
 use Rattle.hba_regs.specs.declared.reg.PortReg.{PortReg}
 use Rattle.hba_regs.specs.declared.reg.PortReg.TheVariants.{Clb, Clbu, Fb, Fbu, Is, Ie, Cmd, Tfd, Sig, Ssts, Sctl, Serr, Sact, Ci}
-use Rattle.adapter.specs.Access.{Access, ShowsPending, Does, DoesAll, Reads, Writes, causes, is_cause, is_pending, named_causes, noted, port_written, raises, raises_interrupt, shown_interrupt, with_is_bit_cleared, with_st, written}
+use Rattle.adapter.specs.Access.{Access, ShowsPending, Does, DoesAll, Reads, Writes, causes, is_cause, is_pending, named_causes, noted, port_after_write, raises, raises_interrupt, shown_interrupt, port_after_hba_is_write, port_after_st_write, written}
 use Rattle.adapter.specs.Access.Access.{Reading, Writing, Loading, Storing}
 use Rattle.adapter.specs.Device.{DevicePort, Device}
-use Rattle.adapter.specs.Kept.{KeepsControls}
+use Rattle.adapter.specs.KeptBySteps.{KeepsControls}
 use Rattle.adapter.specs.Memory.{changed}
-use Rattle.adapter.specs.Pending.{LeavesIe, KeepsIsBit, SetsCause, EnablesAllCauses, interrupting_port}
+use Rattle.adapter.specs.PendingInterrupts.{LeavesIe, KeepsIsBit, SetsCause, EnablesAllCauses, interrupting_port}
 use Rattle.adapter.specs.Rules.{HasPort}
 use Rattle.adapter.specs.Steps.{DeviceTransition, Can, device_after, clear_entry, done_entry, fault_entry, TransitionsLead, move_of, halt_after_start, Steps}
 use Rattle.adapter.specs.Steps.DeviceTransition.{Fetch, FetchFault, Move, Clear, Done, Fault, Fatal, Fall, FrFall, LinkUp, Unplug, Plug, ResetEnds, Scribble}
@@ -136,7 +136,7 @@ controls_rise : (old new : DevicePort) → KeepsControls old new → Rises old n
 controls_rise old new k = record { ips = λ h. k.ips ∙ h; ie = k.ie; is = k.is; serr_n = k.serr_n; serr_x = k.serr_x }
 
 pub steps_pend : (port : ℕ) (old new : Device) → Steps old new → old.hr ≡ false → is_pending (old.port port) ≡ true → is_pending (new.port port) ≡ true
-steps_pend port old new s off = pending_on (old.port port) (new.port port) (controls_rise (old.port port) (new.port port) (((law_step_lists_keep_what_steps_keep s).on off).controls port))
+steps_pend port old new s off = pending_on (old.port port) (new.port port) (controls_rise (old.port port) (new.port port) (((law_step_lists_keep_what_steps_keep s).keeps_outside_reset off).controls port))
 
 -- ---- a step that raises a cause
 
@@ -195,7 +195,7 @@ module _ (d : Device) (its : ℕ) (new : DevicePort) where
 
 pub raised_pends : (step : DeviceTransition) (port place : ℕ) (d : Device) → Can step d → SetsCause step port place → bit (d.port port).ie place ≡ true → is_pending ((device_after step d).port port) ≡ true
 raised_pends (FetchFault its slot queued kept_bits) port place d can (at, is) = flag_raised d its _ port place 30 at is fault_flag refl refl
-raised_pends (Done its slot flag t) port place d can (at, is) = flag_raised d its _ port place flag at is (done_flag flag can.shown) refl refl
+raised_pends (Done its slot flag t) port place d can (at, is) = flag_raised d its _ port place flag at is (done_flag flag can.cause_is_allowed) refl refl
 raised_pends (Fault its slot error kept_bits t) port place d can (at, is) = flag_raised d its _ port place 30 at is fault_flag refl refl
 raised_pends (Fatal its error) port place d can (at, is) = flag_raised d its _ port place error at is (fatal_flag error can.1) refl refl
 raised_pends (LinkUp its sig n) port place d can (at, inl is) = x_raised d its _ port place at is refl refl
@@ -214,7 +214,7 @@ raised_pends (Scribble p slot at bytes) port place d can none = absurd none
 -- what a step raises is one of the causes that are named
 pub raised_named : (step : DeviceTransition) (port place : ℕ) (d : Device) → Can step d → SetsCause step port place → is_cause place ≡ true
 raised_named (FetchFault its slot queued kept_bits) port place d can (at, is) = (flag_of place 30 is fault_flag).cause
-raised_named (Done its slot flag t) port place d can (at, is) = (flag_of place flag is (done_flag flag can.shown)).cause
+raised_named (Done its slot flag t) port place d can (at, is) = (flag_of place flag is (done_flag flag can.cause_is_allowed)).cause
 raised_named (Fault its slot error kept_bits t) port place d can (at, is) = (flag_of place 30 is fault_flag).cause
 raised_named (Fatal its error) port place d can (at, is) = (flag_of place error is (fatal_flag error can.1)).cause
 raised_named (LinkUp its sig n) port place d can (at, inl is) = its_cause place 6 is refl
@@ -258,7 +258,7 @@ noted_leaves port (Px its r) v d = record {
 }
 
 -- ST, and what else a write of a register of the port changes beside what raises an interrupt
-st_pends : (st : Bool) (tape : ℕ) (p : DevicePort) → is_pending p ≡ true → is_pending (with_st st tape p) ≡ true
+st_pends : (st : Bool) (tape : ℕ) (p : DevicePort) → is_pending p ≡ true → is_pending (port_after_st_write st tape p) ≡ true
 st_pends true tape p h = by p.st
   where
     by : (st : Bool) → is_pending (if st then p else record p { st = true; cr = true; broken = false; halt = halt_after_start p.halt; notes = record p.notes { st_set_at = tape } }) ≡ true
@@ -266,7 +266,7 @@ st_pends true tape p h = by p.st
     by false = h
 st_pends false tape p h = h
 
-port_pends : (r : PortReg) (v tape : ℕ) (p : DevicePort) → is_pending p ≡ true → is_pending (port_written r v tape p) ≡ true
+port_pends : (r : PortReg) (v tape : ℕ) (p : DevicePort) → is_pending p ≡ true → is_pending (port_after_write r v tape p) ≡ true
 port_pends Clb v tape p h = h
 port_pends Clbu v tape p h = h
 port_pends Fb v tape p h = h
@@ -283,7 +283,7 @@ port_pends Sig v tape p h = h
 port_pends Ssts v tape p h = h
 
 -- PxIE, of a port on which another register is written
-st_enables : (st : Bool) (tape : ℕ) (p : DevicePort) → (with_st st tape p).ie ≡ p.ie
+st_enables : (st : Bool) (tape : ℕ) (p : DevicePort) → (port_after_st_write st tape p).ie ≡ p.ie
 st_enables true tape p = by p.st
   where
     by : (st : Bool) → (if st then p else record p { st = true; cr = true; broken = false; halt = halt_after_start p.halt; notes = record p.notes { st_set_at = tape } }).ie ≡ p.ie
@@ -291,7 +291,7 @@ st_enables true tape p = by p.st
     by false = refl
 st_enables false tape p = refl
 
-port_enables : (its : Port) (port : ℕ) (r : PortReg) (v tape : ℕ) (p : DevicePort) → port ≡ its.0 → LeavesIe port (Writing (Px its r) v) → (port_written r v tape p).ie ≡ p.ie
+port_enables : (its : Port) (port : ℕ) (r : PortReg) (v tape : ℕ) (p : DevicePort) → port ≡ its.0 → LeavesIe port (Writing (Px its r) v) → (port_after_write r v tape p).ie ≡ p.ie
 port_enables its port Ie v tape p at spares = absurd (spares (sym at))
 port_enables its port Clb v tape p at spares = refl
 port_enables its port Clbu v tape p at spares = refl
@@ -315,11 +315,11 @@ written_leaves : (port : ℕ) (r : Reg) (v : ℕ) (d : Device) → KeepsIsBit po
 written_leaves port Ghc v d none = record { off = λ h. or_false d.hr (bit v 0) h none; tape = refl; ie = λ spares. refl; pends = λ h. h }
 written_leaves port adapter.Is v d none = record { off = λ h. h; tape = refl; ie = λ spares. same (bit v port); pends = by (bit v port) none }
   where
-    same : (b : Bool) → (if b then with_is_bit_cleared (d.port port) else d.port port).ie ≡ (d.port port).ie
+    same : (b : Bool) → (if b then port_after_hba_is_write (d.port port) else d.port port).ie ≡ (d.port port).ie
     same true = refl
     same false = refl
 
-    by : (b : Bool) → b ≡ false → is_pending (d.port port) ≡ true → is_pending (if b then with_is_bit_cleared (d.port port) else d.port port) ≡ true
+    by : (b : Bool) → b ≡ false → is_pending (d.port port) ≡ true → is_pending (if b then port_after_hba_is_write (d.port port) else d.port port) ≡ true
     by false is h = h
     by true is h = true-false refl is
 written_leaves port (Px its r) v d none = record {
@@ -364,7 +364,7 @@ any_access (access ∷ accesses) = All-cons (λ (access : Access). Unit {0}) acc
 pub accesses_pend : (port : ℕ) (accesses : List Access) (old new : Device) → DoesAll accesses old new → All (KeepsIsBit port) accesses → old.hr ≡ false → is_pending (old.port port) ≡ true → is_pending (new.port port) ≡ true
 accesses_pend port accesses old new does none off h =
     (all_go port (Pends port) (λ access. Unit {0})
-    (λ old new s p. record { off = ((law_step_lists_keep_what_steps_keep s).on p.off).no_reset; pends = steps_pend port old new s p.off p.pends })
+    (λ old new s p. record { off = ((law_step_lists_keep_what_steps_keep s).keeps_outside_reset p.off).no_reset; pends = steps_pend port old new s p.off p.pends })
     (λ access d new may l p. record { off = l.off p.off; pends = l.pends p.pends })
     accesses old new does (any_access accesses) none (record { off = off; pends = h })).pends
 
@@ -391,14 +391,14 @@ module _ (port : ℕ) (told : Entry) (its : interrupting_port told ≡ Some port
 
   module _ (step : DeviceTransition) (d : Device) (can : Can step d) (w : Waits d) where
     controls : KeepsControls (d.port port) ((device_after step d).port port)
-    controls = ((step_keeps step d can).on w.off).controls port
+    controls = ((step_keeps step d can).keeps_outside_reset w.off).controls port
 
     goes_on : is_pending (d.port port) ≡ true → is_pending ((device_after step d).port port) ≡ true
     goes_on = pending_on (d.port port) ((device_after step d).port port) (controls_rise (d.port port) ((device_after step d).port port) controls)
 
     quiet : (device_after step d).tape ≡ d.tape → Waits (device_after step d)
     quiet same = record {
-      off = ((step_keeps step d can).on w.off).no_reset;
+      off = ((step_keeps step d can).keeps_outside_reset w.off).no_reset;
       tells = enables_on (d.port port) ((device_after step d).port port) controls.ie w.tells;
       gained = w.gained;
       tape = same ∙ w.tape;
@@ -407,7 +407,7 @@ module _ (port : ℕ) (told : Entry) (its : interrupting_port told ≡ Some port
 
     recorded : (e : Entry) → (device_after step d).tape ≡ d.tape ++ e ∷ [] → (interrupting_port e ≡ Some port → is_pending ((device_after step d).port port) ≡ true) → Waits (device_after step d)
     recorded e same raised = record {
-      off = ((step_keeps step d can).on w.off).no_reset;
+      off = ((step_keeps step d can).keeps_outside_reset w.off).no_reset;
       tells = enables_on (d.port port) ((device_after step d).port port) controls.ie w.tells;
       gained = w.gained ++ e ∷ [];
       tape = same ∙ (ap (λ (t : List Entry). t ++ e ∷ []) w.tape ∙ append_assoc begun w.gained (e ∷ []));
@@ -471,6 +471,6 @@ pending_shown port v old new x has =
 pub pending_cleared : (port v : ℕ) (old new : Device) → Writes adapter.Is v old new → bit v port ≡ true → is_pending (new.port port) ≡ raises_interrupt (new.port port)
 pending_cleared port v old new x set = subst (λ (d : Device). is_pending (d.port port) ≡ raises_interrupt (d.port port)) (sym x.effect) (by (bit v port) set)
   where
-    by : (b : Bool) → b ≡ true → is_pending (if b then with_is_bit_cleared (x.mid.port port) else x.mid.port port) ≡ raises_interrupt (if b then with_is_bit_cleared (x.mid.port port) else x.mid.port port)
+    by : (b : Bool) → b ≡ true → is_pending (if b then port_after_hba_is_write (x.mid.port port) else x.mid.port port) ≡ raises_interrupt (if b then port_after_hba_is_write (x.mid.port port) else x.mid.port port)
     by true is = refl
     by false is = true-false is refl

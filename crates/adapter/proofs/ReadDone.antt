@@ -1,12 +1,12 @@
 -- A read that may be fetched can be done: one piece after another.
 use Rattle.std.proofs.Common.{ℕ, zero, suc, true, ◌≡◌, ◌+◌, ◌<◌, ◌≤◌, List, [], ◌∷◌, ◌++◌, length, slice_index, Option, None, Some, IfSome, Bool, false, refl, sym, ◌∙◌, ap, subst, arith, inl, inr, append_assoc, append-nil}
 use Rattle.std.proofs.lemmas.Bool.{cases_eq}
-use Rattle.adapter.specs.Asked.{DoesSlotSteps, EndsAndPosts, PostsNone}
+use Rattle.adapter.specs.ToldSteps.{DoesSlotSteps, EndsAndPosts, PostsNone}
 use Rattle.adapter.specs.Memory.{patched, bytes_at, changed}
 use Rattle.adapter.specs.Device.{Disk, IsSector, FetchedCommand, Halt, DevicePort, Device}
 use Rattle.adapter.specs.OneCommand.{IsFreeSlot}
 use Rattle.adapter.specs.ReadDone.{read_of, IsReadFetchable, move_entries, IsReadDone}
-use Rattle.adapter.specs.Steps.{device_after, Steps, WorksOn, IsWorking, admits, begun, MayMove, MayBeDone, with_fetch, with_move, with_done, done_entry, move_of}
+use Rattle.adapter.specs.Steps.{device_after, Steps, WorksOn, IsWorking, admits, begun, MayMove, MayBeDone, port_after_fetch, port_after_move, port_after_done, done_entry, move_of}
 use Rattle.adapter.specs.Steps.DeviceTransition.{Fetch, Move, Done}
 use Rattle.adapter.specs.declared.command.Operation.{Operation}
 use Rattle.adapter.specs.declared.command.Operation.TheVariants.{Read, Trim}
@@ -43,22 +43,22 @@ module _ (old : Device) (port slot first count : ℕ) (places : List ℕ) (told 
     pub bytes : (k : ℕ) → k < n → bytes_at d.memory (slice_index places k) 512 ≡ told (first + k)
 
   many : length places ≡ count
-  many = may.fetch.says.as_many
+  many = may.may_be_fetched.says.place_count_is
 
   none_moved : IsMoved 0 (device_after (Fetch port slot (read_of first count) places) old)
   none_moved =
       let d : Device = device_after (Fetch port slot (read_of first count) places) old in
-      let new : DevicePort = with_fetch (old.port port) slot (read_of first count) places in
+      let new : DevicePort = port_after_fetch (old.port port) slot (read_of first count) places in
       let here : d.port port ≡ new = changed_same old.port port new in
       let P : DevicePort → Type 0 = λ p. WorksOn p slot (command 0) Read in
       record {
-        steps = Steps-one (Fetch port slot (read_of first count) places) old d may.fetch refl;
-        goes = (old, refl, inl (record { meaning = read_of first count; places = places; can = may.fetch; effect = refl }));
+        steps = Steps-one (Fetch port slot (read_of first count) places) old d may.may_be_fetched refl;
+        goes = (old, refl, inl (record { meaning = read_of first count; places = places; can = may.may_be_fetched; effect = refl }));
         is = ap (λ (p : DevicePort). p.is) here;
         works = subst P (sym here)
             (record {
               taken = changed_same (old.port port).taken slot (Some (command 0));
-              working = still_working (old.port port) new Read refl may.fetch.working refl refl refl refl refl;
+              working = still_working (old.port port) new Read refl may.may_be_fetched.working refl refl refl refl refl;
             });
         disk = ap (λ (p : DevicePort). p.disk) here;
         size = refl;
@@ -73,14 +73,14 @@ module _ (old : Device) (port slot first count : ℕ) (places : List ℕ) (told 
 
     is_sector : IsSector sector
     unfolding sector
-    is_sector = may.disk told may.told_is (first + n) (omega (arith, left, may.on_disk))
+    is_sector = may.disk_holds_sectors told may.told_is (first + n) (omega (arith, left, may.on_disk))
 
     may_move : MayMove d port slot (command n) sector
     unfolding sector
     may_move = record {
       works = m.works;
-      left = omega (arith, left, many);
-      sector = is_sector;
+      piece_is_left = omega (arith, left, many);
+      bytes_are_sector = is_sector;
       brings =
           let P : Disk → Type 0 = λ disk. (first + n < disk.size) × IfSome disk.sectors (λ f. told (first + n) ≡ f (first + n)) in
           let Q : Option (ℕ → List ℕ) → Type 0 = λ o. IfSome o (λ f. told (first + n) ≡ f (first + n)) in
@@ -101,7 +101,7 @@ module _ (old : Device) (port slot first count : ℕ) (places : List ℕ) (told 
           | inr ne ↦
               let before : k < n = omega (arith, small, ne) in
               let size : length (told (first + n)) ≡ 512 = is_sector.0 in
-              let apart = may.apart k n before left in
+              let apart = may.pieces_are_apart k n before left in
               bytes_same d.memory (patched d.memory (slice_index places n) (told (first + n))) (slice_index places k) 512
               (λ a low high.
               patched_apart d.memory (slice_index places n) (told (first + n)) a
@@ -112,13 +112,13 @@ module _ (old : Device) (port slot first count : ℕ) (places : List ℕ) (told 
     one_more : IsMoved (suc n) next
     unfolding next sector
     one_more =
-        let new : DevicePort = with_move (d.port port) slot (command n) (told (first + n)) in
+        let new : DevicePort = port_after_move (d.port port) slot (command n) (told (first + n)) in
         let here : next.port port ≡ new = changed_same d.port port new in
         let P : DevicePort → Type 0 = λ p. WorksOn p slot (command (suc n)) Read in
         let number : n + 1 ≡ suc n = omega arith in
         record {
           steps = Steps-trans m.steps (Steps-one (Move port slot (command n) (told (first + n))) d next may_move refl);
-          goes = (d, m.goes, inr (inl (record { t = command n; bytes = told (first + n); can = may_move; effect = refl })));
+          goes = (d, m.goes, inr (inl (record { fetched_command = command n; bytes = told (first + n); can = may_move; effect = refl })));
           is = ap (λ (p : DevicePort). p.is) here ∙ m.is;
           works = subst P (sym here)
               (record {
@@ -142,24 +142,24 @@ module _ (old : Device) (port slot first count : ℕ) (places : List ℕ) (told 
       let d : Device = before.0 in
       let m : IsMoved count d = before.1 in
       let end : Device = device_after (Done port slot 0 (command count)) d in
-      let new : DevicePort = with_done (d.port port) slot 0 Read in
+      let new : DevicePort = port_after_done (d.port port) slot 0 Read in
       let here : end.port port ≡ new = changed_same d.port port new in
       let can : MayBeDone d port slot 0 (command count) = record {
         works = m.works;
-        finished = record { moved = sym many; cleared = λ trim. absurd (let f : Read ≡ Trim = trim in cc) };
-        shown = inl refl;
+        finished = record { all_is_moved = sym many; all_is_cleared = λ trim. absurd (let f : Read ≡ Trim = trim in cc) };
+        cause_is_allowed = inl refl;
       } in
       let ended : EndsAndPosts PostsNone port slot d end =
-      record { mid = end; done = record { flag = 0; t = command count; can = can; effect = refl }; posts = refl } in
+      record { mid = end; done = record { flag = 0; fetched_command = command count; can = can; effect = refl }; posts = refl } in
       let P : DevicePort → Type 0 = λ p. IsFreeSlot p slot in (
         end,
         record {
           steps = Steps-trans m.steps (Steps-one (Done port slot 0 (command count)) d end can refl);
-          goes = (suc count, (d, m.goes, inr (inr (inl ended))));
-          shown = ap (λ (p : DevicePort). p.is) here ∙ ap (λ (f : ℕ → Bool). changed f 0 true) m.is;
-          free = subst P (sym here)
+          slot_goes_on = (suc count, (d, m.goes, inr (inr (inl ended))));
+          dhrs_is_shown = ap (λ (p : DevicePort). p.is) here ∙ ap (λ (f : ℕ → Bool). changed f 0 true) m.is;
+          slot_is_free = subst P (sym here)
               (record { ci = changed_same (d.port port).ci slot false; taken = changed_same (d.port port).taken slot None });
-          tape = ap (λ (entries : List Entry). entries ++ done_entry port slot Read ∷ []) m.tape ∙ append_assoc old.tape (move_entries port slot first places told count) _;
-          bytes = m.bytes;
+          tape_tells_read = ap (λ (entries : List Entry). entries ++ done_entry port slot Read ∷ []) m.tape ∙ append_assoc old.tape (move_entries port slot first places told count) _;
+          sectors_are_in_memory = m.bytes;
         },
       )

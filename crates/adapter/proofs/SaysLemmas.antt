@@ -36,8 +36,8 @@ module _ (old new : ℕ → ℕ) where
       EncodesHeader (bytes_at old at 32) writes entries table → EncodesHeader (bytes_at new at 32) writes entries table
   header_same at writes entries table head rest s = record {
     size = bytes_length new at 32;
-    first = little_from_agrees 4 0 0 (bytes_at new at 32) (bytes_at old at 32) (λ m lt. byte_same at 32 (0 + m) (omega arith) (head (at + (0 + m)) (omega arith) (omega arith))) ∙ s.first;
-    points = little_from_agrees 4 8 8 (bytes_at new at 32) (bytes_at old at 32) (λ m lt. byte_same at 32 (8 + m) (omega arith) (rest (at + (8 + m)) (omega arith) (omega arith))) ∙ s.points;
+    dword0_is = little_from_agrees 4 0 0 (bytes_at new at 32) (bytes_at old at 32) (λ m lt. byte_same at 32 (0 + m) (omega arith) (head (at + (0 + m)) (omega arith) (omega arith))) ∙ s.dword0_is;
+    table_address_is = little_from_agrees 4 8 8 (bytes_at new at 32) (bytes_at old at 32) (λ m lt. byte_same at 32 (8 + m) (omega arith) (rest (at + (8 + m)) (omega arith) (omega arith))) ∙ s.table_address_is;
     aligned = s.aligned;
     zeros = λ i low high. byte_same at 32 i high (rest (at + i) (omega arith) (omega arith)) ∙ s.zeros i low high;
   }
@@ -61,11 +61,11 @@ module _ (old new : ℕ → ℕ) where
         header = header_same (list + 32 * slot) (reads_memory m.operation) (length s.prds) s.table head rest s.header;
         fis = subst P (sym fis) s.fis;
         meaning = s.meaning;
-        stand = prds_same s.table (s.table + TABLE_HEAD + PRD_BYTES * length s.prds) (s.table + TABLE_HEAD) s.prds body (omega arith) (omega arith) s.stand;
-        few = s.few;
-        whole = s.whole;
-        in_order = s.in_order;
-        as_many = s.as_many;
+        prds_stand = prds_same s.table (s.table + TABLE_HEAD + PRD_BYTES * length s.prds) (s.table + TABLE_HEAD) s.prds body (omega arith) (omega arith) s.prds_stand;
+        prd_count_is_allowed = s.prd_count_is_allowed;
+        prds_are_whole_pieces = s.prds_are_whole_pieces;
+        places_are = s.places_are;
+        place_count_is = s.place_count_is;
       }
 
 -- ---- pieces cut from a region
@@ -84,7 +84,7 @@ cut_index at (suc n) (suc i) small = cut_index (at + 512) n i (omega arith) ∙ 
 prd_one : (bytes : List ℕ) (a b : Prd) → EncodesPrd bytes a → EncodesPrd bytes b → a ≡ b
 prd_one bytes a b x y =
     let e : a.address ≡ b.address = sym x.address ∙ y.address in
-    let f : a.bytes ≡ b.bytes = sym x.count ∙ y.count in
+    let f : a.bytes ≡ b.bytes = sym x.byte_count_is ∙ y.byte_count_is in
     λ i. record { address = e i; bytes = f i }
 
 prds_one : (memory : ℕ → ℕ) (at : ℕ) (xs ys : List Prd) → length xs ≡ length ys → HasPrds memory at xs → HasPrds memory at ys → xs ≡ ys
@@ -144,17 +144,17 @@ pieces_ranged ReadLog count h = true-false h refl
 -- two readings of a slot are one
 module _ (memory : ℕ → ℕ) (list slot : ℕ) (m n : Meaning) (xs ys : List ℕ) (a : DecodesTo memory list slot m xs) (b : DecodesTo memory list slot n ys) where
   pub says_table : a.table ≡ b.table
-  says_table = sym a.header.points ∙ b.header.points
+  says_table = sym a.header.table_address_is ∙ b.header.table_address_is
 
   pub says_prds : a.prds ≡ b.prds
   says_prds =
       let same : length a.prds ≡ length b.prds =
-      omega (arith, a.header.first, b.header.first, w_small (reads_memory m.operation), w_small (reads_memory n.operation)) in
+      omega (arith, a.header.dword0_is, b.header.dword0_is, w_small (reads_memory m.operation), w_small (reads_memory n.operation)) in
       let P : ℕ → Type 0 = λ at. HasPrds memory (at + TABLE_HEAD) a.prds in
-      prds_one memory (b.table + TABLE_HEAD) a.prds b.prds same (subst P says_table a.stand) b.stand
+      prds_one memory (b.table + TABLE_HEAD) a.prds b.prds same (subst P says_table a.prds_stand) b.prds_stand
 
   pub says_places : xs ≡ ys
-  says_places = a.in_order ∙ (ap pieces says_prds ∙ sym b.in_order)
+  says_places = a.places_are ∙ (ap pieces says_prds ∙ sym b.places_are)
 
   fis_there : EncodesCommand (bytes_at memory b.table 20) (command_of m.operation slot m.first m.count)
   fis_there =
@@ -178,7 +178,7 @@ module _ (memory : ℕ → ℕ) (list slot : ℕ) (m n : Meaning) (xs ys : List 
   count_same : (ranged : Bool) → is_ranged m.operation ≡ ranged → m.count ≡ n.count
   count_same true h =
       let k : is_ranged n.operation ≡ true = ap is_ranged (sym says_operation) ∙ h in
-      sym (pieces_ranged m.operation m.count h) ∙ (sym a.as_many ∙ ap length says_places ∙ b.as_many) ∙ pieces_ranged n.operation n.count k
+      sym (pieces_ranged m.operation m.count h) ∙ (sym a.place_count_is ∙ ap length says_places ∙ b.place_count_is) ∙ pieces_ranged n.operation n.count k
   count_same false h =
       let k : is_ranged n.operation ≡ false = ap is_ranged (sym says_operation) ∙ h in
       (a.meaning.not_ranged h).1 ∙ sym (b.meaning.not_ranged k).1

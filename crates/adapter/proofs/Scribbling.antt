@@ -5,7 +5,7 @@ use Rattle.std.proofs.lemmas.Bool.{cases_lt, false≢true}
 use Rattle.std.proofs.lemmas.Bool.Decides.{leb_tells}
 use Rattle.std.proofs.lemmas.List.{length-replicate, get_or-replicate}
 use Rattle.ata_types.specs.declared.memory.TheConstants.{HEADER_BYTES, RECEIVED_FIS_BYTES}
-use Rattle.adapter.specs.Asked.{IsByteWithin, IsScribblePlace, IsScribbled, memory_filled}
+use Rattle.adapter.specs.ToldSteps.{IsByteWithin, IsScribblePlace, IsScribbled, memory_filled}
 use Rattle.adapter.specs.Device.{DevicePort}
 use Rattle.adapter.specs.Memory.{patched}
 use Rattle.adapter.proofs.MemoryLemmas.{patched_before, patched_past}

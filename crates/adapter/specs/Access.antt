@@ -84,12 +84,12 @@ Shows _ v d = Unit {0}
 -- ---- what a reading notes beside the state (this project's own)
 
 -- one more reading in a row, at most as many as a wait has
-abbrev pub readings_counted : Bool → ℕ → ℕ
-readings_counted again n = if again then min MOST_READINGS (n + 1) else 0
+abbrev pub count_after_reading : Bool → ℕ → ℕ
+count_after_reading again n = if again then min MOST_READINGS (n + 1) else 0
 
 -- the count of SSTS: a reading with a device sets it to the most, where it stays
-abbrev pub link_readings_counted : ℕ → ℕ → ℕ
-link_readings_counted det n = if nat_eq det 3 then MOST_READINGS else min MOST_READINGS (n + 1)
+abbrev pub link_count_after_reading : ℕ → ℕ → ℕ
+link_count_after_reading det n = if nat_eq det 3 then MOST_READINGS else min MOST_READINGS (n + 1)
 
 -- the counts of SSTS, TFD and CI move only while SCTL.DET is 0
 abbrev pub while_no_comreset : DevicePort → ℕ → ℕ → ℕ
@@ -99,24 +99,24 @@ abbrev pub note : PortReg → ℕ → DevicePort → Notes
 note Cmd v p =
     record p.notes {
       last_cmd = v;
-      engine_count = readings_counted (not p.st && bit v 15 || not p.fre && bit v 14) p.notes.engine_count;
+      engine_count = count_after_reading (not p.st && bit v 15 || not p.fre && bit v 14) p.notes.engine_count;
     }
 note Ssts v p =
     record p.notes {
       last_ssts = v;
-      link_count = while_no_comreset p (link_readings_counted (v % 16) p.notes.link_count)
+      link_count = while_no_comreset p (link_count_after_reading (v % 16) p.notes.link_count)
           p.notes.link_count;
     }
 note Tfd v p =
     record p.notes {
       last_tfd = v;
-      busy_count = while_no_comreset p (readings_counted (bit v 7 || bit v 3) p.notes.busy_count)
+      busy_count = while_no_comreset p (count_after_reading (bit v 7 || bit v 3) p.notes.busy_count)
           p.notes.busy_count;
     }
 note Ci v p =
     record p.notes {
       last_ci = v;
-      command_count = while_no_comreset p (readings_counted (bit v 0) p.notes.command_count)
+      command_count = while_no_comreset p (count_after_reading (bit v 0) p.notes.command_count)
           p.notes.command_count;
     }
 note Sig v p = record p.notes { last_sig = v }
@@ -132,8 +132,8 @@ noted _ v d = d
 -- ---- what a write does
 
 -- PxCMD.ST: going to one sets CR, going to zero clears CI and SACT
-abbrev pub with_st : Bool → ℕ → DevicePort → DevicePort
-with_st st tape p =
+abbrev pub port_after_st_write : Bool → ℕ → DevicePort → DevicePort
+port_after_st_write st tape p =
     if st
     then (if p.st then p
     else record p {
@@ -150,12 +150,12 @@ with_st st tape p =
     }
 
 -- PxCMD.FRE: going to one sets FR
-abbrev pub with_fre : Bool → DevicePort → DevicePort
-with_fre fre p = record p { fre = fre; fr = fre || p.fr }
+abbrev pub port_after_fre_write : Bool → DevicePort → DevicePort
+port_after_fre_write fre p = record p { fre = fre; fr = fre || p.fr }
 
 -- PxSCTL.DET: 1 sends COMRESET, and 0 after 1 lets the link come up
-abbrev pub with_det : ℕ → ℕ → DevicePort → DevicePort
-with_det det tape p =
+abbrev pub port_after_det_write : ℕ → ℕ → DevicePort → DevicePort
+port_after_det_write det tape p =
     record p {
       sctl_det = det;
       ssts_det = if nat_eq det 1 then 0 else p.ssts_det;
@@ -164,43 +164,43 @@ with_det det tape p =
       notes = record p.notes { sctl_written_at = tape; link_count = 0; busy_count = 0; command_count = 0 };
     }
 
-abbrev pub port_written : PortReg → ℕ → ℕ → DevicePort → DevicePort
-port_written Clb v tape p = record p { bases = record p.bases { clb = v; clb_set = true } }
-port_written Clbu v tape p = record p { bases = record p.bases { clbu_set = true } }
-port_written Fb v tape p = record p { bases = record p.bases { fb = v; fb_set = true } }
-port_written Fbu v tape p = record p { bases = record p.bases { fbu_set = true } }
-port_written Cmd v tape p = with_fre (bit v 4) (with_st (bit v 0) tape p)
-port_written Sctl v tape p = with_det (v % 16) tape p
+abbrev pub port_after_write : PortReg → ℕ → ℕ → DevicePort → DevicePort
+port_after_write Clb v tape p = record p { bases = record p.bases { clb = v; clb_set = true } }
+port_after_write Clbu v tape p = record p { bases = record p.bases { clbu_set = true } }
+port_after_write Fb v tape p = record p { bases = record p.bases { fb = v; fb_set = true } }
+port_after_write Fbu v tape p = record p { bases = record p.bases { fbu_set = true } }
+port_after_write Cmd v tape p = port_after_fre_write (bit v 4) (port_after_st_write (bit v 0) tape p)
+port_after_write Sctl v tape p = port_after_det_write (v % 16) tape p
 -- the port's bit of IS stays, also where its causes go (AHCI 1.3.1, 3.1.3): so these three keep it first
-port_written Serr v tape p =
+port_after_write Serr v tape p =
     record p {
       ips = is_pending p;
       serr_n = p.serr_n && not (bit v 16);
       serr_x = p.serr_x && not (bit v 26);
     }
-port_written Is v tape p =
+port_after_write Is v tape p =
     record p {
       ips = is_pending p;
       is = λ place. p.is place && not (bit v place);
       notes = record p.notes { acknowledged = true };
     }
-port_written Ie v tape p =
+port_after_write Ie v tape p =
     record p { ips = is_pending p; other_causes = p.other_causes || enables_others v; ie = v }
-port_written Ci v tape p = record p { ci = λ slot. p.ci slot || bit v slot }
-port_written Sact v tape p = record p { sact = λ slot. p.sact slot || bit v slot }
-port_written _ v tape p = p
+port_after_write Ci v tape p = record p { ci = λ slot. p.ci slot || bit v slot }
+port_after_write Sact v tape p = record p { sact = λ slot. p.sact slot || bit v slot }
+port_after_write _ v tape p = p
 
 -- The port's bit of IS was written: it falls, unless a cause sets it anew.
-abbrev pub with_is_bit_cleared : DevicePort → DevicePort
-with_is_bit_cleared p =
+abbrev pub port_after_hba_is_write : DevicePort → DevicePort
+port_after_hba_is_write p =
     record p { ips = false; other_causes = enables_others p.ie; notes = record p.notes { acknowledged = false } }
 
 abbrev pub written : Reg → ℕ → Device → Device
 written Ghc v d = record d { hr = d.hr || bit v 0; ae = bit v 31; ie = bit v 1 }
 written adapter.Is v d = record d {
-  port = λ port. if bit v port then with_is_bit_cleared (d.port port) else d.port port;
+  port = λ port. if bit v port then port_after_hba_is_write (d.port port) else d.port port;
 }
-written (Px port r) v d = with_port d port.0 (port_written r v (length d.tape) (d.port port.0))
+written (Px port r) v d = with_port d port.0 (port_after_write r v (length d.tape) (d.port port.0))
 written _ v d = d
 
 -- ---- the calls
@@ -246,4 +246,4 @@ DoesAll (access ∷ accesses) old new = (mid : Device) × Does access old mid ×
 -- some list of accesses, of this adapter by its driver, leads from the one state to the other
 pub record IsDriven (old new : Device) : Type 0 where
   pub accesses : List Access
-  pub all : DoesAll accesses old new
+  pub does_all : DoesAll accesses old new

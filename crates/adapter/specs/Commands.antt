@@ -7,21 +7,21 @@ use Rattle.adapter.specs.declared.command.Command.{Command}
 use Rattle.adapter.specs.declared.command.Direction.{Direction}
 use Rattle.adapter.specs.declared.command.Direction.TheVariants.{ToMemory, FromMemory}
 
-abbrev pub with_fields : (code features count lba device : ℕ) → Command
-with_fields code features count lba device =
+abbrev pub command_with_fields : (code features count lba device : ℕ) → Command
+command_with_fields code features count lba device =
     record { code = code; features = features; count = count; lba = lba; device = device }
 
 -- The table of commands. By columns: the operation, the command's slot, first sector and number of sectors;
 -- then its code, features, count, LBA and device. A sector count of 0 stands for 65,536. A tag is the slot.
 abbrev pub command_of : (operation : Operation) (slot first count : ℕ) → Command
-command_of Identify slot first count = with_fields IDENTIFY_DEVICE 0 0 0 0x00
-command_of Read slot first count = with_fields READ_DMA_EXT 0 (count % 65536) first 0x40
-command_of Write slot first count = with_fields WRITE_DMA_EXT 0 (count % 65536) first 0x40
-command_of ReadQueued slot first count = with_fields READ_FPDMA_QUEUED (count % 65536) (8 * slot) first 0x40
-command_of WriteQueued slot first count = with_fields WRITE_FPDMA_QUEUED (count % 65536) (8 * slot) first 0x40
-command_of Flush slot first count = with_fields FLUSH_CACHE_EXT 0 0 0 0x00
-command_of Trim slot first count = with_fields DATA_SET_MANAGEMENT 1 1 0 0x00
-command_of ReadLog slot first count = with_fields READ_LOG_EXT 0 1 0x10 0x00
+command_of Identify slot first count = command_with_fields IDENTIFY_DEVICE 0 0 0 0x00
+command_of Read slot first count = command_with_fields READ_DMA_EXT 0 (count % 65536) first 0x40
+command_of Write slot first count = command_with_fields WRITE_DMA_EXT 0 (count % 65536) first 0x40
+command_of ReadQueued slot first count = command_with_fields READ_FPDMA_QUEUED (count % 65536) (8 * slot) first 0x40
+command_of WriteQueued slot first count = command_with_fields WRITE_FPDMA_QUEUED (count % 65536) (8 * slot) first 0x40
+command_of Flush slot first count = command_with_fields FLUSH_CACHE_EXT 0 0 0 0x00
+command_of Trim slot first count = command_with_fields DATA_SET_MANAGEMENT 1 1 0 0x00
+command_of ReadLog slot first count = command_with_fields READ_LOG_EXT 0 1 0x10 0x00
 
 -- a queued command is one of several in flight; a plain one is alone
 abbrev pub is_queued : Operation → Bool

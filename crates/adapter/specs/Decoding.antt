@@ -35,9 +35,9 @@ pub record DecodesTo (memory : ℕ → ℕ) (list slot : ℕ) (m : Meaning) (pla
       (length prds) table
   pub fis : EncodesCommand (bytes_at memory table 20) (command_of m.operation slot m.first m.count)
   pub meaning : IsMeaning m
-  pub stand : HasPrds memory (table + TABLE_HEAD) prds
+  pub prds_stand : HasPrds memory (table + TABLE_HEAD) prds
   -- no more than a PRD for each frame of the longest request (this project's own)
-  pub few : length prds ≤ MOST_REQUEST_FRAMES
-  pub whole : All IsWholePieces prds
-  pub in_order : places ≡ pieces prds
-  pub as_many : length places ≡ piece_count m.operation m.count
+  pub prd_count_is_allowed : length prds ≤ MOST_REQUEST_FRAMES
+  pub prds_are_whole_pieces : All IsWholePieces prds
+  pub places_are : places ≡ pieces prds
+  pub place_count_is : length places ≡ piece_count m.operation m.count

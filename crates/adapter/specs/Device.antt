@@ -69,7 +69,7 @@ pub record Notes : Type 0 where
 -- and how long the tape was then.
 pub record Lasting : Type 0 where
   pub sectors : Option (ℕ → List ℕ)
-  pub since : ℕ
+  pub tape_length : ℕ
 
 -- A port (AHCI 1.3.1, 3.3 and 5.3).
 pub record DevicePort : Type 0 where

@@ -73,7 +73,7 @@ empty_port =
       sact = λ _. false;
       disk = no_disk;
       plugged = [];
-      lasting = record { sectors = no_disk.sectors; since = 0 };
+      lasting = record { sectors = no_disk.sectors; tape_length = 0 };
       present = false;
       fresh = false;
       link_due = false;
@@ -98,7 +98,7 @@ reading_port =
       ci = changed (λ _. false) 0 true;
       disk = first_disk;
       plugged = first_disk ∷ [];
-      lasting = record { sectors = first_disk.sectors; since = 0 };
+      lasting = record { sectors = first_disk.sectors; tape_length = 0 };
       present = true;
       fresh = true;
     }

@@ -24,23 +24,23 @@ pub record IsGuardedSlot (Tables Kept : ℕ → Type 0) (memory : ℕ → ℕ) (
   pub meaning : Meaning
   pub places : List ℕ
   pub says : DecodesTo memory list slot meaning places
-  pub head : HasRange Tables (list + HEADER_BYTES * slot) (list + HEADER_BYTES * slot + 4)
-  pub rest : HasRange Tables (list + HEADER_BYTES * slot + 8) (list + HEADER_BYTES * slot + HEADER_BYTES)
-  pub table : HasRange Tables says.table (says.table + TABLE_HEAD + PRD_BYTES * length says.prds)
-  pub count : MissesRange Kept (list + HEADER_BYTES * slot + 4) (list + HEADER_BYTES * slot + 8)
+  pub header_start_is_table : HasRange Tables (list + HEADER_BYTES * slot) (list + HEADER_BYTES * slot + 4)
+  pub header_end_is_table : HasRange Tables (list + HEADER_BYTES * slot + 8) (list + HEADER_BYTES * slot + HEADER_BYTES)
+  pub table_is_guarded : HasRange Tables says.table (says.table + TABLE_HEAD + PRD_BYTES * length says.prds)
+  pub prdbc_is_not_kept : MissesRange Kept (list + HEADER_BYTES * slot + 4) (list + HEADER_BYTES * slot + 8)
   pub places_avoid : MissesPieces Kept places
 
 -- Each slot in use is guarded, no piece of a taken command is kept, nor is a byte of the received FIS area.
 pub record IsGuardedPort (Tables Kept : ℕ → Type 0) (memory : ℕ → ℕ) (p : DevicePort) : Type 0 where
-  pub slot : (slot : ℕ) → InUse p slot → IsGuardedSlot Tables Kept memory p.bases.clb slot
-  pub taken : (slot : ℕ) (t : FetchedCommand) → p.taken slot ≡ Some t → MissesPieces Kept t.places
-  pub received : p.fre ≡ true → MissesRange Kept p.bases.fb (p.bases.fb + RECEIVED_FIS_BYTES)
+  pub slots_are_guarded : (slot : ℕ) → InUse p slot → IsGuardedSlot Tables Kept memory p.bases.clb slot
+  pub taken_pieces_are_not_kept : (slot : ℕ) (t : FetchedCommand) → p.taken slot ≡ Some t → MissesPieces Kept t.places
+  pub received_fis_is_not_kept : p.fre ≡ true → MissesRange Kept p.bases.fb (p.bases.fb + RECEIVED_FIS_BYTES)
 
 -- Two sets of bytes: tables, and what is kept, the tables among them. It asks of slots in use alone, and of their
 -- PRDBC: the place of the 128th header would be a table.
 pub record IsGuarded (Tables Kept : ℕ → Type 0) (d : Device) : Type 0 where
-  pub within : (at : ℕ) → Tables at → Kept at
-  pub port : (port : ℕ) → IsGuardedPort Tables Kept d.memory (d.port port)
+  pub tables_are_kept : (at : ℕ) → Tables at → Kept at
+  pub ports_are_guarded : (port : ℕ) → IsGuardedPort Tables Kept d.memory (d.port port)
 
 -- These bytes are inside the memory and kept, in no table, and in no header of a slot in use.
 pub record IsApart (Tables Kept : ℕ → Type 0) (at n : ℕ) (d : Device) : Type 0 where

@@ -15,7 +15,7 @@ pub record IsIdlePort (p : DevicePort) : Type 0 where
 -- No reset is pending, and every port is idle, whatever its number.
 pub record IsIdle (d : Device) : Type 0 where
   pub no_reset : d.hr ≡ false
-  pub port : (port : ℕ) → IsIdlePort (d.port port)
+  pub ports_are_idle : (port : ℕ) → IsIdlePort (d.port port)
 
 -- disks tell their sectors if the adapter is one that tells
 abbrev pub TellsDisks : Device → Type 0
@@ -23,6 +23,6 @@ TellsDisks d = d.telling ≡ true → (port : ℕ) → HasKnownSectors (d.port p
 
 -- Memory and disks hold bytes, and disks tell their sectors if the adapter is one that tells.
 pub record HoldsBytesAndTellsDisks (d : Device) : Type 0 where
-  pub bytes : (at : ℕ) → d.memory at < 256
-  pub disk : (port : ℕ) → IsDisk (d.port port).disk
-  pub told : TellsDisks d
+  pub memory_holds_bytes : (at : ℕ) → d.memory at < 256
+  pub disks_hold_sectors : (port : ℕ) → IsDisk (d.port port).disk
+  pub disks_are_told : TellsDisks d

@@ -7,13 +7,13 @@ pub mod Device
 pub mod Steps
 pub mod Access
 pub mod Rules
-pub mod Kept
+pub mod KeptBySteps
 pub mod RegisterEffects
 pub mod Guarded
 pub mod Idle
-pub mod Asked
+pub mod ToldSteps
 pub mod OneCommand
 pub mod ReadDone
 pub mod FirstRead
-pub mod Pending
-pub mod Counted
+pub mod PendingInterrupts
+pub mod AccessBounds

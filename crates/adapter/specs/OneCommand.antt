@@ -21,9 +21,9 @@ abbrev pub is_in_span : ℕ → ℕ → ℕ → Bool
 is_in_span first n at = nat_le first at && nat_lt at (first + n)
 
 -- the byte is one of a piece
-abbrev pub is_of_pieces : List ℕ → ℕ → Bool
-is_of_pieces [] at = false
-is_of_pieces (place ∷ places) at = is_in_span place 512 at || is_of_pieces places at
+abbrev pub is_in_pieces : List ℕ → ℕ → Bool
+is_in_pieces [] at = false
+is_in_pieces (place ∷ places) at = is_in_span place 512 at || is_in_pieces places at
 
 -- a byte that the device only reads: of the header but for PRDBC, or of the table
 abbrev pub is_read_only : CommandLayout → ℕ → Bool
@@ -33,7 +33,7 @@ is_read_only s at = is_in_span s.header 4 at || is_in_span (s.header + 8) 24 at
 -- a byte that the device may write: of PRDBC, of a piece, or of the received FIS area
 abbrev pub is_written : CommandLayout → ℕ → Bool
 is_written s at = is_in_span
-    (s.header + 4) 4 at || is_of_pieces s.places at || is_in_span s.received RECEIVED_FIS_BYTES at
+    (s.header + 4) 4 at || is_in_pieces s.places at || is_in_span s.received RECEIVED_FIS_BYTES at
 
 -- every byte that the device doesn't write
 abbrev pub is_unwritten : CommandLayout → ℕ → Bool
@@ -64,10 +64,10 @@ layout_of d port slot c =
 -- places that they say. No byte that the device only reads for it is one that it writes. All other slots are free, and
 -- all other ports idle.
 pub record HasOneCommand (d : Device) (port slot : ℕ) : Type 0 where
-  pub used : InUse (d.port port) slot
+  pub slot_is_used : InUse (d.port port) slot
   pub command : SaysCommand d port slot
   pub taken : (t : FetchedCommand) → (d.port port).taken slot ≡ Some t → t.places ≡ command.places
-  pub apart : (at : ℕ) → is_read_only (layout_of d port slot command) at ≡ true
+  pub reads_apart_from_writes : (at : ℕ) → is_read_only (layout_of d port slot command) at ≡ true
       → is_unwritten (layout_of d port slot command) at ≡ true
   pub other_slots : (k : ℕ) → k ≢ slot → IsFreeSlot (d.port port) k
   pub other_ports : (q : ℕ) → q ≢ port → IsIdlePort (d.port q)

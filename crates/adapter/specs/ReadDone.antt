@@ -1,6 +1,6 @@
 -- A READ DMA EXT, from its fetch to its end.
 use Rattle.std.specs.Prelude.{ℕ, zero, suc, true, ◌≡◌, ◌+◌, ◌<◌, ◌≤◌, ◌⊎◌, List, [], ◌∷◌, ◌++◌, Some, slice_index}
-use Rattle.adapter.specs.Asked.{SlotGoesOn, PostsNone}
+use Rattle.adapter.specs.ToldSteps.{SlotGoesOn, PostsNone}
 use Rattle.adapter.specs.Memory.{bytes_at, changed}
 use Rattle.adapter.specs.Commands.{Meaning}
 use Rattle.adapter.specs.Device.{IsDisk, Device}
@@ -18,12 +18,12 @@ read_of first count = record { operation = Read; first = first; count = count }
 -- A read that may be fetched: each of its sectors is on a disk that tells its sectors, and each of its pieces is in the
 -- memory and apart from the others.
 pub record IsReadFetchable (d : Device) (port slot first count : ℕ) (places : List ℕ) (told : ℕ → List ℕ) : Type 0 where
-  pub fetch : Can (Fetch port slot (read_of first count) places) d
-  pub disk : IsDisk (d.port port).disk
+  pub may_be_fetched : Can (Fetch port slot (read_of first count) places) d
+  pub disk_holds_sectors : IsDisk (d.port port).disk
   pub told_is : (d.port port).disk.sectors ≡ Some told
   pub on_disk : first + count ≤ (d.port port).disk.size
   pub inside : (k : ℕ) → k < count → slice_index places k + 512 ≤ d.size
-  pub apart : (j k : ℕ) → j < k → k < count →
+  pub pieces_are_apart : (j k : ℕ) → j < k → k < count →
       (slice_index places j + 512 ≤ slice_index places k) ⊎ (slice_index places k + 512 ≤ slice_index places j)
 
 -- the tape's entries of the first n moves: sector after sector goes to piece after piece
@@ -47,8 +47,9 @@ move_entries port slot first places told (suc n) =
 pub record IsReadDone (old new : Device) (port slot first count : ℕ) (places : List ℕ)
     (told : ℕ → List ℕ) : Type 0 where
   pub steps : Steps old new
-  pub goes : SlotGoesOn PostsNone port slot old new
-  pub shown : (new.port port).is ≡ changed (old.port port).is 0 true
-  pub free : IsFreeSlot (new.port port) slot
-  pub tape : new.tape ≡ old.tape ++ (move_entries port slot first places told count ++ done_entry port slot Read ∷ [])
-  pub bytes : (k : ℕ) → k < count → bytes_at new.memory (slice_index places k) 512 ≡ told (first + k)
+  pub slot_goes_on : SlotGoesOn PostsNone port slot old new
+  pub dhrs_is_shown : (new.port port).is ≡ changed (old.port port).is 0 true
+  pub slot_is_free : IsFreeSlot (new.port port) slot
+  pub tape_tells_read : new.tape ≡ old.tape ++ (move_entries port slot first places told count
+      ++ done_entry port slot Read ∷ [])
+  pub sectors_are_in_memory : (k : ℕ) → k < count → bytes_at new.memory (slice_index places k) 512 ≡ told (first + k)

@@ -41,22 +41,22 @@ pub record IsProgrammed (p : DevicePort) : Type 0 where
 
 -- ST may be set
 pub record MayStart (p : DevicePort) : Type 0 where
-  pub fallen : p.cr ≡ false
+  pub cr_is_clear : p.cr ≡ false
   pub receives : p.fre ≡ true
   pub programmed : IsProgrammed p
-  pub link : p.notes.last_ssts % 16 ≡ 3
+  pub link_was_seen : p.notes.last_ssts % 16 ≡ 3
   pub not_busy : bit p.notes.last_tfd 7 || bit p.notes.last_tfd 3 ≡ false
 
 -- FRE may be set
 pub record MaySetFre (p : DevicePort) : Type 0 where
-  pub fallen : p.fr ≡ false
+  pub fr_is_clear : p.fr ≡ false
   pub fb : p.bases.fb_set ≡ true
   pub fbu : p.bases.fbu_set ≡ true
 
 -- FRE may be cleared
 pub record MayStopReceiving (p : DevicePort) : Type 0 where
-  pub stopped : p.st ≡ false
-  pub fallen : p.cr ≡ false
+  pub st_is_clear : p.st ≡ false
+  pub cr_is_clear : p.cr ≡ false
 
 -- ST and FRE change where they may; the other bits are written as they were last read.
 pub record MayWriteCmd (p : DevicePort) (v : ℕ) : Type 0 where
@@ -71,11 +71,11 @@ pub record MayWriteCmd (p : DevicePort) (v : ℕ) : Type 0 where
 -- from being taken.
 pub record MayIssue (d : Device) (p : DevicePort) (v : ℕ) : Type 0 where
   pub running : p.st ≡ true
-  pub usable : (slot : ℕ) → bit v slot ≡ true → slot ≤ d.cap / 256 % 32
-  pub free : (slot : ℕ) → bit v slot ≡ true → (p.ci slot ≡ false) × (p.taken slot ≡ None)
-  pub says : (slot : ℕ) → bit v slot ≡ true → (meaning : Meaning) × (places : List ℕ)
+  pub slots_are_usable : (slot : ℕ) → bit v slot ≡ true → slot ≤ d.cap / 256 % 32
+  pub slots_are_free : (slot : ℕ) → bit v slot ≡ true → (p.ci slot ≡ false) × (p.taken slot ≡ None)
+  pub slots_say_commands : (slot : ℕ) → bit v slot ≡ true → (meaning : Meaning) × (places : List ℕ)
       × DecodesTo d.memory p.bases.clb slot meaning places
-  pub queued : (slot : ℕ) (meaning : Meaning) (places : List ℕ) → bit v slot ≡ true →
+  pub sact_is_set : (slot : ℕ) (meaning : Meaning) (places : List ℕ) → bit v slot ≡ true →
       DecodesTo d.memory p.bases.clb slot meaning places → is_queued meaning.operation ≡ true → p.sact slot ≡ true
 
 abbrev pub MayWritePort : PortReg → ℕ → Device → DevicePort → Type 0
@@ -137,4 +137,4 @@ DeviceOwns d p slot at =
 -- these bytes are inside the memory, and the device may use none of them
 pub record IsUnowned (at n : ℕ) (d : Device) : Type 0 where
   pub inside : at + n ≤ d.size
-  pub unused : (port slot byte : ℕ) → at ≤ byte → byte < at + n → DeviceOwns d (d.port port) slot byte → ⊥
+  pub is_not_owned : (port slot byte : ℕ) → at ≤ byte → byte < at + n → DeviceOwns d (d.port port) slot byte → ⊥

@@ -88,7 +88,7 @@ AreBsyDrqBits kept_bits = bit_and kept_bits 0x88 ≡ kept_bits
 pub record MayFetch (d : Device) (port slot : ℕ) (meaning : Meaning) (places : List ℕ) : Type 0 where
   pub fetchable : IsFetchable (d.port port) slot
   pub working : IsWorking (d.port port) meaning.operation
-  pub alone : IsUnmixed (d.port port) meaning.operation
+  pub is_unmixed : IsUnmixed (d.port port) meaning.operation
   pub says : DecodesTo d.memory (d.port port).bases.clb slot meaning places
 
 pub record MayFetchFault (d : Device) (port slot kept_bits : ℕ) : Type 0 where
@@ -97,13 +97,13 @@ pub record MayFetchFault (d : Device) (port slot kept_bits : ℕ) : Type 0 where
   pub says_nothing : (meaning : Meaning) (places : List ℕ)
       → DecodesTo d.memory (d.port port).bases.clb slot meaning places
       → ⊥
-  pub kept : AreBsyDrqBits kept_bits
+  pub kept_bits_are_allowed : AreBsyDrqBits kept_bits
 
 abbrev pub begun : Meaning → List ℕ → FetchedCommand
 begun meaning places = record { meaning = meaning; places = places; moved = 0; block = []; cleared = 0 }
 
-abbrev pub with_fetch : DevicePort → ℕ → Meaning → List ℕ → DevicePort
-with_fetch p slot meaning places =
+abbrev pub port_after_fetch : DevicePort → ℕ → Meaning → List ℕ → DevicePort
+port_after_fetch p slot meaning places =
     record p {
       taken = changed p.taken slot (Some (begun meaning places));
       ci = if is_queued meaning.operation then changed p.ci slot false else p.ci;
@@ -111,8 +111,8 @@ with_fetch p slot meaning places =
     }
 
 -- status 41h (with BSY and DRQ left set or not), an error, TFES; the port is halted
-abbrev pub with_fault : DevicePort → Bool → ℕ → ℕ → DevicePort
-with_fault p queued error kept_bits =
+abbrev pub port_after_fault : DevicePort → Bool → ℕ → ℕ → DevicePort
+port_after_fault p queued error kept_bits =
     record p { tfd = 0x41 + kept_bits + 256 * error; is = changed p.is 30 true; halt = halted p.halt queued }
 
 -- ---- Move
@@ -126,30 +126,31 @@ next_sector t = if is_ranged t.meaning.operation then t.meaning.first + t.moved 
 
 -- The bytes that a move may bring: the disk's, where it tells them; memory's, for a command that reads memory; or any
 -- page, for IDENTIFY DEVICE and READ LOG EXT.
-abbrev pub Brings : Disk → (ℕ → ℕ) → FetchedCommand → Operation → List ℕ → Type 0
-Brings disk memory t Read bytes = (next_sector t < disk.size)
+abbrev pub MayBring : Disk → (ℕ → ℕ) → FetchedCommand → Operation → List ℕ → Type 0
+MayBring disk memory t Read bytes = (next_sector t < disk.size)
     × IfSome disk.sectors (λ told. bytes ≡ told (next_sector t))
-Brings disk memory t ReadQueued bytes = (next_sector t < disk.size)
+MayBring disk memory t ReadQueued bytes = (next_sector t < disk.size)
     × IfSome disk.sectors (λ told. bytes ≡ told (next_sector t))
-Brings disk memory t Write bytes = (next_sector t < disk.size) × (bytes ≡ bytes_at memory (next_place t) 512)
-Brings disk memory t WriteQueued bytes = (next_sector t < disk.size) × (bytes ≡ bytes_at memory (next_place t) 512)
-Brings disk memory t Trim bytes = bytes ≡ bytes_at memory (next_place t) 512
-Brings disk memory t _ bytes = Unit {0}
+MayBring disk memory t Write bytes = (next_sector t < disk.size) × (bytes ≡ bytes_at memory (next_place t) 512)
+MayBring disk memory t WriteQueued bytes = (next_sector t < disk.size) × (bytes ≡ bytes_at memory (next_place t) 512)
+MayBring disk memory t Trim bytes = bytes ≡ bytes_at memory (next_place t) 512
+MayBring disk memory t _ bytes = Unit {0}
 
 -- A sector moves in one step: which of its bytes come first isn't modelled.
 pub record MayMove (d : Device) (port slot : ℕ) (t : FetchedCommand) (bytes : List ℕ) : Type 0 where
   pub works : WorksOn (d.port port) slot t t.meaning.operation
-  pub left : t.moved < length t.places
-  pub sector : IsSector bytes
-  pub brings : Brings (d.port port).disk d.memory t t.meaning.operation bytes
+  pub piece_is_left : t.moved < length t.places
+  pub bytes_are_sector : IsSector bytes
+  pub brings : MayBring (d.port port).disk d.memory t t.meaning.operation bytes
 
 -- a disk with one sector changed
-abbrev pub disk_with : Disk → ℕ → List ℕ → Disk
-disk_with disk sector bytes = record disk { sectors = option_map (λ told. changed told sector bytes) disk.sectors }
+abbrev pub disk_with_sector : Disk → ℕ → List ℕ → Disk
+disk_with_sector disk sector bytes =
+    record disk { sectors = option_map (λ told. changed told sector bytes) disk.sectors }
 
 abbrev pub disk_after : Operation → Disk → ℕ → List ℕ → Disk
-disk_after Write disk sector bytes = disk_with disk sector bytes
-disk_after WriteQueued disk sector bytes = disk_with disk sector bytes
+disk_after Write disk sector bytes = disk_with_sector disk sector bytes
+disk_after WriteQueued disk sector bytes = disk_with_sector disk sector bytes
 disk_after _ disk sector bytes = disk
 
 -- a trim keeps the block that it brought
@@ -157,16 +158,16 @@ abbrev pub block_after : Operation → List ℕ → List ℕ → List ℕ
 block_after Trim bytes old = bytes
 block_after _ bytes old = old
 
-abbrev pub with_move : DevicePort → ℕ → FetchedCommand → List ℕ → DevicePort
-with_move p slot t bytes =
+abbrev pub port_after_move : DevicePort → ℕ → FetchedCommand → List ℕ → DevicePort
+port_after_move p slot t bytes =
     record p {
       taken = changed p.taken slot
           (Some (record t { moved = t.moved + 1; block = block_after t.meaning.operation bytes t.block }));
       disk = disk_after t.meaning.operation p.disk (next_sector t) bytes;
     }
 
-abbrev pub device_memory_after : (ℕ → ℕ) → FetchedCommand → List ℕ → ℕ → ℕ
-device_memory_after memory t bytes = if reads_memory t.meaning.operation then memory
+abbrev pub memory_after_move : (ℕ → ℕ) → FetchedCommand → List ℕ → ℕ → ℕ
+memory_after_move memory t bytes = if reads_memory t.meaning.operation then memory
     else patched memory (next_place t) bytes
 
 -- ---- Clear
@@ -176,9 +177,9 @@ device_memory_after memory t bytes = if reads_memory t.meaning.operation then me
 pub record MayClear (d : Device) (port slot : ℕ) (t : FetchedCommand) (first count : ℕ) : Type 0 where
   pub works : WorksOn (d.port port) slot t Trim
   pub trim : t.meaning.operation ≡ Trim
-  pub moved : t.moved ≡ length t.places
-  pub next : take 1 (drop t.cleared (trim_sectors t.block)) ≡ first ∷ []
-  pub sectors : take count (drop t.cleared (trim_sectors t.block)) ≡ consecutive first count
+  pub block_is_moved : t.moved ≡ length t.places
+  pub first_is_next : take 1 (drop t.cleared (trim_sectors t.block)) ≡ first ∷ []
+  pub sectors_follow : take count (drop t.cleared (trim_sectors t.block)) ≡ consecutive first count
   pub inside : (count ≡ 0) ⊎ (first + count ≤ (d.port port).disk.size)
 
 abbrev pub disk_cleared : Disk → ℕ → ℕ → Disk
@@ -188,8 +189,8 @@ disk_cleared disk first count =
           disk.sectors;
     }
 
-abbrev pub with_clear : DevicePort → ℕ → FetchedCommand → ℕ → ℕ → DevicePort
-with_clear p slot t first count =
+abbrev pub port_after_clear : DevicePort → ℕ → FetchedCommand → ℕ → ℕ → DevicePort
+port_after_clear p slot t first count =
     record p {
       taken = changed p.taken slot (Some (record t { cleared = t.cleared + count }));
       disk = disk_cleared p.disk first count;
@@ -199,25 +200,25 @@ with_clear p slot t first count =
 
 -- nothing is left to move or to clear
 pub record IsFinished (t : FetchedCommand) : Type 0 where
-  pub moved : t.moved ≡ length t.places
-  pub cleared : t.meaning.operation ≡ Trim → t.cleared ≡ length (trim_sectors t.block)
+  pub all_is_moved : t.moved ≡ length t.places
+  pub all_is_cleared : t.meaning.operation ≡ Trim → t.cleared ≡ length (trim_sectors t.block)
 
 pub record MayBeDone (d : Device) (port slot flag : ℕ) (t : FetchedCommand) : Type 0 where
   pub works : WorksOn (d.port port) slot t t.meaning.operation
   pub finished : IsFinished t
   -- DHRS, PSS or SDBS
-  pub shown : (flag ≡ 0) ⊎ (flag ≡ 1) ⊎ (flag ≡ 3)
+  pub cause_is_allowed : (flag ≡ 0) ⊎ (flag ≡ 1) ⊎ (flag ≡ 3)
 
 -- from the end of a flush on what the disk then holds is lasting (ACS-3, FLUSH CACHE EXT)
 abbrev pub lasting_after : Operation → Lasting → Disk → ℕ → Lasting
-lasting_after Flush lasting disk here = record { sectors = disk.sectors; since = here }
+lasting_after Flush lasting disk here = record { sectors = disk.sectors; tape_length = here }
 lasting_after _ lasting disk here = lasting
 
-abbrev pub with_flush : DevicePort → Operation → ℕ → DevicePort
-with_flush p operation here = record p { lasting = lasting_after operation p.lasting p.disk here }
+abbrev pub port_after_flush : DevicePort → Operation → ℕ → DevicePort
+port_after_flush p operation here = record p { lasting = lasting_after operation p.lasting p.disk here }
 
-abbrev pub with_done : DevicePort → ℕ → ℕ → Operation → DevicePort
-with_done p slot flag operation =
+abbrev pub port_after_done : DevicePort → ℕ → ℕ → Operation → DevicePort
+port_after_done p slot flag operation =
     record p {
       taken = changed p.taken slot None;
       ci = if is_queued operation then p.ci else changed p.ci slot false;
@@ -233,20 +234,20 @@ pub record MayFault (p : DevicePort) (slot error kept_bits : ℕ) (t : FetchedCo
   pub taken : p.taken slot ≡ Some t
   pub running : p.cr ≡ true
   pub is_byte : error < 256
-  pub kept : AreBsyDrqBits kept_bits
+  pub kept_bits_are_allowed : AreBsyDrqBits kept_bits
 
 -- ---- LinkUp
 
 pub record MayLinkUp (p : DevicePort) (sig : ℕ) : Type 0 where
   pub present : p.present ≡ true
-  pub det : p.sctl_det ≡ 0
-  pub due : p.link_due ≡ true
-  pub fits : sig < 2 ^ 32
+  pub no_comreset : p.sctl_det ≡ 0
+  pub link_is_due : p.link_due ≡ true
+  pub sig_fits : sig < 2 ^ 32
 
 -- DET 3, and the disk's first FIS: its signature; BSY and DRQ clear. No step shows DET 1: the driver takes each value
 -- but 3 as no link.
-abbrev pub with_link : DevicePort → ℕ → Bool → DevicePort
-with_link p sig n =
+abbrev pub port_after_link_up : DevicePort → ℕ → Bool → DevicePort
+port_after_link_up p sig n =
     record p {
       ssts_det = 3;
       fresh = true;
@@ -262,8 +263,8 @@ with_link p sig n =
 -- ---- ResetEnds
 
 -- CLB, CLBU, FB and FBU stay, and so do the disk and a halt
-abbrev pub with_reset : DevicePort → DevicePort
-with_reset p =
+abbrev pub port_after_reset : DevicePort → DevicePort
+port_after_reset p =
     record p {
       st = false;
       cr = false;
@@ -313,7 +314,7 @@ bytes_put_into port k _ = None
 -- ended none, when it was first in; or they were put there since.
 abbrev pub WereHeld : List Entry → Lasting → (port k : ℕ) → List ℕ → Type 0
 WereHeld tape lasting port k bytes = (option_map (λ sectors. sectors k) lasting.sectors ≡ Some bytes)
-    ⊎ ((entry : Entry) × Contains (drop lasting.since tape) entry × (bytes_put_into port k entry ≡ Some bytes))
+    ⊎ ((entry : Entry) × Contains (drop lasting.tape_length tape) entry × (bytes_put_into port k entry ≡ Some bytes))
 
 -- A disk with the name of the one that was in last is that one. It has as many sectors, and each that both tell is as
 -- it was at some moment since a flush was last ended: what its cache held may be lost (FLUSH CACHE EXT, ACS-3).
@@ -325,7 +326,7 @@ pub record IsReplugOf (d : Device) (port : ℕ) (disk : Disk) : Type 0 where
 -- what is lasting stays so where that disk comes back; of another one it is what it comes with
 abbrev pub lasting_plugged : Lasting → (last disk : Disk) → ℕ → Lasting
 lasting_plugged lasting last disk here =
-    if nat_eq disk.name last.name then lasting else record { sectors = disk.sectors; since = here }
+    if nat_eq disk.name last.name then lasting else record { sectors = disk.sectors; tape_length = here }
 
 -- ---- all steps: when each is possible
 
@@ -389,29 +390,29 @@ fault_entry port slot error kept_bits =
     })
 
 abbrev pub device_after : DeviceTransition → Device → Device
-device_after (Fetch port slot meaning places) d = with_port d port (with_fetch (d.port port) slot meaning places)
+device_after (Fetch port slot meaning places) d = with_port d port (port_after_fetch (d.port port) slot meaning places)
 device_after (FetchFault port slot queued kept_bits) d =
-    with_port_and_entry d port (with_fault (d.port port) queued 4 kept_bits) (fault_entry port slot 4 kept_bits)
+    with_port_and_entry d port (port_after_fault (d.port port) queued 4 kept_bits) (fault_entry port slot 4 kept_bits)
 device_after (Move port slot t bytes) d =
-    record (with_port_and_entry d port (with_move (d.port port) slot t bytes)
+    record (with_port_and_entry d port (port_after_move (d.port port) slot t bytes)
     (entry.Move (move_of port slot t bytes))) {
-      memory = device_memory_after d.memory t bytes;
+      memory = memory_after_move d.memory t bytes;
     }
 device_after (Clear port slot t first count) d =
-    with_port_and_entry d port (with_clear (d.port port) slot t first count) (clear_entry port slot first count)
+    with_port_and_entry d port (port_after_clear (d.port port) slot t first count) (clear_entry port slot first count)
 device_after (Done port slot flag t) d =
     with_port_and_entry d port
-    (with_flush (with_done (d.port port) slot flag t.meaning.operation) t.meaning.operation (length d.tape))
+    (port_after_flush (port_after_done (d.port port) slot flag t.meaning.operation) t.meaning.operation (length d.tape))
     (done_entry port slot t.meaning.operation)
 device_after (Fault port slot error kept_bits t) d =
-    with_port_and_entry d port (with_fault (d.port port) (is_queued t.meaning.operation) error kept_bits)
+    with_port_and_entry d port (port_after_fault (d.port port) (is_queued t.meaning.operation) error kept_bits)
     (fault_entry port slot error kept_bits)
 device_after (Fatal port place) d =
     with_port_and_entry d port (record (d.port port) { is = changed (d.port port).is place true; broken = true })
     (entry.Fatal (record { 0 = port }))
 device_after (Fall port) d = with_port d port (record (d.port port) { cr = false; taken = λ _. None })
 device_after (FrFall port) d = with_port d port (record (d.port port) { fr = false })
-device_after (LinkUp port sig n) d = with_port d port (with_link (d.port port) sig n)
+device_after (LinkUp port sig n) d = with_port d port (port_after_link_up (d.port port) sig n)
 device_after (Unplug port) d =
     with_port_and_entry d port (record (d.port port) { ssts_det = 0; present = false; fresh = false; serr_n = true })
     (entry.Unplug (record { 0 = port }))
@@ -428,7 +429,8 @@ device_after (Plug port disk) d =
       serr_x = true;
     })
     (entry.Plug (record { 0 = port }) disk.name)
-device_after ResetEnds d = record d { hr = false; ae = false; ie = false; port = λ port. with_reset (d.port port) }
+device_after ResetEnds d =
+    record d { hr = false; ae = false; ie = false; port = λ port. port_after_reset (d.port port) }
 device_after (Scribble port slot at bytes) d = record d { memory = patched d.memory at bytes }
 
 -- ---- lists of steps

@@ -1,7 +1,7 @@
 // The calls of an adapter, and of one whose device can be told what to do.
 ghost use Rattle.std.specs.Prelude.{ℕ, ◌+◌, ◌≡◌, length, true, false};
 ghost use Rattle.adapter.specs.Device.{Device};
-ghost use Rattle.adapter.specs.Asked.{Asked};
+ghost use Rattle.adapter.specs.ToldSteps.{DoesOrFailsStep};
 ghost use Rattle.adapter.specs.Idle.{TellsDisks};
 ghost use Rattle.adapter.specs.Steps.{Steps};
 ghost use Rattle.adapter.specs.Access.{Reads, Writes, Loads, Stores};
@@ -120,7 +120,7 @@ pub trait Stepped: Adapter {
     /// place or on the way: since its bytes mean none, or a disk failed. `false` says that it wasn't done, and that
     /// nothing changed.
     fn step(&mut self, s: &DeviceStep) -> bool
-        ensures asked { result ≡ true → Asked s.now (Self.device self.old) (Self.device self.new) }
+        ensures asked { result ≡ true → DoesOrFailsStep s.now (Self.device self.old) (Self.device self.new) }
         ensures steps { Steps (Self.device self.old) (Self.device self.new) }
         ensures refused { result ≡ false → Self.device self.new ≡ Self.device self.old }
         ensures counted { Self.access_count self.new ≡ Self.access_count self.old };

@@ -9,17 +9,17 @@ ghost use Rattle.hba_regs.specs.declared.reg.Reg.TheVariants as adapter;
 ghost use Rattle.hba_regs.specs.Bits.{bit};
 ghost use Rattle.adapter.specs.declared.access.DeviceStep.{DeviceStep};
 ghost use Rattle.adapter.specs.Access.{Access, ShowsPending, Does, DoesAll, IsDriven, Reads, Writes, is_cause, is_pending, named_causes, raises_interrupt, shown_interrupt, written};
-ghost use Rattle.adapter.specs.Asked.{Asked, IsScribbled, memory_filled};
+ghost use Rattle.adapter.specs.ToldSteps.{DoesOrFailsStep, IsScribbled, memory_filled};
 ghost use Rattle.adapter.specs.Commands.{Meaning};
 ghost use Rattle.adapter.specs.Device.{Device, DevicePort};
 ghost use Rattle.adapter.specs.FirstRead.{first_read_device, first_disk_sector};
 ghost use Rattle.adapter.specs.Guarded.{PassesTest, MissesRange, IsGuarded, IsApart};
 ghost use Rattle.adapter.specs.Idle.{IsIdle, HoldsBytesAndTellsDisks};
-ghost use Rattle.adapter.specs.Kept.{Keeps, KeepsControls};
+ghost use Rattle.adapter.specs.KeptBySteps.{Keeps, KeepsControls};
 ghost use Rattle.adapter.specs.Memory.{bytes_at, patched};
 ghost use Rattle.adapter.specs.OneCommand.{NoneHasCommand, HasOneCommand, IsElsewhere, is_read_only, is_unwritten, layout_of};
 ghost use Rattle.adapter.specs.ReadDone.{IsReadDone, IsReadFetchable, read_of};
-ghost use Rattle.adapter.specs.Pending.{LeavesIe, KeepsIsBit, SetsCause, EnablesAllCauses, interrupting_port, cleared, flushed, flushing, flush_taken};
+ghost use Rattle.adapter.specs.PendingInterrupts.{LeavesIe, KeepsIsBit, SetsCause, EnablesAllCauses, interrupting_port, cleared, flushed, flushing, flush_taken};
 ghost use Rattle.adapter.specs.Rules.{HasPort, IsOn, IsUnowned, IsStable};
 ghost use Rattle.adapter.specs.Decoding.{DecodesTo, piece_addresses};
 ghost use Rattle.adapter.specs.RegisterEffects.{PortRegisterWritten, PortRegisterRead};
@@ -28,35 +28,35 @@ ghost use Rattle.adapter.specs.declared.tape.Entry.{Entry};
 
 /// The device may do nothing, and what it does goes on.
 pub fn law_steps_compose()
-    ensures none { (d : Device) → Steps d d }
-    ensures more { (old mid new : Device) → Steps old mid → Steps mid new → Steps old new }
+    ensures reflexive { (d : Device) → Steps d d }
+    ensures transitive { (old mid new : Device) → Steps old mid → Steps mid new → Steps old new }
 {}
 
 /// What a device was told to do is some of its steps.
 pub fn law_told_steps_are_transitions()
-    ensures { (s : DeviceStep) (old new : Device) → Asked s old new → Steps old new }
+    ensures { (s : DeviceStep) (old new : Device) → DoesOrFailsStep s old new → Steps old new }
 {}
 
 /// What is put into memory is read again, and every other byte is as it was. Memories that agree on some bytes have the
 /// same bytes there. As many are read as were asked for, in order.
 pub fn law_memory_reads_back()
-    ensures put { (memory : ℕ → ℕ) (at : ℕ) (bytes : List ℕ)
+    ensures stored_bytes_are_read { (memory : ℕ → ℕ) (at : ℕ) (bytes : List ℕ)
         → bytes_at (patched memory at bytes) at (length bytes) ≡ bytes }
-    ensures apart { (memory : ℕ → ℕ) (at : ℕ) (bytes : List ℕ) (place : ℕ)
+    ensures other_bytes_are_kept { (memory : ℕ → ℕ) (at : ℕ) (bytes : List ℕ) (place : ℕ)
         → (at ≤ place → place < at + length bytes → ⊥) → patched memory at bytes place ≡ memory place }
-    ensures same { (old new : ℕ → ℕ) (at count : ℕ)
+    ensures equal_bytes_read_equal { (old new : ℕ → ℕ) (at count : ℕ)
         → ((place : ℕ) → at ≤ place → place < at + count → new place ≡ old place)
         → bytes_at new at count ≡ bytes_at old at count }
-    ensures counts { (memory : ℕ → ℕ) (at count : ℕ) → length (bytes_at memory at count) ≡ count }
-    ensures each { (memory : ℕ → ℕ) (at count i : ℕ) → i < count
+    ensures length_is { (memory : ℕ → ℕ) (at count : ℕ) → length (bytes_at memory at count) ≡ count }
+    ensures byte_at_index { (memory : ℕ → ℕ) (at count i : ℕ) → i < count
         → slice_index (bytes_at memory at count) i ≡ memory (at + i) }
 {}
 
 /// A scribble fills the received FIS area, and then PRDBC of one slot after another whose command is taken.
 pub fn law_scribble_slot_by_slot()
-    ensures area { (size byte : ℕ) (p : DevicePort) (old : ℕ → ℕ)
+    ensures received_fis_area { (size byte : ℕ) (p : DevicePort) (old : ℕ → ℕ)
         → IsScribbled 0 size byte p old (memory_filled size p.bases.fb RECEIVED_FIS_BYTES byte old) }
-    ensures count { (slot size byte : ℕ) (p : DevicePort) (old before new : ℕ → ℕ)
+    ensures prdbc_of_slot { (slot size byte : ℕ) (p : DevicePort) (old before new : ℕ → ℕ)
         → IsScribbled slot size byte p old before
         → new ≡ (if is_some (p.taken slot) then memory_filled size (p.bases.clb + HEADER_BYTES * slot + 4) 4 byte before
         else before)
@@ -102,26 +102,30 @@ pub fn law_kept_bytes_stay_over_readings()
 
 /// Accesses go on one after another, and so do lists of them.
 pub fn law_accesses_compose()
-    ensures none { (d : Device) → IsDriven d d }
-    ensures one { (access : Access) (old new : Device) → Does access old new → IsDriven old new }
-    ensures more { (old mid new : Device) → IsDriven old mid → IsDriven mid new → IsDriven old new }
-    ensures all { (early late : List Access) (old mid new : Device) → DoesAll early old mid → DoesAll late mid new
+    ensures reflexive { (d : Device) → IsDriven d d }
+    ensures single_access { (access : Access) (old new : Device) → Does access old new → IsDriven old new }
+    ensures transitive { (old mid new : Device) → IsDriven old mid → IsDriven mid new → IsDriven old new }
+    ensures lists_append { (early late : List Access) (old mid new : Device) → DoesAll early old mid
+        → DoesAll late mid new
         → DoesAll (early ++ late) old new }
 {}
 
 /// While no reset is pending, a reading of a port's register leaves the adapter as steps of the device do, and the port
 /// shows the value and has it noted. A write is steps of the device, and then the port alone has what was written.
 pub fn law_port_register_accesses()
-    ensures seen { (port : Port) (r : PortReg) (v : ℕ) (old new : Device) → Reads (Px port r) v old new → old.hr ≡ false
+    ensures register_read { (port : Port) (r : PortReg) (v : ℕ) (old new : Device) → Reads (Px port r) v old new
+        → old.hr ≡ false
         → PortRegisterRead port.0 r v old new }
-    ensures put { (port : Port) (r : PortReg) (v : ℕ) (old new : Device) → Writes (Px port r) v old new → old.hr ≡ false
+    ensures register_written { (port : Port) (r : PortReg) (v : ℕ) (old new : Device) → Writes (Px port r) v old new
+        → old.hr ≡ false
         → PortRegisterWritten port.0 r v old new }
 {}
 
 /// What each of two fragments keeps of a port's controls, both keep; and so does nothing.
 pub fn law_kept_controls_compose()
-    ensures none { (p : DevicePort) → KeepsControls p p }
-    ensures more { (old mid new : DevicePort) → KeepsControls old mid → KeepsControls mid new → KeepsControls old new }
+    ensures reflexive { (p : DevicePort) → KeepsControls p p }
+    ensures transitive { (old mid new : DevicePort) → KeepsControls old mid → KeepsControls mid new
+        → KeepsControls old new }
 {}
 
 /// The port's interrupt is pending where PxIS shows a cause that PxIE enables; and so it is after each step of the
@@ -129,7 +133,7 @@ pub fn law_kept_controls_compose()
 /// 3.1.3 and 3.3.5). What steps raise is one of the causes that are named.
 pub fn law_an_enabled_cause_is_pending()
     ensures named { (place : ℕ) → is_cause place ≡ true → bit named_causes place ≡ true }
-    ensures exactly { (place : ℕ) → place < 32 → bit named_causes place ≡ is_cause place }
+    ensures no_other_is_named { (place : ℕ) → place < 32 → bit named_causes place ≡ is_cause place }
     ensures raises { (step : DeviceTransition) (port place : ℕ) (d : Device) → Can step d → SetsCause step port place
         → is_cause place ≡ true }
     ensures shown { (p : DevicePort) (place : ℕ) → is_cause place ≡ true → shown_interrupt p place ≡ true
@@ -167,13 +171,13 @@ pub fn law_what_the_tape_tells_is_pending()
 /// that tells of all causes; then its bit of IS stays while PxIS shows the cause, though it is written, and also once
 /// PxIS was cleared; then a write of the bit clears it.
 pub fn law_an_interrupt_comes_and_goes()
-    ensures none { is_pending (flushing.port 0) ≡ false }
-    ensures tells { (flushing.hr ≡ false) × EnablesAllCauses (flushing.port 0) }
-    ensures ends { Can (DeviceTransition.Done 0 0 0 flush_taken) flushing }
-    ensures comes { is_pending (flushed.port 0) ≡ true }
-    ensures again { is_pending ((written adapter.Is 1 flushed).port 0) ≡ true }
-    ensures stays { is_pending (cleared.port 0) ≡ true }
-    ensures goes { is_pending ((written adapter.Is 1 cleared).port 0) ≡ false }
+    ensures none_is_pending { is_pending (flushing.port 0) ≡ false }
+    ensures causes_are_enabled { (flushing.hr ≡ false) × EnablesAllCauses (flushing.port 0) }
+    ensures flush_may_end { Can (DeviceTransition.Done 0 0 0 flush_taken) flushing }
+    ensures end_is_pending { is_pending (flushed.port 0) ≡ true }
+    ensures stays_while_cause_shows { is_pending ((written adapter.Is 1 flushed).port 0) ≡ true }
+    ensures stays_without_cause { is_pending (cleared.port 0) ≡ true }
+    ensures goes_by_is_write { is_pending ((written adapter.Is 1 cleared).port 0) ≡ false }
 {}
 
 /// Where no slot has a command, any bytes that are not of a received FIS area in use are guarded, and no table is
@@ -216,10 +220,10 @@ pub fn law_a_read_can_be_done()
 /// is free, whatever the device does; and the read can be done.
 pub fn law_a_first_read_exists()
     ensures on { IsOn first_read_device }
-    ensures sane { HoldsBytesAndTellsDisks first_read_device }
+    ensures holds_bytes { HoldsBytesAndTellsDisks first_read_device }
     ensures command { HasOneCommand first_read_device 0 0 }
     ensures says { DecodesTo first_read_device.memory 0 0 (read_of 100 8) (piece_addresses 0x64000 8) }
-    ensures free { IsStable (IsUnowned 0x65000 FRAME_BYTES) first_read_device }
-    ensures done { (new : Device) × IsReadDone first_read_device new 0 0 100 8 (piece_addresses 0x64000 8)
+    ensures frame_is_free { IsStable (IsUnowned 0x65000 FRAME_BYTES) first_read_device }
+    ensures read_can_be_done { (new : Device) × IsReadDone first_read_device new 0 0 100 8 (piece_addresses 0x64000 8)
         first_disk_sector }
 {}

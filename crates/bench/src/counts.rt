@@ -30,10 +30,10 @@ const CONFIGURATION: &str = text_with!(1: 76, "rw"; 2: 116, "r");
 const SECTORS: u32 = 256;
 
 /// As many requests as a client may have unanswered.
-const MOST: u8 = 16;
+const MOST_UNANSWERED_READS: u8 = 16;
 
 /// The first client's first frame: the first that isn't the driver's. Another client's begin as many further on.
-const FIRST: u16 = DRIVER_FRAMES;
+const FIRST_CLIENT_FRAME: u16 = DRIVER_FRAMES;
 
 /// Frames of each client.
 const FRAMES: u16 = 40;
@@ -110,13 +110,13 @@ impl<W: io::Write> Table<'_, W> {
 }
 
 /// Calls that go one after another, each for itself.
-fn each<W: io::Write>(server: &mut Served, table: &mut Table<'_, W>) -> Option<()> {
+fn measure_single_calls<W: io::Write>(server: &mut Served, table: &mut Table<'_, W>) -> Option<()> {
     table.row("a server is made, and a port with a disk is booted", server)?;
     answer(server, 1, 0)?;
     table.row("a service, nothing is asked", server)?;
-    transfer(server, 1, Op::Read, FIRST)?;
+    transfer(server, 1, Op::Read, FIRST_CLIENT_FRAME)?;
     table.row("a read of 8 sectors, which is issued", server)?;
-    transfer(server, 1, Op::Write, FIRST + 1)?;
+    transfer(server, 1, Op::Write, FIRST_CLIENT_FRAME + 1)?;
     table.row("a write of the same sectors, which waits", server)?;
     let _none = server.service();
     table.row("a service, nothing is done", server)?;
@@ -126,22 +126,24 @@ fn each<W: io::Write>(server: &mut Served, table: &mut Table<'_, W>) -> Option<(
     table.row("a service, which answers the last", server)?;
     let mut bytes = [0u8; 64];
     server
-        .client_load(ClientId(1), Frame(FIRST), 0, &mut bytes)
+        .client_load(ClientId(1), Frame(FIRST_CLIENT_FRAME), 0, &mut bytes)
         .ok()?;
     table.row("a load of 64 bytes", server)?;
     server
-        .client_store(ClientId(1), Frame(FIRST), 0, &bytes)
+        .client_store(ClientId(1), Frame(FIRST_CLIENT_FRAME), 0, &bytes)
         .ok()?;
     table.row("a store of 64 bytes", server)
 }
 
 /// Reads that are asked, by two clients where one may not ask so many, done by the disk in the opposite order, and
 /// answered by one service.
-fn together<W: io::Write>(server: &mut Served, table: &mut Table<'_, W>) -> Option<()> {
+fn measure_batches<W: io::Write>(server: &mut Served, table: &mut Table<'_, W>) -> Option<()> {
     for (count, calls) in TOGETHER {
         for place in 0..count {
-            let client = place / MOST;
-            let frame = FIRST + FRAMES * u16::from(client) + u16::from(place % MOST);
+            let client = place / MOST_UNANSWERED_READS;
+            let frame = FIRST_CLIENT_FRAME
+                + FRAMES * u16::from(client)
+                + u16::from(place % MOST_UNANSWERED_READS);
             transfer(server, 1 + client, Op::Read, frame)?;
         }
         answer(server, count, usize::from(count))?;
@@ -151,7 +153,7 @@ fn together<W: io::Write>(server: &mut Served, table: &mut Table<'_, W>) -> Opti
 }
 
 /// The whole table.
-fn rows<W: io::Write>(server: &mut Served, out: &mut W) -> Option<()> {
+fn measure_all<W: io::Write>(server: &mut Served, out: &mut W) -> Option<()> {
     writeln!(
         out,
         "calls | register reads | register writes | stores | loads"
@@ -161,13 +163,13 @@ fn rows<W: io::Write>(server: &mut Served, out: &mut W) -> Option<()> {
         out,
         told: Counts::NONE,
     };
-    each(server, &mut table)?;
-    together(server, &mut table)
+    measure_single_calls(server, &mut table)?;
+    measure_batches(server, &mut table)
 }
 
 /// Prints a row for each kind of call: its register reads and writes, and its stores and loads of memory. `None` where
 /// a call did something else than it should, or memory or output was refused.
-pub fn print<W: io::Write>(alloc: Global, out: &mut W) -> Option<()> {
+pub fn print_counts<W: io::Write>(alloc: Global, out: &mut W) -> Option<()> {
     let image = MemStore::new(alloc, SECTORS).ok()?;
     let blank = MemStore::new(alloc, 0).ok()?;
     let Ok(config) = Config::parse(alloc, CONFIGURATION.as_bytes()) else {
@@ -180,7 +182,7 @@ pub fn print<W: io::Write>(alloc: Global, out: &mut W) -> Option<()> {
         return None;
     };
     let mut server = server;
-    let printed = rows(&mut server, out);
+    let printed = measure_all(&mut server, out);
     let _adapter = server.close();
     printed
 }

@@ -29,7 +29,7 @@ fn run(rt: &(impl Env + AllocGlobal + Files<File = File> + Print)) -> Result<(),
         Err(_) => return Err(BenchError::Words),
     };
     match words.as_slice() {
-        [_] => counts::print(rt.alloc(), &mut io::writer(rt)).ok_or(BenchError::Failed),
+        [_] => counts::print_counts(rt.alloc(), &mut io::writer(rt)).ok_or(BenchError::Failed),
         [_, config, script] => memory::play_files(rt, config.as_str(), script.as_str()).ok_or(
             BenchError::Failed,
         ),

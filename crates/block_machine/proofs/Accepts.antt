@@ -13,9 +13,9 @@ use Rattle.ata_types.specs.declared.grant.Rights.{Rights}
 use Rattle.ata_types.specs.SectorGrants.{AllowsOp}
 use Rattle.block_machine.specs.Rules.{IsNamed, IsAllowedCount, frame_count_for}
 use Rattle.block_machine.specs.State.{Block, Accepted, Pending, Machine}
-use Rattle.block_machine.specs.Steps.{Step, Accept, Touch, May, MayAccept, HoldsFrames, after_step}
+use Rattle.block_machine.specs.Steps.{Step, Accept, Touch, IsEnabled, MayAccept, HoldsFrames, after_step}
 use Rattle.block_machine.specs.Expected.{after, IsLegal, IsInitial, IsAccept}
-use Rattle.block_machine.specs.Confined.{IsGranted, IsConfined, WasAccepted, MovesBytes}
+use Rattle.block_machine.specs.Confinement.{IsGranted, IsConfined, WasAccepted, MovesBytes}
 use Rattle.block_machine.proofs.Members.{contains_none, contains_here, contains_there, contains_cases}
 use Rattle.block_machine.proofs.Trace.{Before, Comes, lives_before, next_grows, runs_lives}
 use Rattle.block_machine.proofs.Runs.{traced, nobody}
@@ -35,11 +35,11 @@ was_new start (step ∷ past) r (inl c) = (after start past, c.1)
 was_new start (step ∷ past) r (inr w) = was_new start past r w
 
 -- its id was handed out
-id_below : (start : Machine) (h : List Step) (r : Accepted) → WasAccepted start h r → r.id.0 < (after start h).next
+id_below : (start : Machine) (h : List Step) (r : Accepted) → WasAccepted start h r → r.id.0 < (after start h).next_id
 id_below start [] r w = absurd w
 id_below start (step ∷ past) r (inl c) = grown step r c
   where
-    grown : (y : Step) (r : Accepted) → Comes (after start past) y r → r.id.0 < (after_step (after start past) y).next
+    grown : (y : Step) (r : Accepted) → Comes (after start past) y r → r.id.0 < (after_step (after start past) y).next_id
     grown (Accept new) r c = let e = c.1.id in omega (arith, e)
     grown _ r c = absurd c.0
 id_below start (step ∷ past) r (inr w) = let g = next_grows (after start past) step in let b = id_below start past r w in omega (arith, g, b)
@@ -96,10 +96,10 @@ pub law_accepted_is_granted : (m : Machine) (r : Accepted) → MayAccept m r →
 law_accepted_is_granted m r new = ⊎_elim
     (λ (x : (row : GrantRow) × IsNamed m.rows r.asked row). record {
       row = x.0;
-      named = x.1;
-      port = new.port x.0 x.1;
-      right = ⊎_elim (λ t. t) (λ f. absurd (new.unbroken NoRight (x.0, x.1, f))) (allows_cases x.0.rights r.asked.op);
-      covered = λ op. ⊎_elim
+      is_named = x.1;
+      row_port_is = new.port x.0 x.1;
+      op_is_allowed = ⊎_elim (λ t. t) (λ f. absurd (new.unbroken NoRight (x.0, x.1, f))) (allows_cases x.0.rights r.asked.op);
+      sectors_are_covered = λ op. ⊎_elim
           (λ (lt : r.asked.first.0 < x.0.first.0). absurd (new.unbroken OutsideGrant (op, (x.0, x.1, λ c. let le = c.0 in omega (arith, lt, le)))))
           (λ (from : x.0.first.0 ≤ r.asked.first.0). ⊎_elim
           (λ (lt : x.0.first.0 + x.0.count < r.asked.first.0 + r.asked.count). absurd (new.unbroken OutsideGrant (op, (x.0, x.1, λ c. let le = c.1 in omega (arith, lt, le)))))
@@ -128,15 +128,15 @@ pub has_frame : (m : Machine) (r : Accepted) → MayAccept m r → MovesBytes r.
 has_frame m r new moves i lt = framed r.asked.op r.asked.count (length r.asked.frames.items) i (frames_fit m r new) moves lt
 
 -- each touch is confined
-pub law_touch_is_confined : (start : Machine) (h : List Step) (e : Pending) (i : ℕ) (block : Block) → IsInitial start → IsLegal start h → May (after start h) (Touch e i block) → IsConfined start h e.request i
+pub law_touch_is_confined : (start : Machine) (h : List Step) (e : Pending) (i : ℕ) (block : Block) → IsInitial start → IsLegal start h → IsEnabled (after start h) (Touch e i block) → IsConfined start h e.request i
 law_touch_is_confined start h e i block s legal may =
     let l = runs_lives (after start h) e may.0 in
     let accepted = living_accepted start h s legal e l in
     let new = was_new start h e.request accepted in
     let place : MovesBytes e.request.asked.op → i / 8 < length e.request.asked.frames.items = λ b. has_frame new.0 e.request new.1 b i may.1 in
     record {
-      accepted = accepted;
-      within = may.1;
-      framed = place;
-      lent = λ b. (traced start h s legal).sound.lent e l (i / 8) (place b);
+      was_accepted = accepted;
+      number_is_in_range = may.1;
+      has_frame = place;
+      frame_is_lent = λ b. (traced start h s legal).sound.lent e l (i / 8) (place b);
     }

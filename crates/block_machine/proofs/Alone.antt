@@ -9,7 +9,7 @@ use Rattle.ata_types.specs.declared.request.Op.{Op}
 use Rattle.ata_types.specs.declared.request.Op.TheVariants.{Read, Write, Trim, Flush}
 use Rattle.block_machine.specs.declared.due.QueueMode.{QueueMode}
 use Rattle.block_machine.specs.declared.due.Unanswered.{Unanswered}
-use Rattle.block_machine.specs.Due.{IsInOrder, waits_for, is_plain, is_unblocked, due_of}
+use Rattle.block_machine.specs.DueRequests.{IsInOrder, waits_for, is_plain, is_unblocked, due_of}
 use Rattle.block_machine.proofs.Order.{In, Ordered, in_from, from_in, ordered_from}
 use Rattle.block_machine.proofs.Counting.{count_cons, count_none, unheld}
 use Rattle.block_machine.proofs.Keeps.{same_port}

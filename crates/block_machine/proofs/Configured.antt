@@ -12,7 +12,7 @@ use Rattle.block_machine.specs.State.{Accepted, Pending, Machine}
 use Rattle.block_machine.specs.Rules.{DifferInName, is_same_grant_name}
 use Rattle.block_machine.specs.Steps.{Step, Accept, Revoke, after_step, unanswered_count}
 use Rattle.block_machine.specs.Expected.{after, IsLegal, IsInitial}
-use Rattle.block_machine.specs.Confined.{IsGranted, WasAccepted}
+use Rattle.block_machine.specs.Confinement.{IsGranted, WasAccepted}
 use Rattle.block_machine.proofs.Members.{filter_in, contains_here, contains_there}
 use Rattle.block_machine.proofs.Counting.{count_cons}
 use Rattle.block_machine.proofs.Accepts.{living_accepted, law_accepted_is_granted}
@@ -38,8 +38,8 @@ rows_differ m (step ∷ past) differ = differ_step (after m past) step (rows_dif
 -- so the rows of a machine that is reached do
 pub names_differ : (m : Machine) → IsReachable m → AllPairs DifferInName m.rows
 names_differ m reached =
-    subst (λ (n : Machine). AllPairs DifferInName n.rows) (sym reached.is)
-    (rows_differ reached.first reached.past reached.starts.rows)
+    subst (λ (n : Machine). AllPairs DifferInName n.rows) (sym reached.leads_to_machine)
+    (rows_differ reached.initial_machine reached.steps_since reached.is_initial.rows)
 
 pub owner_step : (m : Machine) (step : Step) (f : Frame) → (after_step m step).owner f ≡ m.owner f
 owner_step m (Accept r) f = refl
@@ -54,7 +54,7 @@ law_rows_shrink_and_owners_stay start h = (rows_shrink start h, owners_stay star
 
 -- a request that more rows grant
 granted_by_more : (few more : List GrantRow) (r : Accepted) → ((row : GrantRow) → Contains few row → Contains more row) → IsGranted few r → IsGranted more r
-granted_by_more few more r shrunk g = record { row = g.row; named = (shrunk g.row g.named.0, g.named.1); port = g.port; right = g.right; covered = g.covered }
+granted_by_more few more r shrunk g = record { row = g.row; is_named = (shrunk g.row g.is_named.0, g.is_named.1); row_port_is = g.row_port_is; op_is_allowed = g.op_is_allowed; sectors_are_covered = g.sectors_are_covered }
 
 -- the rows of the start grant each request that was accepted
 pub was_granted : (start : Machine) (h : List Step) (r : Accepted) → WasAccepted start h r → IsGranted start.rows r
@@ -66,10 +66,10 @@ was_granted start (step ∷ past) r (inr w) = was_granted start past r w
 accepted_client : (start : Machine) (h : List Step) (r : Accepted) → IsInitial start → WasAccepted start h r → (1 ≤ r.asked.client.0) × (r.asked.client.0 ≤ 8)
 accepted_client start h r s w =
     let g = was_granted start h r w in
-    let row = s.configured g.row g.named.0 in
+    let row = s.configured g.row g.is_named.0 in
     let low = row.client.0 in
     let high = row.client.1 in
-    let same : g.row.client.0 ≡ r.asked.client.0 = ap (λ (x : ClientId). x.0) g.named.1.0 in
+    let same : g.row.client.0 ≡ r.asked.client.0 = ap (λ (x : ClientId). x.0) g.is_named.1.0 in
     (omega (arith, low, same), omega (arith, high, same))
 
 -- how many requests the clients 1 to n have

@@ -3,8 +3,8 @@ use Rattle.std.proofs.Common.{◌≡◌, ℕ, ◌+◌, ◌-◌, ◌<◌, ◌≤�
 use Rattle.std.proofs.lemmas.Bool.{cases_eq, cases_lt, or_left, and_parts, and_from, cond-true, cond-false, both_ways}
 use Rattle.ata_types.specs.declared.Port.{Port}
 use Rattle.block_machine.specs.State.{Block, DiskBytes, Accepted, Pending, Machine, newly_unanswered, sector_of, block_written}
-use Rattle.block_machine.specs.Due.{conflict, changes_sectors}
-use Rattle.block_machine.specs.Steps.{Step, Accept, Issue, Touch, End, Age, Again, Answer, Revoke, Release, Unplug, Replace, Store, Load, May, after_step, MayStillMove, put_sector, disks_after}
+use Rattle.block_machine.specs.DueRequests.{are_conflicting, changes_sectors}
+use Rattle.block_machine.specs.Steps.{Step, Accept, Issue, Touch, End, Age, WaitAgain, Answer, Revoke, Release, Unplug, Replace, Store, Load, IsEnabled, after_step, MayStillMove, put_sector, disks_after}
 use Rattle.block_machine.specs.Expected.{plug_count, bytes_when_plugged, IsTouch, HasTouched, Wrote, IsLastWritten}
 use Rattle.block_machine.proofs.Sound.{Sound}
 use Rattle.block_machine.proofs.Keeps.{same_port}
@@ -15,27 +15,27 @@ abbrev pub AllSeen : Machine → List Step → Type 0
 AllSeen m h = (w : Accepted) (k n : ℕ) → HasTouched w k n h → Seen m w k
 
 abbrev pub Holds : Machine → List Step → Machine → Type 0
-Holds start h m = (port : Port) (k : ℕ) → IsLastWritten start port k (plug_count port h) m.next h (m.disks port k)
+Holds start h m = (port : Port) (k : ℕ) → IsLastWritten start port k (plug_count port h) m.next_id h (m.disks port k)
 
 -- a step that touches nothing and changes no disk
 content_quiet : (start : Machine) (h : List Step) (m : Machine) (step : Step) (port : Port) (k limit : ℕ) → AllSeen m h
-    → ((w : Accepted) → IsTouch step w k → ⊥) → plug_count port (step ∷ h) ≡ plug_count port h → m.next ≤ limit
-    → IsLastWritten start port k (plug_count port h) m.next h (m.disks port k)
+    → ((w : Accepted) → IsTouch step w k → ⊥) → plug_count port (step ∷ h) ≡ plug_count port h → m.next_id ≤ limit
+    → IsLastWritten start port k (plug_count port h) m.next_id h (m.disks port k)
     → IsLastWritten start port k (plug_count port (step ∷ h)) limit (step ∷ h) (m.disks port k)
 content_quiet start h m step port k limit seen untouched number le last =
     subst (λ (n : ℕ). IsLastWritten start port k n limit (step ∷ h) (m.disks port k)) (sym number)
-    (last_from start port k (plug_count port h) m.next limit step h (m.disks port k) (le_refl _)
+    (last_from start port k (plug_count port h) m.next_id limit step h (m.disks port k) (le_refl _)
     (λ w _ _ _ t. untouched w t)
     (λ w o. let b = o.earlier in omega (arith, le, b))
     (λ w o. (seen w k (plug_count port h) o.touched).below)
     last)
 
 content_replace : (start : Machine) (h : List Step) (m : Machine) (at : Port) (id size : ℕ) (disk : DiskBytes) (port : Port) (k : ℕ) → AllSeen m h
-    → IsLastWritten start port k (plug_count port h) m.next h (m.disks port k)
-    → IsLastWritten start port k (plug_count port (Replace at id size disk ∷ h)) m.next (Replace at id size disk ∷ h) ((after_step m (Replace at id size disk)).disks port k)
+    → IsLastWritten start port k (plug_count port h) m.next_id h (m.disks port k)
+    → IsLastWritten start port k (plug_count port (Replace at id size disk ∷ h)) m.next_id (Replace at id size disk ∷ h) ((after_step m (Replace at id size disk)).disks port k)
 content_replace start h m at id size disk port k seen last = ⊎_elim same other (cases_eq at.0 port.0)
   where
-    same : at.0 ≡ port.0 → IsLastWritten start port k (plug_count port (Replace at id size disk ∷ h)) m.next (Replace at id size disk ∷ h) ((after_step m (Replace at id size disk)).disks port k)
+    same : at.0 ≡ port.0 → IsLastWritten start port k (plug_count port (Replace at id size disk ∷ h)) m.next_id (Replace at id size disk ∷ h) ((after_step m (Replace at id size disk)).disks port k)
     same e =
         let t : (at.0 == port.0) ≡ true = eq-eqb at.0 port.0 e in
         let t' : (port.0 == at.0) ≡ true = eq-eqb port.0 at.0 (sym e) in
@@ -48,50 +48,50 @@ content_replace start h m at id size disk port k seen last = ⊎_elim same other
           λ w o. ⊎_elim (λ (x : ⊥ × (plug_count w.port h ≡ plug_count port (Replace at id size disk ∷ h))). x.0)
               (λ (x : HasTouched w k (plug_count port (Replace at id size disk ∷ h)) h).
               let b = touched_number w k (plug_count port (Replace at id size disk ∷ h)) h x in
-              let p : plug_count w.port h ≡ plug_count port h = ap (λ (q : Port). plug_count q h) o.here in
+              let p : plug_count w.port h ≡ plug_count port h = ap (λ (q : Port). plug_count q h) o.port_is in
               let f : ⊥ = omega (arith, b, p, number) in f)
               o.touched,
           ap (λ (d : DiskBytes). d k) (now ∙ sym put),
         )
 
-    other : (at.0 ≡ port.0 → ⊥) → IsLastWritten start port k (plug_count port (Replace at id size disk ∷ h)) m.next (Replace at id size disk ∷ h) ((after_step m (Replace at id size disk)).disks port k)
+    other : (at.0 ≡ port.0 → ⊥) → IsLastWritten start port k (plug_count port (Replace at id size disk ∷ h)) m.next_id (Replace at id size disk ∷ h) ((after_step m (Replace at id size disk)).disks port k)
     other ne =
         let f : (at.0 == port.0) ≡ false = ne_eqb at.0 port.0 ne in
         let f' : (port.0 == at.0) ≡ false = ne_eqb port.0 at.0 (λ e. ne (sym e)) in
         let number : plug_count port (Replace at id size disk ∷ h) ≡ plug_count port h = cond-false (at.0 == port.0) (suc (plug_count port h)) (plug_count port h) f in
         let now : (after_step m (Replace at id size disk)).disks port ≡ m.disks port = cond-false (port.0 == at.0) disk (m.disks port) f' in
-        subst (λ (d : DiskBytes). IsLastWritten start port k (plug_count port (Replace at id size disk ∷ h)) m.next (Replace at id size disk ∷ h) (d k)) (sym now)
-        (content_quiet start h m (Replace at id size disk) port k m.next seen (λ w t. t) number (le_refl _) last)
+        subst (λ (d : DiskBytes). IsLastWritten start port k (plug_count port (Replace at id size disk ∷ h)) m.next_id (Replace at id size disk ∷ h) (d k)) (sym now)
+        (content_quiet start h m (Replace at id size disk) port k m.next_id seen (λ w t. t) number (le_refl _) last)
 
 content_touch : (start : Machine) (h : List Step) (m : Machine) (e : Pending) (i : ℕ) (block : Block) (port : Port) (k : ℕ) → Sound m → AllSeen m h → MayStillMove m e → i < e.request.asked.count
-    → IsLastWritten start port k (plug_count port h) m.next h (m.disks port k)
-    → IsLastWritten start port k (plug_count port h) m.next (Touch e i block ∷ h) (disks_after e.request i m.disks port k)
+    → IsLastWritten start port k (plug_count port h) m.next_id h (m.disks port k)
+    → IsLastWritten start port k (plug_count port h) m.next_id (Touch e i block ∷ h) (disks_after e.request i m.disks port k)
 content_touch start h m e i block port k s seen r lt last = by_op (changes_sectors e.request.asked.op) refl
   where
     -- no writer's touch of this sector
     quiet : (left : Block) → left ≡ m.disks port k → ((w : Accepted) → changes_sectors w.asked.op ≡ true → w.port ≡ port → IsTouch (Touch e i block) w k → ⊥)
-        → IsLastWritten start port k (plug_count port h) m.next (Touch e i block ∷ h) left
+        → IsLastWritten start port k (plug_count port h) m.next_id (Touch e i block ∷ h) left
     quiet left same none =
-        subst (λ (b : Block). IsLastWritten start port k (plug_count port h) m.next (Touch e i block ∷ h) b) (sym same)
-        (last_from start port k (plug_count port h) m.next m.next (Touch e i block) h (m.disks port k) (le_refl _)
+        subst (λ (b : Block). IsLastWritten start port k (plug_count port h) m.next_id (Touch e i block ∷ h) b) (sym same)
+        (last_from start port k (plug_count port h) m.next_id m.next_id (Touch e i block) h (m.disks port k) (le_refl _)
         (λ w a b _ t. none w a b t) (λ w o. o.earlier) (λ w o. o.earlier) last)
 
     latest : changes_sectors e.request.asked.op ≡ true → e.request.port ≡ port → e.request.asked.first.0 + i ≡ k
-        → (w : Accepted) → Wrote port k (plug_count port h) m.next (Touch e i block ∷ h) w → w.id.0 ≤ e.request.id.0
+        → (w : Accepted) → Wrote port k (plug_count port h) m.next_id (Touch e i block ∷ h) w → w.id.0 ≤ e.request.id.0
     latest writes here at w o = ⊎_elim
         (λ (t : IsTouch (Touch e i block) w k × (plug_count w.port h ≡ plug_count port h)).
         subst (λ (j : Accepted). j.id.0 ≤ e.request.id.0) t.0.0 (le_refl _))
         (λ (t : HasTouched w k (plug_count port h) h). ⊎_elim
         (λ (less : e.request.id.0 < w.id.0).
         let q = seen w k (plug_count port h) t in
-        let con : conflict (newly_unanswered e.request) (newly_unanswered w) ≡ true = conflict_at e.request w k (here ∙ sym o.here) (or_left _ _ writes) (omega (arith, at)) (omega (arith, at, lt)) q.from q.to in
+        let con : are_conflicting (newly_unanswered e.request) (newly_unanswered w) ≡ true = conflict_at e.request w k (here ∙ sym o.port_is) (or_left _ _ writes) (omega (arith, at)) (omega (arith, at, lt)) q.from q.to in
         absurd (q.order e (runs_lives m e r) less con))
         (λ (le : w.id.0 ≤ e.request.id.0). le)
         (cases_lt e.request.id.0 w.id.0))
         o.touched
 
     by_place : changes_sectors e.request.asked.op ≡ true → (b : Bool) → ((port.0 == e.request.port.0) && (k == e.request.asked.first.0 + i)) ≡ b
-        → IsLastWritten start port k (plug_count port h) m.next (Touch e i block ∷ h) (put_sector e.request.port (e.request.asked.first.0 + i) (block_written e.request.asked.op e.request.held i) m.disks port k)
+        → IsLastWritten start port k (plug_count port h) m.next_id (Touch e i block ∷ h) (put_sector e.request.port (e.request.asked.first.0 + i) (block_written e.request.asked.op e.request.held_blocks i) m.disks port k)
     by_place writes true t =
         let p = and_parts (port.0 == e.request.port.0) (k == e.request.asked.first.0 + i) t in
         let here : e.request.port ≡ port = sym (same_port port e.request.port (eqb-true port.0 e.request.port.0 p.0)) in
@@ -99,40 +99,40 @@ content_touch start h m e i block port k s seen r lt last = by_op (changes_secto
         let nth : k - e.request.asked.first.0 ≡ i = omega (arith, at) in
         inl (
           e.request,
-          record { writes = writes; here = here; earlier = s.below e (runs_lives m e r); touched = inl ((refl, at), ap (λ (q : Port). plug_count q h) here) },
+          record { op_changes_sectors = writes; port_is = here; earlier = s.below e (runs_lives m e r); touched = inl ((refl, at), ap (λ (q : Port). plug_count q h) here) },
           latest writes here at,
-          cond-true ((port.0 == e.request.port.0) && (k == e.request.asked.first.0 + i)) (block_written e.request.asked.op e.request.held i) (m.disks port k) t
-              ∙ ap (λ (x : ℕ). block_written e.request.asked.op e.request.held x) (sym nth),
+          cond-true ((port.0 == e.request.port.0) && (k == e.request.asked.first.0 + i)) (block_written e.request.asked.op e.request.held_blocks i) (m.disks port k) t
+              ∙ ap (λ (x : ℕ). block_written e.request.asked.op e.request.held_blocks x) (sym nth),
         )
     by_place writes false t =
-        quiet _ (cond-false ((port.0 == e.request.port.0) && (k == e.request.asked.first.0 + i)) (block_written e.request.asked.op e.request.held i) (m.disks port k) t)
+        quiet _ (cond-false ((port.0 == e.request.port.0) && (k == e.request.asked.first.0 + i)) (block_written e.request.asked.op e.request.held_blocks i) (m.disks port k) t)
         (λ w _ here touch.
         let port_same : port ≡ e.request.port = sym here ∙ ap (λ (j : Accepted). j.port) (sym touch.0) in
         let k_same : k ≡ e.request.asked.first.0 + i = sym touch.1 ∙ ap (λ (j : Accepted). sector_of j i) (sym touch.0) in
         both_ways _ t (and_from _ _ (eq-eqb port.0 e.request.port.0 (ap (λ (q : Port). q.0) port_same)) (eq-eqb k (e.request.asked.first.0 + i) k_same)))
 
     by_op : (b : Bool) → changes_sectors e.request.asked.op ≡ b
-        → IsLastWritten start port k (plug_count port h) m.next (Touch e i block ∷ h) (disks_after e.request i m.disks port k)
+        → IsLastWritten start port k (plug_count port h) m.next_id (Touch e i block ∷ h) (disks_after e.request i m.disks port k)
     by_op true w =
-        subst (λ (d : Port → DiskBytes). IsLastWritten start port k (plug_count port h) m.next (Touch e i block ∷ h) (d port k))
-        (sym (cond-true (changes_sectors e.request.asked.op) (put_sector e.request.port (e.request.asked.first.0 + i) (block_written e.request.asked.op e.request.held i) m.disks) m.disks w))
+        subst (λ (d : Port → DiskBytes). IsLastWritten start port k (plug_count port h) m.next_id (Touch e i block ∷ h) (d port k))
+        (sym (cond-true (changes_sectors e.request.asked.op) (put_sector e.request.port (e.request.asked.first.0 + i) (block_written e.request.asked.op e.request.held_blocks i) m.disks) m.disks w))
         (by_place w _ refl)
     by_op false w =
-        quiet _ (ap (λ (d : Port → DiskBytes). d port k) (cond-false (changes_sectors e.request.asked.op) (put_sector e.request.port (e.request.asked.first.0 + i) (block_written e.request.asked.op e.request.held i) m.disks) m.disks w))
+        quiet _ (ap (λ (d : Port → DiskBytes). d port k) (cond-false (changes_sectors e.request.asked.op) (put_sector e.request.port (e.request.asked.first.0 + i) (block_written e.request.asked.op e.request.held_blocks i) m.disks) m.disks w))
         (λ x writes here touch. both_ways _ w (subst (λ (j : Accepted). changes_sectors j.asked.op ≡ true) (sym touch.0) writes))
 
 -- the disks hold what was last put there, after each step
-pub content_step : (start : Machine) (h : List Step) (m : Machine) (step : Step) → May m step → Sound m → AllSeen m h → Holds start h m → Holds start (step ∷ h) (after_step m step)
-content_step start h m (Accept request) may s seen c port k = content_quiet start h m (Accept request) port k (suc m.next) seen (λ w t. t) refl (omega arith) (c port k)
-content_step start h m (Issue mode e) may s seen c port k = content_quiet start h m (Issue mode e) port k m.next seen (λ w t. t) refl (le_refl _) (c port k)
+pub content_step : (start : Machine) (h : List Step) (m : Machine) (step : Step) → IsEnabled m step → Sound m → AllSeen m h → Holds start h m → Holds start (step ∷ h) (after_step m step)
+content_step start h m (Accept request) may s seen c port k = content_quiet start h m (Accept request) port k (suc m.next_id) seen (λ w t. t) refl (omega arith) (c port k)
+content_step start h m (Issue mode e) may s seen c port k = content_quiet start h m (Issue mode e) port k m.next_id seen (λ w t. t) refl (le_refl _) (c port k)
 content_step start h m (Touch e i block) may s seen c port k = content_touch start h m e i block port k s seen may.0 may.1 (c port k)
-content_step start h m (End e) may s seen c port k = content_quiet start h m (End e) port k m.next seen (λ w t. t) refl (le_refl _) (c port k)
-content_step start h m (Age ready) may s seen c port k = content_quiet start h m (Age ready) port k m.next seen (λ w t. t) refl (le_refl _) (c port k)
-content_step start h m (Again e) may s seen c port k = content_quiet start h m (Again e) port k m.next seen (λ w t. t) refl (le_refl _) (c port k)
-content_step start h m (Answer e outcome) may s seen c port k = content_quiet start h m (Answer e outcome) port k m.next seen (λ w t. t) refl (le_refl _) (c port k)
-content_step start h m (Revoke client number) may s seen c port k = content_quiet start h m (Revoke client number) port k m.next seen (λ w t. t) refl (le_refl _) (c port k)
-content_step start h m Release may s seen c port k = content_quiet start h m Release port k m.next seen (λ w t. t) refl (le_refl _) (c port k)
-content_step start h m (Unplug at) may s seen c port k = content_quiet start h m (Unplug at) port k m.next seen (λ w t. t) refl (le_refl _) (c port k)
+content_step start h m (End e) may s seen c port k = content_quiet start h m (End e) port k m.next_id seen (λ w t. t) refl (le_refl _) (c port k)
+content_step start h m (Age ready) may s seen c port k = content_quiet start h m (Age ready) port k m.next_id seen (λ w t. t) refl (le_refl _) (c port k)
+content_step start h m (WaitAgain e) may s seen c port k = content_quiet start h m (WaitAgain e) port k m.next_id seen (λ w t. t) refl (le_refl _) (c port k)
+content_step start h m (Answer e outcome) may s seen c port k = content_quiet start h m (Answer e outcome) port k m.next_id seen (λ w t. t) refl (le_refl _) (c port k)
+content_step start h m (Revoke client number) may s seen c port k = content_quiet start h m (Revoke client number) port k m.next_id seen (λ w t. t) refl (le_refl _) (c port k)
+content_step start h m Release may s seen c port k = content_quiet start h m Release port k m.next_id seen (λ w t. t) refl (le_refl _) (c port k)
+content_step start h m (Unplug at) may s seen c port k = content_quiet start h m (Unplug at) port k m.next_id seen (λ w t. t) refl (le_refl _) (c port k)
 content_step start h m (Replace at id size disk) may s seen c port k = content_replace start h m at id size disk port k seen (c port k)
-content_step start h m (Store client frame offset bytes) may s seen c port k = content_quiet start h m (Store client frame offset bytes) port k m.next seen (λ w t. t) refl (le_refl _) (c port k)
-content_step start h m (Load client frame offset bytes) may s seen c port k = content_quiet start h m (Load client frame offset bytes) port k m.next seen (λ w t. t) refl (le_refl _) (c port k)
+content_step start h m (Store client frame offset bytes) may s seen c port k = content_quiet start h m (Store client frame offset bytes) port k m.next_id seen (λ w t. t) refl (le_refl _) (c port k)
+content_step start h m (Load client frame offset bytes) may s seen c port k = content_quiet start h m (Load client frame offset bytes) port k m.next_id seen (λ w t. t) refl (le_refl _) (c port k)

@@ -5,7 +5,7 @@ use Rattle.std.specs.List.{count_by, Contains}
 use Rattle.std.proofs.lemmas.Bool.{and_parts, false≢true, not-true, both_ways}
 use Rattle.block_machine.specs.declared.due.QueueMode.{QueueMode}
 use Rattle.block_machine.specs.declared.due.Unanswered.{Unanswered}
-use Rattle.block_machine.specs.Due.{waits_for, is_unblocked, IsDue}
+use Rattle.block_machine.specs.DueRequests.{waits_for, is_unblocked, IsDue}
 use Rattle.block_machine.proofs.Members.{none_of}
 use Rattle.block_machine.proofs.Order.{In}
 
@@ -57,4 +57,4 @@ unheld mode book r clear o h = none_of (waits_for mode r) book o (not-true _ (an
 
 -- the issued one is due no more
 pub issued_not_due : (mode : QueueMode) (book : List Unanswered) (r : Unanswered) → r.issued ≡ true → IsDue mode book r → ⊥
-issued_not_due mode book r issued d = both_ways _ (not-true _ (and_parts _ _ d.clear).0) issued
+issued_not_due mode book r issued d = both_ways _ (not-true _ (and_parts _ _ d.nothing_blocks).0) issued

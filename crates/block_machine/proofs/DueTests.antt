@@ -8,7 +8,7 @@ use Rattle.ata_types.specs.declared.range.Range.{Range}
 use Rattle.ata_types.specs.Range.{range_end, Overlaps}
 use Rattle.block_machine.specs.declared.due.QueueMode.{QueueMode}
 use Rattle.block_machine.specs.declared.due.Unanswered.{Unanswered}
-use Rattle.block_machine.specs.Due.{overlap, is_plain, ahead, free_slots, IsDue, is_due}
+use Rattle.block_machine.specs.DueRequests.{are_overlapping, is_plain, unblocked_ahead_count, free_slots, IsDue, is_due}
 
 -- two tests of one fact are one
 pub same_test : {P : Type 0} (r t : Bool) → (IsTrue r ↔ P) → (IsTrue t ↔ P) → r ≡ t
@@ -18,10 +18,10 @@ same_test false true p q = p.1 (q.0 refl)
 same_test false false p q = refl
 
 -- the test on ranges says that a sector is in both
-pub overlap_is_overlaps : (a b : Range) → IsTrue (overlap a b) ↔ Overlaps a b
+pub overlap_is_overlaps : (a b : Range) → IsTrue (are_overlapping a b) ↔ Overlaps a b
 overlap_is_overlaps a b = (to, from)
   where
-    to : overlap a b ≡ true → Overlaps a b
+    to : are_overlapping a b ≡ true → Overlaps a b
     to t =
         let p = and_parts _ _ t in
         let ends = and_parts _ _ p.0 in
@@ -32,7 +32,7 @@ overlap_is_overlaps a b = (to, from)
         let cb = ltb-true 0 b.count counts.1 in
         (max a.first.0 b.first.0, (omega (arith, l, r, ca, cb), omega (arith, l, r, ca, cb)), (omega (arith, l, r, ca, cb), omega (arith, l, r, ca, cb)))
 
-    from : Overlaps a b → overlap a b ≡ true
+    from : Overlaps a b → are_overlapping a b ≡ true
     from o =
         let la = o.1.0 in let ha = o.1.1 in let lb = o.2.0 in let hb = o.2.1 in
         and_from _ _ (and_from _ _ (lt-ltb a.first.0 (range_end b) (omega (arith, la, ha, lb, hb))) (lt-ltb b.first.0 (range_end a) (omega (arith, la, ha, lb, hb))))
@@ -46,17 +46,17 @@ due_test mode book r here = (to, from)
     to t =
         let p = and_parts _ _ t in
         record {
-          here = here;
-          clear = p.0;
-          slot = λ queued. ⊎_elim
+          is_in_book = here;
+          nothing_blocks = p.0;
+          slot_is_left = λ queued. ⊎_elim
               (λ plain. absurd (false≢true (sym queued ∙ plain)))
-              (λ few. ltb-true (ahead mode book r) (free_slots mode book r.port) few)
+              (λ few. ltb-true (unblocked_ahead_count mode book r) (free_slots mode book r.port) few)
               (or_cases (is_plain mode r.op) _ p.1);
         }
 
     from : IsDue mode book r → is_due mode book r ≡ true
-    from d = and_from _ _ d.clear (by (is_plain mode r.op) refl)
+    from d = and_from _ _ d.nothing_blocks (by (is_plain mode r.op) refl)
       where
-        by : (b : Bool) → is_plain mode r.op ≡ b → (is_plain mode r.op || nat_lt (ahead mode book r) (free_slots mode book r.port)) ≡ true
+        by : (b : Bool) → is_plain mode r.op ≡ b → (is_plain mode r.op || nat_lt (unblocked_ahead_count mode book r) (free_slots mode book r.port)) ≡ true
         by true plain = or_left _ _ plain
-        by false queued = or_right _ _ (lt-ltb (ahead mode book r) (free_slots mode book r.port) (d.slot queued))
+        by false queued = or_right _ _ (lt-ltb (unblocked_ahead_count mode book r) (free_slots mode book r.port) (d.slot_is_left queued))

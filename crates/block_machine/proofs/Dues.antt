@@ -6,7 +6,7 @@ use Rattle.ata_types.specs.declared.Port.{Port}
 use Rattle.ata_types.specs.declared.request.RequestId.{RequestId}
 use Rattle.block_machine.specs.declared.due.QueueMode.{QueueMode}
 use Rattle.block_machine.specs.declared.due.Unanswered.{Unanswered}
-use Rattle.block_machine.specs.Due.{IsDue, IsInOrder, conflict, waits_for, is_plain, is_earlier_on_port, is_unblocked, ahead, issued_count, free_slots, mark_issued, with_issued}
+use Rattle.block_machine.specs.DueRequests.{IsDue, IsInOrder, are_conflicting, waits_for, is_plain, is_earlier_on_port, is_unblocked, unblocked_ahead_count, issued_count, free_slots, mark_issued, with_issued}
 use Rattle.block_machine.proofs.Members.{into_map, some_in}
 use Rattle.block_machine.proofs.Order.{In, Ordered, in_from, from_in, ordered_from}
 use Rattle.block_machine.proofs.Counting.{count_cons, count_map, count_least, unheld}
@@ -72,7 +72,7 @@ holds_issued : (mode : QueueMode) (x o : Unanswered) → (o.port.0 == x.port.0) 
 holds_issued mode x o port now plain = and_from _ _ port (go (is_plain mode x.op) refl plain)
   where
     go : (b : Bool) → is_plain mode x.op ≡ b → (is_plain mode x.op ≡ true) ⊎ (is_plain mode o.op ≡ true)
-        → cond b (o.issued || ltb o.id.0 x.id.0) ((is_plain mode o.op && o.issued) || (ltb o.id.0 x.id.0 && (is_plain mode o.op || conflict o x))) ≡ true
+        → cond b (o.issued || ltb o.id.0 x.id.0) ((is_plain mode o.op && o.issued) || (ltb o.id.0 x.id.0 && (is_plain mode o.op || are_conflicting o x))) ≡ true
     go true p h = or_left _ _ now
     go false p (inl q) = absurd (both_ways _ p q)
     go false p (inr q) = or_left _ _ (and_from _ _ q now)
@@ -82,7 +82,7 @@ holds_queued : (mode : QueueMode) (x o : Unanswered) → is_plain mode x.op ≡ 
 holds_queued mode x o px po =
     ap (λ (b : Bool). (o.port.0 == x.port.0) && b)
     (cond-false (is_plain mode x.op) _ _ px
-    ∙ ap (λ (b : Bool). b || (ltb o.id.0 x.id.0 && (is_plain mode o.op || conflict o x))) (and_left _ true po ∙ sym (and_left _ o.issued po))
+    ∙ ap (λ (b : Bool). b || (ltb o.id.0 x.id.0 && (is_plain mode o.op || are_conflicting o x))) (and_left _ true po ∙ sym (and_left _ o.issued po))
     ∙ sym (cond-false (is_plain mode x.op) _ _ px))
 
 holds_elsewhere : (mode : QueueMode) (x o : Unanswered) → (o.port.0 == x.port.0) ≡ false → waits_for mode x (record o { issued = true }) ≡ waits_for mode x o
@@ -90,10 +90,10 @@ holds_elsewhere mode x o port = and_left _ _ port ∙ sym (and_left _ _ port)
 
 module _ (mode : QueueMode) (book : List Unanswered) (e : Unanswered) (order : Ordered book) (due : IsDue mode book e) where
   here : In e book
-  here = in_from book e due.here
+  here = in_from book e due.is_in_book
 
   waits : e.issued ≡ false
-  waits = not-true _ (and_parts _ _ due.clear).0
+  waits = not-true _ (and_parts _ _ due.nothing_blocks).0
 
   is_e : (y : Unanswered) → In y book → y.id.0 ≡ e.id.0 → y ≡ e
   is_e y h id = in_order_one book order y e h here id
@@ -108,7 +108,7 @@ module _ (mode : QueueMode) (book : List Unanswered) (e : Unanswered) (order : O
   comes_later : (y : Unanswered) → In y book → (y.id.0 ≡ e.id.0 → ⊥) → (y.port.0 == e.port.0) ≡ true
       → (is_plain mode e.op ≡ true) ⊎ (is_plain mode y.op ≡ true) → e.id.0 < y.id.0
   comes_later y h ne port plain = ⊎_elim
-      (λ (less : y.id.0 < e.id.0). absurd (both_ways _ (unheld mode book e due.clear y (from_in y book h)) (holds_if mode e y port (lt-ltb y.id.0 e.id.0 less) plain)))
+      (λ (less : y.id.0 < e.id.0). absurd (both_ways _ (unheld mode book e due.nothing_blocks y (from_in y book h)) (holds_if mode e y port (lt-ltb y.id.0 e.id.0 less) plain)))
       (λ (le : e.id.0 ≤ y.id.0). let differ : y.id.0 ≢ e.id.0 = ne in omega arith)
       (cases_lt y.id.0 e.id.0)
 
@@ -130,9 +130,9 @@ module _ (mode : QueueMode) (book : List Unanswered) (e : Unanswered) (order : O
           let later = comes_later y h ne port' (⊎_elim (λ p. inr p) (λ p. inl p) plain) in
           let new : list_any (waits_for mode y) (with_issued e.id book) ≡ true =
           some_in (waits_for mode y) (with_issued e.id book) (record e { issued = true })
-          (subst (λ (z : Unanswered). Contains (with_issued e.id book) z) becomes (into_map (mark_issued e.id) book e due.here))
+          (subst (λ (z : Unanswered). Contains (with_issued e.id book) z) becomes (into_map (mark_issued e.id) book e due.is_in_book))
           (holds_issued mode y (record e { issued = true }) port refl plain) in
-          new ∙ sym (some_in (waits_for mode y) book e due.here (holds_if mode y e port (lt-ltb e.id.0 y.id.0 later) plain))
+          new ∙ sym (some_in (waits_for mode y) book e due.is_in_book (holds_if mode y e port (lt-ltb e.id.0 y.id.0 later) plain))
 
       by_plain : (e.port.0 == y.port.0) ≡ true → (a b : Bool) → is_plain mode y.op ≡ a → is_plain mode e.op ≡ b
           → list_any (waits_for mode y) (with_issued e.id book) ≡ list_any (waits_for mode y) book
@@ -148,16 +148,16 @@ module _ (mode : QueueMode) (book : List Unanswered) (e : Unanswered) (order : O
   clear_same y h ne = ap (λ (b : Bool). not y.issued && not b) (held_same y h ne)
 
   -- the count of those ahead of x falls by one if e was ahead of it
-  ahead_less : (x : Unanswered) → ahead mode (with_issued e.id book) x + cond (is_earlier_on_port e x) 1 0 ≡ ahead mode book x
+  ahead_less : (x : Unanswered) → unblocked_ahead_count mode (with_issued e.id book) x + cond (is_earlier_on_port e x) 1 0 ≡ unblocked_ahead_count mode book x
   ahead_less x =
       let new : Unanswered → Bool = λ y. is_earlier_on_port y x && is_unblocked mode (with_issued e.id book) y in
       let old : Unanswered → Bool = λ y. is_earlier_on_port y x && is_unblocked mode book y in
-      let changed : ahead mode (with_issued e.id book) x + cond (old e) 1 0 ≡ ahead mode book x + cond (new (mark_issued e.id e)) 1 0
+      let changed : unblocked_ahead_count mode (with_issued e.id book) x + cond (old e) 1 0 ≡ unblocked_ahead_count mode book x + cond (new (mark_issued e.id e)) 1 0
       = count_changed new old (mark_issued e.id) book e order here
       (λ y h ne. ap new (stays y ne) ∙ ap (λ (b : Bool). is_earlier_on_port y x && b) (clear_same y h ne)) in
       let gone : ◌≡◌ {A = ℕ} (cond (new (mark_issued e.id e)) 1 0) 0 = ap (λ (b : Bool). cond {A = ℕ} b 1 0) (ap new becomes ∙ and_right _ _ refl) in
       let was : ◌≡◌ {A = ℕ} (cond (old e) 1 0) (cond (is_earlier_on_port e x) 1 0) =
-      ap (λ (b : Bool). cond {A = ℕ} b 1 0) (ap (λ (b : Bool). is_earlier_on_port e x && b) due.clear ∙ and_true _) in
+      ap (λ (b : Bool). cond {A = ℕ} b 1 0) (ap (λ (b : Bool). is_earlier_on_port e x && b) due.nothing_blocks ∙ and_true _) in
       omega (arith, changed, gone, was)
     where
       and_true : (b : Bool) → (b && true) ≡ b
@@ -185,7 +185,7 @@ module _ (mode : QueueMode) (book : List Unanswered) (e : Unanswered) (order : O
   later_none x le = ap (λ (b : Bool). cond {A = ℕ} b 1 0) (and_right _ _ (false_from_ne_true _ (λ t. let lt = ltb-true e.id.0 x.id.0 t in let f : ⊥ = omega (arith, lt, le) in f)))
 
   -- an earlier one of the port that is clear has fewer ahead of it
-  fewer_ahead : (x : Unanswered) → In x book → is_unblocked mode book x ≡ true → x.port ≡ e.port → x.id.0 < e.id.0 → ahead mode book x < ahead mode book e
+  fewer_ahead : (x : Unanswered) → In x book → is_unblocked mode book x ≡ true → x.port ≡ e.port → x.id.0 < e.id.0 → unblocked_ahead_count mode book x < unblocked_ahead_count mode book e
   fewer_ahead x h clear port less = count_more
       (λ y. is_earlier_on_port y x && is_unblocked mode book y)
       (λ y. is_earlier_on_port y e && is_unblocked mode book y)
@@ -204,23 +204,23 @@ module _ (mode : QueueMode) (book : List Unanswered) (e : Unanswered) (order : O
   not_plain : (x : Unanswered) → In x book → x.port ≡ e.port → x.id.0 < e.id.0 → is_plain mode e.op ≡ false
   not_plain x h port less = false_from_ne_true _ (λ t.
       let port' : (x.port.0 == e.port.0) ≡ true = eq-eqb x.port.0 e.port.0 (ap (λ (r : Port). r.0) port) in
-      both_ways _ (unheld mode book e due.clear x (from_in x book h)) (holds_if mode e x port' (lt-ltb x.id.0 e.id.0 less) (inl t)))
+      both_ways _ (unheld mode book e due.nothing_blocks x (from_in x book h)) (holds_if mode e x port' (lt-ltb x.id.0 e.id.0 less) (inl t)))
 
   -- a request of the port that was due still is
   still_due : (x : Unanswered) → (x.id.0 ≡ e.id.0 → ⊥) → x.port ≡ e.port → IsDue mode book x → IsDue mode (with_issued e.id book) x
   still_due x ne port dx = record {
-    here = subst (λ (z : Unanswered). Contains (with_issued e.id book) z) (stays x ne) (into_map (mark_issued e.id) book x dx.here);
-    clear = clear_same x (in_from book x dx.here) ne ∙ dx.clear;
-    slot = λ queued. ⊎_elim
+    is_in_book = subst (λ (z : Unanswered). Contains (with_issued e.id book) z) (stays x ne) (into_map (mark_issued e.id) book x dx.is_in_book);
+    nothing_blocks = clear_same x (in_from book x dx.is_in_book) ne ∙ dx.nothing_blocks;
+    slot_is_left = λ queued. ⊎_elim
         (λ (less : e.id.0 < x.id.0).
-        let a = ahead_less x in let b = dx.slot queued in let c = earlier_one x port less in let d = slots_less x port in omega (arith, a, b, c, d))
+        let a = ahead_less x in let b = dx.slot_is_left queued in let c = earlier_one x port less in let d = slots_less x port in omega (arith, a, b, c, d))
         (λ (le : x.id.0 ≤ e.id.0).
         let differ : x.id.0 ≢ e.id.0 = ne in
         let less : x.id.0 < e.id.0 = omega (arith, le, differ) in
-        let h : In x book = in_from book x dx.here in
+        let h : In x book = in_from book x dx.is_in_book in
         let a = ahead_less x in
-        let more = fewer_ahead x h dx.clear port less in
-        let b = due.slot (not_plain x h port less) in
+        let more = fewer_ahead x h dx.nothing_blocks port less in
+        let b = due.slot_is_left (not_plain x h port less) in
         let c = later_none x le in
         let d = slots_less x port in
         let same : issued_count book x.port ≡ issued_count book e.port = ap (issued_count book) port in
@@ -231,11 +231,11 @@ module _ (mode : QueueMode) (book : List Unanswered) (e : Unanswered) (order : O
   -- and one that is due then was due before
   was_due : (x : Unanswered) → Contains book x → (x.id.0 ≡ e.id.0 → ⊥) → x.port ≡ e.port → IsDue mode (with_issued e.id book) x → IsDue mode book x
   was_due x h ne port dx = record {
-    here = h;
-    clear = sym (clear_same x (in_from book x h) ne) ∙ dx.clear;
-    slot = λ queued. ⊎_elim
-        (λ (less : e.id.0 < x.id.0). let a = ahead_less x in let b = dx.slot queued in let c = earlier_one x port less in let d = slots_less x port in omega (arith, a, b, c, d))
-        (λ (le : x.id.0 ≤ e.id.0). let a = ahead_less x in let b = dx.slot queued in let c = later_none x le in let d = slots_less x port in omega (arith, a, b, c, d))
+    is_in_book = h;
+    nothing_blocks = sym (clear_same x (in_from book x h) ne) ∙ dx.nothing_blocks;
+    slot_is_left = λ queued. ⊎_elim
+        (λ (less : e.id.0 < x.id.0). let a = ahead_less x in let b = dx.slot_is_left queued in let c = earlier_one x port less in let d = slots_less x port in omega (arith, a, b, c, d))
+        (λ (le : x.id.0 ≤ e.id.0). let a = ahead_less x in let b = dx.slot_is_left queued in let c = later_none x le in let d = slots_less x port in omega (arith, a, b, c, d))
         (cases_lt e.id.0 x.id.0);
   }
 

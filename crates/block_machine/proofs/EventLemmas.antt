@@ -8,10 +8,10 @@ use Rattle.ata_types.specs.declared.request.RequestId.{RequestId}
 use Rattle.ata_types.specs.declared.request.Op.TheVariants.{Read}
 use Rattle.ata_types.specs.declared.request.Outcome.TheVariants.{Ok, DeviceError, Aborted, Unplugged, PortDead, Revoked}
 use Rattle.block_machine.specs.State.{Block, Memory, Pending, Machine, frame_at, is_reader}
-use Rattle.block_machine.specs.Steps.{Step, Accept, Touch, Again, Answer, Release, Store, May, after_step, stays, unlend, is_lent_to, put_bytes, memory_after, AllTouched}
+use Rattle.block_machine.specs.Steps.{Step, Accept, Touch, WaitAgain, Answer, Release, Store, IsEnabled, after_step, is_kept_at_answer, unlend, is_lent_to, put_bytes, memory_after, AllTouched}
 use Rattle.block_machine.specs.Expected.{after, IsLegal, IsInitial, AllStepsFaithful, HoldsExpected}
 use Rattle.block_machine.specs.Ports.{Ports, Evidence}
-use Rattle.block_machine.specs.Events.{AbstractState, AbstractCall, Submit, StoreAt, LoadAt, Service, Tick, Reset, RevokeOf, State, Device, CallRecord, AllMay, IsByDevice, IsByServer, AreStepsOfCall, AllAnswersLawful, abstract_after_all, IsRun, steps_of, EveryReadHolds}
+use Rattle.block_machine.specs.Events.{AbstractState, AbstractCall, Submit, StoreAt, LoadAt, Service, Tick, Reset, RevokeOf, State, Device, CallRecord, AllEnabled, IsByDevice, IsByServer, AreStepsOfCall, AllAnswersLawful, abstract_after_all, IsRun, steps_of, EveryReadHolds}
 use Rattle.block_machine.proofs.Order.{In}
 use Rattle.block_machine.proofs.Sound.{Sound}
 use Rattle.block_machine.proofs.Trace.{runs_lives}
@@ -24,10 +24,10 @@ pub after-append : (start : Machine) (late early : List Step) → after start (l
 after-append start [] early = refl
 after-append start (step ∷ late) early = ap (λ (m : Machine). after_step m step) (after-append start late early)
 
-pub legal_more : (start : Machine) (late early : List Step) → IsLegal start early → AllMay (after start early) late → IsLegal start (late ++ early)
+pub legal_more : (start : Machine) (late early : List Step) → IsLegal start early → AllEnabled (after start early) late → IsLegal start (late ++ early)
 legal_more start [] early l a = l
 legal_more start (step ∷ late) early l a =
-    (legal_more start late early l a.0, subst (λ (m : Machine). May m step) (sym (after-append start late early)) a.1)
+    (legal_more start late early l a.0, subst (λ (m : Machine). IsEnabled m step) (sym (after-append start late early)) a.1)
 
 -- the machine of a run is the one that its steps leave
 pub moment_is : {D : Type 0} (first : AbstractState) (run : List (CallRecord D)) → (abstract_after_all first run).machine ≡ after first.machine (steps_of run)
@@ -41,7 +41,7 @@ run_starts first (event ∷ past) r = run_starts first past r.0
 pub run_legal : {D : Type 0} (first : AbstractState) (run : List (CallRecord D)) → IsRun first run → IsLegal first.machine (steps_of run)
 run_legal first [] r = tt
 run_legal first (event ∷ past) r = legal_more first.machine event.steps (steps_of past) (run_legal first past r.0)
-    (subst (λ (m : Machine). AllMay m event.steps) (moment_is first past) r.1.may)
+    (subst (λ (m : Machine). AllEnabled m event.steps) (moment_is first past) r.1.steps_are_enabled)
 
 -- Each Ok is told of a whole request.
 
@@ -61,7 +61,7 @@ answer_whole old evidence ports (Answer e Aborted) before l = (l.0, tt)
 answer_whole old evidence ports (Answer e Unplugged) before l = (l.0, tt)
 answer_whole old evidence ports (Answer e PortDead) before l = (l.0, tt)
 answer_whole old evidence ports (Answer e Revoked) before l = (l.0, tt)
-answer_whole old evidence ports (Again e) before l = (l.0, tt)
+answer_whole old evidence ports (WaitAgain e) before l = (l.0, tt)
 answer_whole old evidence ports _ before l = (l, tt)
 
 call_whole : (old : AbstractState) (evidence : Evidence) (ports : Ports) (steps past : List Step) → AllAnswersLawful old evidence ports steps → AllWhole past → AllWhole (steps ++ past)
@@ -71,16 +71,16 @@ call_whole old evidence ports (step ∷ before) past l w =
 
 pub run_whole : {D : Type 0} (first : AbstractState) (run : List (CallRecord D)) → IsRun first run → AllWhole (steps_of run)
 run_whole first [] r = tt
-run_whole first (event ∷ past) r = call_whole (abstract_after_all first past) event.evidence event.ports event.steps (steps_of past) r.1.lawful (run_whole first past r.0)
+run_whole first (event ∷ past) r = call_whole (abstract_after_all first past) event.evidence event.ports event.steps (steps_of past) r.1.answers_are_lawful (run_whole first past r.0)
 
 -- the history up to a step of it
-pub up_to : (start : Machine) (late : List Step) (step : Step) (early : List Step) → IsLegal start (late ++ step ∷ early) → AllWhole (late ++ step ∷ early) → IsLegal start early × May (after start early) step × IsWhole step
+pub up_to : (start : Machine) (late : List Step) (step : Step) (early : List Step) → IsLegal start (late ++ step ∷ early) → AllWhole (late ++ step ∷ early) → IsLegal start early × IsEnabled (after start early) step × IsWhole step
 up_to start [] step early l w = (l.0, l.1, w.1)
 up_to start (x ∷ late) step early l w = up_to start late step early l.0 w.0
 
 -- a step of a run
 pub step_of_run : {D : Type 0} (first : AbstractState) (run : List (CallRecord D)) (late : List Step) (step : Step) (early : List Step) → IsRun first run → steps_of run ≡ late ++ step ∷ early
-    → IsLegal first.machine early × May (after first.machine early) step × IsWhole step
+    → IsLegal first.machine early × IsEnabled (after first.machine early) step × IsWhole step
 step_of_run first run late step early r split = up_to first.machine late step early (subst (IsLegal first.machine) split (run_legal first run r)) (subst AllWhole split (run_whole first run r))
 
 -- In a call that answers, no request is accepted and no client stores.
@@ -171,7 +171,7 @@ some_none o id p q = none_some (sym q ∙ p)
 unlent_none : (id : RequestId) (lent : Frame → Option RequestId) (f : Frame) → lent f ≡ None → unlend id lent f ≡ None
 unlent_none id lent f e = cond-false (is_lent_to id (lent f)) None (lent f) (ap (is_lent_to id) e) ∙ e
 
-stays_touch : (m : Machine) → Sound m → (e : Pending) (i : ℕ) (block : Block) → May m (Touch e i block) → (f : Frame) → m.lent f ≡ None → (b : ℕ) → (after_step m (Touch e i block)).memory f b ≡ m.memory f b
+stays_touch : (m : Machine) → Sound m → (e : Pending) (i : ℕ) (block : Block) → IsEnabled m (Touch e i block) → (f : Frame) → m.lent f ≡ None → (b : ℕ) → (after_step m (Touch e i block)).memory f b ≡ m.memory f b
 stays_touch m s e i block may f none b = by (is_reader e.request.asked.op) refl
   where
     by : (t : Bool) → is_reader e.request.asked.op ≡ t → memory_after e.request i block m.memory f b ≡ m.memory f b
@@ -184,10 +184,10 @@ stays_touch m s e i block may f none b = by (is_reader e.request.asked.op) refl
         ∙ put_other (frame_at e.request.asked.frames.items (i / 8)) f (512 * (i % 8)) b 512 block m.memory
         (λ same _ _. some_none (m.lent f) e.request.id (ap m.lent (sym same) ∙ s.lent e l (i / 8) place) none)
 
-stays_step : (memory : Memory) (m : Machine) (step : Step) → May m step → Sound m → IsQuiet step → Stays memory (after_step m step) → Stays memory m
+stays_step : (memory : Memory) (m : Machine) (step : Step) → IsEnabled m step → Sound m → IsQuiet step → Stays memory (after_step m step) → Stays memory m
 stays_step memory m (Touch e i block) may s q h = λ f none b. h f none b ∙ stays_touch m s e i block may f none b
 stays_step memory m (Answer e outcome) may s q h = λ f none b. h f
-    (cond_both (stays e outcome) m.lent (unlend e.request.id m.lent) (λ lent. lent f ≡ None) (λ _. none) (λ _. unlent_none e.request.id m.lent f none)) b
+    (cond_both (is_kept_at_answer e outcome) m.lent (unlend e.request.id m.lent) (λ lent. lent f ≡ None) (λ _. none) (λ _. unlent_none e.request.id m.lent f none)) b
 stays_step memory m Release may s q h = λ f none b. h f
     (cond_both (list_any (λ e. is_lent_to e.request.id (m.lent f)) m.kept) None (m.lent f) (λ o. o ≡ None) (λ _. refl) (λ _. none)) b
 stays_step memory m (Accept r) may s q h = absurd q
@@ -197,7 +197,7 @@ stays_step memory m _ may s q h = h
 -- a read that is answered Ok has in the last memory what is left
 answer_holds : (start : Machine) (memory : Memory) (past : List Step) (e : Pending) → IsInitial start → IsLegal start (Answer e Ok ∷ past) → AllStepsFaithful start past → IsWhole (Answer e Ok)
     → Stays memory (after start (Answer e Ok ∷ past)) → e.request.asked.op ≡ Read → HoldsExpected start past memory e.request
-answer_holds start memory past e s l told w stays op =
+answer_holds start memory past e s l told w is_kept_at_answer op =
     let m = after start past in
     let sound = (traced start past s l.0).sound in
     let holds = law_read_holds_expected start past e s l.0 told l.1.0 w.0 op in
@@ -207,8 +207,8 @@ answer_holds start memory past e s l told w stays op =
     (ap (is_lent_to e.request.id) (sound.lent e (inl l.1.0) i lt) ∙ eq-eqb e.request.id.0 e.request.id.0 refl) in
     record {
       sectors = λ i lt. let q = holds.sectors i lt in
-          (q.0, q.1, λ b lb. stays (frame_at e.request.asked.frames.items (i / 8)) (gone (i / 8) (omega (arith, room, lt))) (512 * (i % 8) + b) ∙ q.2 b lb);
-      rest = λ i b beyond lt lb. stays (frame_at e.request.asked.frames.items (i / 8)) (gone (i / 8) (omega (arith, lt))) (512 * (i % 8) + b) ∙ holds.rest i b beyond lt lb;
+          (q.0, q.1, λ b lb. is_kept_at_answer (frame_at e.request.asked.frames.items (i / 8)) (gone (i / 8) (omega (arith, room, lt))) (512 * (i % 8) + b) ∙ q.2 b lb);
+      rest = λ i b beyond lt lb. is_kept_at_answer (frame_at e.request.asked.frames.items (i / 8)) (gone (i / 8) (omega (arith, lt))) (512 * (i % 8) + b) ∙ holds.rest i b beyond lt lb;
     }
 
 -- a call's steps in which the read is answered Ok
@@ -259,7 +259,7 @@ law_every_read_holds {D} first run r told later earlier event rest before e is s
         (quiet_or_silent event.ask event.ports)
       where
         its : (step : Step) → In step (answering rest e before) → IsByDevice step ⊎ IsByServer event.ask event.ports step
-        its step i = belongs event.ask event.ports event.steps r.1.belong step (subst (In step) (sym split) i)
+        its step i = belongs event.ask event.ports event.steps r.1.steps_are_of_call step (subst (In step) (sym split) i)
 
     in_run : (later : List (CallRecord D)) → IsRun first (later ++ event ∷ earlier) → AllStepsFaithful first.machine (steps_of (later ++ event ∷ earlier)) → Held
     in_run [] r told = in_call r told

@@ -13,11 +13,11 @@ use Rattle.ata_types.specs.declared.refusal.Rule.TheVariants.{NoGrant, NoRight, 
 use Rattle.ata_types.specs.declared.refusal.Refusal.TheVariants as refused
 use Rattle.ata_types.specs.SectorGrants.{AllowsOp, CoversSectors}
 use Rattle.block_machine.specs.Rules.{IsNamed, IsAllowedCount, frame_count_for}
-use Rattle.block_machine.specs.Refusals.{Situation, IsAcceptable}
+use Rattle.block_machine.specs.Refusals.{AdmissionContext, IsAcceptable}
 
 -- The request names this row and no other, which lets it do what it asks. It has one frame at most, its client's own and
 -- lent to nobody. The row's port is ready, its disk is large enough, and a place and an id are left.
-pub record IsFitFor (row : GrantRow) (s : Situation) (r : Request) : Type 0 where
+pub record IsFitFor (row : GrantRow) (s : AdmissionContext) (r : Request) : Type 0 where
   pub named : IsNamed s.rows r row
   pub only : (other : GrantRow) → IsNamed s.rows r other → other ≡ row
   pub allowed : AllowsOp row.rights r.op
@@ -31,9 +31,9 @@ pub record IsFitFor (row : GrantRow) (s : Situation) (r : Request) : Type 0 wher
   pub on_disk : r.op ≢ Flush → r.first.0 + r.count ≤ s.sectors row.port
   pub no_trim : r.op ≢ Trim
   pub few : s.unanswered r.client < 16
-  pub ids : s.next < 2 ^ 64
+  pub ids : s.next_id < 2 ^ 64
 
-pub fit_acceptable : (row : GrantRow) (s : Situation) (r : Request) → IsFitFor row s r → IsAcceptable s r
+pub fit_acceptable : (row : GrantRow) (s : AdmissionContext) (r : Request) → IsFitFor row s r → IsAcceptable s r
 fit_acceptable row s r fit = go
   where
     first_place : (i : ℕ) (f : Frame) → slice_get r.frames.items i ≡ Some f → slice_get r.frames.items 0 ≡ Some f

@@ -1,31 +1,31 @@
 -- Parts of a call, one after the other.
 use Rattle.std.proofs.Common.{List, [], ◌∷◌, ◌++◌, sym, ap, ◌∙◌, subst}
 use Rattle.block_machine.specs.State.{Machine}
-use Rattle.block_machine.specs.Steps.{Step, May}
+use Rattle.block_machine.specs.Steps.{Step, IsEnabled}
 use Rattle.block_machine.specs.Expected.{after}
-use Rattle.block_machine.specs.Events.{AllMay}
+use Rattle.block_machine.specs.Events.{AllEnabled}
 use Rattle.block_machine.specs.Histories.{IsReachable, IsSimulatedBySteps}
 use Rattle.block_machine.proofs.EventLemmas.{after-append, legal_more}
 
-pub may-append : (m : Machine) (late early : List Step) → AllMay m early → AllMay (after m early) late → AllMay m (late ++ early)
+pub may-append : (m : Machine) (late early : List Step) → AllEnabled m early → AllEnabled (after m early) late → AllEnabled m (late ++ early)
 may-append m [] early a b = a
-may-append m (step ∷ late) early a b = (may-append m late early a b.0, subst (λ (x : Machine). May x step) (sym (after-append m late early)) b.1)
+may-append m (step ∷ late) early a b = (may-append m late early a b.0, subst (λ (x : Machine). IsEnabled x step) (sym (after-append m late early)) b.1)
 
-pub reached_more : (m : Machine) (steps : List Step) → IsReachable m → AllMay m steps → IsReachable (after m steps)
+pub reached_more : (m : Machine) (steps : List Step) → IsReachable m → AllEnabled m steps → IsReachable (after m steps)
 reached_more m steps r a = record {
-  first = r.first;
-  past = steps ++ r.past;
-  starts = r.starts;
-  legal = legal_more r.first steps r.past r.legal (subst (λ (x : Machine). AllMay x steps) r.is a);
-  is = ap (λ (x : Machine). after x steps) r.is ∙ sym (after-append r.first steps r.past);
+  initial_machine = r.initial_machine;
+  steps_since = steps ++ r.steps_since;
+  is_initial = r.is_initial;
+  is_legal = legal_more r.initial_machine steps r.steps_since r.is_legal (subst (λ (x : Machine). AllEnabled x steps) r.leads_to_machine a);
+  leads_to_machine = ap (λ (x : Machine). after x steps) r.leads_to_machine ∙ sym (after-append r.initial_machine steps r.steps_since);
 }
 
 -- one part of a call, and then another
 pub steps_then : {S : Type 0} {Fits : Machine → S → Type 0} {a b c : S} {P Q : Machine → List Step → Type 0} (R : Machine → List Step → Type 0)
     → IsSimulatedBySteps Fits a b P → IsSimulatedBySteps Fits b c Q → ((m : Machine) (early late : List Step) → P m early → Q (after m early) late → R m (late ++ early)) → IsSimulatedBySteps Fits a c R
 steps_then {S} {Fits} {a} {b} {c} R ab bc join = record {
-  adds = λ m r fits.
-      let x = ab.adds m r fits in
-      let y = bc.adds (after m x.0) (reached_more m x.0 r x.1) x.2 in
+  simulates = λ m r fits.
+      let x = ab.simulates m r fits in
+      let y = bc.simulates (after m x.0) (reached_more m x.0 r x.1) x.2 in
       (y.0 ++ x.0, may-append m y.0 x.0 x.1 y.1, subst (λ (n : Machine). Fits n c) (sym (after-append m y.0 x.0)) y.2, join m x.0 y.0 x.3 y.3);
 }

@@ -16,45 +16,45 @@ use Rattle.block_machine.specs.declared.due.QueueMode.{QueueMode}
 use Rattle.block_machine.specs.declared.due.Unanswered.{Unanswered}
 use Rattle.block_machine.specs.State.{Accepted, Pending, Machine, frame_at, is_reader, unanswered, newly_unanswered}
 use Rattle.block_machine.specs.Rules.{frame_count_for}
-use Rattle.block_machine.specs.Due.{IsDue, conflict, waits_for, is_plain}
-use Rattle.block_machine.specs.Steps.{Step, Accept, Issue, Touch, End, Age, Again, Answer, Revoke, Release, Unplug, Replace, Store, Load, May, MayAccept, NoneQuarantined, after_step, at, without, HoldsFrames, MayStillMove, newly_issued, touch, mark_ended, requeued, older, newly_accepted, lend, unlend, unlend_all, is_lent_to, stays}
+use Rattle.block_machine.specs.DueRequests.{IsDue, are_conflicting, waits_for, is_plain}
+use Rattle.block_machine.specs.Steps.{Step, Accept, Issue, Touch, End, Age, WaitAgain, Answer, Revoke, Release, Unplug, Replace, Store, Load, IsEnabled, MayAccept, NoneQuarantined, after_step, update_pending, without_pending, HoldsFrames, MayStillMove, newly_issued, touch, mark_ended, requeued, aged_pending, newly_accepted, lend, unlend, unlend_all, is_lent_to, is_kept_at_answer}
 use Rattle.block_machine.proofs.Members.{contains_none, contains_here, contains_there, contains_cases, map_in, into_map, at_cases, without_in, append_in, none_of}
 use Rattle.block_machine.proofs.Sound.{Sound, Carries, IsChanged, KeepsRequest, IsLentAll, IsDistinct, lived, order_carried, carried}
 
 -- a change of one request keeps every request
-pub at_keeps : (id : RequestId) (f : Pending → Pending) → KeepsRequest f → KeepsRequest (at id f)
+pub at_keeps : (id : RequestId) (f : Pending → Pending) → KeepsRequest f → KeepsRequest (update_pending id f)
 at_keeps id f k e = ⊎_elim (λ p. ap (λ (x : Pending). x.request) p.1 ∙ k e) (λ p. ap (λ (x : Pending). x.request) p.1) (at_cases id f e)
 
-pub at_quiet : (id : RequestId) (f : Pending → Pending) → ((e : Pending) → (f e).issued ≡ true → e.issued ≡ true) → (e : Pending) → (at id f e).issued ≡ true → e.issued ≡ true
+pub at_quiet : (id : RequestId) (f : Pending → Pending) → ((e : Pending) → (f e).issued ≡ true → e.issued ≡ true) → (e : Pending) → (update_pending id f e).issued ≡ true → e.issued ≡ true
 at_quiet id f q e h = ⊎_elim (λ p. q e (ap (λ (x : Pending). x.issued) (sym p.1) ∙ h)) (λ p. ap (λ (x : Pending). x.issued) (sym p.1) ∙ h) (at_cases id f e)
 
-pub older_keeps : (ready : Port → Bool) → KeepsRequest (older ready)
+pub older_keeps : (ready : Port → Bool) → KeepsRequest (aged_pending ready)
 older_keeps ready e = elim (e.issued && ready e.request.port) as (λ b. (cond b (record e { age = suc e.age }) e).request ≡ e.request) [ true ↦ refl | false ↦ refl ]
 
-pub older_issued : (ready : Port → Bool) (e : Pending) → (older ready e).issued ≡ e.issued
+pub older_issued : (ready : Port → Bool) (e : Pending) → (aged_pending ready e).issued ≡ e.issued
 older_issued ready e = elim (e.issued && ready e.request.port) as (λ b. (cond b (record e { age = suc e.age }) e).issued ≡ e.issued) [ true ↦ refl | false ↦ refl ]
 
-pub older_touched : (ready : Port → Bool) (e : Pending) → (older ready e).touched ≡ e.touched
+pub older_touched : (ready : Port → Bool) (e : Pending) → (aged_pending ready e).touched ≡ e.touched
 older_touched ready e = elim (e.issued && ready e.request.port) as (λ b. (cond b (record e { age = suc e.age }) e).touched ≡ e.touched) [ true ↦ refl | false ↦ refl ]
 
-pub older_ended : (ready : Port → Bool) (e : Pending) → (older ready e).ended ≡ e.ended
+pub older_ended : (ready : Port → Bool) (e : Pending) → (aged_pending ready e).ended ≡ e.ended
 older_ended ready e = elim (e.issued && ready e.request.port) as (λ b. (cond b (record e { age = suc e.age }) e).ended ≡ e.ended) [ true ↦ refl | false ↦ refl ]
 
 same_all : (es : List Pending) → IsChanged (λ e. e) es es
 same_all es e h = (e, h, refl)
 
 -- no earlier request that conflicts with a due one is unanswered
-pub due_order : (mode : QueueMode) (book : List Unanswered) (r a : Unanswered) → IsDue mode book r → Contains book a → a.id.0 < r.id.0 → conflict a r ≡ true → ⊥
+pub due_order : (mode : QueueMode) (book : List Unanswered) (r a : Unanswered) → IsDue mode book r → Contains book a → a.id.0 < r.id.0 → are_conflicting a r ≡ true → ⊥
 due_order mode book r a due h lt con =
     let port : (a.port.0 == r.port.0) ≡ true = (and_parts _ _ con).0 in
-    let none : list_any (waits_for mode r) book ≡ false = not-true _ (and_parts _ _ due.clear).1 in
+    let none : list_any (waits_for mode r) book ≡ false = not-true _ (and_parts _ _ due.nothing_blocks).1 in
     let held : waits_for mode r a ≡ false = none_of (waits_for mode r) book a none h in
     let less : ltb a.id.0 r.id.0 ≡ true = lt-ltb a.id.0 r.id.0 lt in
     let holds : waits_for mode r a ≡ true = and_from _ _ port (go (is_plain mode r.op) less) in
     both_ways _ held holds
   where
     go : (b : Bool) → ltb a.id.0 r.id.0 ≡ true
-        → cond b (a.issued || ltb a.id.0 r.id.0) ((is_plain mode a.op && a.issued) || (ltb a.id.0 r.id.0 && (is_plain mode a.op || conflict a r))) ≡ true
+        → cond b (a.issued || ltb a.id.0 r.id.0) ((is_plain mode a.op && a.issued) || (ltb a.id.0 r.id.0 && (is_plain mode a.op || are_conflicting a r))) ≡ true
     go true less = or_right _ _ less
     go false less = or_right _ _ (and_from _ _ less (or_right _ _ con))
 
@@ -68,39 +68,39 @@ same_frame f g e = ap (λ n. record { 0 = n }) e
 pub same_id : (i j : RequestId) → i.0 ≡ j.0 → i ≡ j
 same_id i j e = ap (λ n. record { 0 = n }) e
 
-conflict_port : (a b : Accepted) → conflict (newly_unanswered a) (newly_unanswered b) ≡ true → a.port ≡ b.port
+conflict_port : (a b : Accepted) → are_conflicting (newly_unanswered a) (newly_unanswered b) ≡ true → a.port ≡ b.port
 conflict_port a b con = same_port a.port b.port (eqb-true a.port.0 b.port.0 (and_parts _ _ con).0)
 
-issue_carries : (m : Machine) (mode : QueueMode) (e : Pending) → Carries (at e.request.id newly_issued) (λ x. x) m (after_step m (Issue mode e))
+issue_carries : (m : Machine) (mode : QueueMode) (e : Pending) → Carries (update_pending e.request.id newly_issued) (λ x. x) m (after_step m (Issue mode e))
 issue_carries m mode e = record {
   f_keeps = at_keeps e.request.id newly_issued (λ x. refl);
   g_keeps = λ x. refl;
-  book = λ x h. map_in (at e.request.id newly_issued) m.book x h;
+  book = λ x h. map_in (update_pending e.request.id newly_issued) m.book x h;
   kept = same_all m.kept;
   next = refl;
   lent = λ x. refl;
 }
 
 keeps_issue : (m : Machine) (mode : QueueMode) (e : Pending) → Sound m → Contains m.book e → IsDue mode (map unanswered m.book) (unanswered e) → NoneQuarantined m e.request.port → Sound (after_step m (Issue mode e))
-keeps_issue m mode e s here due none = carried (at e.request.id newly_issued) (λ x. x) m (after_step m (Issue mode e)) (issue_carries m mode e) order s
+keeps_issue m mode e s here due none = carried (update_pending e.request.id newly_issued) (λ x. x) m (after_step m (Issue mode e)) (issue_carries m mode e) order s
   where
-    earlier : (a : Pending) → HoldsFrames m a → a.request.id.0 < e.request.id.0 → conflict (newly_unanswered a.request) (newly_unanswered e.request) ≡ true → ⊥
+    earlier : (a : Pending) → HoldsFrames m a → a.request.id.0 < e.request.id.0 → are_conflicting (newly_unanswered a.request) (newly_unanswered e.request) ≡ true → ⊥
     earlier a (inl h) lt con = due_order mode (map unanswered m.book) (unanswered e) (unanswered a) due (into_map unanswered m.book a h) lt con
     earlier a (inr h) lt con = none a h (conflict_port a.request e.request con)
 
-    order : (x a : Pending) → MayStillMove (after_step m (Issue mode e)) x → HoldsFrames (after_step m (Issue mode e)) a → a.request.id.0 < x.request.id.0 → conflict (newly_unanswered a.request) (newly_unanswered x.request) ≡ true → ⊥
+    order : (x a : Pending) → MayStillMove (after_step m (Issue mode e)) x → HoldsFrames (after_step m (Issue mode e)) a → a.request.id.0 < x.request.id.0 → are_conflicting (newly_unanswered a.request) (newly_unanswered x.request) ≡ true → ⊥
     order x a (inr h) l lt con =
-        let q = lived (at e.request.id newly_issued) (λ x. x) m (after_step m (Issue mode e)) (issue_carries m mode e) a l in
-        s.order x q.0 (inr h) q.1 (subst (λ (j : Accepted). j.id.0 < x.request.id.0) q.2 lt) (subst (λ (j : Accepted). conflict (newly_unanswered j) (newly_unanswered x.request) ≡ true) q.2 con)
+        let q = lived (update_pending e.request.id newly_issued) (λ x. x) m (after_step m (Issue mode e)) (issue_carries m mode e) a l in
+        s.order x q.0 (inr h) q.1 (subst (λ (j : Accepted). j.id.0 < x.request.id.0) q.2 lt) (subst (λ (j : Accepted). are_conflicting (newly_unanswered j) (newly_unanswered x.request) ≡ true) q.2 con)
     order x a (inl h) l lt con =
-        let q = lived (at e.request.id newly_issued) (λ x. x) m (after_step m (Issue mode e)) (issue_carries m mode e) a l in
-        let r = map_in (at e.request.id newly_issued) m.book x h.0 in
+        let q = lived (update_pending e.request.id newly_issued) (λ x. x) m (after_step m (Issue mode e)) (issue_carries m mode e) a l in
+        let r = map_in (update_pending e.request.id newly_issued) m.book x h.0 in
         let jx : x.request ≡ r.0.request = ap (λ (y : Pending). y.request) r.2 ∙ at_keeps e.request.id newly_issued (λ y. refl) r.0 in
         let lt' : q.0.request.id.0 < r.0.request.id.0 = subst (λ (j : Accepted). q.0.request.id.0 < j.id.0) jx (subst (λ (j : Accepted). j.id.0 < x.request.id.0) q.2 lt) in
-        let con' : conflict (newly_unanswered q.0.request) (newly_unanswered r.0.request) ≡ true = subst (λ (j : Accepted). conflict (newly_unanswered q.0.request) (newly_unanswered j) ≡ true) jx (subst (λ (j : Accepted). conflict (newly_unanswered j) (newly_unanswered x.request) ≡ true) q.2 con) in
+        let con' : are_conflicting (newly_unanswered q.0.request) (newly_unanswered r.0.request) ≡ true = subst (λ (j : Accepted). are_conflicting (newly_unanswered q.0.request) (newly_unanswered j) ≡ true) jx (subst (λ (j : Accepted). are_conflicting (newly_unanswered j) (newly_unanswered x.request) ≡ true) q.2 con) in
         ⊎_elim
         (λ p. let same : r.0 ≡ e = s.one r.0 e r.1 here p.0 in
-        earlier q.0 q.1 (subst (λ (y : Pending). q.0.request.id.0 < y.request.id.0) same lt') (subst (λ (y : Pending). conflict (newly_unanswered q.0.request) (newly_unanswered y.request) ≡ true) same con'))
+        earlier q.0 q.1 (subst (λ (y : Pending). q.0.request.id.0 < y.request.id.0) same lt') (subst (λ (y : Pending). are_conflicting (newly_unanswered q.0.request) (newly_unanswered y.request) ≡ true) same con'))
         (λ p. s.order r.0 q.0 (inl (r.1, ap (λ (y : Pending). y.issued) (sym (r.2 ∙ p.1)) ∙ h.1)) q.1 lt' con')
         (at_cases e.request.id newly_issued r.0)
 
@@ -109,19 +109,19 @@ keeps_changed : (f g : Pending → Pending) (m n : Machine) → Carries f g m n 
 keeps_changed f g m n c quiet s = carried f g m n c (order_carried f g m n c quiet s) s
 
 keeps_at : (f : Pending → Pending) (m n : Machine) (id : RequestId) → KeepsRequest f → ((e : Pending) → (f e).issued ≡ true → e.issued ≡ true)
-    → n.book ≡ map (at id f) m.book → n.kept ≡ map (at id f) m.kept → n.next ≡ m.next → ((x : Frame) → n.lent x ≡ m.lent x) → Sound m → Sound n
-keeps_at f m n id k quiet b kp nx ln s = keeps_changed (at id f) (at id f) m n
+    → n.book ≡ map (update_pending id f) m.book → n.kept ≡ map (update_pending id f) m.kept → n.next_id ≡ m.next_id → ((x : Frame) → n.lent x ≡ m.lent x) → Sound m → Sound n
+keeps_at f m n id k quiet b kp nx ln s = keeps_changed (update_pending id f) (update_pending id f) m n
     (record {
       f_keeps = at_keeps id f k;
       g_keeps = at_keeps id f k;
-      book = λ x h. map_in (at id f) m.book x (subst (λ (es : List Pending). Contains es x) b h);
-      kept = λ x h. map_in (at id f) m.kept x (subst (λ (es : List Pending). Contains es x) kp h);
+      book = λ x h. map_in (update_pending id f) m.book x (subst (λ (es : List Pending). Contains es x) b h);
+      kept = λ x h. map_in (update_pending id f) m.kept x (subst (λ (es : List Pending). Contains es x) kp h);
       next = nx;
       lent = ln;
     }) (at_quiet id f quiet) s
 
 -- a step that changes bytes alone
-keeps_bytes : (m n : Machine) → n.book ≡ m.book → n.kept ≡ m.kept → n.next ≡ m.next → ((x : Frame) → n.lent x ≡ m.lent x) → Sound m → Sound n
+keeps_bytes : (m n : Machine) → n.book ≡ m.book → n.kept ≡ m.kept → n.next_id ≡ m.next_id → ((x : Frame) → n.lent x ≡ m.lent x) → Sound m → Sound n
 keeps_bytes m n b k nx ln s = keeps_changed (λ e. e) (λ e. e) m n
     (record {
       f_keeps = λ e. refl;
@@ -134,7 +134,7 @@ keeps_bytes m n b k nx ln s = keeps_changed (λ e. e) (λ e. e) m n
 
 -- an answered request leaves; an issued one may stay as a kept one
 
-stays_issued : (e : Pending) (outcome : Outcome) → stays e outcome ≡ true → e.issued ≡ true
+stays_issued : (e : Pending) (outcome : Outcome) → is_kept_at_answer e outcome ≡ true → e.issued ≡ true
 stays_issued e Ok h = absurd (false≢true h)
 stays_issued e (DeviceError status error) h = absurd (false≢true h)
 stays_issued e Aborted h = absurd (false≢true h)
@@ -144,7 +144,7 @@ stays_issued e Revoked h = absurd (false≢true h)
 
 -- what an answer leaves, given whether the request stays as a kept one
 abbrev answered : Machine → Pending → Bool → Machine
-answered m e b = record m { book = without e.request.id m.book; kept = cond b (e ∷ m.kept) m.kept; lent = cond b m.lent (unlend e.request.id m.lent) }
+answered m e b = record m { book = without_pending e.request.id m.book; kept = cond b (e ∷ m.kept) m.kept; lent = cond b m.lent (unlend e.request.id m.lent) }
 
 -- who lives after an answer lived before it, and is not the answered one unless that is kept
 answered_lives : (m : Machine) (e : Pending) (b : Bool) → Contains m.book e → (x : Pending) → HoldsFrames (answered m e b) x → HoldsFrames m x
@@ -182,7 +182,7 @@ keeps_answer m e b s h w = record {
         both (inr p) (inr q) = s.kept_one x y p q eq
     kept_one false x y p q eq = s.kept_one x y p q eq
 
-    apart : (b : Bool) (x y : Pending) → Contains (without e.request.id m.book) x → Contains (answered m e b).kept y → x.request.id.0 ≡ y.request.id.0 → ⊥
+    apart : (b : Bool) (x y : Pending) → Contains (without_pending e.request.id m.book) x → Contains (answered m e b).kept y → x.request.id.0 ≡ y.request.id.0 → ⊥
     apart true x y i j eq = ⊎_elim
         (λ q. (without_in e.request.id m.book x i).1 (eq ∙ ap (λ (z : Pending). z.request.id.0) q))
         (λ q. s.apart x y (without_in e.request.id m.book x i).0 q eq)
@@ -260,7 +260,7 @@ enough Flush count n e r = absurd (false≢true r)
 
 keeps_accept : (m : Machine) (request : Accepted) → Sound m → MayAccept m request → Sound (after_step m (Accept request))
 keeps_accept m request s new = record {
-  below = λ x l. ⊎_elim (λ i. below x i) (λ p. subst (λ (y : Pending). y.request.id.0 < suc m.next) (sym p) (omega (arith, new.id))) (who x l);
+  below = λ x l. ⊎_elim (λ i. below x i) (λ p. subst (λ (y : Pending). y.request.id.0 < suc m.next_id) (sym p) (omega (arith, new.id))) (who x l);
   one = λ a b ha hb eq. one a b (append_in m.book (newly_accepted request) a ha) (append_in m.book (newly_accepted request) b hb) eq;
   kept_one = s.kept_one;
   apart = λ a b ha hb eq. apart a b (append_in m.book (newly_accepted request) a ha) hb eq;
@@ -274,10 +274,10 @@ keeps_accept m request s new = record {
     who x (inl i) = ⊎_elim (λ j. inl (inl j)) (λ p. inr p) (append_in m.book (newly_accepted request) x i)
     who x (inr i) = inl (inr i)
 
-    below : (x : Pending) → HoldsFrames m x → x.request.id.0 < suc m.next
+    below : (x : Pending) → HoldsFrames m x → x.request.id.0 < suc m.next_id
     below x i = let b = s.below x i in omega (arith, b)
 
-    is_new : (x : Pending) → x ≡ newly_accepted request → x.request.id.0 ≡ m.next
+    is_new : (x : Pending) → x ≡ newly_accepted request → x.request.id.0 ≡ m.next_id
     is_new x p = ap (λ (y : Pending). y.request.id.0) p ∙ new.id
 
     clash : (a b : Pending) → HoldsFrames m a → b ≡ newly_accepted request → a.request.id.0 ≡ b.request.id.0 → ⊥
@@ -314,7 +314,7 @@ keeps_accept m request s new = record {
     room : is_reader request.asked.op ≡ true → request.asked.count ≤ 8 * length request.asked.frames.items
     room r = ⊎_elim (λ e. enough request.asked.op request.asked.count (length request.asked.frames.items) e r) (λ ne. absurd (new.unbroken FrameCount ne)) (cases_eq (length request.asked.frames.items) (frame_count_for request.asked.op request.asked.count))
 
-    order : (e a : Pending) → MayStillMove (after_step m (Accept request)) e → HoldsFrames m a ⊎ (a ≡ newly_accepted request) → a.request.id.0 < e.request.id.0 → conflict (newly_unanswered a.request) (newly_unanswered e.request) ≡ true → ⊥
+    order : (e a : Pending) → MayStillMove (after_step m (Accept request)) e → HoldsFrames m a ⊎ (a ≡ newly_accepted request) → a.request.id.0 < e.request.id.0 → are_conflicting (newly_unanswered a.request) (newly_unanswered e.request) ≡ true → ⊥
     order e a (inr i) (inl l) lt con = s.order e a (inr i) l lt con
     order e a (inr i) (inr p) lt con = let b = s.below e (inr i) in let n = is_new a p in omega (arith, b, n, lt)
     order e a (inl h) l lt con = inner (append_in m.book (newly_accepted request) e h.0) l
@@ -325,30 +325,30 @@ keeps_accept m request s new = record {
         inner (inr p) l = false≢true (ap (λ (y : Pending). y.issued) (sym p) ∙ h.1)
 
 -- each step that may come keeps the machine sound
-pub keeps : (m : Machine) (step : Step) → May m step → Sound m → Sound (after_step m step)
+pub keeps : (m : Machine) (step : Step) → IsEnabled m step → Sound m → Sound (after_step m step)
 keeps m (Accept request) may s = keeps_accept m request s may
 keeps m (Issue mode e) may s = keeps_issue m mode e s may.0 may.1 may.2
 keeps m (Touch e i block) may s = keeps_at (touch i) m (after_step m (Touch e i block)) e.request.id (λ x. refl) (λ x h. h) refl refl refl (λ x. refl) s
 keeps m (End e) may s = keeps_at mark_ended m (after_step m (End e)) e.request.id (λ x. refl) (λ x h. h) refl refl refl (λ x. refl) s
-keeps m (Age ready) may s = keeps_changed (older ready) (λ x. x) m (after_step m (Age ready))
+keeps m (Age ready) may s = keeps_changed (aged_pending ready) (λ x. x) m (after_step m (Age ready))
     (record {
       f_keeps = older_keeps ready;
       g_keeps = λ x. refl;
-      book = λ x h. map_in (older ready) m.book x h;
+      book = λ x h. map_in (aged_pending ready) m.book x h;
       kept = same_all m.kept;
       next = refl;
       lent = λ x. refl;
     }) (λ x h. sym (older_issued ready x) ∙ h) s
-keeps m (Again e) may s = keeps_changed (at e.request.id requeued) (λ x. x) m (after_step m (Again e))
+keeps m (WaitAgain e) may s = keeps_changed (update_pending e.request.id requeued) (λ x. x) m (after_step m (WaitAgain e))
     (record {
       f_keeps = at_keeps e.request.id requeued (λ x. refl);
       g_keeps = λ x. refl;
-      book = λ x h. map_in (at e.request.id requeued) m.book x h;
+      book = λ x h. map_in (update_pending e.request.id requeued) m.book x h;
       kept = same_all m.kept;
       next = refl;
       lent = λ x. refl;
     }) (at_quiet e.request.id requeued (λ x h. absurd (false≢true h))) s
-keeps m (Answer e outcome) may s = keeps_answer m e (stays e outcome) s may.0 (stays_issued e outcome)
+keeps m (Answer e outcome) may s = keeps_answer m e (is_kept_at_answer e outcome) s may.0 (stays_issued e outcome)
 keeps m (Revoke client number) may s = keeps_bytes m (after_step m (Revoke client number)) refl refl refl (λ x. refl) s
 keeps m Release may s = keeps_release m s
 keeps m (Unplug port) may s = keeps_bytes m (after_step m (Unplug port)) refl refl refl (λ x. refl) s

@@ -8,9 +8,9 @@ use Rattle.ata_types.specs.declared.request.RequestId.{RequestId}
 use Rattle.ata_types.specs.declared.refusal.FrameFault.TheVariants.{FrameForeign}
 use Rattle.ata_types.specs.declared.refusal.Rule.TheVariants.{Frames}
 use Rattle.ata_types.specs.declared.memory.TheConstants.{DRIVER_FRAMES}
-use Rattle.block_machine.specs.Confined.{WasAccepted, HasFrame}
+use Rattle.block_machine.specs.Confinement.{WasAccepted, HasFrame}
 use Rattle.block_machine.specs.State.{Accepted, Pending, Machine, frame_at}
-use Rattle.block_machine.specs.Steps.{Step, Accept, Answer, Release, May, HoldsFrames, after_step, stays, unlend, is_lent_to}
+use Rattle.block_machine.specs.Steps.{Step, Accept, Answer, Release, IsEnabled, HoldsFrames, after_step, is_kept_at_answer, unlend, is_lent_to}
 use Rattle.block_machine.specs.Expected.{after, IsInitial, IsLegal}
 use Rattle.block_machine.specs.Histories.{IsReachable}
 use Rattle.block_machine.proofs.Accepts.{living_accepted, law_one_id_is_one_request}
@@ -34,17 +34,17 @@ as_was false lent id h = h
 one_id : {a b : RequestId} → Some a ≡ Some b → a ≡ b
 one_id h = cc
 
-lent_before : (m : Machine) (step : Step) (f : Frame) (id : RequestId) → May m step → (after_step m step).lent f ≡ Some id → IsComing m step f id
+lent_before : (m : Machine) (step : Step) (f : Frame) (id : RequestId) → IsEnabled m step → (after_step m step).lent f ≡ Some id → IsComing m step f id
 lent_before m (Accept r) f id may h = by (list_any (λ g. g.0 == f.0) r.asked.frames.items) refl
   where
     by : (b : Bool) → list_any (λ g. g.0 == f.0) r.asked.frames.items ≡ b → IsComing m (Accept r) f id
     by true e = inr (r, (refl, may), one_id (sym (cond-true (list_any (λ g. g.0 == f.0) r.asked.frames.items) (Some r.id) (m.lent f) e) ∙ h), place_of f r.asked.frames.items e)
     by false e = inl (sym (cond-false (list_any (λ g. g.0 == f.0) r.asked.frames.items) (Some r.id) (m.lent f) e) ∙ h)
-lent_before m (Answer e outcome) f id may h = by (stays e outcome) refl
+lent_before m (Answer e outcome) f id may h = by (is_kept_at_answer e outcome) refl
   where
-    by : (b : Bool) → stays e outcome ≡ b → IsComing m (Answer e outcome) f id
-    by true s = inl (sym (ap (λ (lent : Frame → Option RequestId). lent f) (cond-true (stays e outcome) m.lent (unlend e.request.id m.lent) s)) ∙ h)
-    by false s = inl (as_was (is_lent_to e.request.id (m.lent f)) (m.lent f) id (sym (ap (λ (lent : Frame → Option RequestId). lent f) (cond-false (stays e outcome) m.lent (unlend e.request.id m.lent) s)) ∙ h))
+    by : (b : Bool) → is_kept_at_answer e outcome ≡ b → IsComing m (Answer e outcome) f id
+    by true s = inl (sym (ap (λ (lent : Frame → Option RequestId). lent f) (cond-true (is_kept_at_answer e outcome) m.lent (unlend e.request.id m.lent) s)) ∙ h)
+    by false s = inl (as_was (is_lent_to e.request.id (m.lent f)) (m.lent f) id (sym (ap (λ (lent : Frame → Option RequestId). lent f) (cond-false (is_kept_at_answer e outcome) m.lent (unlend e.request.id m.lent) s)) ∙ h))
 lent_before m Release f id may h = inl (as_was (list_any (λ e. is_lent_to e.request.id (m.lent f)) m.kept) (m.lent f) id h)
 lent_before m _ f id may h = inl h
 
@@ -58,7 +58,7 @@ lent_at start (step ∷ past) f id s legal h = ⊎_elim
     (lent_before (after start past) step f id legal.1 h)
 
 pub lent_clients : (m : Machine) (f : Frame) (id : RequestId) → IsReachable m → m.lent f ≡ Some id → DRIVER_FRAMES ≤ f.0
-lent_clients m f id r h = lent_at r.first r.past f id r.starts r.legal (ap (λ (x : Machine). x.lent f) (sym r.is) ∙ h)
+lent_clients m f id r h = lent_at r.initial_machine r.steps_since f id r.is_initial r.is_legal (ap (λ (x : Machine). x.lent f) (sym r.leads_to_machine) ∙ h)
 
 -- what is lent, is lent to an accepted request that has it
 pub lent_accepted : (start : Machine) (past : List Step) (f : Frame) (id : RequestId) → IsInitial start → IsLegal start past → (after start past).lent f ≡ Some id →
@@ -72,6 +72,6 @@ lent_accepted start (step ∷ past) f id s legal h = ⊎_elim
 -- a frame that is lent to a request is one of its frames
 pub lent_own : (m : Machine) (f : Frame) (e : Pending) → IsReachable m → HoldsFrames m e → m.lent f ≡ Some e.request.id → HasFrame e.request f
 lent_own m f e r l h =
-    let x = lent_accepted r.first r.past f e.request.id r.starts r.legal (ap (λ (n : Machine). n.lent f) (sym r.is) ∙ h) in
-    let mine = living_accepted r.first r.past r.starts r.legal e (subst (λ (n : Machine). HoldsFrames n e) r.is l) in
-    subst (λ (o : Accepted). HasFrame o f) (law_one_id_is_one_request r.first r.past x.0 e.request x.1 mine x.2) x.3
+    let x = lent_accepted r.initial_machine r.steps_since f e.request.id r.is_initial r.is_legal (ap (λ (n : Machine). n.lent f) (sym r.leads_to_machine) ∙ h) in
+    let mine = living_accepted r.initial_machine r.steps_since r.is_initial r.is_legal e (subst (λ (n : Machine). HoldsFrames n e) r.leads_to_machine l) in
+    subst (λ (o : Accepted). HasFrame o f) (law_one_id_is_one_request r.initial_machine r.steps_since x.0 e.request x.1 mine x.2) x.3

@@ -9,11 +9,11 @@ use Rattle.ata_types.specs.declared.refusal.FrameFault.TheVariants.{FrameForeign
 use Rattle.ata_types.specs.declared.refusal.Rule.TheVariants.{Frames}
 use Rattle.block_machine.specs.declared.due.QueueMode.{QueueMode}
 use Rattle.block_machine.specs.declared.due.Unanswered.{Unanswered}
-use Rattle.block_machine.specs.Due.{IsDue, IsInOrder, is_plain, issued_count}
+use Rattle.block_machine.specs.DueRequests.{IsDue, IsInOrder, is_plain, issued_count}
 use Rattle.block_machine.specs.State.{Accepted, Pending, Machine, frame_at, unanswered}
-use Rattle.block_machine.specs.Steps.{Step, Accept, Issue, Touch, End, Age, Again, Answer, Revoke, Release, Unplug, Replace, Store, Load, May, HoldsFrames, after_step, at, without, newly_issued, touch, mark_ended, requeued, older, newly_accepted, stays, unanswered_count}
+use Rattle.block_machine.specs.Steps.{Step, Accept, Issue, Touch, End, Age, WaitAgain, Answer, Revoke, Release, Unplug, Replace, Store, Load, IsEnabled, HoldsFrames, after_step, update_pending, without_pending, newly_issued, touch, mark_ended, requeued, aged_pending, newly_accepted, is_kept_at_answer, unanswered_count}
 use Rattle.block_machine.specs.Expected.{after, IsLegal, IsInitial}
-use Rattle.block_machine.specs.Confined.{WasAccepted, WithinLimits}
+use Rattle.block_machine.specs.Confinement.{WasAccepted, WithinLimits}
 use Rattle.block_machine.proofs.Members.{contains_none, contains_here, contains_there, contains_cases, map_in, into_map, at_cases, without_in, append_in}
 use Rattle.block_machine.proofs.Sound.{Sound, KeepsRequest}
 use Rattle.block_machine.proofs.Keeps.{at_keeps, older_keeps, older_issued, get_frame}
@@ -37,15 +37,15 @@ order_map f (x ∷ xs) k o = (
   order_map f xs k o.1,
 )
 
-order_without : (id : RequestId) (es : List Pending) → Ordered (map unanswered es) → Ordered (map unanswered (without id es))
+order_without : (id : RequestId) (es : List Pending) → Ordered (map unanswered es) → Ordered (map unanswered (without_pending id es))
 order_without id [] o = tt
 order_without id (x ∷ xs) o = go (x.request.id.0 == id.0) (order_without id xs o.1)
   where
-    go : (b : Bool) → Ordered (map unanswered (without id xs)) → Ordered (map unanswered (cond (not b) (x ∷ without id xs) (without id xs)))
+    go : (b : Bool) → Ordered (map unanswered (without_pending id xs)) → Ordered (map unanswered (cond (not b) (x ∷ without_pending id xs) (without_pending id xs)))
     go true rest = rest
     go false rest = (
       (λ later h.
-          let r = map_in unanswered (without id xs) later (from_in later (map unanswered (without id xs)) h) in
+          let r = map_in unanswered (without_pending id xs) later (from_in later (map unanswered (without_pending id xs)) h) in
           let c = o.0 (unanswered r.0) (in_from (map unanswered xs) (unanswered r.0) (into_map unanswered xs r.0 (without_in id xs r.0 r.1).0)) in
           subst (λ (y : Unanswered). x.request.id.0 < y.id.0) (sym r.2) c),
       rest,
@@ -63,13 +63,13 @@ order_append (y ∷ ys) x o less = (
   order_append ys x o.1 (λ e i. less e (contains_there y ys e i)),
 )
 
-order_step : (m : Machine) (step : Step) → May m step → Sound m → Ordered (map unanswered m.book) → Ordered (map unanswered (after_step m step).book)
+order_step : (m : Machine) (step : Step) → IsEnabled m step → Sound m → Ordered (map unanswered m.book) → Ordered (map unanswered (after_step m step).book)
 order_step m (Accept r) may s o = order_append m.book (newly_accepted r) o (λ e i. let b = s.below e (inl i) in let q = may.id in omega (arith, b, q))
-order_step m (Issue mode e) may s o = order_map (at e.request.id newly_issued) m.book (at_keeps e.request.id newly_issued (λ x. refl)) o
-order_step m (Touch e i block) may s o = order_map (at e.request.id (touch i)) m.book (at_keeps e.request.id (touch i) (λ x. refl)) o
-order_step m (End e) may s o = order_map (at e.request.id mark_ended) m.book (at_keeps e.request.id mark_ended (λ x. refl)) o
-order_step m (Age ready) may s o = order_map (older ready) m.book (older_keeps ready) o
-order_step m (Again e) may s o = order_map (at e.request.id requeued) m.book (at_keeps e.request.id requeued (λ x. refl)) o
+order_step m (Issue mode e) may s o = order_map (update_pending e.request.id newly_issued) m.book (at_keeps e.request.id newly_issued (λ x. refl)) o
+order_step m (Touch e i block) may s o = order_map (update_pending e.request.id (touch i)) m.book (at_keeps e.request.id (touch i) (λ x. refl)) o
+order_step m (End e) may s o = order_map (update_pending e.request.id mark_ended) m.book (at_keeps e.request.id mark_ended (λ x. refl)) o
+order_step m (Age ready) may s o = order_map (aged_pending ready) m.book (older_keeps ready) o
+order_step m (WaitAgain e) may s o = order_map (update_pending e.request.id requeued) m.book (at_keeps e.request.id requeued (λ x. refl)) o
 order_step m (Answer e outcome) may s o = order_without e.request.id m.book o
 order_step m _ may s o = o
 
@@ -82,7 +82,7 @@ law_book_in_order start h s legal = from_ordered (map unanswered (after start h)
 
 -- Issues.
 
-pub older_issues : (ready : Port → Bool) (e : Pending) → (older ready e).issues ≡ e.issues
+pub older_issues : (ready : Port → Bool) (e : Pending) → (aged_pending ready e).issues ≡ e.issues
 older_issues ready e = elim (e.issued && ready e.request.port) as (λ b. (cond b (record e { age = suc e.age }) e).issues ≡ e.issues) [ true ↦ refl | false ↦ refl ]
 
 -- a request that is issued was issued one to four times; one that waits may still be issued
@@ -96,15 +96,15 @@ AllCounted m = (e : Pending) → HoldsFrames m e → IsCounted e
 
 -- a change of one request that keeps its count
 counted_at : (id : RequestId) (f : Pending → Pending) (es : List Pending) → ((o : Pending) → Contains es o → IsCounted o)
-    → ((o : Pending) → Contains es o → o.request.id.0 ≡ id.0 → IsCounted (f o)) → (x : Pending) → Contains (map (at id f) es) x → IsCounted x
+    → ((o : Pending) → Contains es o → o.request.id.0 ≡ id.0 → IsCounted (f o)) → (x : Pending) → Contains (map (update_pending id f) es) x → IsCounted x
 counted_at id f es c now x h =
-    let r = map_in (at id f) es x h in
+    let r = map_in (update_pending id f) es x h in
     ⊎_elim
     (λ p. subst IsCounted (sym (r.2 ∙ p.1)) (now r.0 r.1 p.0))
     (λ p. subst IsCounted (sym (r.2 ∙ p.1)) (c r.0 r.1))
     (at_cases id f r.0)
 
-counted_step : (m : Machine) (step : Step) → May m step → Sound m → AllCounted m → AllCounted (after_step m step)
+counted_step : (m : Machine) (step : Step) → IsEnabled m step → Sound m → AllCounted m → AllCounted (after_step m step)
 counted_step m (Accept r) may s c x (inl h) = ⊎_elim
     (λ i. c x (inl i))
     (λ p. subst IsCounted (sym p) (record { some = λ t. absurd (false≢true t); most = omega arith; left = λ _. omega arith }))
@@ -112,7 +112,7 @@ counted_step m (Accept r) may s c x (inl h) = ⊎_elim
 counted_step m (Accept r) may s c x (inr h) = c x (inr h)
 counted_step m (Issue mode e) may s c x (inl h) = counted_at e.request.id newly_issued m.book (λ o i. c o (inl i))
     (λ o i id.
-    let left = (c o (inl i)).left (subst (λ (y : Pending). y.issued ≡ false) (s.one e o may.0 i (sym id)) (not-true _ (and_parts _ _ may.1.clear).0)) in
+    let left = (c o (inl i)).left (subst (λ (y : Pending). y.issued ≡ false) (s.one e o may.0 i (sym id)) (not-true _ (and_parts _ _ may.1.nothing_blocks).0)) in
     record { some = λ _. omega arith; most = omega (arith, left); left = λ t. absurd (false≢true (sym t)) }) x h
 counted_step m (Issue mode e) may s c x (inr h) = c x (inr h)
 counted_step m (Touch e i block) may s c x (inl h) = counted_at e.request.id (touch i) m.book (λ o k. c o (inl k)) (λ o k id. let q = c o (inl k) in record { some = q.some; most = q.most; left = q.left }) x h
@@ -120,7 +120,7 @@ counted_step m (Touch e i block) may s c x (inr h) = counted_at e.request.id (to
 counted_step m (End e) may s c x (inl h) = counted_at e.request.id mark_ended m.book (λ o k. c o (inl k)) (λ o k id. let q = c o (inl k) in record { some = q.some; most = q.most; left = q.left }) x h
 counted_step m (End e) may s c x (inr h) = counted_at e.request.id mark_ended m.kept (λ o k. c o (inr k)) (λ o k id. let q = c o (inr k) in record { some = q.some; most = q.most; left = q.left }) x h
 counted_step m (Age ready) may s c x (inl h) =
-    let r = map_in (older ready) m.book x h in
+    let r = map_in (aged_pending ready) m.book x h in
     let q = c r.0 (inl r.1) in
     let n : x.issues ≡ r.0.issues = ap (λ (y : Pending). y.issues) r.2 ∙ older_issues ready r.0 in
     let t : x.issued ≡ r.0.issued = ap (λ (y : Pending). y.issued) r.2 ∙ older_issued ready r.0 in
@@ -130,13 +130,13 @@ counted_step m (Age ready) may s c x (inl h) =
       left = λ i. let a = q.left (sym t ∙ i) in omega (arith, a, n);
     }
 counted_step m (Age ready) may s c x (inr h) = c x (inr h)
-counted_step m (Again e) may s c x (inl h) = counted_at e.request.id requeued m.book (λ o k. c o (inl k))
+counted_step m (WaitAgain e) may s c x (inl h) = counted_at e.request.id requeued m.book (λ o k. c o (inl k))
     (λ o k id.
     let few : o.issues < 4 = subst (λ (y : Pending). y.issues < 4) (s.one e o may.0 k (sym id)) may.2 in
     record { some = λ t. absurd (false≢true t); most = omega (arith, few); left = λ _. few }) x h
-counted_step m (Again e) may s c x (inr h) = c x (inr h)
+counted_step m (WaitAgain e) may s c x (inr h) = c x (inr h)
 counted_step m (Answer e outcome) may s c x (inl h) = c x (inl (without_in e.request.id m.book x h).0)
-counted_step m (Answer e outcome) may s c x (inr h) = go (stays e outcome) h
+counted_step m (Answer e outcome) may s c x (inr h) = go (is_kept_at_answer e outcome) h
   where
     go : (b : Bool) → Contains (cond b (e ∷ m.kept) m.kept) x → IsCounted x
     go true k = ⊎_elim (λ p. subst IsCounted (sym p) (c e (inl may.0))) (λ i. c x (inr i)) (contains_cases e m.kept x k)
@@ -158,15 +158,15 @@ all_counted start (step ∷ past) s legal e l = counted_step (after start past) 
 same_count : (c : ClientId) (f : Pending → Pending) (es : List Pending) → KeepsRequest f → unanswered_count (map f es) c ≡ unanswered_count es c
 same_count c f es k = count_map (λ e. e.request.asked.client.0 == c.0) (λ e. e.request.asked.client.0 == c.0) f es (λ y h. ap (λ (r : Accepted). r.asked.client.0 == c.0) (k y))
 
-fewer_without : (c : ClientId) (id : RequestId) (es : List Pending) → unanswered_count (without id es) c ≤ unanswered_count es c
+fewer_without : (c : ClientId) (id : RequestId) (es : List Pending) → unanswered_count (without_pending id es) c ≤ unanswered_count es c
 fewer_without c id [] = le_refl _
 fewer_without c id (x ∷ xs) = go (x.request.id.0 == id.0) (fewer_without c id xs)
   where
-    go : (b : Bool) → unanswered_count (without id xs) c ≤ unanswered_count xs c → unanswered_count (cond (not b) (x ∷ without id xs) (without id xs)) c ≤ unanswered_count (x ∷ xs) c
+    go : (b : Bool) → unanswered_count (without_pending id xs) c ≤ unanswered_count xs c → unanswered_count (cond (not b) (x ∷ without_pending id xs) (without_pending id xs)) c ≤ unanswered_count (x ∷ xs) c
     go true a = omega (arith, a, count_cons (λ e. e.request.asked.client.0 == c.0) x xs)
-    go false a = omega (arith, a, count_cons (λ e. e.request.asked.client.0 == c.0) x xs, count_cons (λ e. e.request.asked.client.0 == c.0) x (without id xs))
+    go false a = omega (arith, a, count_cons (λ e. e.request.asked.client.0 == c.0) x xs, count_cons (λ e. e.request.asked.client.0 == c.0) x (without_pending id xs))
 
-few_step : (m : Machine) (step : Step) → May m step → (c : ClientId) → unanswered_count m.book c ≤ 16 → unanswered_count (after_step m step).book c ≤ 16
+few_step : (m : Machine) (step : Step) → IsEnabled m step → (c : ClientId) → unanswered_count m.book c ≤ 16 → unanswered_count (after_step m step).book c ≤ 16
 few_step m (Accept r) may c le =
     let more = count_append (λ (e : Pending). e.request.asked.client.0 == c.0) m.book (newly_accepted r ∷ []) in
     let last = count_cons (λ (e : Pending). e.request.asked.client.0 == c.0) (newly_accepted r) [] in
@@ -180,11 +180,11 @@ few_step m (Accept r) may c le =
     let none : ◌≡◌ {A = ℕ} (cond (r.asked.client.0 == c.0) 1 0) 0 = ap (λ (b : Bool). cond {A = ℕ} b 1 0) f in
     omega (arith, more, last, none, le))
     (cases_Bool (r.asked.client.0 == c.0))
-few_step m (Issue mode e) may c le = let a = same_count c (at e.request.id newly_issued) m.book (at_keeps e.request.id newly_issued (λ x. refl)) in omega (arith, a, le)
-few_step m (Touch e i block) may c le = let a = same_count c (at e.request.id (touch i)) m.book (at_keeps e.request.id (touch i) (λ x. refl)) in omega (arith, a, le)
-few_step m (End e) may c le = let a = same_count c (at e.request.id mark_ended) m.book (at_keeps e.request.id mark_ended (λ x. refl)) in omega (arith, a, le)
-few_step m (Age ready) may c le = let a = same_count c (older ready) m.book (older_keeps ready) in omega (arith, a, le)
-few_step m (Again e) may c le = let a = same_count c (at e.request.id requeued) m.book (at_keeps e.request.id requeued (λ x. refl)) in omega (arith, a, le)
+few_step m (Issue mode e) may c le = let a = same_count c (update_pending e.request.id newly_issued) m.book (at_keeps e.request.id newly_issued (λ x. refl)) in omega (arith, a, le)
+few_step m (Touch e i block) may c le = let a = same_count c (update_pending e.request.id (touch i)) m.book (at_keeps e.request.id (touch i) (λ x. refl)) in omega (arith, a, le)
+few_step m (End e) may c le = let a = same_count c (update_pending e.request.id mark_ended) m.book (at_keeps e.request.id mark_ended (λ x. refl)) in omega (arith, a, le)
+few_step m (Age ready) may c le = let a = same_count c (aged_pending ready) m.book (older_keeps ready) in omega (arith, a, le)
+few_step m (WaitAgain e) may c le = let a = same_count c (update_pending e.request.id requeued) m.book (at_keeps e.request.id requeued (λ x. refl)) in omega (arith, a, le)
 few_step m (Answer e outcome) may c le = let a = fewer_without c e.request.id m.book in omega (arith, a, le)
 few_step m _ may c le = le
 
@@ -217,12 +217,12 @@ accepted_owned start (step ∷ past) r (inr w) i lt = owner_step (after start pa
 -- all of these together
 pub law_limits_hold : (start : Machine) (h : List Step) → IsInitial start → IsLegal start h → WithinLimits (after start h)
 law_limits_hold start h s legal = record {
-  few = few start h s legal;
-  all = all_few start h s legal (few start h s legal);
+  clients_have_few = few start h s legal;
+  book_is_bounded = all_few start h s legal (few start h s legal);
   issues = λ e l. (all_counted start h s legal e l).most;
   issued = λ e l t. (all_counted start h s legal e l).some t;
-  lent = λ e l i lt. (traced start h s legal).sound.lent e l i lt;
-  owned = λ e l i lt. accepted_owned start h e.request (living_accepted start h s legal e l) i lt;
+  frames_are_lent = λ e l i lt. (traced start h s legal).sound.lent e l i lt;
+  frames_are_owned = λ e l i lt. accepted_owned start h e.request (living_accepted start h s legal e l) i lt;
 }
 
 -- a request that is due finds a free slot, a plain one a port with nothing issued
@@ -231,7 +231,7 @@ pub finds_slot : (mode : QueueMode) (book : List Unanswered) (r : Unanswered) �
 finds_slot mode book r due = (
   (λ plain. count_none _ book (λ y k. false_from_ne_true _ (λ t.
       let p = and_parts (y.port.0 == r.port.0) y.issued t in
-      both_ways _ (unheld mode book r due.clear y (from_in y book k))
+      both_ways _ (unheld mode book r due.nothing_blocks y (from_in y book k))
       (and_from _ _ p.0 (cond-true (is_plain mode r.op) _ _ plain ∙ or_left _ _ p.1))))),
-  (λ queued. let lt = due.slot queued in omega (arith, lt)),
+  (λ queued. let lt = due.slot_is_left queued in omega (arith, lt)),
 )

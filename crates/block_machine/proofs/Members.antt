@@ -5,7 +5,7 @@ use Rattle.std.proofs.lemmas.Bool.{eqb-false, or_parts, or_left, or_right, cond-
 use Rattle.std.proofs.lemmas.List.Elements.{Contains-append_cases}
 use Rattle.ata_types.specs.declared.request.RequestId.{RequestId}
 use Rattle.block_machine.specs.State.{Pending}
-use Rattle.block_machine.specs.Steps.{at, without}
+use Rattle.block_machine.specs.Steps.{update_pending, without_pending}
 
 pub contains_none : {X : Type 0} (x : X) → Contains [] x → ⊥
 contains_none x h = let lt = h.1 in omega (arith, lt)
@@ -39,24 +39,24 @@ into_map f (y ∷ ys) x h = ⊎_elim
     (contains_cases y ys x h)
 
 -- what `at` leaves of a request
-pub at_cases : (id : RequestId) (f : Pending → Pending) (e : Pending) → ((e.request.id.0 ≡ id.0) × (at id f e ≡ f e)) ⊎ ((e.request.id.0 ≢ id.0) × (at id f e ≡ e))
+pub at_cases : (id : RequestId) (f : Pending → Pending) (e : Pending) → ((e.request.id.0 ≡ id.0) × (update_pending id f e ≡ f e)) ⊎ ((e.request.id.0 ≢ id.0) × (update_pending id f e ≡ e))
 at_cases id f e = go (e.request.id.0 == id.0) refl
   where
-    go : (b : Bool) → (e.request.id.0 == id.0) ≡ b → ((e.request.id.0 ≡ id.0) × (at id f e ≡ f e)) ⊎ ((e.request.id.0 ≢ id.0) × (at id f e ≡ e))
+    go : (b : Bool) → (e.request.id.0 == id.0) ≡ b → ((e.request.id.0 ≡ id.0) × (update_pending id f e ≡ f e)) ⊎ ((e.request.id.0 ≢ id.0) × (update_pending id f e ≡ e))
     go true p = inl (eqb-true e.request.id.0 id.0 p, cond-true (e.request.id.0 == id.0) (f e) e p)
     go false p = inr (eqb-false e.request.id.0 id.0 p, cond-false (e.request.id.0 == id.0) (f e) e p)
 
-pub without_in : (id : RequestId) (es : List Pending) (e : Pending) → Contains (without id es) e → Contains es e × (e.request.id.0 ≢ id.0)
+pub without_in : (id : RequestId) (es : List Pending) (e : Pending) → Contains (without_pending id es) e → Contains es e × (e.request.id.0 ≢ id.0)
 without_in id [] e h = absurd (contains_none e h)
 without_in id (x ∷ xs) e h = go (x.request.id.0 == id.0) refl (without_in id xs e) h
   where
-    go : (b : Bool) → (x.request.id.0 == id.0) ≡ b → (Contains (without id xs) e → Contains xs e × (e.request.id.0 ≢ id.0))
-        → Contains (cond (not b) (x ∷ without id xs) (without id xs)) e → Contains (x ∷ xs) e × (e.request.id.0 ≢ id.0)
+    go : (b : Bool) → (x.request.id.0 == id.0) ≡ b → (Contains (without_pending id xs) e → Contains xs e × (e.request.id.0 ≢ id.0))
+        → Contains (cond (not b) (x ∷ without_pending id xs) (without_pending id xs)) e → Contains (x ∷ xs) e × (e.request.id.0 ≢ id.0)
     go true p rest k = let r = rest k in (contains_there x xs e r.0, r.1)
     go false p rest k = ⊎_elim
         (λ (q : e ≡ x). (contains_here x xs e q, λ i. eqb-false x.request.id.0 id.0 p (ap (λ (y : Pending). y.request.id.0) (sym q) ∙ i)))
         (λ i. let r = rest i in (contains_there x xs e r.0, r.1))
-        (contains_cases x (without id xs) e k)
+        (contains_cases x (without_pending id xs) e k)
 
 pub append_in : {X : Type 0} (xs : List X) (y x : X) → Contains (xs ++ y ∷ []) x → Contains xs x ⊎ (x ≡ y)
 append_in xs y x h = ⊎_elim (λ i. inl i) (λ i. ⊎_elim (λ p. inr p) (λ n. absurd (contains_none x n)) (contains_cases y [] x i)) (Contains-append_cases xs (y ∷ []) x h)

@@ -2,7 +2,7 @@
 use Rattle.std.proofs.Common.{◌≡◌, ◌⊎◌, ℕ, ◌<◌, List, [], ◌∷◌, length, get_or, zero, suc, inl, inr, ⊎_elim, refl, subst, arith}
 use Rattle.std.specs.List.{Contains}
 use Rattle.block_machine.specs.declared.due.Unanswered.{Unanswered}
-use Rattle.block_machine.specs.Due.{IsInOrder}
+use Rattle.block_machine.specs.DueRequests.{IsInOrder}
 use Rattle.block_machine.proofs.Members.{contains_none, contains_here, contains_there, contains_cases}
 
 abbrev pub In : {X : Type 0} → X → List X → Type 0

@@ -5,7 +5,7 @@ use Rattle.std.proofs.lemmas.Bool.{cases_lt, cond-true, cond-false, or_left, or_
 use Rattle.ata_types.specs.declared.Port.{Port}
 use Rattle.block_machine.specs.declared.due.QueueMode.{QueueMode}
 use Rattle.block_machine.specs.declared.due.Unanswered.{Unanswered}
-use Rattle.block_machine.specs.Due.{IsInOrder, conflict, waits_for, is_plain, is_earlier_on_port, is_unblocked, ahead, free_slots, is_due, due_ahead}
+use Rattle.block_machine.specs.DueRequests.{IsInOrder, are_conflicting, waits_for, is_plain, is_earlier_on_port, is_unblocked, unblocked_ahead_count, free_slots, is_due, due_ahead_count}
 use Rattle.block_machine.proofs.Keeps.{same_port}
 use Rattle.block_machine.proofs.Order.{In, Ordered, in_from, from_in, ordered_from}
 use Rattle.block_machine.proofs.Counting.{count_cons, count_append, count_eq, count_none, count_least, unheld}
@@ -112,7 +112,7 @@ pub holds_if : (mode : QueueMode) (r o : Unanswered) → (o.port.0 == r.port.0) 
 holds_if mode r o port less plain = and_from _ _ port (go (is_plain mode r.op) refl plain)
   where
     go : (b : Bool) → is_plain mode r.op ≡ b → (is_plain mode r.op ≡ true) ⊎ (is_plain mode o.op ≡ true)
-        → cond b (o.issued || ltb o.id.0 r.id.0) ((is_plain mode o.op && o.issued) || (ltb o.id.0 r.id.0 && (is_plain mode o.op || conflict o r))) ≡ true
+        → cond b (o.issued || ltb o.id.0 r.id.0) ((is_plain mode o.op && o.issued) || (ltb o.id.0 r.id.0 && (is_plain mode o.op || are_conflicting o r))) ≡ true
     go true p h = or_right _ _ less
     go false p (inl q) = absurd (both_ways _ p q)
     go false p (inr q) = or_right _ _ (and_from _ _ less (or_left _ _ q))
@@ -121,11 +121,11 @@ holds_if mode r o port less plain = and_from _ _ port (go (is_plain mode r.op) r
 abbrev clear_of : QueueMode → List Unanswered → Port → Unanswered → Bool
 clear_of mode book port y = (y.port.0 == port.0) && is_unblocked mode book y
 
-ahead_rank : (mode : QueueMode) (book : List Unanswered) (r : Unanswered) → ahead mode book r ≡ rank (clear_of mode book r.port) book r
+ahead_rank : (mode : QueueMode) (book : List Unanswered) (r : Unanswered) → unblocked_ahead_count mode book r ≡ rank (clear_of mode book r.port) book r
 ahead_rank mode book r = count_eq _ _ book (λ y k. turn (y.port.0 == r.port.0) (ltb y.id.0 r.id.0) (is_unblocked mode book y))
 
 -- a plain one that is clear has none ahead
-plain_first : (mode : QueueMode) (book : List Unanswered) (r : Unanswered) → is_unblocked mode book r ≡ true → is_plain mode r.op ≡ true → ahead mode book r ≡ 0
+plain_first : (mode : QueueMode) (book : List Unanswered) (r : Unanswered) → is_unblocked mode book r ≡ true → is_plain mode r.op ≡ true → unblocked_ahead_count mode book r ≡ 0
 plain_first mode book r clear plain = count_none _ book (λ y k. false_from_ne_true _ (λ t.
     let p = and_parts (is_earlier_on_port y r) (is_unblocked mode book y) t in
     let q = and_parts (y.port.0 == r.port.0) (ltb y.id.0 r.id.0) p.0 in
@@ -133,19 +133,19 @@ plain_first mode book r clear plain = count_none _ book (λ y k. false_from_ne_t
 
 -- where a slot is free, one is due where it is clear and few enough are ahead
 due_by_rank : (mode : QueueMode) (book : List Unanswered) (n : ℕ) (o : Unanswered) → free_slots mode book o.port ≡ suc n
-    → is_due mode book o ≡ (is_unblocked mode book o && ltb (ahead mode book o) (suc n))
+    → is_due mode book o ≡ (is_unblocked mode book o && ltb (unblocked_ahead_count mode book o) (suc n))
 due_by_rank mode book n o free = go (is_unblocked mode book o) (is_plain mode o.op) refl refl
   where
     go : (c p : Bool) → is_unblocked mode book o ≡ c → is_plain mode o.op ≡ p
-        → is_due mode book o ≡ (is_unblocked mode book o && ltb (ahead mode book o) (suc n))
+        → is_due mode book o ≡ (is_unblocked mode book o && ltb (unblocked_ahead_count mode book o) (suc n))
     go false p e f = and_left _ _ e ∙ sym (and_left _ _ e)
     go true false e f = ap (λ (x : Bool). is_unblocked mode book o && x)
-        (ap (λ (x : Bool). x || ltb (ahead mode book o) (free_slots mode book o.port)) f ∙ ap (λ (m : ℕ). ltb (ahead mode book o) m) free)
+        (ap (λ (x : Bool). x || ltb (unblocked_ahead_count mode book o) (free_slots mode book o.port)) f ∙ ap (λ (m : ℕ). ltb (unblocked_ahead_count mode book o) m) free)
     go true true e f = ap (λ (x : Bool). is_unblocked mode book o && x)
         (or_left _ _ f ∙ sym (ap (λ (m : ℕ). ltb m (suc n)) (plain_first mode book o e f) ∙ lt-ltb 0 (suc n) (omega arith)))
 
 module _ (mode : QueueMode) (book : List Unanswered) (r : Unanswered) (order : Ordered book) (here : In r book) where
-  less_due : due_ahead mode book r ≤ ahead mode book r
+  less_due : due_ahead_count mode book r ≤ unblocked_ahead_count mode book r
   less_due = count_least
       (λ o. is_earlier_on_port o r && is_due mode book o)
       (λ o. is_earlier_on_port o r && is_unblocked mode book o) book
@@ -158,7 +158,7 @@ module _ (mode : QueueMode) (book : List Unanswered) (r : Unanswered) (order : O
     due_one o true t =
         let port : o.port ≡ r.port = same_port o.port r.port (eqb-true o.port.0 r.port.0 t) in
         let free' : free_slots mode book o.port ≡ suc n = ap (free_slots mode book) port ∙ free in
-        let rank' : ahead mode book o ≡ rank (clear_of mode book r.port) book o = ahead_rank mode book o ∙ ap (λ (p : Port). rank (clear_of mode book p) book o) port in
+        let rank' : unblocked_ahead_count mode book o ≡ rank (clear_of mode book r.port) book o = ahead_rank mode book o ∙ ap (λ (p : Port). rank (clear_of mode book p) book o) port in
         turn (o.port.0 == r.port.0) (ltb o.id.0 r.id.0) (is_due mode book o)
         ∙ ap (λ (x : Bool). ltb o.id.0 r.id.0 && x)
         (ap (λ (x : Bool). (o.port.0 == r.port.0) && x) (due_by_rank mode book n o free' ∙ ap (λ (m : ℕ). is_unblocked mode book o && ltb m (suc n)) rank')
@@ -169,28 +169,28 @@ module _ (mode : QueueMode) (book : List Unanswered) (r : Unanswered) (order : O
         assoc false b c = refl
     due_one o false t = and_left _ _ (and_left _ _ t) ∙ sym (and_right _ _ (and_left _ _ (and_left _ _ t)))
 
-    due_is : due_ahead mode book r ≡ rank (low (clear_of mode book r.port) (suc n) book) book r
+    due_is : due_ahead_count mode book r ≡ rank (low (clear_of mode book r.port) (suc n) book) book r
     due_is = count_eq _ _ book (λ o k. due_one o _ refl)
 
-    enough : suc n ≤ ahead mode book r → suc n ≤ due_ahead mode book r
+    enough : suc n ≤ unblocked_ahead_count mode book r → suc n ≤ due_ahead_count mode book r
     enough le =
         let a = ahead_rank mode book r in
         let l = low_enough (clear_of mode book r.port) (suc n) book r order here (omega (arith, le, a)) in
         omega (arith, l, due_is)
 
-  slot_by_due : due_ahead mode book r < free_slots mode book r.port → ahead mode book r < free_slots mode book r.port
+  slot_by_due : due_ahead_count mode book r < free_slots mode book r.port → unblocked_ahead_count mode book r < free_slots mode book r.port
   slot_by_due lt = go (free_slots mode book r.port) refl
     where
-      go : (f : ℕ) → free_slots mode book r.port ≡ f → ahead mode book r < free_slots mode book r.port
+      go : (f : ℕ) → free_slots mode book r.port ≡ f → unblocked_ahead_count mode book r < free_slots mode book r.port
       go zero e = absurd (omega (arith, lt, e))
       go (suc n) e = ⊎_elim
-          (λ (less : ahead mode book r < suc n). omega (arith, less, e))
-          (λ (le : suc n ≤ ahead mode book r). let more = enough n e le in absurd (omega (arith, more, lt, e)))
-          (cases_lt (ahead mode book r) (suc n))
+          (λ (less : unblocked_ahead_count mode book r < suc n). omega (arith, less, e))
+          (λ (le : suc n ≤ unblocked_ahead_count mode book r). let more = enough n e le in absurd (omega (arith, more, lt, e)))
+          (cases_lt (unblocked_ahead_count mode book r) (suc n))
 
 -- a slot is left for a request whether those ahead are counted as clear or as due
 pub law_due_ones_leave_a_slot : (mode : QueueMode) (book : List Unanswered) (r : Unanswered) → IsInOrder book → Contains book r
-    → (ahead mode book r < free_slots mode book r.port) ↔ (due_ahead mode book r < free_slots mode book r.port)
+    → (unblocked_ahead_count mode book r < free_slots mode book r.port) ↔ (due_ahead_count mode book r < free_slots mode book r.port)
 law_due_ones_leave_a_slot mode book r order here = (
   (λ lt. let le = less_due mode book r (ordered_from book order) (in_from book r here) in omega (arith, le, lt)),
   slot_by_due mode book r (ordered_from book order) (in_from book r here),

@@ -9,10 +9,10 @@ use Rattle.ata_types.specs.declared.request.Op.{Op}
 use Rattle.ata_types.specs.declared.request.Op.TheVariants.{Read, Write, Trim, Flush}
 use Rattle.ata_types.specs.declared.refusal.MemFault.TheVariants as fault
 use Rattle.block_machine.specs.Refusals.{MayAccessFrame}
-use Rattle.block_machine.specs.Due.{changes_sectors}
+use Rattle.block_machine.specs.DueRequests.{changes_sectors}
 use Rattle.block_machine.specs.State.{Block, Memory, Accepted, Pending, Machine, block_of, frame_at, sector_of, is_reader}
-use Rattle.block_machine.specs.Steps.{Step, Accept, Issue, Touch, End, Age, Again, Answer, Revoke, Release, Unplug, Replace, Store, Load, May, after_step, at, HoldsFrames, MayStillMove, newly_issued, touch, mark_ended, requeued, older, newly_accepted, put_bytes, memory_after}
-use Rattle.block_machine.specs.Expected.{plug_count, IsTouch, touches, disk_number_read, Wrote, IsLastWritten, IsExpectedBlock, StepIsFaithful}
+use Rattle.block_machine.specs.Steps.{Step, Accept, Issue, Touch, End, Age, WaitAgain, Answer, Revoke, Release, Unplug, Replace, Store, Load, IsEnabled, after_step, update_pending, HoldsFrames, MayStillMove, newly_issued, touch, mark_ended, requeued, aged_pending, newly_accepted, put_bytes, memory_after}
+use Rattle.block_machine.specs.Expected.{plug_count, IsTouch, touches_sector, disk_number_read, Wrote, IsLastWritten, IsExpectedBlock, StepIsFaithful}
 use Rattle.block_machine.proofs.Members.{map_in, at_cases, without_in, append_in}
 use Rattle.block_machine.proofs.Sound.{Sound, KeepsRequest}
 use Rattle.block_machine.proofs.Keeps.{older_keeps, older_issued, older_touched, same_frame}
@@ -33,12 +33,12 @@ AllGood start h m =
 -- a sector that stays at its place stays good after a step that is no touch of its kind
 good_more : (start : Machine) (h : List Step) (m n : Machine) (step : Step) (request : Accepted) (i : ℕ)
     → ((b : ℕ) → b < 512 → block_of n.memory request.asked.frames.items i b ≡ block_of m.memory request.asked.frames.items i b)
-    → touches request.id (request.asked.first.0 + i) step ≡ false
+    → touches_sector request.id (request.asked.first.0 + i) step ≡ false
     → ((w : Accepted) → changes_sectors w.asked.op ≡ true → w.port ≡ request.port → w.id.0 < request.id.0 → IsTouch step w (request.asked.first.0 + i) → ⊥)
     → IsGood start h m request i → IsGood start (step ∷ h) n request i
 good_more start h m n step request i same own others good =
     let k : ℕ = request.asked.first.0 + i in
-    let found : disk_number_read request k (step ∷ h) ≡ disk_number_read request k h = cond-false (touches request.id k step) (plug_count request.port h) (disk_number_read request k h) own in (
+    let found : disk_number_read request k (step ∷ h) ≡ disk_number_read request k h = cond-false (touches_sector request.id k step) (plug_count request.port h) (disk_number_read request k h) own in (
       good.0,
       subst (λ (x : ℕ). IsLastWritten start request.port k x request.id.0 (step ∷ h) good.0) (sym found)
           (last_from start request.port k (disk_number_read request k h) request.id.0 request.id.0 step h good.0 (read_number request k h) others (λ w o. o.earlier) (λ w o. o.earlier) good.1),
@@ -51,11 +51,11 @@ good_now : (start : Machine) (h : List Step) (m n : Machine) (e : Pending) (i : 
     → IsGood start (Touch e i block ∷ h) n e.request i
 good_now start h m n e i block s seen holds r lt reads now =
     let k : ℕ = e.request.asked.first.0 + i in
-    let mine : touches e.request.id k (Touch e i block) ≡ true = and_from _ _ (eq-eqb e.request.id.0 e.request.id.0 refl) (eq-eqb k k refl) in
-    let found : disk_number_read e.request k (Touch e i block ∷ h) ≡ plug_count e.request.port h = cond-true (touches e.request.id k (Touch e i block)) (plug_count e.request.port h) (disk_number_read e.request k h) mine in (
+    let mine : touches_sector e.request.id k (Touch e i block) ≡ true = and_from _ _ (eq-eqb e.request.id.0 e.request.id.0 refl) (eq-eqb k k refl) in
+    let found : disk_number_read e.request k (Touch e i block ∷ h) ≡ plug_count e.request.port h = cond-true (touches_sector e.request.id k (Touch e i block)) (plug_count e.request.port h) (disk_number_read e.request k h) mine in (
       m.disks e.request.port k,
       subst (λ (x : ℕ). IsLastWritten start e.request.port k x e.request.id.0 (Touch e i block ∷ h) (m.disks e.request.port k)) (sym found)
-          (last_from start e.request.port k (plug_count e.request.port h) m.next e.request.id.0 (Touch e i block) h (m.disks e.request.port k) (le_refl _)
+          (last_from start e.request.port k (plug_count e.request.port h) m.next_id e.request.id.0 (Touch e i block) h (m.disks e.request.port k) (le_refl _)
           (λ w writes _ _ t. reader_is_no_writer e.request.asked.op reads (subst (λ (j : Accepted). changes_sectors j.asked.op ≡ true) (sym t.0) writes))
           earlier
           (λ w o. (seen w k (plug_count e.request.port h) o.touched).below)
@@ -69,33 +69,33 @@ good_now start h m n e i block s seen holds r lt reads now =
     reader_is_no_writer Trim a b = false≢true a
     reader_is_no_writer Flush a b = false≢true a
 
-    earlier : (w : Accepted) → Wrote e.request.port (e.request.asked.first.0 + i) (plug_count e.request.port h) m.next h w → w.id.0 < e.request.id.0
+    earlier : (w : Accepted) → Wrote e.request.port (e.request.asked.first.0 + i) (plug_count e.request.port h) m.next_id h w → w.id.0 < e.request.id.0
     earlier w o =
         let q = seen w (e.request.asked.first.0 + i) (plug_count e.request.port h) o.touched in
         ⊎_elim
-        (λ (same : e.request.id.0 ≡ w.id.0). absurd (reader_is_no_writer e.request.asked.op reads (subst (λ (j : Accepted). changes_sectors j.asked.op ≡ true) (sym (q.one e (runs_lives m e r) same)) o.writes)))
+        (λ (same : e.request.id.0 ≡ w.id.0). absurd (reader_is_no_writer e.request.asked.op reads (subst (λ (j : Accepted). changes_sectors j.asked.op ≡ true) (sym (q.one e (runs_lives m e r) same)) o.op_changes_sectors)))
         (λ (x : (e.request.id.0 < w.id.0) ⊎ (w.id.0 < e.request.id.0)). ⊎_elim
         (λ (less : e.request.id.0 < w.id.0). absurd (q.order e (runs_lives m e r) less
-        (conflict_at e.request w (e.request.asked.first.0 + i) (sym o.here) (or_right _ _ o.writes) (omega arith) (omega (arith, lt)) q.from q.to)))
+        (conflict_at e.request w (e.request.asked.first.0 + i) (sym o.port_is) (or_right _ _ o.op_changes_sectors) (omega arith) (omega (arith, lt)) q.from q.to)))
         (λ (more : w.id.0 < e.request.id.0). more) x)
         (cases_order e.request.id.0 w.id.0)
 
 -- Places in memory.
 
 -- a write of 512 bytes leaves another place alone
-pub put_other : (f f' : Frame) (at at' n : ℕ) (bytes : Block) (memory : Memory) → (f ≡ f' → at ≤ at' → at' < at + n → ⊥) → put_bytes f at n bytes memory f' at' ≡ memory f' at'
-put_other f f' at at' n bytes memory apart =
-    cond-false ((f'.0 == f.0) && (leb at at' && ltb at' (at + n))) (bytes (at' - at)) (memory f' at')
+pub put_other : (f f' : Frame) (update_pending at' n : ℕ) (bytes : Block) (memory : Memory) → (f ≡ f' → update_pending ≤ at' → at' < update_pending + n → ⊥) → put_bytes f update_pending n bytes memory f' at' ≡ memory f' at'
+put_other f f' update_pending at' n bytes memory apart =
+    cond-false ((f'.0 == f.0) && (leb update_pending at' && ltb at' (update_pending + n))) (bytes (at' - update_pending)) (memory f' at')
     (false_from_ne_true _ (λ t.
-    let p = and_parts (f'.0 == f.0) (leb at at' && ltb at' (at + n)) t in
-    let q = and_parts (leb at at') (ltb at' (at + n)) p.1 in
-    apart (sym (same_frame f' f (eqb-true f'.0 f.0 p.0))) (leb-true at at' q.0) (ltb-true at' (at + n) q.1)))
+    let p = and_parts (f'.0 == f.0) (leb update_pending at' && ltb at' (update_pending + n)) t in
+    let q = and_parts (leb update_pending at') (ltb at' (update_pending + n)) p.1 in
+    apart (sym (same_frame f' f (eqb-true f'.0 f.0 p.0))) (leb-true update_pending at' q.0) (ltb-true at' (update_pending + n) q.1)))
 
-pub put_same : (f : Frame) (at n b : ℕ) (bytes : Block) (memory : Memory) → b < n → put_bytes f at n bytes memory f (at + b) ≡ bytes b
-put_same f at n b bytes memory lt =
-    cond-true ((f.0 == f.0) && (leb at (at + b) && ltb (at + b) (at + n))) (bytes (at + b - at)) (memory f (at + b))
-    (and_from _ _ (eq-eqb f.0 f.0 refl) (and_from _ _ (le-leb at (at + b) (omega arith)) (lt-ltb (at + b) (at + n) (omega arith))))
-    ∙ ap bytes (let e : at + b - at ≡ b = omega arith in e)
+pub put_same : (f : Frame) (update_pending n b : ℕ) (bytes : Block) (memory : Memory) → b < n → put_bytes f update_pending n bytes memory f (update_pending + b) ≡ bytes b
+put_same f update_pending n b bytes memory lt =
+    cond-true ((f.0 == f.0) && (leb update_pending (update_pending + b) && ltb (update_pending + b) (update_pending + n))) (bytes (update_pending + b - update_pending)) (memory f (update_pending + b))
+    (and_from _ _ (eq-eqb f.0 f.0 refl) (and_from _ _ (le-leb update_pending (update_pending + b) (omega arith)) (lt-ltb (update_pending + b) (update_pending + n) (omega arith))))
+    ∙ ap bytes (let e : update_pending + b - update_pending ≡ b = omega arith in e)
 
 -- places of different sectors, of one request or of two, don't meet
 place_apart : (m : Machine) → Sound m → (e o : Pending) → HoldsFrames m e → HoldsFrames m o → (i k b : ℕ) → i < 8 * length e.request.asked.frames.items → k < 8 * length o.request.asked.frames.items → b < 512
@@ -172,7 +172,7 @@ abbrev IsSameAt : Machine → Machine → Type 0
 IsSameAt m n = (o : Pending) → Contains m.book o → (i b : ℕ) → i < 8 * length o.request.asked.frames.items → b < 512 → block_of n.memory o.request.asked.frames.items i b ≡ block_of m.memory o.request.asked.frames.items i b
 
 quiet_good : (start : Machine) (h : List Step) (m n : Machine) (step : Step) → Sound m → IsTraced m n → IsSameAt m n
-    → ((id : RequestId) (k : ℕ) → touches id k step ≡ false) → ((w : Accepted) (k : ℕ) → IsTouch step w k → ⊥)
+    → ((id : RequestId) (k : ℕ) → touches_sector id k step ≡ false) → ((w : Accepted) (k : ℕ) → IsTouch step w k → ⊥)
     → AllGood start h m → AllGood start (step ∷ h) n
 quiet_good start h m n step s trace memory own nobody good x hx reads i lt touched =
     let o = trace x hx i touched in
@@ -189,9 +189,9 @@ quiet_good start h m n step s trace memory own nobody good x hx reads i lt touch
 abbrev KeepsTouched : (Pending → Pending) → Type 0
 KeepsTouched f = (e : Pending) (i : ℕ) → (f e).touched i ≡ true → (e.touched i ≡ true) × (e.issued ≡ true → (f e).issued ≡ true)
 
-traced_at : (m n : Machine) (id : RequestId) (f : Pending → Pending) → n.book ≡ map (at id f) m.book → KeepsTouched f → KeepsRequest f → IsTraced m n
+traced_at : (m n : Machine) (id : RequestId) (f : Pending → Pending) → n.book ≡ map (update_pending id f) m.book → KeepsTouched f → KeepsRequest f → IsTraced m n
 traced_at m n id f b kt kj x hx i touched =
-    let r = map_in (at id f) m.book x (subst (λ (es : List Pending). Contains es x) b hx) in
+    let r = map_in (update_pending id f) m.book x (subst (λ (es : List Pending). Contains es x) b hx) in
     ⊎_elim
     (λ p. let e : x ≡ f r.0 = r.2 ∙ p.1 in
     let q = kt r.0 i (subst (λ (y : Pending). y.touched i ≡ true) e touched) in
@@ -206,7 +206,7 @@ traced_same m n b x hx i touched = (x, subst (λ (es : List Pending). Contains e
 touch_good : (start : Machine) (h : List Step) (m : Machine) (e : Pending) (i : ℕ) (block : Block) → StepIsFaithful m (Touch e i block) → Sound m → AllSeen m h → Holds start h m → MayStillMove m e → i < e.request.asked.count
     → AllGood start h m → AllGood start (Touch e i block ∷ h) (after_step m (Touch e i block))
 touch_good start h m e i block told s seen holds r li good x hx reads k lt touched =
-    let q = map_in (at e.request.id (touch i)) m.book x hx in
+    let q = map_in (update_pending e.request.id (touch i)) m.book x hx in
     ⊎_elim (λ p. same q.0 q.1 p.0 (q.2 ∙ p.1)) (λ p. other q.0 q.1 p.0 (q.2 ∙ p.1)) (at_cases e.request.id (touch i) q.0)
   where
     n : Machine
@@ -287,7 +287,7 @@ touch_good start h m e i block told s seen holds r li good x hx reads k lt touch
               g.1,
         )
 
-pub good_step : (start : Machine) (h : List Step) (m : Machine) (step : Step) → May m step → StepIsFaithful m step → Sound m → AllSeen m h → Holds start h m → AllGood start h m → AllGood start (step ∷ h) (after_step m step)
+pub good_step : (start : Machine) (h : List Step) (m : Machine) (step : Step) → IsEnabled m step → StepIsFaithful m step → Sound m → AllSeen m h → Holds start h m → AllGood start h m → AllGood start (step ∷ h) (after_step m step)
 good_step start h m (Accept request) may told s seen holds g = quiet_good start h m (after_step m (Accept request)) (Accept request) s
     (λ x hx i t. ⊎_elim (λ p. (x, p, refl, t, λ q. q)) (λ p. absurd (false≢true (subst (λ (y : Pending). y.touched i ≡ true) p t))) (append_in m.book (newly_accepted request) x hx))
     (λ o ho i b li lb. refl) (λ id k. refl) (λ w k t. t) g
@@ -297,7 +297,7 @@ good_step start h m (Touch e i block) may told s seen holds g = touch_good start
 good_step start h m (End e) may told s seen holds g = quiet_good start h m (after_step m (End e)) (End e) s
     (traced_at m (after_step m (End e)) e.request.id mark_ended refl (λ x i t. (t, λ q. q)) (λ x. refl)) (λ o ho i b li lb. refl) (λ id k. refl) (λ w k t. t) g
 good_step start h m (Age ready) may told s seen holds g = quiet_good start h m (after_step m (Age ready)) (Age ready) s
-    (λ x hx i t. let r = map_in (older ready) m.book x hx in (
+    (λ x hx i t. let r = map_in (aged_pending ready) m.book x hx in (
       r.0,
       r.1,
       ap (λ (y : Pending). y.request) r.2 ∙ older_keeps ready r.0,
@@ -305,8 +305,8 @@ good_step start h m (Age ready) may told s seen holds g = quiet_good start h m (
       λ q. ap (λ (y : Pending). y.issued) r.2 ∙ older_issued ready r.0 ∙ q,
     ))
     (λ o ho i b li lb. refl) (λ id k. refl) (λ w k t. t) g
-good_step start h m (Again e) may told s seen holds g = quiet_good start h m (after_step m (Again e)) (Again e) s
-    (traced_at m (after_step m (Again e)) e.request.id requeued refl (λ x i t. absurd (false≢true t)) (λ x. refl)) (λ o ho i b li lb. refl) (λ id k. refl) (λ w k t. t) g
+good_step start h m (WaitAgain e) may told s seen holds g = quiet_good start h m (after_step m (WaitAgain e)) (WaitAgain e) s
+    (traced_at m (after_step m (WaitAgain e)) e.request.id requeued refl (λ x i t. absurd (false≢true t)) (λ x. refl)) (λ o ho i b li lb. refl) (λ id k. refl) (λ w k t. t) g
 good_step start h m (Answer e outcome) may told s seen holds g = quiet_good start h m (after_step m (Answer e outcome)) (Answer e outcome) s
     (λ x hx i t. (x, (without_in e.request.id m.book x hx).0, refl, t, λ q. q))
     (λ o ho i b li lb. refl) (λ id k. refl) (λ w k t. t) g

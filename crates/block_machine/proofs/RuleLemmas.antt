@@ -10,14 +10,14 @@ use Rattle.ata_types.specs.declared.refusal.FrameFault.TheVariants.{FrameForeign
 use Rattle.ata_types.specs.declared.refusal.Rule.{Rule}
 use Rattle.ata_types.specs.declared.refusal.Rule.TheVariants.{NoGrant, NoRight, BadCount, OutsideGrant, FrameCount, Frames}
 use Rattle.ata_types.specs.declared.refusal.Refusal.TheVariants as refused
-use Rattle.block_machine.specs.Rules.{Names, DifferInName, rank}
+use Rattle.block_machine.specs.Rules.{HasGrantName, DifferInName, refusal_rank}
 
 -- number and place of a rule's rank, and of a fault's
 abbrev pub number : Rule → ℕ
-number rule = (rank (refused.Rule rule)).0
+number rule = (refusal_rank (refused.Rule rule)).0
 
 abbrev pub place : Rule → ℕ
-place rule = (rank (refused.Rule rule)).1
+place rule = (refusal_rank (refused.Rule rule)).1
 
 abbrev pub fault_number : FrameFault → ℕ
 fault_number fault = number (Frames fault)
@@ -29,22 +29,22 @@ fault_place fault = place (Frames fault)
 at_place : (rows : List GrantRow) (a d : GrantRow) (there : Contains rows a) → get_or rows there.0 d ≡ a
 at_place rows a d there = sym (get_or_default rows there.0 a d there.1) ∙ there.2
 
-both_named : (client : ClientId) (n : ℕ) (a b : GrantRow) → Names client n a → Names client n b → DifferInName a b → ⊥
+both_named : (client : ClientId) (n : ℕ) (a b : GrantRow) → HasGrantName client n a → HasGrantName client n b → DifferInName a b → ⊥
 both_named client n a b named_a named_b differ = differ (named_b.0 ∙ sym named_a.0, named_b.1 ∙ sym named_a.1)
 
 -- of rows that differ in name, one has a name
 pub one_row : (rows : List GrantRow) → AllPairs DifferInName rows → (client : ClientId) (n : ℕ) (a b : GrantRow)
-    → Contains rows a → Names client n a → Contains rows b → Names client n b → a ≡ b
+    → Contains rows a → HasGrantName client n a → Contains rows b → HasGrantName client n b → a ≡ b
 one_row rows differ client n a b in_a named_a in_b named_b =
     elim (cases_order in_a.0 in_b.0) [
       | inl e ↦ sym in_a.2 ∙ ap (λ k. get_or rows k a) e ∙ at_place rows b a in_b
       | inr apart ↦ absurd (elim apart [
         | inl lt ↦ both_named client n (get_or rows in_a.0 a) (get_or rows in_b.0 a)
-            (subst (Names client n) (sym (at_place rows a a in_a)) named_a)
-            (subst (Names client n) (sym (at_place rows b a in_b)) named_b) (differ in_a.0 in_b.0 a lt in_b.1)
+            (subst (HasGrantName client n) (sym (at_place rows a a in_a)) named_a)
+            (subst (HasGrantName client n) (sym (at_place rows b a in_b)) named_b) (differ in_a.0 in_b.0 a lt in_b.1)
         | inr gt ↦ both_named client n (get_or rows in_b.0 a) (get_or rows in_a.0 a)
-            (subst (Names client n) (sym (at_place rows b a in_b)) named_b)
-            (subst (Names client n) (sym (at_place rows a a in_a)) named_a) (differ in_b.0 in_a.0 a gt in_a.1)
+            (subst (HasGrantName client n) (sym (at_place rows b a in_b)) named_b)
+            (subst (HasGrantName client n) (sym (at_place rows a a in_a)) named_a) (differ in_b.0 in_a.0 a gt in_a.1)
       ])
     ]
 

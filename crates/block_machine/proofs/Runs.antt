@@ -4,7 +4,7 @@ use Rattle.std.specs.List.{Contains}
 use Rattle.ata_types.specs.declared.request.Op.{Op}
 use Rattle.ata_types.specs.declared.request.Op.TheVariants.{Read}
 use Rattle.block_machine.specs.State.{Pending, Machine, is_reader}
-use Rattle.block_machine.specs.Steps.{Step, May, AllTouched, HoldsFrames}
+use Rattle.block_machine.specs.Steps.{Step, IsEnabled, AllTouched, HoldsFrames}
 use Rattle.block_machine.specs.Expected.{after, IsLegal, IsInitial, HoldsExpected, IsTouch, HasTouched, AllStepsFaithful}
 use Rattle.block_machine.proofs.Members.{contains_none}
 use Rattle.block_machine.proofs.Sound.{Sound}
@@ -46,7 +46,7 @@ traced start [] s legal = record {
 }
 traced start (step ∷ past) s legal =
     let t = traced start past s legal.0 in
-    let may : May (after start past) step = legal.1 in
+    let may : IsEnabled (after start past) step = legal.1 in
     record {
       sound = keeps (after start past) step may t.sound;
       seen = λ w k n x. ⊎_elim

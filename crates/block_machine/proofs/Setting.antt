@@ -14,7 +14,7 @@ use Rattle.ata_types.specs.declared.grant.GrantRow.{GrantRow}
 use Rattle.ata_types.specs.SectorGrants.{AllowsOp, CoversSectors}
 use Rattle.ata_types.specs.declared.memory.TheConstants.{DRIVER_FRAMES}
 use Rattle.block_machine.specs.Rules.{DifferInName, HasRow, IsAllowedCount, frame_count_for}
-use Rattle.block_machine.specs.Refusals.{Situation, IsAcceptable}
+use Rattle.block_machine.specs.Refusals.{AdmissionContext, IsAcceptable}
 use Rattle.block_machine.specs.State.{Memory, Machine}
 use Rattle.block_machine.specs.Expected.{IsValidRow, IsInitial}
 use Rattle.block_machine.proofs.Fitting.{fit_acceptable}
@@ -56,14 +56,14 @@ empty = record {
   disk_ids = λ p. 0;
   sizes = λ p. 200;
   disks = λ p k b. 0;
-  aside = λ p k. [];
+  blocks_since_flush = λ p k. [];
   book = [];
   kept = [];
   lent = λ f. None;
   memory = λ f b. 0;
   rows = two_rows;
   owner = owner;
-  next = 1;
+  next_id = 1;
 }
 
 -- a row of one of two numbers
@@ -79,7 +79,7 @@ its_row r h = ⊎_elim
 
 -- each may be given by a configuration, and they differ in name
 fits_row : (n : ℕ) → n ≤ 1 → IsValidRow (row n)
-fits_row n few = record { client = (omega arith, omega arith); number = omega (arith, few); port = omega (arith, few); some = omega arith; below = omega arith }
+fits_row n few = record { client = (omega arith, omega arith); number = omega (arith, few); port = omega (arith, few); count_is_positive = omega arith; below = omega arith }
 
 differ : AllPairs DifferInName two_rows
 differ = AllPairs-cons DifferInName (row 0) (row 1 ∷ [])
@@ -126,7 +126,7 @@ is_trim Trim = true
 is_trim _ = false
 
 -- what makes a request of this client, on the port of this number, acceptable
-pub record IsFit (n : ℕ) (s : Situation) (r : Request) : Type 0 where
+pub record IsFit (n : ℕ) (s : AdmissionContext) (r : Request) : Type 0 where
   pub rows : s.rows ≡ two_rows
   pub mine : Contains two_rows (row n)
   pub client_is : r.client ≡ client
@@ -142,9 +142,9 @@ pub record IsFit (n : ℕ) (s : Situation) (r : Request) : Type 0 where
   pub on_disk : r.op ≢ Flush → r.first.0 + r.count ≤ s.sectors (on n)
   pub no_trim : r.op ≢ Trim
   pub few : s.unanswered client < 16
-  pub ids : s.next < 2 ^ 64
+  pub ids : s.next_id < 2 ^ 64
 
-pub acceptable : (n : ℕ) (s : Situation) (r : Request) → IsFit n s r → IsAcceptable s r
+pub acceptable : (n : ℕ) (s : AdmissionContext) (r : Request) → IsFit n s r → IsAcceptable s r
 acceptable n s r fit = fit_acceptable (row n) s r (record {
   named = (subst (λ (xs : List GrantRow). Contains xs (row n)) (sym fit.rows) fit.mine, (sym fit.client_is, sym fit.grant));
   only = λ x h. its_row x (subst (λ (xs : List GrantRow). Contains xs x) fit.rows h.0) ∙ ap row (h.1.1 ∙ fit.grant);

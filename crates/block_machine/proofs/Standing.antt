@@ -5,7 +5,7 @@ use Rattle.ata_types.specs.declared.request.Op.TheVariants.{Flush}
 use Rattle.block_machine.specs.State.{Pending, Machine, frame_at}
 use Rattle.block_machine.specs.Steps.{Step, MayStillMove}
 use Rattle.block_machine.specs.Expected.{after, IsLegal, IsInitial}
-use Rattle.block_machine.specs.Confined.{MovesBytes, FramesAreAsAccepted}
+use Rattle.block_machine.specs.Confinement.{MovesBytes, FramesAreAsAccepted}
 use Rattle.block_machine.specs.Histories.{IsReachable}
 use Rattle.block_machine.proofs.Sound.{Sound}
 use Rattle.block_machine.proofs.Trace.{runs_lives}
@@ -35,4 +35,4 @@ standing_at start h s legal =
     }
 
 pub standing : (m : Machine) → IsReachable m → Standing m
-standing m r = subst Standing (sym r.is) (standing_at r.first r.past r.starts r.legal)
+standing m r = subst Standing (sym r.leads_to_machine) (standing_at r.initial_machine r.steps_since r.is_initial r.is_legal)

@@ -3,7 +3,7 @@ use Rattle.std.proofs.Common.{◌≡◌, true, [], ◌∷◌, List, inl, inr, �
 use Rattle.std.proofs.lemmas.Bool.{false≢true}
 use Rattle.std.specs.List.{Contains}
 use Rattle.block_machine.specs.State.{Pending, Machine}
-use Rattle.block_machine.specs.Steps.{Step, Accept, Issue, Touch, End, Age, Again, Answer, Revoke, Release, Unplug, Replace, Store, Load, May, MayStillMove, after_step, newly_issued, touch, mark_ended, requeued, older, newly_accepted}
+use Rattle.block_machine.specs.Steps.{Step, Accept, Issue, Touch, End, Age, WaitAgain, Answer, Revoke, Release, Unplug, Replace, Store, Load, IsEnabled, MayStillMove, after_step, newly_issued, touch, mark_ended, requeued, aged_pending, newly_accepted}
 use Rattle.block_machine.specs.Expected.{after, IsLegal, IsInitial}
 use Rattle.block_machine.specs.Histories.{IsReachable}
 use Rattle.block_machine.proofs.Keeps.{older_ended, older_issued}
@@ -22,7 +22,7 @@ moving_issued : (m : Machine) → Sound m → (e p : Pending) → Contains m.boo
 moving_issued m s e p here (inl may) same = ap (λ (x : Pending). x.issued) (s.one e p here may.0 same) ∙ may.1
 moving_issued m s e p here (inr kept) same = absurd (s.apart e p here kept same)
 
-started_step : (m : Machine) (step : Step) → May m step → Sound m → ((e : Pending) → Contains m.book e → IsStarted e) → (e : Pending) → Contains (after_step m step).book e → IsStarted e
+started_step : (m : Machine) (step : Step) → IsEnabled m step → Sound m → ((e : Pending) → Contains m.book e → IsStarted e) → (e : Pending) → Contains (after_step m step).book e → IsStarted e
 started_step m (Accept r) may s all e h = ⊎_elim
     (λ i. all e i)
     (λ same. started e (newly_accepted r) same (λ t. absurd (false≢true t)))
@@ -47,8 +47,8 @@ started_step m (End p) may s all e h =
     (at_cases p.request.id mark_ended r.0)
 started_step m (Age ready) may s all e h =
     let r = map_in _ m.book e h in
-    started e (older ready r.0) r.2 (λ t. older_issued ready r.0 ∙ all r.0 r.1 (sym (older_ended ready r.0) ∙ t))
-started_step m (Again p) may s all e h =
+    started e (aged_pending ready r.0) r.2 (λ t. older_issued ready r.0 ∙ all r.0 r.1 (sym (older_ended ready r.0) ∙ t))
+started_step m (WaitAgain p) may s all e h =
     let r = map_in _ m.book e h in
     ⊎_elim
     (λ c. started e (requeued r.0) (r.2 ∙ c.1) (λ t. absurd (false≢true t)))
@@ -68,4 +68,4 @@ started_at start (step ∷ past) s legal e h =
     started_step (after start past) step legal.1 (traced start past s legal.0).sound (started_at start past s legal.0) e h
 
 pub ended_issued : (m : Machine) (e : Pending) → IsReachable m → Contains m.book e → e.ended ≡ true → e.issued ≡ true
-ended_issued m e r here = started_at r.first r.past r.starts r.legal e (subst (λ (n : Machine). Contains n.book e) r.is here)
+ended_issued m e r here = started_at r.initial_machine r.steps_since r.is_initial r.is_legal e (subst (λ (n : Machine). Contains n.book e) r.leads_to_machine here)

@@ -4,9 +4,9 @@ use Rattle.std.proofs.lemmas.Bool.{or_right, and_from, and_right, cond-false}
 use Rattle.std.specs.List.{Contains}
 use Rattle.ata_types.specs.declared.Port.{Port}
 use Rattle.block_machine.specs.State.{Block, DiskBytes, Accepted, Pending, Machine, newly_unanswered, sector_of}
-use Rattle.block_machine.specs.Due.{conflict, changes_sectors}
-use Rattle.block_machine.specs.Steps.{Step, Accept, Issue, Touch, End, Age, Again, Answer, Revoke, Release, Unplug, Replace, Store, Load, May, MayAccept, after_step, at, HoldsFrames, MayStillMove, newly_issued, touch, mark_ended, requeued, older, newly_accepted}
-use Rattle.block_machine.specs.Expected.{IsAccept, plugs, plugged_disk, plug_count, bytes_when_plugged, IsTouch, touches, HasTouched, disk_number_read, Wrote, IsLastWritten}
+use Rattle.block_machine.specs.DueRequests.{are_conflicting, changes_sectors}
+use Rattle.block_machine.specs.Steps.{Step, Accept, Issue, Touch, End, Age, WaitAgain, Answer, Revoke, Release, Unplug, Replace, Store, Load, IsEnabled, MayAccept, after_step, update_pending, HoldsFrames, MayStillMove, newly_issued, touch, mark_ended, requeued, aged_pending, newly_accepted}
+use Rattle.block_machine.specs.Expected.{IsAccept, plugs_disk, plugged_disk, plug_count, bytes_when_plugged, IsTouch, touches_sector, HasTouched, disk_number_read, Wrote, IsLastWritten}
 use Rattle.block_machine.proofs.Members.{contains_none, contains_cases, map_in, without_in, append_in}
 use Rattle.block_machine.proofs.Sound.{Sound, KeepsRequest}
 use Rattle.block_machine.proofs.Keeps.{at_keeps, older_keeps}
@@ -37,19 +37,19 @@ kept_then m e a false h i = inr i
 abbrev pub Comes : Machine → Step → Accepted → Type 0
 Comes m step r = IsAccept step r × MayAccept m r
 
-pub lives_before : (m : Machine) (step : Step) → May m step → (a : Pending) → HoldsFrames (after_step m step) a → Before m a ⊎ Comes m step a.request
+pub lives_before : (m : Machine) (step : Step) → IsEnabled m step → (a : Pending) → HoldsFrames (after_step m step) a → Before m a ⊎ Comes m step a.request
 lives_before m (Accept request) may a (inl h) = ⊎_elim (λ i. inl (same_before m a (inl i))) (λ p. inr (ap (λ (y : Pending). y.request) (sym p), subst (λ (y : Pending). MayAccept m y.request) (sym p) may)) (append_in m.book (newly_accepted request) a h)
 lives_before m (Accept request) may a (inr h) = inl (same_before m a (inr h))
-lives_before m (Issue mode e) may a (inl h) = inl (in_book m a (moved (at e.request.id newly_issued) m.book (at_keeps e.request.id newly_issued (λ x. refl)) a h))
+lives_before m (Issue mode e) may a (inl h) = inl (in_book m a (moved (update_pending e.request.id newly_issued) m.book (at_keeps e.request.id newly_issued (λ x. refl)) a h))
 lives_before m (Issue mode e) may a (inr h) = inl (same_before m a (inr h))
-lives_before m (Touch e i block) may a (inl h) = inl (in_book m a (moved (at e.request.id (touch i)) m.book (at_keeps e.request.id (touch i) (λ x. refl)) a h))
-lives_before m (Touch e i block) may a (inr h) = inl (in_kept m a (moved (at e.request.id (touch i)) m.kept (at_keeps e.request.id (touch i) (λ x. refl)) a h))
-lives_before m (End e) may a (inl h) = inl (in_book m a (moved (at e.request.id mark_ended) m.book (at_keeps e.request.id mark_ended (λ x. refl)) a h))
-lives_before m (End e) may a (inr h) = inl (in_kept m a (moved (at e.request.id mark_ended) m.kept (at_keeps e.request.id mark_ended (λ x. refl)) a h))
-lives_before m (Age ready) may a (inl h) = inl (in_book m a (moved (older ready) m.book (older_keeps ready) a h))
+lives_before m (Touch e i block) may a (inl h) = inl (in_book m a (moved (update_pending e.request.id (touch i)) m.book (at_keeps e.request.id (touch i) (λ x. refl)) a h))
+lives_before m (Touch e i block) may a (inr h) = inl (in_kept m a (moved (update_pending e.request.id (touch i)) m.kept (at_keeps e.request.id (touch i) (λ x. refl)) a h))
+lives_before m (End e) may a (inl h) = inl (in_book m a (moved (update_pending e.request.id mark_ended) m.book (at_keeps e.request.id mark_ended (λ x. refl)) a h))
+lives_before m (End e) may a (inr h) = inl (in_kept m a (moved (update_pending e.request.id mark_ended) m.kept (at_keeps e.request.id mark_ended (λ x. refl)) a h))
+lives_before m (Age ready) may a (inl h) = inl (in_book m a (moved (aged_pending ready) m.book (older_keeps ready) a h))
 lives_before m (Age ready) may a (inr h) = inl (same_before m a (inr h))
-lives_before m (Again e) may a (inl h) = inl (in_book m a (moved (at e.request.id requeued) m.book (at_keeps e.request.id requeued (λ x. refl)) a h))
-lives_before m (Again e) may a (inr h) = inl (same_before m a (inr h))
+lives_before m (WaitAgain e) may a (inl h) = inl (in_book m a (moved (update_pending e.request.id requeued) m.book (at_keeps e.request.id requeued (λ x. refl)) a h))
+lives_before m (WaitAgain e) may a (inr h) = inl (same_before m a (inr h))
 lives_before m (Answer e outcome) may a (inl h) = inl (same_before m a (inl (without_in e.request.id m.book a h).0))
 lives_before m (Answer e outcome) may a (inr h) = inl (same_before m a (kept_then m e a _ may.0 h))
 lives_before m (Revoke client number) may a h = inl (same_before m a h)
@@ -60,7 +60,7 @@ lives_before m (Replace port id size disk) may a h = inl (same_before m a h)
 lives_before m (Store client frame offset bytes) may a h = inl (same_before m a h)
 lives_before m (Load client frame offset bytes) may a h = inl (same_before m a h)
 
-pub next_grows : (m : Machine) (step : Step) → m.next ≤ (after_step m step).next
+pub next_grows : (m : Machine) (step : Step) → m.next_id ≤ (after_step m step).next_id
 next_grows m (Accept request) = omega arith
 next_grows m _ = le_refl _
 
@@ -80,7 +80,7 @@ runs_lives m e (inr h) = inr h
 
 -- two requests of a port with a sector in common, one of which writes, conflict
 pub conflict_at : (a b : Accepted) (k : ℕ) → a.port ≡ b.port → (changes_sectors a.asked.op || changes_sectors b.asked.op) ≡ true
-    → a.asked.first.0 ≤ k → k < a.asked.first.0 + a.asked.count → b.asked.first.0 ≤ k → k < b.asked.first.0 + b.asked.count → conflict (newly_unanswered a) (newly_unanswered b) ≡ true
+    → a.asked.first.0 ≤ k → k < a.asked.first.0 + a.asked.count → b.asked.first.0 ≤ k → k < b.asked.first.0 + b.asked.count → are_conflicting (newly_unanswered a) (newly_unanswered b) ≡ true
 conflict_at a b k port w al ah bl bh =
     and_from _ _ (eq-eqb a.port.0 b.port.0 (ap (λ (p : Port). p.0) port)) (or_right _ _ (and_from _ _ w
     (and_from _ _ (and_from _ _ (lt-ltb a.asked.first.0 (b.asked.first.0 + b.asked.count) (omega arith)) (lt-ltb b.asked.first.0 (a.asked.first.0 + a.asked.count) (omega arith)))
@@ -88,13 +88,13 @@ conflict_at a b k port w al ah bl bh =
 
 -- What is known of a request that touched a sector.
 pub record Seen (m : Machine) (w : Accepted) (k : ℕ) : Type 0 where
-  pub below : w.id.0 < m.next
+  pub below : w.id.0 < m.next_id
   pub from : w.asked.first.0 ≤ k
   pub to : k < w.asked.first.0 + w.asked.count
   pub one : (a : Pending) → HoldsFrames m a → a.request.id.0 ≡ w.id.0 → a.request ≡ w
-  pub order : (a : Pending) → HoldsFrames m a → a.request.id.0 < w.id.0 → conflict (newly_unanswered a.request) (newly_unanswered w) ≡ true → ⊥
+  pub order : (a : Pending) → HoldsFrames m a → a.request.id.0 < w.id.0 → are_conflicting (newly_unanswered a.request) (newly_unanswered w) ≡ true → ⊥
 
-pub seen_step : (m : Machine) (step : Step) → May m step → (w : Accepted) (k : ℕ) → Seen m w k → Seen (after_step m step) w k
+pub seen_step : (m : Machine) (step : Step) → IsEnabled m step → (w : Accepted) (k : ℕ) → Seen m w k → Seen (after_step m step) w k
 seen_step m step may w k s = record {
   below = let g = next_grows m step in let b = s.below in omega (arith, g, b);
   from = s.from;
@@ -104,7 +104,7 @@ seen_step m step may w k s = record {
       (λ (p : Comes m step a.request). let b = s.below in let q = p.1.id in absurd (omega (arith, b, q, eq)))
       (lives_before m step may a l);
   order = λ a l lt con. ⊎_elim
-      (λ r. s.order r.0 r.1 (subst (λ (j : Accepted). j.id.0 < w.id.0) r.2 lt) (subst (λ (j : Accepted). conflict (newly_unanswered j) (newly_unanswered w) ≡ true) r.2 con))
+      (λ r. s.order r.0 r.1 (subst (λ (j : Accepted). j.id.0 < w.id.0) r.2 lt) (subst (λ (j : Accepted). are_conflicting (newly_unanswered j) (newly_unanswered w) ≡ true) r.2 con))
       (λ (p : Comes m step a.request). let b = s.below in let q = p.1.id in omega (arith, b, q, lt))
       (lives_before m step may a l);
 }
@@ -119,14 +119,14 @@ seen_now m s e i r lt = record {
   order = λ a l less con. s.order e a r l less con;
 }
 
-pub seen_touch : (m : Machine) (step : Step) → May m step → Sound m → (w : Accepted) (k : ℕ) → IsTouch step w k → Seen m w k
+pub seen_touch : (m : Machine) (step : Step) → IsEnabled m step → Sound m → (w : Accepted) (k : ℕ) → IsTouch step w k → Seen m w k
 seen_touch m (Touch e i block) may s w k t = subst (λ (x : ℕ). Seen m w x) t.1 (subst (λ (j : Accepted). Seen m j (sector_of j i)) t.0 (seen_now m s e i may.0 may.1))
 seen_touch m _ may s w k t = absurd t
 
 -- Numbers of disks.
 
 pub number_grows : (port : Port) (step : Step) (past : List Step) → plug_count port past ≤ plug_count port (step ∷ past)
-number_grows port step past = elim (plugs port step) as (λ b. plug_count port past ≤ cond b (suc (plug_count port past)) (plug_count port past)) [ true ↦ omega arith | false ↦ le_refl _ ]
+number_grows port step past = elim (plugs_disk port step) as (λ b. plug_count port past ≤ cond b (suc (plug_count port past)) (plug_count port past)) [ true ↦ omega arith | false ↦ le_refl _ ]
 
 pub touched_number : (w : Accepted) (k n : ℕ) (h : List Step) → HasTouched w k n h → n ≤ plug_count w.port h
 touched_number w k n [] t = absurd t
@@ -139,11 +139,11 @@ read_number request k (step ∷ past) =
     let g = number_grows request.port step past in
     let r = read_number request k past in
     let low : disk_number_read request k past ≤ plug_count request.port (step ∷ past) = omega (arith, g, r) in
-    elim (touches request.id k step) as (λ b. cond b (plug_count request.port past) (disk_number_read request k past) ≤ plug_count request.port (step ∷ past)) [ true ↦ g | false ↦ low ]
+    elim (touches_sector request.id k step) as (λ b. cond b (plug_count request.port past) (disk_number_read request k past) ≤ plug_count request.port (step ∷ past)) [ true ↦ g | false ↦ low ]
 
 plugged_more : (start : Machine) (port : Port) (n : ℕ) (step : Step) (past : List Step) → n ≤ plug_count port past → bytes_when_plugged start port n (step ∷ past) ≡ bytes_when_plugged start port n past
 plugged_more start port n step past le =
-    cond-false (plugs port step && suc (plug_count port past) == n) (plugged_disk step) (bytes_when_plugged start port n past)
+    cond-false (plugs_disk port step && suc (plug_count port past) == n) (plugged_disk step) (bytes_when_plugged start port n past)
     (and_right _ _ (ne_eqb (suc (plug_count port past)) n (λ e. let f : ⊥ = omega (arith, le, e) in f)))
 
 -- what was last stays last after a step that is no touch of its kind
@@ -156,13 +156,13 @@ pub last_from : (start : Machine) (port : Port) (k n limit limit' : ℕ) (step :
 last_from start port k n limit limit' step past block le untouched up down last = go last
   where
     older : (w : Accepted) → Wrote port k n limit' (step ∷ past) w → HasTouched w k n past
-    older w o = ⊎_elim (λ t. absurd (untouched w o.writes o.here o.earlier t.0)) (λ t. t) o.touched
+    older w o = ⊎_elim (λ t. absurd (untouched w o.op_changes_sectors o.port_is o.earlier t.0)) (λ t. t) o.touched
 
     past_too : (w : Accepted) → Wrote port k n limit' (step ∷ past) w → Wrote port k n limit past w
-    past_too w o = record { writes = o.writes; here = o.here; earlier = down w (record { writes = o.writes; here = o.here; earlier = o.earlier; touched = older w o }); touched = older w o }
+    past_too w o = record { op_changes_sectors = o.op_changes_sectors; port_is = o.port_is; earlier = down w (record { op_changes_sectors = o.op_changes_sectors; port_is = o.port_is; earlier = o.earlier; touched = older w o }); touched = older w o }
 
     now_too : (w : Accepted) → Wrote port k n limit past w → Wrote port k n limit' (step ∷ past) w
-    now_too w o = record { writes = o.writes; here = o.here; earlier = up w o; touched = inr o.touched }
+    now_too w o = record { op_changes_sectors = o.op_changes_sectors; port_is = o.port_is; earlier = up w o; touched = inr o.touched }
 
     go : IsLastWritten start port k n limit past block → IsLastWritten start port k n limit' (step ∷ past) block
     go (inl r) = inl (r.0, now_too r.0 r.1, λ other o. r.2 other (past_too other o), r.3)

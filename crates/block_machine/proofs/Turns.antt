@@ -8,7 +8,7 @@ use Rattle.ata_types.specs.declared.Port.{Port}
 use Rattle.ata_types.specs.declared.request.RequestId.{RequestId}
 use Rattle.block_machine.specs.declared.due.QueueMode.{QueueMode}
 use Rattle.block_machine.specs.declared.due.Unanswered.{Unanswered}
-use Rattle.block_machine.specs.Due.{IsDue, IsInOrder, waits_for, is_plain, is_earlier_on_port, is_unblocked, ahead, issued_count, free_slots, is_due, mark_issued, with_issued, mark_waiting, with_waiting, without_request, of_port, due_of, AreAllDueInOrder}
+use Rattle.block_machine.specs.DueRequests.{IsDue, IsInOrder, waits_for, is_plain, is_earlier_on_port, is_unblocked, unblocked_ahead_count, issued_count, free_slots, is_due, mark_issued, with_issued, mark_waiting, with_waiting, without_request, requests_of_port, due_of, AreAllDueInOrder}
 use Rattle.block_machine.proofs.Members.{into_map}
 use Rattle.block_machine.proofs.Order.{In, Ordered, in_from, from_in, ordered_from}
 use Rattle.block_machine.proofs.Counting.{count_cons}
@@ -54,8 +54,8 @@ due_member mode port book r own = (to, from)
 
     from : IsDue mode book r → Contains (due_of mode port book) r
     from d = from_in r (due_of mode port book) (in_filter (due_test mode port book) book r
-        (and_from _ _ (eq-eqb r.port.0 port.0 (ap (λ (p : Port). p.0) own)) ((tested mode book r d.here).1 d))
-        (in_from book r d.here))
+        (and_from _ _ (eq-eqb r.port.0 port.0 (ap (λ (p : Port). p.0) own)) ((tested mode book r d.is_in_book).1 d))
+        (in_from book r d.is_in_book))
 
 -- each of the due is of the port
 pub due_own : (mode : QueueMode) (port : Port) (book : List Unanswered) (r : Unanswered) → Contains (due_of mode port book) r → r.port ≡ port
@@ -233,34 +233,34 @@ module _ (mode : QueueMode) (port : Port) (book : List Unanswered) where
   abbrev own : Unanswered → Bool
   own x = x.port.0 == port.0
 
-  clear_own : (r : Unanswered) → r.port ≡ port → is_unblocked mode book r ≡ is_unblocked mode (of_port port book) r
+  clear_own : (r : Unanswered) → r.port ≡ port → is_unblocked mode book r ≡ is_unblocked mode (requests_of_port port book) r
   clear_own r its = ap (λ (b : Bool). not r.issued && not b)
       (any_own own (waits_for mode r) (λ x other. and_left _ _ (ap (λ (p : Port). x.port.0 == p.0) its ∙ other)) book)
 
-  ahead_own : (r : Unanswered) → r.port ≡ port → ahead mode book r ≡ ahead mode (of_port port book) r
-  ahead_own r its = count_own own (λ o. is_earlier_on_port o r && is_unblocked mode book o) (λ o. is_earlier_on_port o r && is_unblocked mode (of_port port book) o)
+  ahead_own : (r : Unanswered) → r.port ≡ port → unblocked_ahead_count mode book r ≡ unblocked_ahead_count mode (requests_of_port port book) r
+  ahead_own r its = count_own own (λ o. is_earlier_on_port o r && is_unblocked mode book o) (λ o. is_earlier_on_port o r && is_unblocked mode (requests_of_port port book) o)
       (λ x other. and_left _ _ (and_left _ _ (ap (λ (p : Port). x.port.0 == p.0) its ∙ other)))
       (λ x mine. ap (λ (b : Bool). is_earlier_on_port x r && b) (clear_own x (same_port x.port port (eqb-true x.port.0 port.0 mine))))
       book
 
-  issued_own : issued_count book port ≡ issued_count (of_port port book) port
+  issued_own : issued_count book port ≡ issued_count (requests_of_port port book) port
   issued_own = count_own own (λ o. (o.port.0 == port.0) && o.issued) (λ o. (o.port.0 == port.0) && o.issued) (λ x other. and_left _ _ other) (λ x mine. refl) book
 
-  due_is_own : (r : Unanswered) → r.port ≡ port → is_due mode book r ≡ is_due mode (of_port port book) r
+  due_is_own : (r : Unanswered) → r.port ≡ port → is_due mode book r ≡ is_due mode (requests_of_port port book) r
   due_is_own r its =
-      let free : free_slots mode book r.port ≡ free_slots mode (of_port port book) r.port =
-      ap (λ (p : Port). free_slots mode book p) its ∙ (ap (λ (n : ℕ). mode.usable - n) issued_own ∙ ap (λ (p : Port). free_slots mode (of_port port book) p) (sym its)) in
-      ap (λ (b : Bool). b && (is_plain mode r.op || nat_lt (ahead mode book r) (free_slots mode book r.port))) (clear_own r its)
-      ∙ (ap (λ (n : ℕ). is_unblocked mode (of_port port book) r && (is_plain mode r.op || nat_lt n (free_slots mode book r.port))) (ahead_own r its)
-      ∙ ap (λ (n : ℕ). is_unblocked mode (of_port port book) r && (is_plain mode r.op || nat_lt (ahead mode (of_port port book) r) n)) free)
+      let free : free_slots mode book r.port ≡ free_slots mode (requests_of_port port book) r.port =
+      ap (λ (p : Port). free_slots mode book p) its ∙ (ap (λ (n : ℕ). mode.usable - n) issued_own ∙ ap (λ (p : Port). free_slots mode (requests_of_port port book) p) (sym its)) in
+      ap (λ (b : Bool). b && (is_plain mode r.op || nat_lt (unblocked_ahead_count mode book r) (free_slots mode book r.port))) (clear_own r its)
+      ∙ (ap (λ (n : ℕ). is_unblocked mode (requests_of_port port book) r && (is_plain mode r.op || nat_lt n (free_slots mode book r.port))) (ahead_own r its)
+      ∙ ap (λ (n : ℕ). is_unblocked mode (requests_of_port port book) r && (is_plain mode r.op || nat_lt (unblocked_ahead_count mode (requests_of_port port book) r) n)) free)
 
-  due_of_own : due_of mode port book ≡ filter (is_due mode (of_port port book)) (of_port port book)
-  due_of_own = filter_both own (is_due mode book) (is_due mode (of_port port book)) (λ x mine. due_is_own x (same_port x.port port (eqb-true x.port.0 port.0 mine))) book
+  due_of_own : due_of mode port book ≡ filter (is_due mode (requests_of_port port book)) (requests_of_port port book)
+  due_of_own = filter_both own (is_due mode book) (is_due mode (requests_of_port port book)) (λ x mine. due_is_own x (same_port x.port port (eqb-true x.port.0 port.0 mine))) book
 
-pub due_of_same : (mode : QueueMode) (port : Port) (book other : List Unanswered) → of_port port book ≡ of_port port other → due_of mode port book ≡ due_of mode port other
+pub due_of_same : (mode : QueueMode) (port : Port) (book other : List Unanswered) → requests_of_port port book ≡ requests_of_port port other → due_of mode port book ≡ due_of mode port other
 due_of_same mode port book other same = due_of_own mode port book ∙ (ap (λ (xs : List Unanswered). filter (is_due mode xs) xs) same ∙ sym (due_of_own mode port other))
 
-pub due_same : (mode : QueueMode) (port : Port) (book other : List Unanswered) (r : Unanswered) → of_port port book ≡ of_port port other → r.port ≡ port → IsDue mode book r ↔ IsDue mode other r
+pub due_same : (mode : QueueMode) (port : Port) (book other : List Unanswered) (r : Unanswered) → requests_of_port port book ≡ requests_of_port port other → r.port ≡ port → IsDue mode book r ↔ IsDue mode other r
 due_same mode port book other r same its =
     let a = due_member mode port book r its in
     let b = due_member mode port other r its in
@@ -301,7 +301,7 @@ module _ (port : Port) (book : List Unanswered) (e : Unanswered) (order : IsInOr
       by true t = absurd (other (ap (λ (y : Unanswered). y.port) (sym (in_order_one book (ordered_from book order) x e h (in_from book e here) (eqb-true x.id.0 e.id.0 t)))
           ∙ same_port x.port port (eqb-true x.port.0 port.0 mine)))
 
-  pub issued_elsewhere : of_port port (with_issued e.id book) ≡ of_port port book
+  pub issued_elsewhere : requests_of_port port (with_issued e.id book) ≡ requests_of_port port book
   issued_elsewhere = filter_same (λ x. x.port.0 == port.0) (mark_issued e.id) book
       (λ x h. (keeps x (x.id.0 == e.id.0) refl, λ mine. cond-false (x.id.0 == e.id.0) (record x { issued = true }) x (apart x h mine)))
     where
@@ -309,7 +309,7 @@ module _ (port : Port) (book : List Unanswered) (e : Unanswered) (order : IsInOr
       keeps x true t = ap (λ (y : Unanswered). y.port.0 == port.0) (cond-true (x.id.0 == e.id.0) (record x { issued = true }) x t)
       keeps x false t = ap (λ (y : Unanswered). y.port.0 == port.0) (cond-false (x.id.0 == e.id.0) (record x { issued = true }) x t)
 
-  pub waiting_elsewhere : of_port port (with_waiting e.id book) ≡ of_port port book
+  pub waiting_elsewhere : requests_of_port port (with_waiting e.id book) ≡ requests_of_port port book
   waiting_elsewhere = filter_same (λ x. x.port.0 == port.0) (mark_waiting e.id) book
       (λ x h. (keeps x (x.id.0 == e.id.0) refl, λ mine. cond-false (x.id.0 == e.id.0) (record x { issued = false }) x (apart x h mine)))
     where
@@ -317,5 +317,5 @@ module _ (port : Port) (book : List Unanswered) (e : Unanswered) (order : IsInOr
       keeps x true t = ap (λ (y : Unanswered). y.port.0 == port.0) (cond-true (x.id.0 == e.id.0) (record x { issued = false }) x t)
       keeps x false t = ap (λ (y : Unanswered). y.port.0 == port.0) (cond-false (x.id.0 == e.id.0) (record x { issued = false }) x t)
 
-  pub gone_elsewhere : of_port port (without_request e.id book) ≡ of_port port book
+  pub gone_elsewhere : requests_of_port port (without_request e.id book) ≡ requests_of_port port book
   gone_elsewhere = filter_swap (λ x. x.port.0 == port.0) (λ x. not (x.id.0 == e.id.0)) book (λ x h mine. ap not (apart x h mine))

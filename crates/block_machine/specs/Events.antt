@@ -16,11 +16,11 @@ use Rattle.ata_types.specs.declared.request.Outcome.TheVariants as outcome
 use Rattle.ata_types.specs.declared.refusal.Refusal.{Refusal}
 use Rattle.ata_types.specs.declared.refusal.MemFault.{MemFault}
 use Rattle.block_machine.specs.Rules.{HasRow, IsSameGrantName, without_row}
-use Rattle.block_machine.specs.Refusals.{Situation, IsAcceptable, IsFirstRefusal, MayAccessFrame, IsFirstMemFault}
-use Rattle.block_machine.specs.Due.{NoneDue}
+use Rattle.block_machine.specs.Refusals.{AdmissionContext, IsAcceptable, IsFirstRefusal, MayAccessFrame, IsFirstMemFault}
+use Rattle.block_machine.specs.DueRequests.{NoneDue}
 use Rattle.block_machine.specs.Ports.{Ports, PortsWellFormed, SamePort, SamePorts, SameDisk, Evidence, IsStoppedOrStuck, MayBecome, IsServiced, IsAfterStuckReset}
 use Rattle.block_machine.specs.State.{Accepted, Pending, Machine, unanswered}
-use Rattle.block_machine.specs.Steps.{Step, Accept, Issue, Touch, End, Age, Again, Answer, Revoke, Release, Unplug, Replace, Store, Load, May, AllTouched, unanswered_count}
+use Rattle.block_machine.specs.Steps.{Step, Accept, Issue, Touch, End, Age, WaitAgain, Answer, Revoke, Release, Unplug, Replace, Store, Load, IsEnabled, AllTouched, unanswered_count}
 use Rattle.block_machine.specs.Expected.{after, IsInitial, HoldsExpected}
 
 -- machine and ports between two calls
@@ -65,9 +65,9 @@ pub record CallRecord (D : Type 0) : Type 0 where
   pub ports : Ports
 
 -- the steps came when they might
-abbrev pub AllMay : Machine → List Step → Type 0
-AllMay old [] = Unit {0}
-AllMay old (step ∷ before) = AllMay old before × May (after old before) step
+abbrev pub AllEnabled : Machine → List Step → Type 0
+AllEnabled old [] = Unit {0}
+AllEnabled old (step ∷ before) = AllEnabled old before × IsEnabled (after old before) step
 
 -- the step is the device's own: it may come in each call
 abbrev pub IsByDevice : Step → Type 0
@@ -94,15 +94,15 @@ IsByServer (Submit r) ports (Issue mode e) = (ports.state e.request.port ≡ Rea
 IsByServer (StoreAt client frame at bytes) ports (Store c f o b) = (c ≡ client) × (f ≡ frame) × (o ≡ at) × (b ≡ bytes)
 IsByServer (LoadAt client frame at n) ports (Load c f o b) = (c ≡ client) × (f ≡ frame) × (o ≡ at) × (length b ≡ n)
 IsByServer Service ports (Issue mode e) = (ports.state e.request.port ≡ Ready) × (ports.mode e.request.port ≡ mode)
-IsByServer Service ports (Again e) = ports.state e.request.port ≡ Ready
+IsByServer Service ports (WaitAgain e) = ports.state e.request.port ≡ Ready
 IsByServer Service ports (Answer e o) = Unit {0}
 IsByServer Tick ports (Age ready) = Unit {0}
 IsByServer Tick ports (Issue mode e) = (ports.state e.request.port ≡ Ready) × (ports.mode e.request.port ≡ mode)
-IsByServer Tick ports (Again e) = ports.state e.request.port ≡ Ready
+IsByServer Tick ports (WaitAgain e) = ports.state e.request.port ≡ Ready
 IsByServer Tick ports (Answer e o) = EndsUndone o ⊎ (o ≡ outcome.Ok)
 IsByServer Reset ports Release = Unit {0}
 IsByServer Reset ports (Issue mode e) = (ports.state e.request.port ≡ Ready) × (ports.mode e.request.port ≡ mode)
-IsByServer Reset ports (Again e) = ports.state e.request.port ≡ Ready
+IsByServer Reset ports (WaitAgain e) = ports.state e.request.port ≡ Ready
 IsByServer Reset ports (Answer e o) = EndsUndone o
 IsByServer (RevokeOf client number) ports (Revoke c n) = (c ≡ client) × (n ≡ number)
 IsByServer (RevokeOf client number) ports (Answer e o) = o ≡ outcome.Revoked
@@ -151,41 +151,42 @@ is_release Release = true
 is_release _ = false
 
 -- the step accepts the request of this id
-abbrev pub accepts_it : RequestId → Step → Bool
-accepts_it id (Accept r) = r.id.0 == id.0
-accepts_it id _ = false
+abbrev pub accepts_id : RequestId → Step → Bool
+accepts_id id (Accept r) = r.id.0 == id.0
+accepts_id id _ = false
 
 -- the step answers the request of this id
-abbrev pub answers_it : RequestId → Step → Bool
-answers_it id (Answer e o) = e.request.id.0 == id.0
-answers_it id _ = false
+abbrev pub answers_id : RequestId → Step → Bool
+answers_id id (Answer e o) = e.request.id.0 == id.0
+answers_id id _ = false
 
 -- the step issues the request of this id
-abbrev pub issues_it : RequestId → Step → Bool
-issues_it id (Issue mode e) = e.request.id.0 == id.0
-issues_it id _ = false
+abbrev pub issues_id : RequestId → Step → Bool
+issues_id id (Issue mode e) = e.request.id.0 == id.0
+issues_id id _ = false
 
 -- the step is one of the server's with the request of this id: it issues it, lets it wait again, or answers it
-abbrev pub handles : RequestId → Step → Bool
-handles id (Issue mode e) = e.request.id.0 == id.0
-handles id (Again e) = e.request.id.0 == id.0
-handles id (Answer e o) = e.request.id.0 == id.0
-handles id _ = false
+abbrev pub handles_id : RequestId → Step → Bool
+handles_id id (Issue mode e) = e.request.id.0 == id.0
+handles_id id (WaitAgain e) = e.request.id.0 == id.0
+handles_id id (Answer e o) = e.request.id.0 == id.0
+handles_id id _ = false
 
 -- one of these steps issues the request of this id
 abbrev pub IsIssuedIn : RequestId → List Step → Type 0
-IsIssuedIn id steps = list_any (issues_it id) steps ≡ true
+IsIssuedIn id steps = list_any (issues_id id) steps ≡ true
 
 -- A call does nothing more with a request that it issued: so it issues a request once at most, and answers none that it
 -- issued.
 abbrev pub IssuesLast : List Step → Type 0
 IssuesLast [] = Unit {0}
-IssuesLast (step ∷ before) = IssuesLast before × ((id : RequestId) → handles id step ≡ true → IsIssuedIn id before → ⊥)
+IssuesLast (step ∷ before) =
+    IssuesLast before × ((id : RequestId) → handles_id id step ≡ true → IsIssuedIn id before → ⊥)
 
 -- an unanswered request of that id was issued
 pub record WasIssued (m : Machine) (id : RequestId) : Type 0 where
   pub pending : Pending
-  pub here : Contains m.book pending
+  pub is_in_book : Contains m.book pending
   pub id_is : pending.request.id ≡ id
   pub issued : pending.issued ≡ true
 
@@ -223,7 +224,7 @@ abbrev pub AllAnswersLawful : AbstractState → Evidence → Ports → List Step
 AllAnswersLawful old evidence ports [] = Unit {0}
 AllAnswersLawful old evidence ports (Answer e o ∷ rest) = AllAnswersLawful old evidence ports rest
     × IsLawfulAnswer old evidence ports e o
-AllAnswersLawful old evidence ports (Again e ∷ rest) = AllAnswersLawful old evidence ports rest
+AllAnswersLawful old evidence ports (WaitAgain e ∷ rest) = AllAnswersLawful old evidence ports rest
     × Contains evidence.stopped e.request.port
 AllAnswersLawful old evidence ports (step ∷ rest) = AllAnswersLawful old evidence ports rest
 
@@ -239,13 +240,13 @@ reply_of answer = record { id = answer.0.request.id; client = answer.0.request.a
 -- the replies are those of the steps' answers, in that order
 pub record RepliesMatch (steps : List Step) (replies : List Reply) : Type 0 where
   pub answers : List (Pending × Outcome)
-  pub same : IsPermutation answers (answers_of steps)
+  pub is_permutation : IsPermutation answers (answers_of steps)
   pub ordered : AllPairs IsToldBefore answers
-  pub told : replies ≡ map reply_of answers
+  pub replies_are : replies ≡ map reply_of answers
 
 -- what a request meets at a moment
-abbrev pub situation_of : AbstractState → Situation
-situation_of m = record {
+abbrev pub admission_context_of : AbstractState → AdmissionContext
+admission_context_of m = record {
   rows = m.machine.rows;
   owner = m.machine.owner;
   lent = m.machine.lent;
@@ -253,7 +254,7 @@ situation_of m = record {
   sectors = m.ports.sectors;
   trims = m.ports.trims;
   unanswered = unanswered_count m.machine.book;
-  next = m.machine.next;
+  next_id = m.machine.next_id;
 }
 
 -- no request of a ready port is due
@@ -274,7 +275,7 @@ UnansweredKeepDisk old new = (e o : Pending) → Contains new.machine.book e →
 pub record HasTimedOut (old : AbstractState) (port : Port) : Type 0 where
   pub ready : old.ports.state port ≡ Ready
   pub pending : Pending
-  pub here : Contains old.machine.book pending
+  pub is_in_book : Contains old.machine.book pending
   pub port_is : pending.request.port ≡ port
   pub issued : pending.issued ≡ true
   pub old_enough : 2 ≤ pending.age
@@ -298,9 +299,9 @@ AnswersEnded old steps port = (e : Pending) → Contains old.book e → e.reques
 
 -- Where a request is answered Unplugged, no request of its port is left unanswered, and none is answered PortDead.
 pub record AnswersAllUnplugged (steps : List Step) (new : Machine) : Type 0 where
-  pub emptied : (e other : Pending) → Contains steps (Answer e outcome.Unplugged) → Contains new.book other
+  pub none_is_left : (e other : Pending) → Contains steps (Answer e outcome.Unplugged) → Contains new.book other
       → other.request.port ≢ e.request.port
-  pub alike : (e other : Pending) → Contains steps (Answer e outcome.Unplugged)
+  pub none_is_told_dead : (e other : Pending) → Contains steps (Answer e outcome.Unplugged)
       → Contains steps (Answer other outcome.PortDead) → other.request.port ≢ e.request.port
 
 -- Where a request is told Unplugged, its port is neither dead nor ready with serial and size as before: a tick, or a
@@ -323,11 +324,11 @@ ShownDiskWasInOrCame old steps new port = ShowsDisk (new.ports.state port)
 
 -- The tick comes first, and once, at the ports that are ready then.
 pub record AgesOnce (ports : Ports) (steps : List Step) : Type 0 where
-  pub ready : Port → Bool
-  pub is_ready : (port : Port) → IsTrue (ready port) ↔ (ports.state port ≡ Ready)
+  pub ready_ports : Port → Bool
+  pub is_ready : (port : Port) → IsTrue (ready_ports port) ↔ (ports.state port ≡ Ready)
   pub later : List Step
-  pub first : steps ≡ later ++ Age ready ∷ []
-  pub once : count_by is_age later ≡ 0
+  pub age_is_first : steps ≡ later ++ Age ready_ports ∷ []
+  pub no_other_age : count_by is_age later ≡ 0
 
 -- A tick restarts each port that is hung, and no other: what had ended there is answered Ok, no request then keeps its
 -- issue, and it shows a disk only where one was in. Other ports stay what they are, and nothing is answered there.
@@ -335,13 +336,14 @@ pub record RestartsTimedOut (old : AbstractState) (evidence : Evidence) (steps :
     (new : AbstractState) : Type 0 where
   pub ports : (port : Port) → ((HasTimedOut old port → ⊥) × SamePort old.ports new.ports port)
       ⊎ (HasTimedOut old port × MayBecome old.ports evidence new.ports port)
-  pub again : (e : Pending) → Contains steps (Again e) → HasTimedOut old e.request.port
-  pub answer : (e : Pending) (o : Outcome) → Contains steps (Answer e o) → HasTimedOut old e.request.port
-  pub ended : (port : Port) → HasTimedOut old port → AnswersEnded old.machine steps port
-  pub anew : (port : Port) → HasTimedOut old port → NoneStaysIssued steps new.machine port
-  pub interrupts : (port : Port) → HasTimedOut old port ↔ IsStoppedOrStuck evidence port
-  pub finds : UnpluggedLostDisk steps old.ports new.ports
-  pub disk : (port : Port) → HasTimedOut old port → ShownDiskWasInOrCame old steps new port
+  pub only_timed_out_wait_again : (e : Pending) → Contains steps (WaitAgain e) → HasTimedOut old e.request.port
+  pub only_timed_out_are_answered : (e : Pending) (o : Outcome) → Contains steps (Answer e o)
+      → HasTimedOut old e.request.port
+  pub answers_ended : (port : Port) → HasTimedOut old port → AnswersEnded old.machine steps port
+  pub none_stays_issued : (port : Port) → HasTimedOut old port → NoneStaysIssued steps new.machine port
+  pub is_interrupted : (port : Port) → HasTimedOut old port ↔ IsStoppedOrStuck evidence port
+  pub unplugged_lost_disk : UnpluggedLostDisk steps old.ports new.ports
+  pub shown_disk_was_in_or_came : (port : Port) → HasTimedOut old port → ShownDiskWasInOrCame old steps new port
 
 -- The kept requests' frames are given back once, before the server does anything else.
 pub record ReleasesOnce (steps : List Step) : Type 0 where
@@ -362,61 +364,63 @@ TellsDead old steps = (e : Pending) (o : Outcome) → Contains steps (Answer e o
 -- a disk only where one was in. (What it makes of trouble, the crate that knows the device says.)
 pub record AnswersService (old : AbstractState) (evidence : Evidence) (steps : List Step) (replies : List Reply)
     (new : AbstractState) : Type 0 where
-  pub tells : RepliesMatch steps replies
-  pub dead : TellsDead old steps
-  pub unplugs : AnswersAllUnplugged steps new.machine
-  pub issues : NoneDueWhereReady new
-  pub emptied : (port : Port) → EmptyUnlessReady new port
-  pub ended : (port : Port) → old.ports.state port ≡ Ready → AnswersEnded old.machine steps port
-  pub becomes : (port : Port) → IsServiced old.ports evidence new.ports port
-  pub disk : (port : Port) → SamePort old.ports new.ports port ⊎ ShownDiskWasInOrCame old steps new port
+  pub replies_match : RepliesMatch steps replies
+  pub tells_dead : TellsDead old steps
+  pub answers_all_unplugged : AnswersAllUnplugged steps new.machine
+  pub none_is_due : NoneDueWhereReady new
+  pub empty_unless_ready : (port : Port) → EmptyUnlessReady new port
+  pub answers_ended : (port : Port) → old.ports.state port ≡ Ready → AnswersEnded old.machine steps port
+  pub port_is_serviced : (port : Port) → IsServiced old.ports evidence new.ports port
+  pub shown_disk_was_in_or_came : (port : Port) → SamePort old.ports new.ports port
+      ⊎ ShownDiskWasInOrCame old steps new port
 
 -- What a tick says and does.
 pub record AnswersTick (old : AbstractState) (evidence : Evidence) (steps : List Step) (replies : List Reply)
     (new : AbstractState) : Type 0 where
-  pub tells : RepliesMatch steps replies
-  pub ages : AgesOnce old.ports steps
-  pub restarts : RestartsTimedOut old evidence steps new
-  pub unplugs : AnswersAllUnplugged steps new.machine
-  pub issues : NoneDueWhereReady new
-  pub emptied : (port : Port) → old.ports.state port ≡ Ready → EmptyUnlessReady new port
+  pub replies_match : RepliesMatch steps replies
+  pub ages_once : AgesOnce old.ports steps
+  pub restarts_timed_out : RestartsTimedOut old evidence steps new
+  pub answers_all_unplugged : AnswersAllUnplugged steps new.machine
+  pub none_is_due : NoneDueWhereReady new
+  pub empty_unless_ready : (port : Port) → old.ports.state port ≡ Ready → EmptyUnlessReady new port
 
 -- What a reset that ends says and does. Kept frames are given back first. Of each port no request keeps its issue, none
 -- is unanswered where it isn't ready then, one that is served has stopped, and one that shows a disk had it, or got it.
 pub record AnswersReset (old : AbstractState) (evidence : Evidence) (steps : List Step) (replies : List Reply)
     (new : AbstractState) : Type 0 where
-  pub tells : RepliesMatch steps replies
-  pub releases : ReleasesOnce steps
-  pub unplugs : AnswersAllUnplugged steps new.machine
-  pub finds : UnpluggedLostDisk steps old.ports new.ports
-  pub issues : NoneDueWhereReady new
-  pub emptied : (port : Port) → EmptyUnlessReady new port
-  pub becomes : (port : Port) → MayBecome old.ports evidence new.ports port
-  pub anew : (port : Port) → NoneStaysIssued steps new.machine port
-  pub stopped : (port : Port) → old.ports.served port ≡ true → Contains evidence.stopped port
-  pub disk : (port : Port) → ShownDiskWasInOrCame old steps new port
+  pub replies_match : RepliesMatch steps replies
+  pub releases_once : ReleasesOnce steps
+  pub answers_all_unplugged : AnswersAllUnplugged steps new.machine
+  pub unplugged_lost_disk : UnpluggedLostDisk steps old.ports new.ports
+  pub none_is_due : NoneDueWhereReady new
+  pub empty_unless_ready : (port : Port) → EmptyUnlessReady new port
+  pub port_may_become : (port : Port) → MayBecome old.ports evidence new.ports port
+  pub none_stays_issued : (port : Port) → NoneStaysIssued steps new.machine port
+  pub served_are_stopped : (port : Port) → old.ports.served port ≡ true → Contains evidence.stopped port
+  pub shown_disk_was_in_or_came : (port : Port) → ShownDiskWasInOrCame old steps new port
 
 -- What a revocation says and does. The row was there, and goes, and no other does. Of the unanswered requests exactly
 -- those are told Revoked that waited when the call began and were accepted under that grant; and nothing else is told
 -- (`IsByServer`). And then what is due is issued.
 pub record AnswersRevoke (client : ClientId) (number : ℕ) (old : AbstractState) (steps : List Step)
     (replies : List Reply) (new : AbstractState) : Type 0 where
-  pub there : HasRow client number old.machine.rows
+  pub has_row : HasRow client number old.machine.rows
   pub rows : new.machine.rows ≡ without_row client number old.machine.rows
-  pub tells : RepliesMatch steps replies
-  pub told : (e : Pending) → Contains steps (Answer e outcome.Revoked) ↔ (Contains old.machine.book e
+  pub replies_match : RepliesMatch steps replies
+  pub waiting_are_revoked : (e : Pending) → Contains steps (Answer e outcome.Revoked) ↔ (Contains old.machine.book e
       × (e.issued ≡ false) × IsSameGrantName client number e.request.asked.client e.request.asked.grant)
-  pub same : SamePorts old.ports new.ports
-  pub issues : NoneDueWhereReady new
+  pub ports_are_same : SamePorts old.ports new.ports
+  pub none_is_due : NoneDueWhereReady new
 
 -- What is said of a call agrees with its steps, and the call did what was asked.
 abbrev pub IsAnswered : {D : Type 0} → AbstractCall D → CallResult → AbstractState → Evidence → List Step
     → AbstractState
     → Type 0
-IsAnswered (Submit r) (Submitted (Ok id)) old evidence steps new = IsAcceptable (situation_of old) r
+IsAnswered (Submit r) (Submitted (Ok id)) old evidence steps new = IsAcceptable (admission_context_of old) r
     × ((a : Accepted) × (accepts_of steps ≡ a ∷ []) × (a.id ≡ id)) × SamePorts old.ports new.ports
     × NoneDueWhereReady new
-IsAnswered (Submit r) (Submitted (Err refusal)) old evidence steps new = IsFirstRefusal (situation_of old) r refusal
+IsAnswered (Submit r) (Submitted (Err refusal)) old evidence steps new =
+    IsFirstRefusal (admission_context_of old) r refusal
     × (steps ≡ []) × SamePorts old.ports new.ports
 IsAnswered (StoreAt client frame at bytes) (Stored None) old evidence steps new = SamePorts old.ports new.ports
     × MayAccessFrame old.machine.owner old.machine.lent client frame at (length bytes)
@@ -450,13 +454,13 @@ abstract_after old event = record { machine = after old.machine event.steps; por
 
 -- The event may happen at the old moment.
 pub record Happens {D : Type 0} (old : AbstractState) (event : CallRecord D) : Type 0 where
-  pub may : AllMay old.machine event.steps
-  pub belong : AreStepsOfCall event.ask event.ports event.steps
-  pub last : IssuesLast event.steps
-  pub lawful : AllAnswersLawful old event.evidence event.ports event.steps
-  pub fit : PortsWellFormed event.ports
-  pub disks : UnansweredKeepDisk old (abstract_after old event)
-  pub answered : IsAnswered event.ask event.said old event.evidence event.steps (abstract_after old event)
+  pub steps_are_enabled : AllEnabled old.machine event.steps
+  pub steps_are_of_call : AreStepsOfCall event.ask event.ports event.steps
+  pub issues_are_last : IssuesLast event.steps
+  pub answers_are_lawful : AllAnswersLawful old event.evidence event.ports event.steps
+  pub ports_are_well_formed : PortsWellFormed event.ports
+  pub unanswered_keep_disk : UnansweredKeepDisk old (abstract_after old event)
+  pub is_answered : IsAnswered event.ask event.said old event.evidence event.steps (abstract_after old event)
 
 -- the moment after a run of events
 abbrev pub abstract_after_all : {D : Type 0} → AbstractState → List (CallRecord D) → AbstractState

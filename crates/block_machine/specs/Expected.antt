@@ -9,9 +9,9 @@ use Rattle.ata_types.specs.declared.request.Op.TheVariants.{Read}
 use Rattle.ata_types.specs.declared.grant.GrantRow.{GrantRow}
 use Rattle.ata_types.specs.declared.memory.TheConstants.{DRIVER_FRAMES, MOST_FRAMES}
 use Rattle.block_machine.specs.Rules.{DifferInName}
-use Rattle.block_machine.specs.Due.{changes_sectors}
+use Rattle.block_machine.specs.DueRequests.{changes_sectors}
 use Rattle.block_machine.specs.State.{Block, DiskBytes, Memory, Accepted, Machine, block_of, sector_of, block_written}
-use Rattle.block_machine.specs.Steps.{Step, Accept, Issue, Touch, End, Replace, May, HoldsOrHeldSinceFlush, after_step}
+use Rattle.block_machine.specs.Steps.{Step, Accept, Issue, Touch, End, Replace, IsEnabled, HoldsOrHeldSinceFlush, after_step}
 
 -- the machine after a history of steps
 abbrev pub after : Machine → List Step → Machine
@@ -21,7 +21,7 @@ after start (step ∷ past) = after_step (after start past) step
 -- each step of the history came when it might
 abbrev pub IsLegal : Machine → List Step → Type 0
 IsLegal start [] = Unit {0}
-IsLegal start (step ∷ past) = IsLegal start past × May (after start past) step
+IsLegal start (step ∷ past) = IsLegal start past × IsEnabled (after start past) step
 
 -- A grant as a configuration may give it: to a client from 1 to 8, under a number from 0 to 63, on a port from 0 to 3,
 -- of one sector at least, all of them below 2^48.
@@ -29,7 +29,7 @@ pub record IsValidRow (row : GrantRow) : Type 0 where
   pub client : (1 ≤ row.client.0) × (row.client.0 ≤ 8)
   pub number : row.number ≤ 63
   pub port : row.port.0 ≤ 3
-  pub some : 1 ≤ row.count
+  pub count_is_positive : 1 ≤ row.count
   pub below : row.first.0 + row.count ≤ 2 ^ 48
 
 -- A machine to begin with: no request is there, no frame is lent, and no id was handed out. There are at most 64 rows,
@@ -39,7 +39,7 @@ pub record IsInitial (m : Machine) : Type 0 where
   pub book : m.book ≡ []
   pub kept : m.kept ≡ []
   pub lent : (frame : Frame) → m.lent frame ≡ None
-  pub next : m.next ≡ 1
+  pub next : m.next_id ≡ 1
   pub few : length m.rows ≤ 64
   pub rows : AllPairs DifferInName m.rows
   pub configured : (row : GrantRow) → Contains m.rows row → IsValidRow row
@@ -47,9 +47,9 @@ pub record IsInitial (m : Machine) : Type 0 where
       → (1 ≤ client.0) × (client.0 ≤ 8) × (DRIVER_FRAMES ≤ frame.0) × (frame.0 < MOST_FRAMES)
 
 -- the step puts a disk in at this port
-abbrev pub plugs : Port → Step → Bool
-plugs port (Replace p id size disk) = p.0 == port.0
-plugs port _ = false
+abbrev pub plugs_disk : Port → Step → Bool
+plugs_disk port (Replace p id size disk) = p.0 == port.0
+plugs_disk port _ = false
 
 -- what the disk holds that the step puts in
 abbrev pub plugged_disk : Step → DiskBytes
@@ -60,13 +60,13 @@ plugged_disk _ = λ k b. 0
 -- there at the start has number 0. One that is put in again counts as another.
 abbrev pub plug_count : Port → List Step → ℕ
 plug_count port [] = 0
-plug_count port (step ∷ past) = if plugs port step then suc (plug_count port past) else plug_count port past
+plug_count port (step ∷ past) = if plugs_disk port step then suc (plug_count port past) else plug_count port past
 
 -- what disk number n of the port held when it was put in
 abbrev pub bytes_when_plugged : Machine → Port → ℕ → List Step → DiskBytes
 bytes_when_plugged start p n [] = start.disks p
 bytes_when_plugged start p n (step ∷ past) =
-    if plugs p step && suc (plug_count p past) == n then plugged_disk step else bytes_when_plugged start p n past
+    if plugs_disk p step && suc (plug_count p past) == n then plugged_disk step else bytes_when_plugged start p n past
 
 -- the step accepts the request
 abbrev pub IsAccept : Step → Accepted → Type 0
@@ -79,9 +79,9 @@ IsTouch (Touch e i block) r k = (e.request ≡ r) × (sector_of r i ≡ k)
 IsTouch _ r k = ⊥
 
 -- the same as a test, by the request's id
-abbrev pub touches : RequestId → ℕ → Step → Bool
-touches id k (Touch e i block) = e.request.id.0 == id.0 && sector_of e.request i == k
-touches id k _ = false
+abbrev pub touches_sector : RequestId → ℕ → Step → Bool
+touches_sector id k (Touch e i block) = e.request.id.0 == id.0 && sector_of e.request i == k
+touches_sector id k _ = false
 
 -- the request touched sector k while disk number n of its port was in
 abbrev pub HasTouched : Accepted → ℕ → ℕ → List Step → Type 0
@@ -114,12 +114,13 @@ HasEndedSinceIssue r past = HasSinceIssue (λ step. IsEnd step r) r past
 -- the number of the disk that was in at the last touch of sector k by this request
 abbrev pub disk_number_read : Accepted → ℕ → List Step → ℕ
 disk_number_read r k [] = 0
-disk_number_read r k (step ∷ past) = if touches r.id k step then plug_count r.port past else disk_number_read r k past
+disk_number_read r k (step ∷ past) =
+    if touches_sector r.id k step then plug_count r.port past else disk_number_read r k past
 
 -- a write or trim of the port, accepted before this id, touched sector k while disk number n was in
 pub record Wrote (port : Port) (k n before : ℕ) (history : List Step) (writer : Accepted) : Type 0 where
-  pub writes : changes_sectors writer.asked.op ≡ true
-  pub here : writer.port ≡ port
+  pub op_changes_sectors : changes_sectors writer.asked.op ≡ true
+  pub port_is : writer.port ≡ port
   pub earlier : writer.id.0 < before
   pub touched : HasTouched writer k n history
 
@@ -127,7 +128,7 @@ pub record Wrote (port : Port) (k n before : ℕ) (history : List Step) (writer 
 abbrev pub IsLastWritten : Machine → Port → ℕ → ℕ → ℕ → List Step → Block → Type 0
 IsLastWritten start port k n before history block = ((writer : Accepted) × Wrote port k n before history writer
     × ((other : Accepted) → Wrote port k n before history other → other.id.0 ≤ writer.id.0)
-    × (block ≡ block_written writer.asked.op writer.held (k - writer.asked.first.0)))
+    × (block ≡ block_written writer.asked.op writer.held_blocks (k - writer.asked.first.0)))
     ⊎ (((writer : Accepted) → Wrote port k n before history writer → ⊥)
     × (block ≡ bytes_when_plugged start port n history k))
 
@@ -142,7 +143,7 @@ pub record HoldsExpected (start : Machine) (history : List Step) (memory : Memor
       × IsExpectedBlock start history read (sector_of read i) block
       × ((b : ℕ) → b < 512 → block_of memory read.asked.frames.items i b ≡ block b)
   pub rest : (i b : ℕ) → read.asked.count ≤ i → i < 8 * length read.asked.frames.items → b < 512
-      → block_of memory read.asked.frames.items i b ≡ read.held i b
+      → block_of memory read.asked.frames.items i b ≡ read.held_blocks i b
 
 -- The bytes that a read moved are those of its disk. A disk that comes back has in each sector what it held there at
 -- some moment since a flush was last ended on it, or, if none was, since it was first in: what its cache held may be

@@ -8,7 +8,7 @@ use Rattle.block_machine.specs.State.{Machine}
 use Rattle.block_machine.specs.Ports.{PortsWellFormed}
 use Rattle.block_machine.specs.Steps.{Step}
 use Rattle.block_machine.specs.Expected.{after, IsInitial, IsLegal}
-use Rattle.block_machine.specs.Events.{AbstractState, CallRecord, AllMay, Happens, abstract_after}
+use Rattle.block_machine.specs.Events.{AbstractState, CallRecord, AllEnabled, Happens, abstract_after}
 
 -- device, machine and ports between two calls
 pub record JointState (D : Type 0) : Type 0 where
@@ -21,9 +21,10 @@ pub record JointEvent (D E : Type 0) : Type 0 where
   pub device : D
 
 -- the instant after these calls
-abbrev pub now : {D E : Type 0} → JointState D → List (JointEvent D E) → JointState D
-now first [] = first
-now first (h ∷ past) = record { device = h.device; abstract = abstract_after (now first past).abstract h.event }
+abbrev pub joint_state_after : {D E : Type 0} → JointState D → List (JointEvent D E) → JointState D
+joint_state_after first [] = first
+joint_state_after first (h ∷ past) =
+    record { device = h.device; abstract = abstract_after (joint_state_after first past).abstract h.event }
 
 -- the calls without the device
 abbrev pub events_of : {D E : Type 0} → List (JointEvent D E) → List (CallRecord E)
@@ -36,7 +37,8 @@ abbrev pub IsHistory : {D E : Type 0} → (JointState D → Type 0) → (JointSt
 IsHistory Begins Relation first [] = (IsInitial first.abstract.machine × PortsWellFormed first.abstract.ports)
     × Begins first
 IsHistory Begins Relation first (h ∷ past) =
-    IsHistory Begins Relation first past × Happens (now first past).abstract h.event × Relation (now first past) h
+    IsHistory Begins Relation first past × Happens (joint_state_after first past).abstract h.event
+    × Relation (joint_state_after first past) h
 
 -- The history leads to a server's state: `Stands` says when a state is at an instant. What a call adds is said of every
 -- history that leads to the server, and that there is one is said where a server is made: so none of it is empty.
@@ -44,19 +46,19 @@ pub record LeadsTo {D E S : Type 0} (Begins : JointState D → Type 0) (Relation
     (Stands : JointState D → S → Type 0) (first : JointState D) (past : List (JointEvent D E)) (state : S) : Type 0
   where
     pub history : IsHistory Begins Relation first past
-    pub stands : Stands (now first past) state
+    pub stands : Stands (joint_state_after first past) state
 
 -- a history of steps leads to the machine
 pub record IsReachable (m : Machine) : Type 0 where
-  pub first : Machine
-  pub past : List Step
-  pub starts : IsInitial first
-  pub legal : IsLegal first past
-  pub is : m ≡ after first past
+  pub initial_machine : Machine
+  pub steps_since : List Step
+  pub is_initial : IsInitial initial_machine
+  pub is_legal : IsLegal initial_machine steps_since
+  pub leads_to_machine : m ≡ after initial_machine steps_since
 
 -- What a part of a call does: from each machine that is reached and fits the old state, steps that may come lead to one
 -- that fits the new state. `Tells` says what steps they are.
 pub record IsSimulatedBySteps {S : Type 0} (Fits : Machine → S → Type 0) (old new : S) (Tells : Machine → List Step
     → Type 0) : Type 0 where
-  pub adds : (m : Machine) → IsReachable m → Fits m old
-      → (steps : List Step) × AllMay m steps × Fits (after m steps) new × Tells m steps
+  pub simulates : (m : Machine) → IsReachable m → Fits m old
+      → (steps : List Step) × AllEnabled m steps × Fits (after m steps) new × Tells m steps

@@ -1,10 +1,10 @@
 pub mod Rules
 pub mod Refusals
-pub mod Due
+pub mod DueRequests
 pub mod State
 pub mod Steps
 pub mod Ports
 pub mod Expected
-pub mod Confined
+pub mod Confinement
 pub mod Events
 pub mod Histories

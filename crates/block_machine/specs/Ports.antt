@@ -26,10 +26,10 @@ IsValidMode mode = (1 ≤ mode.usable) × (mode.usable ≤ 32) × (mode.queued �
 -- What ports are between any two calls: at most four are served, and there are nine causes to be unfit. (A mode is
 -- known of a ready port alone: the disk's own page tells it.)
 pub record PortsWellFormed (ports : Ports) : Type 0 where
-  pub few : (port : Port) → ports.served port ≡ true → port.0 < 4
-  pub absent : (port : Port) → ports.served port ≡ false → ports.state port ≡ Absent
-  pub slots : (port : Port) → ports.state port ≡ Ready → IsValidMode (ports.mode port)
-  pub causes : (port : Port) (cause : ℕ) → ports.state port ≡ Unfit cause → (1 ≤ cause) × (cause ≤ 9)
+  pub few_are_served : (port : Port) → ports.served port ≡ true → port.0 < 4
+  pub unserved_are_absent : (port : Port) → ports.served port ≡ false → ports.state port ≡ Absent
+  pub modes_are_valid : (port : Port) → ports.state port ≡ Ready → IsValidMode (ports.mode port)
+  pub causes_are_valid : (port : Port) (cause : ℕ) → ports.state port ≡ Unfit cause → (1 ≤ cause) × (cause ≤ 9)
 
 -- the port is what it was
 abbrev pub SamePort : Ports → Ports → Port → Type 0
@@ -67,7 +67,7 @@ pub record RequestFault : Type 0 where
 pub record Evidence : Type 0 where
   pub faults : List RequestFault
   pub lost : List Port
-  pub gone : List Port
+  pub link_changed : List Port
   pub failed : List Port
   pub fatal : List Port
   pub stopped : List Port
@@ -80,9 +80,9 @@ IsStoppedOrStuck evidence port = Contains evidence.stopped port ⊎ Contains evi
 -- What a call that looks at the port, or boots it, may make of it: a port is served as it was; it is dead after the
 -- call exactly where it got stuck in it; and one that isn't ready remembers the disk that it was last ready with.
 pub record MayBecome (old : Ports) (evidence : Evidence) (new : Ports) (port : Port) : Type 0 where
-  pub served : new.served port ≡ old.served port
-  pub stuck : (new.state port ≡ Dead) ↔ Contains evidence.stuck port
-  pub keeps : new.state port ≢ Ready → SameDisk old new port
+  pub served_is_kept : new.served port ≡ old.served port
+  pub dead_is_stuck : (new.state port ≡ Dead) ↔ Contains evidence.stuck port
+  pub disk_is_kept : new.state port ≢ Ready → SameDisk old new port
 
 -- What a service may make of it: a dead port stays what it is, since a reset alone ends that;
 -- another becomes what a call that looks at it may make of it, and is what it was unless it was stopped, or got stuck.

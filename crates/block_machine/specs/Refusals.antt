@@ -14,10 +14,10 @@ use Rattle.ata_types.specs.declared.refusal.Refusal.{Refusal}
 use Rattle.ata_types.specs.declared.refusal.Refusal.TheVariants as refused
 use Rattle.ata_types.specs.declared.refusal.MemFault.{MemFault}
 use Rattle.ata_types.specs.declared.refusal.MemFault.TheVariants.{FrameForeign, FrameLent, OutsideFrame}
-use Rattle.block_machine.specs.Rules.{IsNamed, Breaks, IsFirstByRank, rank}
+use Rattle.block_machine.specs.Rules.{IsNamed, Breaks, IsFirstByRank, refusal_rank}
 
 -- What a request meets.
-pub record Situation : Type 0 where
+pub record AdmissionContext : Type 0 where
   pub rows : List GrantRow
   pub owner : Frame → Option ClientId
   pub lent : Frame → Option RequestId
@@ -30,27 +30,27 @@ pub record Situation : Type 0 where
   -- The id that the next accepted request gets: one more than the last that was handed out, and 1 at the start. Ids
   -- are 1 to 2^64 - 1, so it is 2^64 once the last of them was handed out. (Code that keeps the last id handed out,
   -- 0 at the start, keeps it in 64 bits.)
-  pub next : ℕ
+  pub next_id : ℕ
 
 -- the cause applies to the request
-abbrev pub Applies : Situation → Request → Refusal → Type 0
-Applies s r (refused.Rule rule) = Breaks s.rows s.owner s.lent r rule
-Applies s r (refused.PortNotReady state) = (state ≢ Ready)
+abbrev pub RefusalApplies : AdmissionContext → Request → Refusal → Type 0
+RefusalApplies s r (refused.Rule rule) = Breaks s.rows s.owner s.lent r rule
+RefusalApplies s r (refused.PortNotReady state) = (state ≢ Ready)
     × ((row : GrantRow) × IsNamed s.rows r row × (s.state row.port ≡ state))
-Applies s r refused.OutsideDisk = (r.op ≢ Flush)
+RefusalApplies s r refused.OutsideDisk = (r.op ≢ Flush)
     × ((row : GrantRow) × IsNamed s.rows r row × (s.sectors row.port < r.first.0 + r.count))
-Applies s r refused.TrimUnsupported = (r.op ≡ Trim)
+RefusalApplies s r refused.TrimUnsupported = (r.op ≡ Trim)
     × ((row : GrantRow) × IsNamed s.rows r row × (IsTrue (s.trims row.port) → ⊥))
-Applies s r refused.ClientFull = 16 ≤ s.unanswered r.client
-Applies s r refused.IdsSpent = 2 ^ 64 ≤ s.next
+RefusalApplies s r refused.ClientFull = 16 ≤ s.unanswered r.client
+RefusalApplies s r refused.IdsSpent = 2 ^ 64 ≤ s.next_id
 
 -- no cause applies
-abbrev pub IsAcceptable : Situation → Request → Type 0
-IsAcceptable s r = (refusal : Refusal) → Applies s r refusal → ⊥
+abbrev pub IsAcceptable : AdmissionContext → Request → Type 0
+IsAcceptable s r = (refusal : Refusal) → RefusalApplies s r refusal → ⊥
 
 -- the cause applies, and none before it
-abbrev pub IsFirstRefusal : Situation → Request → Refusal → Type 0
-IsFirstRefusal s r refusal = IsFirstByRank rank (Applies s r) refusal
+abbrev pub IsFirstRefusal : AdmissionContext → Request → Refusal → Type 0
+IsFirstRefusal s r refusal = IsFirstByRank refusal_rank (RefusalApplies s r) refusal
 
 -- the cause applies to a client's access to so many bytes of a frame from this offset on
 abbrev pub MemFaultApplies : (Frame → Option ClientId) → (Frame → Option RequestId) → ClientId → Frame → ℕ → ℕ

@@ -26,8 +26,8 @@ abbrev pub is_same_grant_name : ClientId → ℕ → ClientId → ℕ → Bool
 is_same_grant_name client number its_client its_number = its_client.0 == client.0 && its_number == number
 
 -- the row is the one of this client under this number
-abbrev pub Names : ClientId → ℕ → GrantRow → Type 0
-Names client number row = IsSameGrantName client number row.client row.number
+abbrev pub HasGrantName : ClientId → ℕ → GrantRow → Type 0
+HasGrantName client number row = IsSameGrantName client number row.client row.number
 
 -- the rows don't stand under one client and number
 abbrev pub DifferInName : GrantRow → GrantRow → Type 0
@@ -88,20 +88,20 @@ Breaks rows owner lent r FrameCount = length r.frames.items ≢ frame_count_for 
 Breaks rows owner lent r (Frames fault) = HasFault owner lent r.client r.frames.items fault
 
 -- In which order causes are told: by number, and where it is about a frame, by the frame's place.
-abbrev pub rank : Refusal → ℕ × ℕ
-rank (refused.Rule NoGrant) = (1, 0)
-rank (refused.Rule NoRight) = (2, 0)
-rank (refused.Rule BadCount) = (3, 0)
-rank (refused.Rule OutsideGrant) = (4, 0)
-rank (refused.Rule FrameCount) = (5, 0)
-rank (refused.Rule (Frames (FrameForeign i))) = (6, i)
-rank (refused.Rule (Frames (FrameTwice i))) = (7, i)
-rank (refused.Rule (Frames (FrameLent i))) = (8, i)
-rank (refused.PortNotReady state) = (9, 0)
-rank refused.OutsideDisk = (10, 0)
-rank refused.TrimUnsupported = (11, 0)
-rank refused.ClientFull = (12, 0)
-rank refused.IdsSpent = (13, 0)
+abbrev pub refusal_rank : Refusal → ℕ × ℕ
+refusal_rank (refused.Rule NoGrant) = (1, 0)
+refusal_rank (refused.Rule NoRight) = (2, 0)
+refusal_rank (refused.Rule BadCount) = (3, 0)
+refusal_rank (refused.Rule OutsideGrant) = (4, 0)
+refusal_rank (refused.Rule FrameCount) = (5, 0)
+refusal_rank (refused.Rule (Frames (FrameForeign i))) = (6, i)
+refusal_rank (refused.Rule (Frames (FrameTwice i))) = (7, i)
+refusal_rank (refused.Rule (Frames (FrameLent i))) = (8, i)
+refusal_rank (refused.PortNotReady state) = (9, 0)
+refusal_rank refused.OutsideDisk = (10, 0)
+refusal_rank refused.TrimUnsupported = (11, 0)
+refusal_rank refused.ClientFull = (12, 0)
+refusal_rank refused.IdsSpent = (13, 0)
 
 -- the one rank is before the other
 abbrev pub RanksBefore : ℕ × ℕ → ℕ × ℕ → Type 0
@@ -119,7 +119,7 @@ HasNoFault owner lent client frames = (fault : FrameFault) → HasFault owner le
 -- the fault is one of these frames, and none before it is
 abbrev pub IsFirstFault : (Frame → Option ClientId) → (Frame → Option RequestId) → ClientId → List Frame → FrameFault
     → Type 0
-IsFirstFault owner lent client frames fault = IsFirstByRank (λ fault. rank (refused.Rule (Frames fault)))
+IsFirstFault owner lent client frames fault = IsFirstByRank (λ fault. refusal_rank (refused.Rule (Frames fault)))
     (HasFault owner lent client frames) fault
 
 -- the request breaks no rule
@@ -129,4 +129,5 @@ BreaksNone rows owner lent r = (rule : Rule) → Breaks rows owner lent r rule �
 -- the request breaks the rule, and none before it
 abbrev pub IsFirstBroken : List GrantRow → (Frame → Option ClientId) → (Frame → Option RequestId) → Request → Rule
     → Type 0
-IsFirstBroken rows owner lent r rule = IsFirstByRank (λ rule. rank (refused.Rule rule)) (Breaks rows owner lent r) rule
+IsFirstBroken rows owner lent r rule =
+    IsFirstByRank (λ rule. refusal_rank (refused.Rule rule)) (Breaks rows owner lent r) rule

@@ -39,7 +39,7 @@ pub record Accepted : Type 0 where
   -- what the client asked
   pub asked : Request
   -- what its frames held then, by number of its sector. For a write these are its bytes.
-  pub held : ℕ → Block
+  pub held_blocks : ℕ → Block
 
 -- the sector of the disk that is number i of the request's
 abbrev pub sector_of : Accepted → ℕ → ℕ
@@ -82,7 +82,7 @@ pub record Machine : Type 0 where
   pub disks : Port → DiskBytes
   -- by port and sector, what that disk held there before, since a flush was last ended on it, or, if none was, since it
   -- was first in
-  pub aside : Port → ℕ → List Block
+  pub blocks_since_flush : Port → ℕ → List Block
   -- the unanswered requests, in order of acceptance
   pub book : List Pending
   -- the requests that were answered PortDead with their frames still lent
@@ -94,7 +94,7 @@ pub record Machine : Type 0 where
   pub rows : List GrantRow
   pub owner : Frame → Option ClientId
   -- the id of the next request that is accepted
-  pub next : ℕ
+  pub next_id : ℕ
 
 -- the operation moves sectors from the disk to frames
 abbrev pub is_reader : Op → Bool

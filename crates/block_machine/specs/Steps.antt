@@ -13,7 +13,7 @@ use Rattle.ata_types.specs.declared.refusal.Rule.{Rule}
 use Rattle.block_machine.specs.declared.due.QueueMode.{QueueMode}
 use Rattle.block_machine.specs.Rules.{IsNamed, Breaks, HasRow, without_row}
 use Rattle.block_machine.specs.Refusals.{MayAccessFrame}
-use Rattle.block_machine.specs.Due.{IsDue, is_flush, changes_sectors}
+use Rattle.block_machine.specs.DueRequests.{IsDue, is_flush, changes_sectors}
 use Rattle.block_machine.specs.State.{Block, DiskBytes, Memory, Accepted, Pending, Machine, block_of, frame_at, sector_of, unanswered, is_reader, block_written}
 
 -- A step. A pending request in it is the one that the step finds.
@@ -29,7 +29,7 @@ pub data Step : Type 0 where
   -- the issued requests of these ports are a tick older
   Age : (Port → Bool) → Step
   -- an issued request waits again, in its old place
-  Again : Pending → Step
+  WaitAgain : Pending → Step
   Answer : Pending → Outcome → Step
   -- a client's grant is revoked: its row under this number goes
   Revoke : ClientId → ℕ → Step
@@ -43,12 +43,12 @@ pub data Step : Type 0 where
   Load : ClientId → Frame → ℕ → List ℕ → Step
 
 -- a change of the request with this id alone
-abbrev pub at : RequestId → (Pending → Pending) → Pending → Pending
-at id change e = if e.request.id.0 == id.0 then change e else e
+abbrev pub update_pending : RequestId → (Pending → Pending) → Pending → Pending
+update_pending id change e = if e.request.id.0 == id.0 then change e else e
 
 -- the requests but for the one with this id
-abbrev pub without : RequestId → List Pending → List Pending
-without id pending = filter (λ e. not (e.request.id.0 == id.0)) pending
+abbrev pub without_pending : RequestId → List Pending → List Pending
+without_pending id pending = filter (λ e. not (e.request.id.0 == id.0)) pending
 
 -- a request that was just accepted
 abbrev pub newly_accepted : Accepted → Pending
@@ -71,8 +71,8 @@ abbrev pub requeued : Pending → Pending
 requeued e = record e { issued = false; touched = λ _. false; ended = false }
 
 -- the request a tick older, if it is issued on one of these ports
-abbrev pub older : (Port → Bool) → Pending → Pending
-older ready e = if e.issued && ready e.request.port then record e { age = suc e.age } else e
+abbrev pub aged_pending : (Port → Bool) → Pending → Pending
+aged_pending ready e = if e.issued && ready e.request.port then record e { age = suc e.age } else e
 
 -- the frames of the request lent to it
 abbrev pub lend : Accepted → (Frame → Option RequestId) → Frame → Option RequestId
@@ -103,7 +103,8 @@ put_bytes frame offset n bytes memory f b =
 -- what a touch of sector number i leaves on the disks: a writer's own bytes, or zeros
 abbrev pub disks_after : Accepted → ℕ → (Port → DiskBytes) → Port → DiskBytes
 disks_after r i disks =
-    if changes_sectors r.asked.op then put_sector r.port (sector_of r i) (block_written r.asked.op r.held i) disks
+    if changes_sectors r.asked.op then put_sector r.port (sector_of r i) (block_written r.asked.op r.held_blocks i)
+    disks
     else disks
 
 -- and what it overwrites is put aside, the newest first: a disk may lose what its cache holds
@@ -118,32 +119,34 @@ memory_after r i block memory =
     else memory
 
 -- a request that was issued and is answered PortDead is kept: the device may still move its sectors
-abbrev pub stays : Pending → Outcome → Bool
-stays e PortDead = e.issued
-stays e _ = false
+abbrev pub is_kept_at_answer : Pending → Outcome → Bool
+is_kept_at_answer e PortDead = e.issued
+is_kept_at_answer e _ = false
 
 -- the machine after the step
 abbrev pub after_step : Machine → Step → Machine
-after_step m (Accept r) = record m { book = m.book ++ newly_accepted r ∷ []; lent = lend r m.lent; next = suc m.next }
-after_step m (Issue mode e) = record m { book = map (at e.request.id newly_issued) m.book }
+after_step m (Accept r) =
+    record m { book = m.book ++ newly_accepted r ∷ []; lent = lend r m.lent; next_id = suc m.next_id }
+after_step m (Issue mode e) = record m { book = map (update_pending e.request.id newly_issued) m.book }
 after_step m (Touch e i block) = record m {
   disks = disks_after e.request i m.disks;
-  aside = put_aside e.request i m.disks m.aside;
+  blocks_since_flush = put_aside e.request i m.disks m.blocks_since_flush;
   memory = memory_after e.request i block m.memory;
-  book = map (at e.request.id (touch i)) m.book;
-  kept = map (at e.request.id (touch i)) m.kept;
+  book = map (update_pending e.request.id (touch i)) m.book;
+  kept = map (update_pending e.request.id (touch i)) m.kept;
 }
 after_step m (End e) = record m {
-  aside = λ p k. if e.request.port.0 == p.0 && is_flush e.request.asked.op then [] else m.aside p k;
-  book = map (at e.request.id mark_ended) m.book;
-  kept = map (at e.request.id mark_ended) m.kept;
+  blocks_since_flush =
+      λ p k. if e.request.port.0 == p.0 && is_flush e.request.asked.op then [] else m.blocks_since_flush p k;
+  book = map (update_pending e.request.id mark_ended) m.book;
+  kept = map (update_pending e.request.id mark_ended) m.kept;
 }
-after_step m (Age ready) = record m { book = map (older ready) m.book }
-after_step m (Again e) = record m { book = map (at e.request.id requeued) m.book }
+after_step m (Age ready) = record m { book = map (aged_pending ready) m.book }
+after_step m (WaitAgain e) = record m { book = map (update_pending e.request.id requeued) m.book }
 after_step m (Answer e outcome) = record m {
-  book = without e.request.id m.book;
-  kept = if stays e outcome then e ∷ m.kept else m.kept;
-  lent = if stays e outcome then m.lent else unlend e.request.id m.lent;
+  book = without_pending e.request.id m.book;
+  kept = if is_kept_at_answer e outcome then e ∷ m.kept else m.kept;
+  lent = if is_kept_at_answer e outcome then m.lent else unlend e.request.id m.lent;
 }
 after_step m (Revoke client number) = record m { rows = without_row client number m.rows }
 after_step m Release = record m { kept = []; lent = unlend_all m.kept m.lent }
@@ -153,7 +156,8 @@ after_step m (Replace port id size disk) = record m {
   disk_ids = λ p. if p.0 == port.0 then id else m.disk_ids p;
   sizes = λ p. if p.0 == port.0 then size else m.sizes p;
   disks = λ p. if p.0 == port.0 then disk else m.disks p;
-  aside = λ p k. if p.0 == port.0 then (if id == m.disk_ids p then m.disks p k ∷ m.aside p k else []) else m.aside p k;
+  blocks_since_flush = λ p k. if p.0 == port.0 then (if id == m.disk_ids p then m.disks p k
+      ∷ m.blocks_since_flush p k else []) else m.blocks_since_flush p k;
 }
 after_step m (Store client frame offset bytes) =
     record m { memory = put_bytes frame offset (length bytes) (slice_index bytes) m.memory }
@@ -178,12 +182,12 @@ unanswered_count book client = count_by (λ e. e.request.asked.client.0 == clien
 -- A request that is accepted has the next id, breaks no rule, goes to its row's port, and has what its frames hold.
 -- A client has at most 16 unanswered requests, and ids fit 64 bits.
 pub record MayAccept (m : Machine) (r : Accepted) : Type 0 where
-  pub id : r.id.0 ≡ m.next
-  pub id_left : m.next < 2 ^ 64
+  pub id : r.id.0 ≡ m.next_id
+  pub id_left : m.next_id < 2 ^ 64
   pub unbroken : (rule : Rule) → Breaks m.rows m.owner m.lent r.asked rule → ⊥
   pub port : (row : GrantRow) → IsNamed m.rows r.asked row → r.port ≡ row.port
   pub few : unanswered_count m.book r.asked.client < 16
-  pub held : r.held ≡ block_of m.memory r.asked.frames.items
+  pub held : r.held_blocks ≡ block_of m.memory r.asked.frames.items
 
 -- no kept request is left on the port: one may still touch sectors out of turn
 abbrev pub NoneQuarantined : Machine → Port → Type 0
@@ -202,7 +206,7 @@ GrantAllowsOutcome m e _ = Unit {0}
 
 -- the bytes that are moved for a write are its own; a read's may be any, and a trim's and a flush's mean nothing
 abbrev pub MovesOwnBytes : Accepted → ℕ → Block → Type 0
-MovesOwnBytes r i block = r.asked.op ≡ Write → (b : ℕ) → b < 512 → block b ≡ r.held i b
+MovesOwnBytes r i block = r.asked.op ≡ Write → (b : ℕ) → b < 512 → block b ≡ r.held_blocks i b
 
 -- the bytes of a sector are the same
 abbrev pub SameBytes : Block → Block → Type 0
@@ -212,25 +216,26 @@ SameBytes one other = (b : ℕ) → b < 512 → one b ≡ other b
 -- since it was first in
 abbrev pub HoldsOrHeldSinceFlush : Machine → Port → ℕ → Block → Type 0
 HoldsOrHeldSinceFlush m port k block =
-    SameBytes block (m.disks port k) ⊎ ((old : Block) × Contains (m.aside port k) old × SameBytes block old)
+    SameBytes block (m.disks port k) ⊎ ((old : Block) × Contains (m.blocks_since_flush port k) old
+    × SameBytes block old)
 
 -- The step may come. A request is issued, or waits again, only while its grant is there. (That an answer is lawful is
 -- judged at the end of its call too, where what stands behind it is known.)
-abbrev pub May : Machine → Step → Type 0
-May m (Accept r) = MayAccept m r
-May m (Issue mode e) = Contains m.book e × IsDue mode (map unanswered m.book) (unanswered e)
+abbrev pub IsEnabled : Machine → Step → Type 0
+IsEnabled m (Accept r) = MayAccept m r
+IsEnabled m (Issue mode e) = Contains m.book e × IsDue mode (map unanswered m.book) (unanswered e)
     × NoneQuarantined m e.request.port
     × HasGrant m e
-May m (Touch e i block) = MayStillMove m e × (i < e.request.asked.count) × (m.present e.request.port ≡ true)
+IsEnabled m (Touch e i block) = MayStillMove m e × (i < e.request.asked.count) × (m.present e.request.port ≡ true)
     × (sector_of e.request i < m.sizes e.request.port) × MovesOwnBytes e.request i block
-May m (End e) = MayStillMove m e × AllTouched e × (m.present e.request.port ≡ true)
-May m (Age ready) = Unit {0}
-May m (Again e) = Contains m.book e × (e.issued ≡ true) × (e.issues < 4) × HasGrant m e
-May m (Answer e outcome) = Contains m.book e × GrantAllowsOutcome m e outcome
-May m (Revoke client number) = HasRow client number m.rows
-May m Release = Unit {0}
-May m (Unplug port) = m.present port ≡ true
-May m (Replace port id size disk) = (m.present port ≡ false) × (id ≡ m.disk_ids port → size ≡ m.sizes port)
-May m (Store client frame offset bytes) = MayAccessFrame m.owner m.lent client frame offset (length bytes)
-May m (Load client frame offset bytes) = MayAccessFrame m.owner m.lent client frame offset (length bytes)
+IsEnabled m (End e) = MayStillMove m e × AllTouched e × (m.present e.request.port ≡ true)
+IsEnabled m (Age ready) = Unit {0}
+IsEnabled m (WaitAgain e) = Contains m.book e × (e.issued ≡ true) × (e.issues < 4) × HasGrant m e
+IsEnabled m (Answer e outcome) = Contains m.book e × GrantAllowsOutcome m e outcome
+IsEnabled m (Revoke client number) = HasRow client number m.rows
+IsEnabled m Release = Unit {0}
+IsEnabled m (Unplug port) = m.present port ≡ true
+IsEnabled m (Replace port id size disk) = (m.present port ≡ false) × (id ≡ m.disk_ids port → size ≡ m.sizes port)
+IsEnabled m (Store client frame offset bytes) = MayAccessFrame m.owner m.lent client frame offset (length bytes)
+IsEnabled m (Load client frame offset bytes) = MayAccessFrame m.owner m.lent client frame offset (length bytes)
     × ((b : ℕ) → b < length bytes → slice_index bytes b ≡ m.memory frame (offset + b))

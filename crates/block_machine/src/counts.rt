@@ -5,7 +5,7 @@ ghost use Rattle.block_machine.specs.Rules.{IsAllowedCount, frame_count_for};
 use ata_types::{MOST_REQUEST_SECTORS, Op};
 
 /// Whether the operation may have so many sectors.
-pub fn is_count(op: Op, count: u32) -> bool
+pub fn is_allowed_count(op: Op, count: u32) -> bool
     ensures { IsTrue result ↔ IsAllowedCount op count }
 {
     match op {

@@ -1,6 +1,6 @@
 // What of a port and of a request says which requests are due, and what stands in the way of one.
 ghost use Rattle.std.specs.Prelude.{◌≡◌};
-ghost use Rattle.block_machine.specs.Due as due;
+ghost use Rattle.block_machine.specs.DueRequests as due;
 
 use ata_types::{Op, Port, Range, RequestId};
 
@@ -44,20 +44,20 @@ pub fn is_plain(mode: QueueMode, op: Op) -> bool
 }
 
 /// Whether the ranges have a sector in common.
-fn overlap(a: &Range, b: &Range) -> bool
-    ensures { result ≡ due.overlap a.now b.now }
+fn are_overlapping(a: &Range, b: &Range) -> bool
+    ensures { result ≡ due.are_overlapping a.now b.now }
 {
     a.overlaps(b)
 }
 
 /// Whether the two conflict: both are of one port, and one of them is a flush, or they have a sector in common and one
 /// of them writes or trims.
-pub fn conflict(a: &Unanswered, b: &Unanswered) -> bool
-    ensures { result ≡ due.conflict a.now b.now }
+pub fn are_conflicting(a: &Unanswered, b: &Unanswered) -> bool
+    ensures { result ≡ due.are_conflicting a.now b.now }
 {
     let flush = a.op == Op::Flush || b.op == Op::Flush;
     let writes = changes_sectors(a.op) || changes_sectors(b.op);
-    a.port.0 == b.port.0 && (flush || (writes && overlap(&a.range, &b.range)))
+    a.port.0 == b.port.0 && (flush || (writes && are_overlapping(&a.range, &b.range)))
 }
 
 /// Whether `other` stands in the way of `r`.
@@ -72,6 +72,6 @@ pub fn waits_for(mode: QueueMode, r: &Unanswered, other: &Unanswered) -> bool
         other.issued || earlier
     } else {
         let plain = is_plain(mode, other.op);
-        (plain && other.issued) || (earlier && (plain || conflict(other, r)))
+        (plain && other.issued) || (earlier && (plain || are_conflicting(other, r)))
     }
 }

@@ -13,15 +13,15 @@ ghost use Rattle.ata_types.specs.declared.request.Outcome.{Outcome};
 ghost use Rattle.ata_types.specs.declared.request.Op.TheVariants.{Read};
 ghost use Rattle.block_machine.specs.declared.due.QueueMode.{QueueMode};
 ghost use Rattle.block_machine.specs.declared.due.Unanswered.{Unanswered};
-ghost use Rattle.block_machine.specs.Due.{IsDue, IsInOrder, is_plain, issued_count, is_due, ahead, due_ahead, free_slots, with_issued, with_waiting, without_request, of_port, due_of, AreAllDueInOrder};
+ghost use Rattle.block_machine.specs.DueRequests.{IsDue, IsInOrder, is_plain, issued_count, is_due, unblocked_ahead_count, due_ahead_count, free_slots, with_issued, with_waiting, without_request, requests_of_port, due_of, AreAllDueInOrder};
 ghost use Rattle.block_machine.specs.Ports.{Ports, PortsWellFormed};
-ghost use Rattle.block_machine.specs.Refusals.{Situation, IsAcceptable, MayAccessFrame};
-ghost use Rattle.block_machine.specs.Rules.{Names};
+ghost use Rattle.block_machine.specs.Refusals.{AdmissionContext, IsAcceptable, MayAccessFrame};
+ghost use Rattle.block_machine.specs.Rules.{HasGrantName};
 ghost use Rattle.block_machine.specs.State.{Block, Accepted, Pending, Machine, unanswered};
-ghost use Rattle.block_machine.specs.Steps.{Step, Touch, End, Issue, Again, Answer, Age, after_step, May, MayAccept, HoldsFrames, AllTouched};
+ghost use Rattle.block_machine.specs.Steps.{Step, Touch, End, Issue, WaitAgain, Answer, Age, after_step, IsEnabled, MayAccept, HoldsFrames, AllTouched};
 ghost use Rattle.block_machine.specs.Expected.{IsInitial, IsLegal, AllStepsFaithful, HoldsExpected, after};
-ghost use Rattle.block_machine.specs.Confined.{IsGranted, IsConfined, FramesAreAsAccepted, HasFrame, KeepsRules, WasAccepted, WithinLimits};
-ghost use Rattle.block_machine.specs.Events.{AbstractState, CallRecord, AllMay, IsRun, EveryReadHolds, abstract_after_all, steps_of};
+ghost use Rattle.block_machine.specs.Confinement.{IsGranted, IsConfined, FramesAreAsAccepted, HasFrame, KeepsRules, WasAccepted, WithinLimits};
+ghost use Rattle.block_machine.specs.Events.{AbstractState, CallRecord, AllEnabled, IsRun, EveryReadHolds, abstract_after_all, steps_of};
 ghost use Rattle.block_machine.specs.Histories.{IsReachable};
 
 /// Over every run of calls whose reads moved their disks' bytes: each read that is answered Ok has, at the end of the
@@ -70,10 +70,13 @@ pub fn law_runs_are_legal<D>()
 /// Steps go on from what earlier ones left: after some, and then others, the machine is as after them all, which may
 /// come where each part may. So a machine that is reached leads to others that are.
 pub fn law_step_lists_compose()
-    ensures joined { (m : Machine) (late early : List Step) → after m (late ++ early) ≡ after (after m early) late }
-    ensures may { (m : Machine) (late early : List Step) → AllMay m early → AllMay (after m early) late
-        → AllMay m (late ++ early) }
-    ensures reached { (m : Machine) (steps : List Step) → IsReachable m → AllMay m steps → IsReachable (after m steps) }
+    ensures after_joins { (m : Machine) (late early : List Step) → after m (late ++ early)
+        ≡ after (after m early) late }
+    ensures enabled_steps_join { (m : Machine) (late early : List Step) → AllEnabled m early
+        → AllEnabled (after m early) late
+        → AllEnabled m (late ++ early) }
+    ensures reached { (m : Machine) (steps : List Step) → IsReachable m → AllEnabled m steps
+        → IsReachable (after m steps) }
 {}
 
 /// No two requests of a book have one id.
@@ -104,7 +107,7 @@ pub fn law_lent_frame_is_its_own()
 pub fn law_touch_is_confined()
     ensures { (start : Machine) (history : List Step) (e : Pending) (i : ℕ) (block : Block)
         → IsInitial start
-        → IsLegal start history → May (after start history) (Touch e i block)
+        → IsLegal start history → IsEnabled (after start history) (Touch e i block)
         → IsConfined start history e.request i }
 {}
 
@@ -112,7 +115,7 @@ pub fn law_touch_is_confined()
 /// none on its grant, nor on how many sectors and frames it has; and its frames are lent to it.
 pub fn law_issues_keep_the_rules()
     ensures { (start : Machine) (history : List Step) (mode : QueueMode) (e : Pending) → IsInitial start
-        → IsLegal start history → May (after start history) (Issue mode e)
+        → IsLegal start history → IsEnabled (after start history) (Issue mode e)
         → WasAccepted start history e.request × KeepsRules (after start history) e.request }
 {}
 
@@ -153,12 +156,12 @@ pub fn law_frames_keep_bytes()
 /// In a machine that is reached a client and a number name one row at most.
 pub fn law_a_name_is_of_one_row()
     ensures { (m : Machine) (client : ClientId) (number : ℕ) (a b : GrantRow) → IsReachable m → Contains m.rows a
-        → Names client number a → Contains m.rows b → Names client number b → a ≡ b }
+        → HasGrantName client number a → Contains m.rows b → HasGrantName client number b → a ≡ b }
 {}
 
 /// The frames of an acceptable request are its client's, and so is an open frame.
 pub fn law_frames_are_their_clients()
-    ensures acceptable { (s : Situation) (r : Request) → IsAcceptable s r
+    ensures acceptable { (s : AdmissionContext) (r : Request) → IsAcceptable s r
         → All (λ frame. s.owner frame ≡ Some r.client) r.frames.items }
     ensures open { (owner : Frame → Option ClientId) (lent : Frame → Option RequestId) (client : ClientId)
         (frame : Frame) (offset count : ℕ) → MayAccessFrame owner lent client frame offset count
@@ -208,8 +211,8 @@ pub fn law_issued_is_not_due()
 pub fn law_due_ones_leave_a_slot()
     ensures { (mode : QueueMode) (book : List Unanswered) (r : Unanswered) → IsInOrder book
         → Contains book r
-        → (ahead mode book r < free_slots mode book r.port) ↔
-        (due_ahead mode book r < free_slots mode book r.port) }
+        → (unblocked_ahead_count mode book r < free_slots mode book r.port) ↔
+        (due_ahead_count mode book r < free_slots mode book r.port) }
 {}
 
 /// In a book in order, those that stand before a request are those that were accepted before it.
@@ -229,7 +232,7 @@ pub fn law_due_is_tested()
 pub fn law_due_is_exact()
     ensures exact { (mode : QueueMode) (port : Port) (book : List Unanswered) (r : Unanswered) → r.port ≡ port
         → Contains (due_of mode port book) r ↔ IsDue mode book r }
-    ensures own { (mode : QueueMode) (port : Port) (book : List Unanswered) (r : Unanswered)
+    ensures due_are_of_port { (mode : QueueMode) (port : Port) (book : List Unanswered) (r : Unanswered)
         → Contains (due_of mode port book) r → r.port ≡ port }
 {}
 
@@ -250,11 +253,14 @@ pub fn law_due_in_turn()
 /// A port that takes plain commands alone has one due request at most, and none while one is issued. It is the first of
 /// those that wait.
 pub fn law_plain_ports_take_one()
-    ensures one { (mode : QueueMode) (port : Port) (book : List Unanswered) → IsInOrder book → mode.queued ≡ false
+    ensures one_at_most { (mode : QueueMode) (port : Port) (book : List Unanswered) → IsInOrder book → mode.queued
+        ≡ false
         → length (due_of mode port book) ≤ 1 }
-    ensures none { (mode : QueueMode) (port : Port) (book : List Unanswered) (r : Unanswered) → mode.queued ≡ false
+    ensures none_while_issued { (mode : QueueMode) (port : Port) (book : List Unanswered) (r : Unanswered)
+        → mode.queued ≡ false
         → Contains book r → r.port ≡ port → r.issued ≡ true → due_of mode port book ≡ [] }
-    ensures first { (mode : QueueMode) (port : Port) (book : List Unanswered) (r : Unanswered) → IsInOrder book
+    ensures is_first_waiting { (mode : QueueMode) (port : Port) (book : List Unanswered) (r : Unanswered)
+        → IsInOrder book
         → mode.queued ≡ false → Contains book r → r.port ≡ port
         → ((other : Unanswered) → Contains book other → other.port ≡ port → (other.issued ≡ false)
         × (r.id.0 ≤ other.id.0))
@@ -263,21 +269,21 @@ pub fn law_plain_ports_take_one()
 
 /// Which requests of a port are due depends on the port's own requests.
 pub fn law_due_depends_on_own_port()
-    ensures list { (mode : QueueMode) (port : Port) (book other : List Unanswered)
-        → of_port port book ≡ of_port port other → due_of mode port book ≡ due_of mode port other }
-    ensures one { (mode : QueueMode) (port : Port) (book other : List Unanswered) (r : Unanswered)
-        → of_port port book ≡ of_port port other → r.port ≡ port
+    ensures due_list_is_the_same { (mode : QueueMode) (port : Port) (book other : List Unanswered)
+        → requests_of_port port book ≡ requests_of_port port other → due_of mode port book ≡ due_of mode port other }
+    ensures due_is_the_same { (mode : QueueMode) (port : Port) (book other : List Unanswered) (r : Unanswered)
+        → requests_of_port port book ≡ requests_of_port port other → r.port ≡ port
         → IsDue mode book r ↔ IsDue mode other r }
 {}
 
 /// A request that is issued, waits again or is answered on one port leaves the requests of another as they are.
 pub fn law_other_ports_requests_stay()
     ensures issued { (port : Port) (book : List Unanswered) (r : Unanswered) → IsInOrder book → Contains book r
-        → r.port ≢ port → of_port port (with_issued r.id book) ≡ of_port port book }
+        → r.port ≢ port → requests_of_port port (with_issued r.id book) ≡ requests_of_port port book }
     ensures waiting { (port : Port) (book : List Unanswered) (r : Unanswered) → IsInOrder book → Contains book r
-        → r.port ≢ port → of_port port (with_waiting r.id book) ≡ of_port port book }
+        → r.port ≢ port → requests_of_port port (with_waiting r.id book) ≡ requests_of_port port book }
     ensures answered { (port : Port) (book : List Unanswered) (r : Unanswered) → IsInOrder book → Contains book r
-        → r.port ≢ port → of_port port (without_request r.id book) ≡ of_port port book }
+        → r.port ≢ port → requests_of_port port (without_request r.id book) ≡ requests_of_port port book }
 {}
 
 /// What the machine's steps on requests leave of what says which are due.
@@ -285,7 +291,7 @@ pub fn law_steps_change_what_is_due()
     ensures issue { (m : Machine) (mode : QueueMode) (e : Pending)
         → map unanswered (after_step m (Issue mode e)).book ≡ with_issued e.request.id (map unanswered m.book) }
     ensures again { (m : Machine) (e : Pending)
-        → map unanswered (after_step m (Again e)).book ≡ with_waiting e.request.id (map unanswered m.book) }
+        → map unanswered (after_step m (WaitAgain e)).book ≡ with_waiting e.request.id (map unanswered m.book) }
     ensures answer { (m : Machine) (e : Pending) (outcome : Outcome)
         → map unanswered (after_step m (Answer e outcome)).book ≡ without_request e.request.id (map unanswered m.book) }
     ensures age { (m : Machine) (ports : Port → Bool)

@@ -11,5 +11,5 @@ mod counts;
 mod due;
 pub mod laws;
 
-pub use counts::{frame_count, is_count};
-pub use due::{QueueMode, Unanswered, changes_sectors, conflict, is_plain, waits_for};
+pub use counts::{frame_count, is_allowed_count};
+pub use due::{QueueMode, Unanswered, are_conflicting, changes_sectors, is_plain, waits_for};

@@ -13,14 +13,14 @@ use Rattle.host_boot.specs.declared.Host.{Host}
 use Rattle.host_boot.specs.declared.ProbeResult.{ProbeResult}
 use Rattle.host_boot.specs.declared.ProbeResult.TheVariants.{Unserved}
 use Rattle.identify.specs.declared.wanted.Wanted.{Wanted}
-use Rattle.slots.specs.Uses.{PortSlots, use_at}
-use Rattle.server_history.specs.Kept.{IsKeptIn, TakesBack}
+use Rattle.slots.specs.SlotUses.{PortSlots, use_at}
+use Rattle.server_history.specs.KeptLoans.{IsKeptIn, TakesBack}
 use Rattle.server_history.specs.Resets.{IsReinitialized}
-use Rattle.server_history.specs.Server.{ServerState, quarantined_at, last_disk_of, mode_at, probed_mode, plain_mode, remembered_at, slots_at, used_for}
+use Rattle.server_history.specs.ServerState.{ServerState, quarantined_at, last_disk_of, mode_at, probed_mode, plain_mode, remembered_at, slots_at, used_for}
 use Rattle.server_history.specs.StuckServer.{ResetGetsStuck, found_after_stuck_reset}
 use Rattle.block_server.specs.FourPorts.{EachBecomes, BeginsAsHostFound, by_port, port_in, without_loans}
-use Rattle.block_server.specs.Seen.{with_ports}
-use Rattle.port_driver.specs.Parts.{NotesProbeResult, no_port}
+use Rattle.block_server.specs.FieldView.{with_ports}
+use Rattle.port_driver.specs.PortAndShared.{NotesProbeResult, no_port}
 use Rattle.port_driver.specs.declared.served_port.ServedPort.{ServedPort}
 use Rattle.port_driver.specs.declared.served_port.Shared.{Shared}
 
@@ -53,7 +53,7 @@ module _ (Such : ℕ → ServedPort → ServedPort → Type 0) (old : List Serve
         such = subst (λ (q : ServedPort). Such count q p) (get_or_default now count default no_port (let four = so_far.four in omega (arith, four, low)) ∙ so_far.left count (omega arith)) becomes
 
     pub all_become : 4 ≤ count → EachBecomes Such old now
-    all_become all = record { four = so_far.four; each = λ number low. so_far.done number (omega (arith, all, low)) }
+    all_become all = record { four_ports = so_far.four; each_becomes = λ number low. so_far.done number (omega (arith, all, low)) }
 
 -- ---- what the server has of them then
 
@@ -72,41 +72,41 @@ same_field field old new four_old four each =
 module _ (found : ℕ → ProbeResult) (mode : ℕ → QueueMode) (old new : List ServedPort) (four_old : length old ≡ 4) (four : length new ≡ 4)
     (each : (number : ℕ) → number < 4 → NotesProbeResult (found number) (mode number) (port_in old number) (port_in new number)) where
   pub its_found : (number : ℕ) → number < 4 → probe_result_of (by_port (λ p. p.found) new) number ≡ found number
-  its_found number low = get_or-map (λ (p : ServedPort). p.found) new number no_port ∙ ap (λ (p : ServedPort). p.found) (each number low).fields
+  its_found number low = get_or-map (λ (p : ServedPort). p.found) new number no_port ∙ ap (λ (p : ServedPort). p.found) (each number low).only_these_change
 
   pub its_last_disk : (number : ℕ) → remembered_at (by_port (λ p. p.remembered) new) number ≡ last_disk_of (probe_result_of (by_port (λ p. p.found) old) number) (remembered_at (by_port (λ p. p.remembered) old) number)
   its_last_disk number =
       get_or-map (λ (p : ServedPort). p.remembered) new number no_port
       ∙ ⊎_elim
-      (λ (low : number < 4). ap (λ (p : ServedPort). p.remembered) (each number low).fields)
+      (λ (low : number < 4). ap (λ (p : ServedPort). p.remembered) (each number low).only_these_change)
       (λ (more : 4 ≤ number). ap (λ (p : ServedPort). p.remembered) (beyond new four number more) ∙ sym (ap (λ (p : ServedPort). last_disk_of p.found p.remembered) (beyond old four_old number more)))
       (cases_lt number 4)
       ∙ (λ i. last_disk_of (sym (get_or-map (λ (p : ServedPort). p.found) old number no_port) i) (sym (get_or-map (λ (p : ServedPort). p.remembered) old number no_port) i))
 
   pub its_mode : (number : ℕ) → number < 4 → mode_at (by_port (λ p. p.mode) new) number ≡ mode number
-  its_mode number low = get_or-map (λ (p : ServedPort). p.mode) new number no_port ∙ ap (λ (p : ServedPort). p.mode) (each number low).fields
+  its_mode number low = get_or-map (λ (p : ServedPort). p.mode) new number no_port ∙ ap (λ (p : ServedPort). p.mode) (each number low).only_these_change
 
   pub its_places : (number : ℕ) → number < 4 → length (slots_at (by_port (λ p. p.slots) new) number).places ≡ 32
-  its_places number low = ap (λ (u : PortSlots). length u.places) (get_or-map (λ (p : ServedPort). p.slots) new number no_port) ∙ (each number low).unused.places
+  its_places number low = ap (λ (u : PortSlots). length u.places) (get_or-map (λ (p : ServedPort). p.slots) new number no_port) ∙ (each number low).has_no_used_slot.places
 
   pub its_usable : (number : ℕ) → number < 4 → (slots_at (by_port (λ p. p.slots) new) number).usable ≡ (mode_at (by_port (λ p. p.mode) new) number).usable
   its_usable number low =
-      ap (λ (u : PortSlots). u.usable) (get_or-map (λ (p : ServedPort). p.slots) new number no_port) ∙ (each number low).unused.usable
+      ap (λ (u : PortSlots). u.usable) (get_or-map (λ (p : ServedPort). p.slots) new number no_port) ∙ (each number low).has_no_used_slot.usable
       ∙ sym (ap (λ (m : QueueMode). m.usable) (its_mode number low))
 
   pub none_used : (number slot : ℕ) → used_for (by_port (λ p. p.slots) new) number slot ≡ None
   none_used number slot =
       ap (λ (u : PortSlots). use_at u slot) (get_or-map (λ (p : ServedPort). p.slots) new number no_port)
       ∙ ⊎_elim
-      (λ (low : number < 4). (each number low).unused.free slot)
+      (λ (low : number < 4). (each number low).has_no_used_slot.free slot)
       (λ (more : 4 ≤ number). ap (λ (p : ServedPort). use_at p.slots slot) (beyond new four number more))
       (cases_lt number 4)
 
   pub same_wanted : by_port (λ p. p.wanted) new ≡ by_port (λ p. p.wanted) old
-  same_wanted = same_field (λ (p : ServedPort). p.wanted) old new four_old four (λ number low. ap (λ (p : ServedPort). p.wanted) (each number low).fields)
+  same_wanted = same_field (λ (p : ServedPort). p.wanted) old new four_old four (λ number low. ap (λ (p : ServedPort). p.wanted) (each number low).only_these_change)
 
   pub same_kept : by_port (λ p. p.kept) new ≡ by_port (λ p. p.kept) old
-  same_kept = same_field (λ (p : ServedPort). p.kept) old new four_old four (λ number low. ap (λ (p : ServedPort). p.kept) (each number low).fields)
+  same_kept = same_field (λ (p : ServedPort). p.kept) old new four_old four (λ number low. ap (λ (p : ServedPort). p.kept) (each number low).only_these_change)
 
 -- ---- the adapter didn't end its reset
 
@@ -122,20 +122,20 @@ module _ (s : ServerState) (before device : Device) (shared : Shared) (old new :
   gets_stuck stays = record {
     stays = stays;
     found = λ number. ⊎_elim
-        (λ (low : number < 4). its_found found mode old new four_old stuck.four stuck.each number low ∙ sym (ap found_after_stuck_reset (get_or-map (λ (p : ServedPort). p.found) old number no_port)))
+        (λ (low : number < 4). its_found found mode old new four_old stuck.four_ports stuck.each_becomes number low ∙ sym (ap found_after_stuck_reset (get_or-map (λ (p : ServedPort). p.found) old number no_port)))
         (λ (more : 4 ≤ number).
-        get_or-map (λ (p : ServedPort). p.found) new number no_port ∙ ap (λ (p : ServedPort). p.found) (beyond new stuck.four number more)
+        get_or-map (λ (p : ServedPort). p.found) new number no_port ∙ ap (λ (p : ServedPort). p.found) (beyond new stuck.four_ports number more)
         ∙ sym (ap (λ (p : ServedPort). found_after_stuck_reset p.found) (beyond old four_old number more)) ∙ sym (ap found_after_stuck_reset (get_or-map (λ (p : ServedPort). p.found) old number no_port)))
         (cases_lt number 4);
-    remembered = its_last_disk found mode old new four_old stuck.four stuck.each;
-    four = length-map new (λ (p : ServedPort). p.remembered) ∙ stuck.four;
-    four_modes = length-map new (λ (p : ServedPort). p.mode) ∙ stuck.four;
-    modes = its_mode found mode old new four_old stuck.four stuck.each;
-    four_slots = length-map new (λ (p : ServedPort). p.slots) ∙ stuck.four;
-    places = its_places found mode old new four_old stuck.four stuck.each;
-    usable = its_usable found mode old new four_old stuck.four stuck.each;
-    unused = none_used found mode old new four_old stuck.four stuck.each;
-    server = λ i. record (with_ports s device shared new) { wanted = same_wanted found mode old new four_old stuck.four stuck.each i; kept = same_kept found mode old new four_old stuck.four stuck.each i };
+    remembered = its_last_disk found mode old new four_old stuck.four_ports stuck.each_becomes;
+    four = length-map new (λ (p : ServedPort). p.remembered) ∙ stuck.four_ports;
+    four_modes = length-map new (λ (p : ServedPort). p.mode) ∙ stuck.four_ports;
+    modes = its_mode found mode old new four_old stuck.four_ports stuck.each_becomes;
+    four_slots = length-map new (λ (p : ServedPort). p.slots) ∙ stuck.four_ports;
+    places = its_places found mode old new four_old stuck.four_ports stuck.each_becomes;
+    usable = its_usable found mode old new four_old stuck.four_ports stuck.each_becomes;
+    unused = none_used found mode old new four_old stuck.four_ports stuck.each_becomes;
+    server_is = λ i. record (with_ports s device shared new) { wanted = same_wanted found mode old new four_old stuck.four_ports stuck.each_becomes i; kept = same_kept found mode old new four_old stuck.four_ports stuck.each_becomes i };
   }
 
 -- ---- the adapter was taken over
@@ -148,17 +148,17 @@ module _ (host : Host) (four_host : length host.ports ≡ 4) (old new : List Ser
   mode_by number = (port_in new number).mode
 
   pub each : (number : ℕ) → number < 4 → NotesProbeResult (found_by number) (mode_by number) (port_in old number) (port_in new number)
-  each number low = (taken.each number low).anew
+  each number low = (taken.each_becomes number low).anew
 
   pub found_host : by_port (λ p. p.found) new ≡ host.ports
   found_host =
       let long = length-map new (λ (p : ServedPort). p.found) in
-      let four = taken.four in
-      ext_get_or Unserved (by_port (λ p. p.found) new) host.ports (long ∙ taken.four ∙ sym four_host)
-      (λ number low. its_found found_by mode_by old new four_old taken.four each number (omega (arith, low, long, four)))
+      let four = taken.four_ports in
+      ext_get_or Unserved (by_port (λ p. p.found) new) host.ports (long ∙ taken.four_ports ∙ sym four_host)
+      (λ number low. its_found found_by mode_by old new four_old taken.four_ports each number (omega (arith, low, long, four)))
 
   pub modes_follow : (cap : ℕ) → host.slots ≡ cap / 256 % 32 + 1 → host.queued ≡ bit cap 30 → (number : ℕ) → number < 4 → mode_at (by_port (λ p. p.mode) new) number ≡ probed_mode cap (probe_result_of host.ports number)
-  modes_follow cap slots queued number low = its_mode found_by mode_by old new four_old taken.four each number low ∙ (taken.each number low).mode cap slots queued
+  modes_follow cap slots queued number low = its_mode found_by mode_by old new four_old taken.four_ports each number low ∙ (taken.each_becomes number low).mode cap slots queued
 
 -- again, after a reset
 module _ (s : ServerState) (before idle device : Device) (first later : Shared) (old new : List ServedPort) (four_old : length old ≡ 4) (host : Host) (four_host : length host.ports ≡ 4)
@@ -194,23 +194,23 @@ module _ (s : ServerState) (before idle device : Device) (first later : Shared) 
   pub takes_again : Resets before idle → TakesBack first.table.value later.table.value (IsKeptIn (by_port (λ p. p.kept) old)) → TakesOver (by_port (λ p. p.wanted) mid) host idle device → later.book ≡ first.book
       → IsReinitialized (with_ports s before first old) (with_ports s device later new)
   takes_again resets back takes book = record {
-    idle = idle;
+    idle_device = idle;
     resets = resets;
-    back = back;
+    loans_are_taken_back = back;
     unkept = λ number.
-        ap (λ (lists : List (List Lending)). quarantined_at lists number) (same_kept f m mid new four_mid taken.four e)
+        ap (λ (lists : List (List Lending)). quarantined_at lists number) (same_kept f m mid new four_mid taken.four_ports e)
         ∙ get_or-map (λ (p : ServedPort). p.kept) mid number no_port ∙ ap (λ (p : ServedPort). p.kept) (mid_is number);
-    four_kept = length-map new (λ (p : ServedPort). p.kept) ∙ taken.four;
+    four_kept = length-map new (λ (p : ServedPort). p.kept) ∙ taken.four_ports;
     host = host;
     takes = subst (λ (wanted : List Wanted). TakesOver wanted host idle device) wanted_still takes;
     four = four_host;
-    remembered = λ number. its_last_disk f m mid new four_mid taken.four e number ∙ (λ i. last_disk_of (found_mid number i) (remembered_mid number i));
-    four_remembered = length-map new (λ (p : ServedPort). p.remembered) ∙ taken.four;
-    four_modes = length-map new (λ (p : ServedPort). p.mode) ∙ taken.four;
+    remembered = λ number. its_last_disk f m mid new four_mid taken.four_ports e number ∙ (λ i. last_disk_of (found_mid number i) (remembered_mid number i));
+    four_remembered = length-map new (λ (p : ServedPort). p.remembered) ∙ taken.four_ports;
+    four_modes = length-map new (λ (p : ServedPort). p.mode) ∙ taken.four_ports;
     modes = modes_follow host four_host mid new four_mid taken device.cap takes.slots takes.queued;
-    four_slots = length-map new (λ (p : ServedPort). p.slots) ∙ taken.four;
-    places = its_places f m mid new four_mid taken.four e;
-    usable = its_usable f m mid new four_mid taken.four e;
-    unused = none_used f m mid new four_mid taken.four e;
-    server = λ i. record (with_ports s device later new) { wanted = (same_wanted f m mid new four_mid taken.four e ∙ wanted_still) i; ports = found_host host four_host mid new four_mid taken i; book = book i };
+    four_slots = length-map new (λ (p : ServedPort). p.slots) ∙ taken.four_ports;
+    places = its_places f m mid new four_mid taken.four_ports e;
+    usable = its_usable f m mid new four_mid taken.four_ports e;
+    unused = none_used f m mid new four_mid taken.four_ports e;
+    server_is = λ i. record (with_ports s device later new) { wanted = (same_wanted f m mid new four_mid taken.four_ports e ∙ wanted_still) i; ports = found_host host four_host mid new four_mid taken i; book = book i };
   }

@@ -19,17 +19,17 @@ use Rattle.refinement.specs.Acts.{DriverSlots}
 use Rattle.refinement.specs.PortFacts.{IsDisturbance, RunsWell, Undisturbed}
 use Rattle.refinement.specs.Slots.{ServesRequest}
 use Rattle.block_machine.specs.Events.{AbstractCall, CallResult, Service as AskService, Tick, Reset, RevokeOf, WasRevoked, AbstractState, EveryReadHolds, IsAnswered, HasTimedOut, IsRun, WasIssued, abstract_after, steps_of}
-use Rattle.block_machine.specs.Histories.{JointEvent, JointState, events_of, now}
+use Rattle.block_machine.specs.Histories.{JointEvent, JointState, events_of, joint_state_after}
 use Rattle.block_machine.specs.Ports.{PortsWellFormed, Evidence, Ports}
 use Rattle.block_machine.specs.State.{Pending}
 use Rattle.block_machine.specs.Steps.{AllTouched, Answer, Step}
 use Rattle.durability.specs.Durable.{EveryPlugFindsFlushed}
-use Rattle.driver_history.specs.Heeding.{HeedsAt}
+use Rattle.driver_history.specs.EvidenceHandling.{HandlesEvidenceAt}
 use Rattle.driver_history.specs.Claims.{AnswerJustified, GoesWellFor, IsFaultFreeOutcome, IsHealthyFor}
 use Rattle.driver_history.specs.Evidence.{StaysHealthy}
 use Rattle.driver_history.specs.Histories.{IsDriverHistory}
 use Rattle.driver_history.specs.PortInvariants.{DriverInvariant, PortStateInvariant, HasNoUnanswered}
-use Rattle.driver_history.specs.Moves.{MovesConfined}
+use Rattle.driver_history.specs.ConfinedMoves.{ConfinesCallMoves}
 use Rattle.configuration.specs.declared.Config.{Config}
 use Rattle.host_boot.specs.TakeOver.{probe_result_of, wanted_of, BacksProbeResult, TakesOver}
 use Rattle.host_boot.specs.declared.ProbeResult.{ProbeResult}
@@ -38,12 +38,12 @@ use Rattle.host_boot.specs.declared.Host.{Host}
 use Rattle.identify.specs.declared.DiskInfo.{DiskInfo}
 use Rattle.identify.specs.declared.wanted.Wanted.{Wanted}
 use Rattle.server_history.specs.Histories.{ExtendsHistory, LeadsToServer}
-use Rattle.server_history.specs.Server.{is_served, ports_of, state_of}
-use Rattle.block_server.specs.Clients.{ConfinesMoves, AllAdded, BetweenCallsInvariant, MatchesTape, PortStateIsJustified, IsSeenAt, FlushesSurviveReplug}
-use Rattle.block_server.specs.Made.{IsInitialServer}
-use Rattle.block_server.specs.Promise.{IsServedWell, IsFaultFreeAnswer, Simulates, KeepsPortPromise}
-use Rattle.block_server.specs.Running.{ask_of, machine_result_of}
-use Rattle.block_server.specs.View.{ServerView, server_of, visible_of}
+use Rattle.server_history.specs.ServerState.{is_served, ports_of, state_of}
+use Rattle.block_server.specs.ClientPromise.{ConfinesMoves, AllAdded, BetweenCallsInvariant, MatchesTape, PortStateIsJustified, IsSeenAt, FlushesSurviveReplug}
+use Rattle.block_server.specs.InitialServer.{IsInitialServer}
+use Rattle.block_server.specs.Promise.{GoesWellForClients, IsFaultFreeAnswer, Simulates, KeepsPortPromise}
+use Rattle.block_server.specs.AbstractCalls.{abstract_call_of, machine_result_of}
+use Rattle.block_server.specs.ServerView.{ServerView, server_of, visible_of}
 use Rattle.arrayvec.specs.ArrayVec.{ArrayVec}
 use Rattle.ata_types.specs.declared.call.Call.{Call}
 use Rattle.ata_types.specs.declared.call.CallResult as call
@@ -52,18 +52,18 @@ use Rattle.ata_types.specs.declared.request.Reply.{Reply}
 -- What the laws of histories say, each of every history.
 pub record HistoryLaws : Type 0 where
   pub seen : (wanted : List Wanted) (first : JointState Device) (past : List (JointEvent Device DeviceStep)) (h : JointEvent Device DeviceStep) (port : Port) (slot : ℕ) (id : RequestId)
-      → IsDriverHistory wanted first (h ∷ past) → h.event.ask ≡ AskService → (now first past).abstract.ports.state port ≡ Ready
-      → ServesRequest (now first past).abstract.machine (now first past).device.memory ((now first past).device.port port.0) port.0 slot id
-      → ((now first past).device.port port.0).ci slot ≡ false → ((now first past).device.port port.0).sact slot ≡ false
+      → IsDriverHistory wanted first (h ∷ past) → h.event.ask ≡ AskService → (joint_state_after first past).abstract.ports.state port ≡ Ready
+      → ServesRequest (joint_state_after first past).abstract.machine (joint_state_after first past).device.memory ((joint_state_after first past).device.port port.0) port.0 slot id
+      → ((joint_state_after first past).device.port port.0).ci slot ≡ false → ((joint_state_after first past).device.port port.0).sact slot ≡ false
       → (done : Pending) × (done.request.id ≡ id) × Contains h.event.steps (Answer done Ok)
   pub well : (wanted : List Wanted) (first : JointState Device) (past : List (JointEvent Device DeviceStep)) (h : JointEvent Device DeviceStep) (port : Port)
-      → IsDriverHistory wanted first (h ∷ past) → IsHealthyFor (now first past) h port → GoesWellFor (now first past) h port
+      → IsDriverHistory wanted first (h ∷ past) → IsHealthyFor (joint_state_after first past) h port → GoesWellFor (joint_state_after first past) h port
   pub rest : (wanted : List Wanted) (first : JointState Device) (past : List (JointEvent Device DeviceStep)) (h : JointEvent Device DeviceStep)
       (history : IsDriverHistory wanted first (h ∷ past)) → (e : Pending) (told : Outcome) → Contains h.event.steps (Answer e told)
-      → AnswerJustified (now first past) h history.2.accesses e told
+      → AnswerJustified (joint_state_after first past) h history.2.accesses e told
   pub moves : (wanted : List Wanted) (first : JointState Device) (past : List (JointEvent Device DeviceStep)) (h : JointEvent Device DeviceStep)
       → IsDriverHistory wanted first (h ∷ past)
-      → MovesConfined first.abstract.machine (steps_of (events_of past)) h.event.steps (now first past).device h.device
+      → ConfinesCallMoves first.abstract.machine (steps_of (events_of past)) h.event.steps (joint_state_after first past).device h.device
   pub run : (wanted : List Wanted) (first : JointState Device) (past : List (JointEvent Device DeviceStep)) → IsDriverHistory wanted first past
       → IsRun first.abstract (events_of past)
   pub reads : (wanted : List Wanted) (first : JointState Device) (past : List (JointEvent Device DeviceStep)) → IsDriverHistory wanted first past
@@ -99,57 +99,57 @@ mapped f one two a b p q =
 
 -- the call is no reset, nor a tick that finds a request of the port so old that it is restarted
 abbrev Spares : JointState Device → Port → Calls → JointEvent Device DeviceStep → Type 0
-Spares first port before h = (h.event.ask ≢ Reset) × (h.event.ask ≡ Tick → HasTimedOut (now first before).abstract port → ⊥)
+Spares first port before h = (h.event.ask ≢ Reset) × (h.event.ask ≡ Tick → HasTimedOut (joint_state_after first before).abstract port → ⊥)
 
 -- ---- between two calls
 
 module _ (wanted : Wanted) (s : DriverSlots) (i : JointState Device) (port : Port) where
   in_state : (served : Bool) (state : PortState) → i.abstract.ports.state port ≡ state → PortStateInvariant wanted s i port served state → PortStateIsJustified wanted i port served state
-  in_state false state e h = sym e ∙ h.absent
-  in_state true Ready e h = (h.on, h.info, h.disk, h.shows)
-  in_state true Dead e h = h.why
-  in_state true Absent e h = h.ends
-  in_state true Foreign e h = h.ends
-  in_state true (Unfit cause) e h = h.ends
+  in_state false state e h = sym e ∙ h.state_is_absent
+  in_state true Ready e h = (h.adapter_is_on, h.info, h.has_fit_disk, h.shows_disk_info)
+  in_state true Dead e h = h.is_backed_or_off
+  in_state true Absent e h = h.backs_state
+  in_state true Foreign e h = h.backs_state
+  in_state true (Unfit cause) e h = h.backs_state
 
   none_waits : (served : Bool) (state : PortState) → PortStateInvariant wanted s i port served state → state ≢ Ready → IsOn i.device → HasNoUnanswered i.abstract.machine port
-  none_waits false state h unready on = h.waits
+  none_waits false state h unready on = h.has_no_unanswered
   none_waits true Ready h unready on = absurd (unready refl)
-  none_waits true Dead h unready on = h.waits on
-  none_waits true Absent h unready on = h.waits
-  none_waits true Foreign h unready on = h.waits
-  none_waits true (Unfit cause) h unready on = h.waits
+  none_waits true Dead h unready on = h.has_no_unanswered on
+  none_waits true Absent h unready on = h.has_no_unanswered
+  none_waits true Foreign h unready on = h.has_no_unanswered
+  none_waits true (Unfit cause) h unready on = h.has_no_unanswered
 
 holds_between : (wanted : List Wanted) (i : JointState Device) → DriverInvariant wanted i → BetweenCallsInvariant wanted i
 holds_between wanted i (s, h) = record {
   served = h.served;
-  state = λ port low. in_state (wanted_of wanted port.0) s i port (i.abstract.ports.served port) (i.abstract.ports.state port) refl (h.port port low);
-  waits = λ port low on unready. none_waits (wanted_of wanted port.0) s i port (i.abstract.ports.served port) (i.abstract.ports.state port) (h.port port low) unready on;
-  memory = h.knows.agrees.memory;
-  disk = h.knows.agrees.disk;
-  sectors = h.knows.agrees.sectors;
+  states_are_justified = λ port low. in_state (wanted_of wanted port.0) s i port (i.abstract.ports.served port) (i.abstract.ports.state port) refl (h.ports_hold port low);
+  waits = λ port low on unready. none_waits (wanted_of wanted port.0) s i port (i.abstract.ports.served port) (i.abstract.ports.state port) (h.ports_hold port low) unready on;
+  memory_is_same = h.driver_relation.state_relation.memory_is_same;
+  disks_are_same = h.driver_relation.state_relation.disks_are_same;
+  sectors_are_same = h.driver_relation.state_relation.sectors_are_same;
 }
 
-holds_now : (wanted : List Wanted) (first : JointState Device) (past : Calls) → IsDriverHistory wanted first past → DriverInvariant wanted (now first past)
+holds_now : (wanted : List Wanted) (first : JointState Device) (past : Calls) → IsDriverHistory wanted first past → DriverInvariant wanted (joint_state_after first past)
 holds_now wanted first [] history = history.1.0
-holds_now wanted first (h ∷ past) history = history.2.holds
+holds_now wanted first (h ∷ past) history = history.2.invariant_holds
 
 -- the tape after calls is the tape before with more
 grows : (wanted : List Wanted) (first : JointState Device) (past added : Calls) → AllAdded (MatchesTape wanted first) past added
-    → (gained : List Entry) × ((now first (added ++ past)).device.tape ≡ (now first past).device.tape ++ gained)
-grows wanted first past [] each = ([], sym (append-nil (now first past).device.tape))
+    → (gained : List Entry) × ((joint_state_after first (added ++ past)).device.tape ≡ (joint_state_after first past).device.tape ++ gained)
+grows wanted first past [] each = ([], sym (append-nil (joint_state_after first past).device.tape))
 grows wanted first past (h ∷ added) each =
     let before = grows wanted first past added each.0 in
     let here = each.1 in
-    (before.0 ++ here.gained, here.tape ∙ ap (λ (t : List Entry). t ++ here.gained) before.1 ∙ append_assoc (now first past).device.tape before.0 here.gained)
+    (before.0 ++ here.new_entries, here.tape_is ∙ ap (λ (t : List Entry). t ++ here.new_entries) before.1 ∙ append_assoc (joint_state_after first past).device.tape before.0 here.new_entries)
 
 seen_at : {A : Type 0} (device : A → Device) (s : ServerView A) (first : JointState Device) (past : Calls) → LeadsToServer first past (server_of device s)
-    → IsSeenAt (visible_of device s) (now first past)
+    → IsSeenAt (visible_of device s) (joint_state_after first past)
 seen_at device s first past leads = record {
   device_is = leads.stands.device_is;
-  rows = leads.stands.machine.rows;
-  owner = leads.stands.machine.owner;
-  lent = leads.stands.machine.lent;
+  rows = leads.stands.machine_stands_for_it.rows;
+  owner = leads.stands.machine_stands_for_it.owner;
+  lent = leads.stands.machine_stands_for_it.lent;
   state = λ port. ap (λ (p : Ports). p.state port) leads.stands.ports_are;
 }
 
@@ -169,12 +169,12 @@ record Parts (port : ℕ) (old mid new : Device) : Type 0 where
 
 parts : (port : ℕ) (old mid new : Device) (one two : List Entry) → mid.tape ≡ old.tape ++ one → new.tape ≡ mid.tape ++ two → Undisturbed port old new → Parts port old mid new
 parts port old mid new one two first second u =
-    let joined : u.gained ≡ one ++ two = append_cancel_left old.tape u.gained (one ++ two)
-    (sym u.tape ∙ second ∙ ap (λ (t : List Entry). t ++ two) first ∙ append_assoc old.tape one two) in
-    let calm : All (λ e. IsDisturbance port e → ⊥) (one ++ two) = subst (All (λ e. IsDisturbance port e → ⊥)) joined u.calm in
+    let joined : u.new_entries ≡ one ++ two = append_cancel_left old.tape u.new_entries (one ++ two)
+    (sym u.tape_is ∙ second ∙ ap (λ (t : List Entry). t ++ two) first ∙ append_assoc old.tape one two) in
+    let calm : All (λ e. IsDisturbance port e → ⊥) (one ++ two) = subst (All (λ e. IsDisturbance port e → ⊥)) joined u.no_disturbance in
     record {
-      before = record { gained = one; tape = first; calm = all_before (λ e. IsDisturbance port e → ⊥) one two calm };
-      after = record { gained = two; tape = second; calm = all_after (λ e. IsDisturbance port e → ⊥) one two calm };
+      before = record { new_entries = one; tape_is = first; no_disturbance = all_before (λ e. IsDisturbance port e → ⊥) one two calm };
+      after = record { new_entries = two; tape_is = second; no_disturbance = all_after (λ e. IsDisturbance port e → ⊥) one two calm };
     }
 
 -- ---- what is told where nothing goes wrong
@@ -182,7 +182,7 @@ parts port old mid new one two first second u =
 told_well : (ask : AbstractCall DeviceStep) (said : CallResult) (old : AbstractState) (evidence : Evidence) (steps : List Step) (new : AbstractState) (e : Pending) (told : Outcome)
     → IsAnswered ask said old evidence steps new → Contains steps (Answer e told) → IsFaultFreeOutcome ask told
     → (told ≡ Ok → WasIssued old.machine e.request.id × (e.issued ≡ true) × AllTouched e × (e.ended ≡ true)) → IsFaultFreeAnswer ask old.machine e told
-told_well (RevokeOf client number) (WasRevoked (Some replies)) old evidence steps new e told answered here calm rests = (calm, ((answered.told e).0 (subst (λ (o : Outcome). Contains steps (Answer e o)) calm here)).1)
+told_well (RevokeOf client number) (WasRevoked (Some replies)) old evidence steps new e told answered here calm rests = (calm, ((answered.waiting_are_revoked e).0 (subst (λ (o : Outcome). Contains steps (Answer e o)) calm here)).1)
 told_well (RevokeOf client number) (WasRevoked None) old evidence steps new e told answered here calm rests =
     absurd (All-contains (λ _. ⊥) [] (Answer e told) (All-nil (λ _. ⊥)) (subst (λ (list : List Step). Contains list (Answer e told)) answered.1 here))
 told_well (RevokeOf client number) said old evidence steps new e told answered here calm rests = absurd answered
@@ -190,20 +190,20 @@ told_well ask said old evidence steps new e told answered here calm rests = let 
 
 module _ (laws : HistoryLaws) where
   served_well : (wanted : List Wanted) (first : JointState Device) (past : List (JointEvent Device DeviceStep)) (h : JointEvent Device DeviceStep) (port : Port)
-      → IsDriverHistory wanted first (h ∷ past) → IsHealthyFor (now first past) h port → IsServedWell port (now first past) h
+      → IsDriverHistory wanted first (h ∷ past) → IsHealthyFor (joint_state_after first past) h port → GoesWellForClients port (joint_state_after first past) h
   served_well wanted first past h port history healthy =
       let goes = laws.well wanted first past h port history healthy in
-      let old = now first past in
-      let heeds = (history.2.port port).heeds in (
+      let old = joint_state_after first past in
+      let heeds = (history.2.ports_correspond port).handles_evidence in (
         goes,
         record {
-          same = goes.spared.same;
-          answers = λ e told here own. told_well h.event.ask h.event.said old.abstract h.event.evidence h.event.steps (abstract_after old.abstract h.event) e told history.1.answered here
-              (goes.spared.told e told here own)
+          same = goes.is_spared.port_is_same;
+          answers = λ e told here own. told_well h.event.ask h.event.said old.abstract h.event.evidence h.event.steps (abstract_after old.abstract h.event) e told history.1.is_answered here
+              (goes.is_spared.outcomes_are_fault_free e told here own)
               (λ ok. subst (AnswerJustified old h history.2.accesses e) ok (laws.rest wanted first past h history e told here));
-          ended = λ asks.
-              (subst (λ (ask : AbstractCall DeviceStep). HeedsAt port ask old.abstract h.event.evidence h.event.steps (abstract_after old.abstract h.event)) asks heeds healthy.ready).ended;
-          issues = goes.issues;
+          answers_ended = λ asks.
+              (subst (λ (ask : AbstractCall DeviceStep). HandlesEvidenceAt port ask old.abstract h.event.evidence h.event.steps (abstract_after old.abstract h.event)) asks heeds healthy.ready).answers_ended;
+          issues = goes.issues_all_due;
         },
       )
 
@@ -211,14 +211,14 @@ module _ (laws : HistoryLaws) where
       → AllAdded (MatchesTape wanted first) past added
   all_backed wanted first past [] history = tt
   all_backed wanted first past (h ∷ added) history =
-      let device = history.2.backed in (
+      let device = history.2.is_backed in (
         all_backed wanted first past added history.0,
         record {
-          gained = device.gained;
-          tape = device.tape;
-          tells = device.tells;
+          new_entries = device.new_entries;
+          tape_is = device.tape_is;
+          tells_device_steps = device.tells_device_steps;
           plugged = λ port. let disks = device.plugged port in (disks.0, disks.2, disks.1);
-          holds = holds_between wanted (now first (h ∷ (added ++ past))) history.2.holds;
+          invariant_holds = holds_between wanted (joint_state_after first (h ∷ (added ++ past))) history.2.invariant_holds;
         },
       )
 
@@ -230,41 +230,41 @@ module _ (laws : HistoryLaws) where
     pub no_call : (s : ServerView A) → Simulates device s s [] []
     no_call s first past leads = record {
       added = [];
-      clients = record {
+      meets_client_promise = record {
         asks = refl;
         says = refl;
         wanted = refl;
-        from = seen_at device s first past leads;
-        to = seen_at device s first past leads;
-        run = laws.run s.wanted first past leads.history;
-        reads = laws.reads s.wanted first past leads.history;
-        begins = holds_between s.wanted (now first past) (holds_now s.wanted first past leads.history);
-        backed = tt;
+        starts_at = seen_at device s first past leads;
+        ends_at = seen_at device s first past leads;
+        is_run = laws.run s.wanted first past leads.history;
+        every_read_holds = laws.reads s.wanted first past leads.history;
+        invariant_at_start = holds_between s.wanted (joint_state_after first past) (holds_now s.wanted first past leads.history);
+        matches_tape = tt;
       };
-      moves = tt;
-      disks = record { finds = laws.lasts s.wanted first past leads.history };
-      driver = record { leads = leads; serves = tt; healthy = λ port ready stays spared. (tt, ready, stays.well) };
+      confines_moves = tt;
+      flushes_survive_replug = record { finds = laws.lasts s.wanted first past leads.history };
+      drives_device = record { leads = leads; serves = tt; healthy = λ port ready stays spared. (tt, ready, stays.port_runs_well) };
     }
 
     module _ (old new : ServerView A) (first : JointState Device) (past : Calls) (h : JointEvent Device DeviceStep)
         (leads : LeadsToServer first past (server_of device old)) (here : LeadsToServer first (h ∷ past) (server_of device new)) (port : Port) where
       -- a call on which nothing goes wrong on a port that runs well
       goes_well : state_of (probe_result_of old.ports port.0) ≡ Ready → StaysHealthy port.0 (device old.adapter) (device new.adapter)
-          → (h.event.ask ≢ Reset) × (h.event.ask ≡ Tick → HasTimedOut (now first past).abstract port → ⊥)
-          → IsServedWell port (now first past) h × (state_of (probe_result_of new.ports port.0) ≡ Ready) × RunsWell ((device new.adapter).port port.0)
+          → (h.event.ask ≢ Reset) × (h.event.ask ≡ Tick → HasTimedOut (joint_state_after first past).abstract port → ⊥)
+          → GoesWellForClients port (joint_state_after first past) h × (state_of (probe_result_of new.ports port.0) ≡ Ready) × RunsWell ((device new.adapter).port port.0)
       goes_well ready stays spared =
-          let stays_in : StaysHealthy port.0 (now first past).device h.device =
+          let stays_in : StaysHealthy port.0 (joint_state_after first past).device h.device =
           subst (λ (d : Device). StaysHealthy port.0 d h.device) (sym leads.stands.device_is)
           (subst (StaysHealthy port.0 (device old.adapter)) (sym here.stands.device_is) stays) in
-          let is_ready : (now first past).abstract.ports.state port ≡ Ready = ap (λ (p : Ports). p.state port) leads.stands.ports_are ∙ ready in
+          let is_ready : (joint_state_after first past).abstract.ports.state port ≡ Ready = ap (λ (p : Ports). p.state port) leads.stands.ports_are ∙ ready in
           let served = served_well new.wanted first past h port here.history
-          (record { ready = is_ready; healthy = stays_in; no_reset = spared.0; young = spared.1 }) in (
+          (record { ready = is_ready; stays_healthy = stays_in; is_no_reset = spared.0; has_not_timed_out = spared.1 }) in (
             served,
             ap (λ (p : Ports). p.state port) (sym here.stands.ports_are) ∙ served.1.same.1 ∙ is_ready,
-            subst (λ (d : Device). RunsWell (d.port port.0)) here.stands.device_is served.0.well,
+            subst (λ (d : Device). RunsWell (d.port port.0)) here.stands.device_is served.0.port_runs_well,
           )
 
-    pub one_call : (old new : ServerView A) (event : Call DeviceStep) (one : call.CallResult (ArrayVec Reply)) → ExtendsHistory (server_of device old) (server_of device new) (ask_of event) (machine_result_of one)
+    pub one_call : (old new : ServerView A) (event : Call DeviceStep) (one : call.CallResult (ArrayVec Reply)) → ExtendsHistory (server_of device old) (server_of device new) (abstract_call_of event) (machine_result_of one)
         → new.wanted ≡ old.wanted → Simulates device old new (event ∷ []) (one ∷ [])
     one_call old new event one adds wanted first past leads =
         let x = adds first past leads in
@@ -273,26 +273,26 @@ module _ (laws : HistoryLaws) where
         let history = here.history in
         record {
           added = h ∷ [];
-          clients = record {
+          meets_client_promise = record {
             asks = ap (λ (a : AbstractCall DeviceStep). a ∷ []) x.1;
             says = ap (λ (a : CallResult). a ∷ []) x.2;
             wanted = wanted;
-            from = seen_at device old first past leads;
-            to = seen_at device new first (h ∷ past) here;
-            run = laws.run new.wanted first (h ∷ past) history;
-            reads = laws.reads new.wanted first (h ∷ past) history;
-            begins = holds_between old.wanted (now first past) (holds_now old.wanted first past leads.history);
-            backed = all_backed new.wanted first past (h ∷ []) history;
+            starts_at = seen_at device old first past leads;
+            ends_at = seen_at device new first (h ∷ past) here;
+            is_run = laws.run new.wanted first (h ∷ past) history;
+            every_read_holds = laws.reads new.wanted first (h ∷ past) history;
+            invariant_at_start = holds_between old.wanted (joint_state_after first past) (holds_now old.wanted first past leads.history);
+            matches_tape = all_backed new.wanted first past (h ∷ []) history;
           };
-          moves = all_confined new.wanted first past (h ∷ []) history;
-          disks = record { finds = laws.lasts new.wanted first (h ∷ past) history };
-          driver = record {
+          confines_moves = all_confined new.wanted first past (h ∷ []) history;
+          flushes_survive_replug = record { finds = laws.lasts new.wanted first (h ∷ past) history };
+          drives_device = record {
             leads = here;
             serves = (
               tt,
               record {
-                seen = λ port slot id. laws.seen new.wanted first past h port slot id history;
-                served = λ port healthy. served_well new.wanted first past h port history healthy;
+                clear_bits_are_answered = λ port slot id. laws.seen new.wanted first past h port slot id history;
+                goes_well_if_healthy = λ port healthy. served_well new.wanted first past h port history healthy;
               },
             );
             healthy = λ port ready stays spared.
@@ -305,39 +305,39 @@ module _ (laws : HistoryLaws) where
         → Simulates device mid new further more → Simulates device old new (events ++ further) (said ++ more)
     more_calls old mid new events further said more keeps goes_on first past leads =
         let a = keeps first past leads in
-        let b = goes_on first (a.added ++ past) a.driver.leads in
+        let b = goes_on first (a.added ++ past) a.drives_device.leads in
         let one = a.added in
         let two = b.added in
         let whole = sym (append_assoc two one past) in
-        let leads = subst (λ (l : Calls). LeadsToServer first l (server_of device new)) whole b.driver.leads in
+        let leads = subst (λ (l : Calls). LeadsToServer first l (server_of device new)) whole b.drives_device.leads in
         record {
           added = two ++ one;
-          clients = record {
-            asks = mapped (λ h. h.event.ask) one two _ _ a.clients.asks b.clients.asks ∙ sym (map-append ask_of events further);
-            says = mapped (λ h. h.event.said) one two _ _ a.clients.says b.clients.says ∙ sym (map-append machine_result_of said more);
-            wanted = b.clients.wanted ∙ a.clients.wanted;
-            from = a.clients.from;
-            to = subst (λ (l : Calls). IsSeenAt (visible_of device new) (now first l)) whole b.clients.to;
-            run = subst (λ (l : Calls). IsRun first.abstract (events_of l)) whole b.clients.run;
-            reads = subst (λ (l : Calls). first.device.telling ≡ true → EveryReadHolds first.abstract (events_of l)) whole b.clients.reads;
-            begins = a.clients.begins;
-            backed = all_backed new.wanted first past (two ++ one) leads.history;
+          meets_client_promise = record {
+            asks = mapped (λ h. h.event.ask) one two _ _ a.meets_client_promise.asks b.meets_client_promise.asks ∙ sym (map-append abstract_call_of events further);
+            says = mapped (λ h. h.event.said) one two _ _ a.meets_client_promise.says b.meets_client_promise.says ∙ sym (map-append machine_result_of said more);
+            wanted = b.meets_client_promise.wanted ∙ a.meets_client_promise.wanted;
+            starts_at = a.meets_client_promise.starts_at;
+            ends_at = subst (λ (l : Calls). IsSeenAt (visible_of device new) (joint_state_after first l)) whole b.meets_client_promise.ends_at;
+            is_run = subst (λ (l : Calls). IsRun first.abstract (events_of l)) whole b.meets_client_promise.is_run;
+            every_read_holds = subst (λ (l : Calls). first.device.telling ≡ true → EveryReadHolds first.abstract (events_of l)) whole b.meets_client_promise.every_read_holds;
+            invariant_at_start = a.meets_client_promise.invariant_at_start;
+            matches_tape = all_backed new.wanted first past (two ++ one) leads.history;
           };
-          moves = all_confined new.wanted first past (two ++ one) leads.history;
-          disks = subst (FlushesSurviveReplug first) whole b.disks;
-          driver = record {
+          confines_moves = all_confined new.wanted first past (two ++ one) leads.history;
+          flushes_survive_replug = subst (FlushesSurviveReplug first) whole b.flushes_survive_replug;
+          drives_device = record {
             leads = leads;
-            serves = each_joined (KeepsPortPromise first) past one two a.driver.serves b.driver.serves;
+            serves = each_joined (KeepsPortPromise first) past one two a.drives_device.serves b.drives_device.serves;
             healthy = λ port ready stays spared.
-                let started = grows mid.wanted first past one a.clients.backed in
-                let ended = grows new.wanted first (one ++ past) two b.clients.backed in
+                let started = grows mid.wanted first past one a.meets_client_promise.matches_tape in
+                let ended = grows new.wanted first (one ++ past) two b.meets_client_promise.matches_tape in
                 let u = parts port.0 (device old.adapter) (device mid.adapter) (device new.adapter) started.0 ended.0
-                (ap (λ (d : Device). d.tape) (sym a.clients.to.device_is) ∙ started.1 ∙ ap (λ (d : Device). d.tape ++ started.0) a.clients.from.device_is)
-                (ap (λ (d : Device). d.tape) (sym b.clients.to.device_is) ∙ ended.1 ∙ ap (λ (d : Device). d.tape ++ ended.0) b.clients.from.device_is) stays.undisturbed in
+                (ap (λ (d : Device). d.tape) (sym a.meets_client_promise.ends_at.device_is) ∙ started.1 ∙ ap (λ (d : Device). d.tape ++ started.0) a.meets_client_promise.starts_at.device_is)
+                (ap (λ (d : Device). d.tape) (sym b.meets_client_promise.ends_at.device_is) ∙ ended.1 ∙ ap (λ (d : Device). d.tape ++ ended.0) b.meets_client_promise.starts_at.device_is) stays.undisturbed in
                 let spares = each_parted (Spares first port) past one two spared in
-                let here = a.driver.healthy port ready (record { well = stays.well; undisturbed = u.before }) spares.0 in
-                let there = b.driver.healthy port here.1 (record { well = here.2; undisturbed = u.after }) spares.1 in
-                (each_joined (λ before h. IsServedWell port (now first before) h) past one two here.0 there.0, there.1, there.2);
+                let here = a.drives_device.healthy port ready (record { port_runs_well = stays.port_runs_well; undisturbed = u.before }) spares.0 in
+                let there = b.drives_device.healthy port here.1 (record { port_runs_well = here.2; undisturbed = u.after }) spares.1 in
+                (each_joined (λ before h. GoesWellForClients port (joint_state_after first before) h) past one two here.0 there.0, there.1, there.2);
           };
         }
 
@@ -349,17 +349,17 @@ module _ (law : ReadyRunWell) {A : Type 0} (device : A → Device) (config : Con
   begins_well idle made ready calm = by (probe_result_of s.ports port.0) refl ready
     where
       fit : PortsWellFormed (ports_of (server_of device s))
-      fit = subst PortsWellFormed made.begun.1.stands.ports_are made.begun.1.history.0.1
+      fit = subst PortsWellFormed made.starts_history.1.stands.ports_are made.starts_history.1.history.0.1
 
       -- no port is told as ready that was found otherwise
       unready : (state : PortState) → probe_result_of s.ports port.0 ≡ Unready state → state ≡ Ready → ⊥
       unready state e is =
-          let low : port.0 < 4 = fit.few port (ap is_served e) in
+          let low : port.0 < 4 = fit.few_are_served port (ap is_served e) in
           let found : probe_result_of made.host.ports port.0 ≡ Unready Ready = ap (λ (l : List ProbeResult). probe_result_of l port.0) (sym made.ports) ∙ e ∙ ap Unready is in
-          (subst (λ (f : ProbeResult). BacksProbeResult (wanted_of made.plan.wanted port.0) f port.0 (device s.adapter)) found (made.taken.stands port.0 low)).1
+          (subst (λ (f : ProbeResult). BacksProbeResult (wanted_of made.plan.wanted port.0) f port.0 (device s.adapter)) found (made.takes_over.results_are_backed port.0 low)).1
 
       by : (f : ProbeResult) → probe_result_of s.ports port.0 ≡ f → state_of f ≡ Ready → RunsWell ((device s.adapter).port port.0)
       by Unserved e is = let z : Absent ≡ Ready = is in absurd cc
       by (IsFound info) e is =
-          law made.plan.wanted made.host port.0 info (device adapter) (device s.adapter) idle made.taken (ap (λ (l : List ProbeResult). probe_result_of l port.0) (sym made.ports) ∙ e) calm
+          law made.plan.wanted made.host port.0 info (device adapter) (device s.adapter) idle made.takes_over (ap (λ (l : List ProbeResult). probe_result_of l port.0) (sym made.ports) ∙ e) calm
       by (Unready state) e is = absurd (unready state e is)

@@ -11,7 +11,7 @@ use Rattle.ata_types.specs.declared.memory.TheConstants.{DRIVER_FRAMES}
 use Rattle.block_machine.specs.Rules.{DifferInName}
 use Rattle.block_machine.specs.Expected.{IsValidRow}
 use Rattle.dma_frames.specs.Loan.{Lending}
-use Rattle.dma_frames.specs.Table.{ExtentHasFrame, FrameExtent, owner_of, lent_to}
+use Rattle.dma_frames.specs.FrameTables.{ExtentHasFrame, FrameExtent, owner_of, lent_to}
 use Rattle.grants.specs.Rows.{SameRows}
 use Rattle.host_boot.specs.TakeOver.{probe_result_of}
 use Rattle.host_boot.specs.declared.Host.{Host}
@@ -20,16 +20,16 @@ use Rattle.block_machine.specs.declared.due.QueueMode.{QueueMode}
 use Rattle.host_boot.specs.declared.ProbeResult.{ProbeResult}
 use Rattle.host_boot.specs.declared.ProbeResult.TheVariants.{Unserved}
 use Rattle.identify.specs.declared.wanted.Wanted.{Wanted}
-use Rattle.configuration.specs.Plan.{HasClientFrames, IsClient, IsPlan, IsServedGrant, PlanView}
-use Rattle.server_history.specs.Server.{IsNewServer, ServerState, quarantined_at, last_disk_of, mode_at, probed_mode, no_slots, remembered_at, used_for}
+use Rattle.configuration.specs.Plan.{HasClientFrames, IsClientNumber, IsPlan, IsServedGrant, PlanView}
+use Rattle.server_history.specs.ServerState.{IsNewServer, ServerState, quarantined_at, last_disk_of, mode_at, probed_mode, no_slots, remembered_at, used_for}
 use Rattle.block_server.specs.FourPorts.{EachBecomes, BeginsAsHostFound, by_port, port_in}
-use Rattle.port_driver.specs.Parts.{NotesProbeResult}
+use Rattle.port_driver.specs.PortAndShared.{NotesProbeResult}
 use Rattle.port_driver.specs.declared.served_port.ServedPort.{ServedPort}
 use Rattle.block_server.proofs.Becoming as becoming
 
 -- a row of a plan is one that a configuration may give
 row_is : (plan : PlanView) (row : GrantRow) → IsServedGrant plan.wanted row → IsValidRow row
-row_is plan row g = record { client = (g.client.0, g.client.1); number = g.number; port = g.port; some = g.some; below = g.sectors }
+row_is plan row g = record { client = (g.client.0, g.client.1); number = g.number; port = g.port; count_is_positive = g.count_is_positive; below = g.sectors }
 
 -- each of so many is the same
 at_replicate : {X : Type 0} (n : ℕ) (x : X) (place : ℕ) → get_or (replicate n x) place x ≡ x
@@ -55,18 +55,18 @@ module _ (s : ServerState) (host : Host) (plan : PlanView) (is : IsPlan plan) (r
   planned : (row : GrantRow) → Contains s.grants row → IsValidRow row
   planned row here = row_is plan row (All-contains (IsServedGrant plan.wanted) plan.grants row is.grants (rows.1 row here))
 
-  within : (frame : Frame) (client : ClientId) → owner_of s.table frame ≡ Some client → (DRIVER_FRAMES ≤ frame.0) × (frame.0 < plan.frames) × IsClient client
+  within : (frame : Frame) (client : ClientId) → owner_of s.table frame ≡ Some client → (DRIVER_FRAMES ≤ frame.0) × (frame.0 < plan.frames) × IsClientNumber client
   within frame client own =
       let run = only frame client own in
       let inside = All-contains (HasClientFrames plan.frames) plan.owners run.0 is.runs.within run.1 in
-      let its = All-contains (λ (r : FrameExtent). IsClient r.0) plan.owners run.0 is.runs.owners run.1 in
-      (omega (arith, inside.0, run.2.0), omega (arith, inside.2, run.2.1), subst IsClient run.3 its)
+      let its = All-contains (λ (r : FrameExtent). IsClientNumber r.0) plan.owners run.0 is.runs.owners run.1 in
+      (omega (arith, inside.0, run.2.0), omega (arith, inside.2, run.2.1), subst IsClientNumber run.3 its)
 
   pub new_fits : AllPairs DifferInName s.grants → length s.grants ≤ 64 → ((frame : Frame) → lent_to s.table frame ≡ None) → s.ports ≡ host.ports → length host.ports ≡ 4
       → length s.remembered ≡ 4 → ((port : ℕ) → remembered_at s.remembered port ≡ None)
       → length s.kept ≡ 4 → ((port : ℕ) → quarantined_at s.kept port ≡ []) → length s.slots ≡ 4 → length s.modes ≡ 4 → ((port : ℕ) → port < 4 → length (get_or s.slots port no_slots).places ≡ 32) → ((port : ℕ) → port < 4 → mode_at s.modes port ≡ probed_mode s.device.cap (probe_result_of s.ports port))
       → ((port : ℕ) → port < 4 → (get_or s.slots port no_slots).usable ≡ (mode_at s.modes port).usable)
-      → ((port slot : ℕ) → used_for s.slots port slot ≡ None) → s.book ≡ [] → s.last ≡ 0 → IsNewServer host s
+      → ((port slot : ℕ) → used_for s.slots port slot ≡ None) → s.book ≡ [] → s.last_id ≡ 0 → IsNewServer host s
   new_fits names few free ports four four_remembered forgotten four_kept unkept four_slots four_modes places modes usable unused book last = record {
     ports = ports;
     four = four;
@@ -74,12 +74,12 @@ module _ (s : ServerState) (host : Host) (plan : PlanView) (is : IsPlan plan) (r
     forgotten = forgotten;
     four_kept = four_kept;
     unkept = unkept;
-    rows = λ k d small. planned (get_or s.grants k d) (k, small, get_or_default s.grants k (get_or s.grants k d) d small);
+    rows_are_valid = λ k d small. planned (get_or s.grants k d) (k, small, get_or_default s.grants k (get_or s.grants k d) d small);
     names = names;
     few = few;
-    owners = λ frame client own. let w = within frame client own in (w.0, omega (arith, w.1, room));
+    owned_frames_are_clients = λ frame client own. let w = within frame client own in (w.0, omega (arith, w.1, room));
     clients = λ frame client own. let w = within frame client own in let m = is.memory in (w.2.0, w.2.1, omega (arith, w.1, m.1));
-    room = let m = is.memory in omega (arith, m.0, room);
+    driver_memory_fits = let m = is.memory in omega (arith, m.0, room);
     lent = free;
     four_slots = four_slots;
     four_modes = four_modes;
@@ -88,7 +88,7 @@ module _ (s : ServerState) (host : Host) (plan : PlanView) (is : IsPlan plan) (r
     usable = usable;
     unused = unused;
     book = book;
-    last = last;
+    last_id = last;
   }
 
 -- ---- its ports
@@ -126,21 +126,21 @@ module _ (host : Host) (four_host : length host.ports ≡ 4) (wanted_disks : Lis
 
   pub new_ports : NewPorts host wanted_disks ports
   new_ports =
-      let lists = becoming.same_kept f m first ports four_first taken.four e ∙ keeps in
+      let lists = becoming.same_kept f m first ports four_first taken.four_ports e ∙ keeps in
       record {
-        wanted = becoming.same_wanted f m first ports four_first taken.four e ∙ wanted;
+        wanted = becoming.same_wanted f m first ports four_first taken.four_ports e ∙ wanted;
         found = becoming.found_host host four_host first ports four_first taken;
-        four_remembered = length-map ports (λ (p : ServedPort). p.remembered) ∙ taken.four;
+        four_remembered = length-map ports (λ (p : ServedPort). p.remembered) ∙ taken.four_ports;
         forgotten = λ port.
-            becoming.its_last_disk f m first ports four_first taken.four e port
+            becoming.its_last_disk f m first ports four_first taken.four_ports e port
             ∙ (λ i. last_disk_of (probe_result_of (found i) port) (remembered_at (forgotten i) port))
             ∙ ap (λ (one : ProbeResult). last_disk_of one (remembered_at (replicate 4 None) port)) (at_replicate 4 Unserved port) ∙ at_replicate 4 None port;
-        four_kept = length-map ports (λ (p : ServedPort). p.kept) ∙ taken.four;
+        four_kept = length-map ports (λ (p : ServedPort). p.kept) ∙ taken.four_ports;
         unkept = λ port. ap (λ (all : List (List Lending)). quarantined_at all port) lists ∙ (empty_quarantines kept none).1 port;
-        four_slots = length-map ports (λ (p : ServedPort). p.slots) ∙ taken.four;
-        four_modes = length-map ports (λ (p : ServedPort). p.mode) ∙ taken.four;
-        places = becoming.its_places f m first ports four_first taken.four e;
+        four_slots = length-map ports (λ (p : ServedPort). p.slots) ∙ taken.four_ports;
+        four_modes = length-map ports (λ (p : ServedPort). p.mode) ∙ taken.four_ports;
+        places = becoming.its_places f m first ports four_first taken.four_ports e;
         modes = becoming.modes_follow host four_host first ports four_first taken;
-        usable = becoming.its_usable f m first ports four_first taken.four e;
-        unused = becoming.none_used f m first ports four_first taken.four e;
+        usable = becoming.its_usable f m first ports four_first taken.four_ports e;
+        unused = becoming.none_used f m first ports four_first taken.four_ports e;
       }

@@ -10,8 +10,8 @@ use Rattle.std.specs.Prelude.{nat_lt}
 use Rattle.ata_types.specs.declared.Port.{Port}
 use Rattle.block_machine.specs.declared.due.QueueMode.{QueueMode}
 use Rattle.block_machine.specs.declared.due.Unanswered.{Unanswered}
-use Rattle.block_machine.specs.Due.{IsDue, NoneDue, ahead, conflict, due_of, free_slots, waits_for, is_unblocked, is_due, is_earlier_on_port, is_plain, issued_count}
-use Rattle.request_queue.specs.Entries.{BookEntry, asks, asks_of}
+use Rattle.block_machine.specs.DueRequests.{IsDue, NoneDue, unblocked_ahead_count, are_conflicting, due_of, free_slots, waits_for, is_unblocked, is_due, is_earlier_on_port, is_plain, issued_count}
+use Rattle.request_queue.specs.BookEntries.{BookEntry, as_unanswered, unanswered_of}
 
 -- ---- tests
 
@@ -88,13 +88,13 @@ module _ (mode : QueueMode) (book : List Unanswered) (r : Unanswered) (waits : r
 
   -- it stands in the way of no earlier one
   free : (x : Unanswered) → Earlier x → waits_for mode x r ≡ false
-  free x late = held_no r.issued (nat_lt r.id.0 x.id.0) (r.port.0 == x.port.0) (is_plain mode x.op) (is_plain mode r.op) (is_plain mode r.op || conflict r x) waits late
+  free x late = held_no r.issued (nat_lt r.id.0 x.id.0) (r.port.0 == x.port.0) (is_plain mode x.op) (is_plain mode r.op) (is_plain mode r.op || are_conflicting r x) waits late
 
   clear_same : (x : Unanswered) → Earlier x → is_unblocked mode longer x ≡ is_unblocked mode book x
   clear_same x late =
       ap (λ (b : Bool). not x.issued && not b) (list_any-append (waits_for mode x) book (r ∷ []) ∙ or_none (list_any (waits_for mode x) book) (waits_for mode x r) (free x late))
 
-  ahead_same : EachOf Earlier book → (x : Unanswered) → Earlier x → ahead mode longer x ≡ ahead mode book x
+  ahead_same : EachOf Earlier book → (x : Unanswered) → Earlier x → unblocked_ahead_count mode longer x ≡ unblocked_ahead_count mode book x
   ahead_same all x late =
       count_last (λ other. is_earlier_on_port other x && is_unblocked mode longer other) book r
       (none_and (is_earlier_on_port r x) (is_unblocked mode longer r) (and_none (r.port.0 == x.port.0) (nat_lt r.id.0 x.id.0) late))
@@ -109,9 +109,9 @@ module _ (mode : QueueMode) (book : List Unanswered) (r : Unanswered) (waits : r
 
   due_same : EachOf Earlier book → (x : Unanswered) → Earlier x → is_due mode longer x ≡ is_due mode book x
   due_same all x late =
-      ap (λ (b : Bool). b && (is_plain mode x.op || nat_lt (ahead mode longer x) (free_slots mode longer x.port))) (clear_same x late)
+      ap (λ (b : Bool). b && (is_plain mode x.op || nat_lt (unblocked_ahead_count mode longer x) (free_slots mode longer x.port))) (clear_same x late)
       ∙ ap (λ (n : ℕ). is_unblocked mode book x && (is_plain mode x.op || nat_lt n (free_slots mode longer x.port))) (ahead_same all x late)
-      ∙ ap (λ (n : ℕ). is_unblocked mode book x && (is_plain mode x.op || nat_lt (ahead mode book x) n)) (free_same x.port)
+      ∙ ap (λ (n : ℕ). is_unblocked mode book x && (is_plain mode x.op || nat_lt (unblocked_ahead_count mode book x) n)) (free_same x.port)
 
   pub due_alone : (port : Port) → EachOf Earlier book → due_of mode port book ≡ [] → length (due_of mode port longer) ≤ 1
   due_alone port all none =
@@ -133,7 +133,7 @@ pub none_of_them : (mode : QueueMode) (port : Port) (book : List Unanswered) →
 none_of_them mode port book are none = empty (due_of mode port book) (λ x has. let is = are x has in none x is.0 is.1)
 
 -- the ids of a book are below the next one
-pub all_earlier : (book : List BookEntry) (last : ℕ) (r : Unanswered) → r.id.0 ≡ last + 1 → All (λ e. e.entry.id.0 ≤ last) book → EachOf (λ x. nat_lt r.id.0 x.id.0 ≡ false) (asks_of book)
+pub all_earlier : (book : List BookEntry) (last : ℕ) (r : Unanswered) → r.id.0 ≡ last + 1 → All (λ e. e.entry.id.0 ≤ last) book → EachOf (λ x. nat_lt r.id.0 x.id.0 ≡ false) (unanswered_of book)
 all_earlier [] last r is all = tt
 all_earlier (e ∷ book) last r is all = (
   le-ltb r.id.0 e.entry.id.0 (let first = all zero e (omega arith) in omega (arith, is, first)),
@@ -141,5 +141,5 @@ all_earlier (e ∷ book) last r is all = (
 )
 
 -- what is asked, with one more at the end
-pub asks_more : (book : List BookEntry) (e : BookEntry) → asks_of (book ++ e ∷ []) ≡ asks_of book ++ asks e.entry ∷ []
-asks_more book e = map-append (λ (x : BookEntry). asks x.entry) book (e ∷ [])
+pub asks_more : (book : List BookEntry) (e : BookEntry) → unanswered_of (book ++ e ∷ []) ≡ unanswered_of book ++ as_unanswered e.entry ∷ []
+asks_more book e = map-append (λ (x : BookEntry). as_unanswered x.entry) book (e ∷ [])

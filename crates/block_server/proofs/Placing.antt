@@ -8,10 +8,10 @@ use Rattle.refinement.specs.Relation.{port_at}
 use Rattle.host_boot.specs.TakeOver.{probe_result_of}
 use Rattle.host_boot.specs.declared.ProbeResult.{ProbeResult}
 use Rattle.host_boot.specs.declared.ProbeResult.TheVariants.{Unserved}
-use Rattle.server_history.specs.Server.{ServerState}
-use Rattle.port_driver.specs.Parts.{HasPortAndShared, HasPortAt, no_port, with_served_port}
+use Rattle.server_history.specs.ServerState.{ServerState}
+use Rattle.port_driver.specs.PortAndShared.{HasPortAndShared, HasPortAt, no_port, with_served_port}
 use Rattle.block_server.specs.FourPorts.{by_port, port_in}
-use Rattle.block_server.specs.Seen.{with_ports}
+use Rattle.block_server.specs.FieldView.{with_ports}
 use Rattle.port_driver.specs.declared.served_port.ServedPort.{ServedPort}
 use Rattle.port_driver.specs.declared.served_port.Shared.{Shared}
 

@@ -8,11 +8,11 @@ use Rattle.ata_types.specs.declared.grant.GrantRow.{GrantRow}
 use Rattle.ata_types.specs.declared.refusal.Refusal.TheVariants.{PortNotReady, OutsideDisk, TrimUnsupported, ClientFull, IdsSpent}
 use Rattle.ata_types.specs.declared.request.Op.TheVariants.{Trim, Flush}
 use Rattle.ata_types.specs.declared.request.Request.{Request}
-use Rattle.block_machine.specs.Refusals.{Applies, IsAcceptable, IsFirstRefusal}
+use Rattle.block_machine.specs.Refusals.{RefusalApplies, IsAcceptable, IsFirstRefusal}
 use Rattle.block_machine.specs.Rules.{IsNamed, BreaksNone}
-use Rattle.dma_frames.specs.Table.{owner_of, lent_to}
-use Rattle.request_queue.specs.Entries.{entry_count_of_client}
-use Rattle.server_history.specs.Server.{ServerState, ports_of, admission_context}
+use Rattle.dma_frames.specs.FrameTables.{owner_of, lent_to}
+use Rattle.request_queue.specs.BookEntries.{entry_count_of_client}
+use Rattle.server_history.specs.ServerState.{ServerState, ports_of, admission_context}
 use Rattle.block_server.proofs.Ruling as ruling
 
 -- what is told of a trim that its port doesn't take tells of each other request that it isn't so
@@ -44,7 +44,7 @@ module _ (s : ServerState) (r : Request) (none : BreaksNone s.grants (owner_of s
   not_ready state state_is other = ruling.not_ready_first (admission_context s) r state (other, (row, named, sym state_is)) none_nine
 
   module _ (ready : (ports_of s).state row.port ≡ Ready) where
-    always_ready : (state : PortState) → Applies (admission_context s) r (PortNotReady state) → ⊥
+    always_ready : (state : PortState) → RefusalApplies (admission_context s) r (PortNotReady state) → ⊥
     always_ready state applies =
         let its = applies.1 in
         applies.0 (sym its.2 ∙ ap (λ (x : GrantRow). (ports_of s).state x.port) (the_same its.0 its.1) ∙ ready)
@@ -60,7 +60,7 @@ module _ (s : ServerState) (r : Request) (none : BreaksNone s.grants (owner_of s
     })
 
     module _ (inside : ((r.op ≢ Flush) × ((ports_of s).sectors row.port < r.first.0 + r.count)) → ⊥) where
-      never_outside : Applies (admission_context s) r OutsideDisk → ⊥
+      never_outside : RefusalApplies (admission_context s) r OutsideDisk → ⊥
       never_outside applies = inside (applies.0, subst (λ (x : GrantRow). (ports_of s).sectors x.port < r.first.0 + r.count) (the_same applies.1.0 applies.1.1) applies.1.2)
 
       pub trim_unsupported : r.op ≡ Trim → (ports_of s).trims row.port ≡ false → IsFirstRefusal (admission_context s) r TrimUnsupported
@@ -74,7 +74,7 @@ module _ (s : ServerState) (r : Request) (none : BreaksNone s.grants (owner_of s
       })
 
       module _ (trims : r.op ≡ Trim → (ports_of s).trims row.port ≡ true) where
-        never_trim : Applies (admission_context s) r TrimUnsupported → ⊥
+        never_trim : RefusalApplies (admission_context s) r TrimUnsupported → ⊥
         never_trim applies = applies.1.2 (subst (λ (x : GrantRow). IsTrue ((ports_of s).trims x.port)) (sym (the_same applies.1.0 applies.1.1)) (trims applies.0))
 
         pub client_full : 16 ≤ entry_count_of_client s.book r.client.0 → IsFirstRefusal (admission_context s) r ClientFull
@@ -88,7 +88,7 @@ module _ (s : ServerState) (r : Request) (none : BreaksNone s.grants (owner_of s
         })
 
         module _ (room : entry_count_of_client s.book r.client.0 < 16) where
-          pub ids_spent : 2 ^ 64 ≤ s.last + 1 → IsFirstRefusal (admission_context s) r IdsSpent
+          pub ids_spent : 2 ^ 64 ≤ s.last_id + 1 → IsFirstRefusal (admission_context s) r IdsSpent
           ids_spent spent = ruling.ids_spent_first (admission_context s) r spent (record {
             rules = none;
             ready = λ _. always_ready;
@@ -98,7 +98,7 @@ module _ (s : ServerState) (r : Request) (none : BreaksNone s.grants (owner_of s
             ids = λ h. below 13 13 (omega arith) h;
           })
 
-          pub none_applies : s.last + 1 < 2 ^ 64 → IsAcceptable (admission_context s) r
+          pub none_applies : s.last_id + 1 < 2 ^ 64 → IsAcceptable (admission_context s) r
           none_applies left = ruling.acceptable (admission_context s) r (record {
             rules = none;
             ready = λ _. always_ready;

@@ -11,13 +11,13 @@ use Rattle.host_boot.specs.TakeOver.{probe_result_of}
 use Rattle.host_boot.specs.declared.ProbeResult.{ProbeResult}
 use Rattle.host_boot.specs.declared.ProbeResult.TheVariants.{Ready, Unready, Unserved}
 use Rattle.identify.specs.declared.DiskInfo.{DiskInfo}
-use Rattle.server_history.specs.Kept.{MayGiveBack}
+use Rattle.server_history.specs.KeptLoans.{MayGiveBack}
 use Rattle.server_history.specs.Resets.{IssuePorts, ResolvePorts, ResolvesPort}
-use Rattle.server_history.specs.Served.{IssuesAll}
-use Rattle.server_history.specs.Server.{DifferInRequest, ServerState, InCallInvariant, IsLentOut, quarantined_at}
+use Rattle.server_history.specs.IssuingAndAnswering.{IssuesAll}
+use Rattle.server_history.specs.ServerState.{DifferInRequest, ServerState, InCallInvariant, IsLentOut, quarantined_at}
 use Rattle.server_history.specs.StuckServer.{ServerInvariant}
-use Rattle.port_driver.specs.Parts.{HasPortAndShared}
-use Rattle.port_driver.specs.Ports.{HasFoundPort}
+use Rattle.port_driver.specs.PortAndShared.{HasPortAndShared}
+use Rattle.port_driver.specs.LentSlots.{HasFoundPort}
 use Rattle.port_driver.specs.declared.served_port.ServedPort.{ServedPort}
 use Rattle.port_driver.specs.declared.served_port.Shared.{Shared}
 
@@ -58,7 +58,7 @@ none_to_issue found number all s = subst (λ (left : List ProbeResult). IssuePor
 -- what the server has of one port
 pub found_one : (s : ServerState) (device : Device) (shared : Shared) (port : Port) (p : ServedPort) → InCallInvariant s → HasPortAndShared s device shared port p → HasFoundPort s device shared.book p.slots port p.mode p.found
 found_one s device shared port p kept has = record {
-  kept = kept;
+  in_call_invariant = kept;
   found_is = has.port_is.found_is;
   device_is = has.device_is;
   book_is = has.book_is;
@@ -71,4 +71,4 @@ found_one s device shared port p kept has = record {
 -- what is kept may be given back
 pub may_go : (s : ServerState) (b : ServerInvariant s) → ((port : ℕ) → All (IsLentOut s.table) (quarantined_at s.kept port)) → ((port : ℕ) → AllPairs DifferInRequest (quarantined_at s.kept port))
     → ((port other : ℕ) (x y : Lending) → Contains (quarantined_at s.kept port) x → Contains (quarantined_at s.kept other) y → x.request ≡ y.request → (port ≡ other) × (x ≡ y)) → MayGiveBack s.table s.kept
-may_go s b lent two one = record { lent = lent; two = two; apart = λ port other x y ne here there same. ne (one port other x y here there same).0 }
+may_go s b lent two one = record { lent = lent; differ_in_request = two; apart = λ port other x y ne here there same. ne (one port other x y here there same).0 }

@@ -4,10 +4,10 @@ use Rattle.ata_types.specs.declared.Port.{Port}
 use Rattle.ata_types.specs.declared.PortState.{PortState}
 use Rattle.adapter.specs.Device.{Device}
 use Rattle.block_machine.specs.Events.{State, Shown}
-use Rattle.block_server.specs.View.{ServerView, server_of}
+use Rattle.block_server.specs.ServerView.{ServerView, server_of}
 use Rattle.server_history.specs.Histories.{ExtendsHistory, InvariantByStuck}
 use Rattle.host_boot.specs.TakeOver.{probe_result_of}
-use Rattle.server_history.specs.Server.{ServerState, ports_of, state_of}
+use Rattle.server_history.specs.ServerState.{ServerState, ports_of, state_of}
 
 module _ {A : Type 0} (device : A → Device) where
   -- a look at a port's state, where the state itself adds an event

@@ -1,10 +1,10 @@
 -- What holds of a server, by whether its last reset got stuck.
 use Rattle.std.proofs.Common.{Bool, true, false, ◌≡◌, ◌∙◌, ap, refl, subst, sym}
 use Rattle.adapter.specs.Device.{Device}
-use Rattle.server_history.specs.Server.{ServerState, SettledInvariant}
+use Rattle.server_history.specs.ServerState.{ServerState, SettledInvariant}
 use Rattle.server_history.specs.StuckServer.{StuckInvariant}
 use Rattle.server_history.specs.Histories.{InvariantByStuck}
-use Rattle.block_server.specs.View.{ServerView, server_of}
+use Rattle.block_server.specs.ServerView.{ServerView, server_of}
 
 -- the field says what the view says
 pub still : {A : Type 0} {s v : ServerView A} (b : Bool) → s ≡ v → v.stuck ≡ b → s.stuck ≡ b

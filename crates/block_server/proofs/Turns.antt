@@ -8,13 +8,13 @@ use Rattle.refinement.specs.Relation.{port_at}
 use Rattle.host_boot.specs.TakeOver.{probe_result_of}
 use Rattle.host_boot.specs.declared.ProbeResult.{ProbeResult}
 use Rattle.host_boot.specs.declared.ProbeResult.TheVariants.{Ready, Unready, Unserved}
-use Rattle.server_history.specs.Server.{ServerState, SettledInvariant}
+use Rattle.server_history.specs.ServerState.{ServerState, SettledInvariant}
 use Rattle.server_history.specs.Turns.{EachPortTakesTurn}
-use Rattle.port_driver.specs.Parts.{IsSettledWith, TakesTurn, TurnBy, with_served_port}
+use Rattle.port_driver.specs.PortAndShared.{IsSettledWith, TakesTurn, TurnBy, with_served_port}
 use Rattle.port_driver.specs.declared.served_port.ServedPort.{ServedPort}
 use Rattle.port_driver.specs.declared.served_port.Shared.{Shared}
 use Rattle.block_server.specs.FourPorts.{by_port}
-use Rattle.block_server.specs.Seen.{with_ports}
+use Rattle.block_server.specs.FieldView.{with_ports}
 use Rattle.block_server.proofs.Placing as placing
 
 module _ (Such : Port → List Reply → ServerState → ServerState → Type 0) (Other : Port → ServerState → ServerState → Type 0) (found : List ProbeResult) (first : ServerState) where
@@ -23,7 +23,7 @@ module _ (Such : Port → List Reply → ServerState → ServerState → Type 0)
   pub record TurnsSoFar (ports : List ServedPort) (told : List Reply) (now : ServerState) (number : ℕ) : Type 0 where
     pub four : length ports ≡ 4
     pub left : (q : ℕ) → number ≤ q → probe_result_of (by_port (λ p. p.found) ports) q ≡ probe_result_of found q
-    pub settled : SettledInvariant now
+    pub settled_invariant : SettledInvariant now
     pub rest : (later : List Reply) (last : ServerState) → EachPortTakesTurn Such Other number (drop number found) later now last → EachPortTakesTurn Such Other 0 found (told ++ later) first last
 
   -- at first none has had its turn
@@ -31,7 +31,7 @@ module _ (Such : Port → List Reply → ServerState → ServerState → Type 0)
   none_yet ports now four is settled same = record {
     four = four;
     left = λ q more. ap (λ (list : List ProbeResult). probe_result_of list q) is;
-    settled = settled;
+    settled_invariant = settled;
     rest = λ later last turns. subst (λ (x : ServerState). EachPortTakesTurn Such Other 0 found later x last) same turns;
   }
 
@@ -50,7 +50,7 @@ module _ (Such : Port → List Reply → ServerState → ServerState → Type 0)
   module _ (s : ServerState) (device : Device) (shared : Shared) (ports : List ServedPort) (told : List Reply) (number : ℕ) (so_far : TurnsSoFar ports told (with_ports s device shared ports) number) where
     -- the port of this number has its part
     pub its_part : number < 4 → (default : ServedPort) → IsSettledWith (with_ports s device shared ports) device shared (port_at number) (get_or ports number default)
-    its_part low default = record { settled = so_far.settled; parts = placing.has_parts s device shared ports number default (let four = so_far.four in omega (arith, four, low)) }
+    its_part low default = record { settled_invariant = so_far.settled_invariant; parts = placing.has_parts s device shared ports number default (let four = so_far.four in omega (arith, four, low)) }
 
     -- and now it has had its turn
     pub one_more : (low : number < 4) → length found ≡ 4 → (default : ServedPort) (d : Device) (other : Shared) (p : ServedPort) (after : List Reply)
@@ -64,11 +64,11 @@ module _ (Such : Port → List Reply → ServerState → ServerState → Type 0)
         record {
           four = length-set ports number p ∙ so_far.four;
           left = λ q more. placing.other_found ports number p q (λ same. omega (arith, more, same)) ∙ so_far.left q (omega (arith, more));
-          settled = turn.settled;
+          settled_invariant = turn.settled_invariant;
           rest = λ later last more.
               let W : List Reply → Type 0 = λ all. EachPortTakesTurn Such Other 0 found all first last in
-              subst W (sym (ap (λ (all : List Reply). all ++ later) turn.told ∙ append_assoc told turn.its later))
-              (so_far.rest (turn.its ++ later) last (one_turn number (omega (arith, many, low)) (with_ports s device shared ports) mid last turn.its later turn.settled turn.does more));
+              subst W (sym (ap (λ (all : List Reply). all ++ later) turn.replies_are ∙ append_assoc told turn.new_replies later))
+              (so_far.rest (turn.new_replies ++ later) last (one_turn number (omega (arith, many, low)) (with_ports s device shared ports) mid last turn.new_replies later turn.settled_invariant turn.turn_is_taken more));
         }
 
     -- after the last there is none, so the turns of the others are all

@@ -13,16 +13,16 @@ use Rattle.refinement.specs.Relation.{port_at}
 use Rattle.host_boot.specs.declared.ProbeResult.{ProbeResult}
 use Rattle.host_boot.specs.declared.ProbeResult.TheVariants.{Unserved, Ready, Unready}
 use Rattle.ata_types.specs.declared.call.AdapterStuck.{AdapterStuck}
-use Rattle.request_queue.specs.Entries.{BookEntry}
+use Rattle.request_queue.specs.BookEntries.{BookEntry}
 use Rattle.server_history.specs.Resets.{IssuePorts, ResolvePorts}
 use Rattle.commands.specs.Batches.{PlacedTask}
-use Rattle.server_history.specs.Served.{IssuesTogetherIfAny, PutsInSlots}
-use Rattle.server_history.specs.Server.{ServerState}
-use Rattle.server_history.specs.Turns.{ServesPort, EachPortTakesTurn, TicksPort, ProbesUnready, a_tick_older}
+use Rattle.server_history.specs.IssuingAndAnswering.{IssuesTogetherIfAny, PutsInSlots}
+use Rattle.server_history.specs.ServerState.{ServerState}
+use Rattle.server_history.specs.Turns.{ServicesPort, EachPortTakesTurn, TicksPort, ProbesUnready, a_tick_older}
 use Rattle.block_server.specs.Calls.{ServicesBy, Services, Submits, TicksBy, TicksServer}
 use Rattle.block_server.specs.Resetting.{DoesReset}
 use Rattle.block_server.specs.Revoking.{Revokes, RevokesAndIssues}
-use Rattle.block_server.specs.View.{ServerView, server_of}
+use Rattle.block_server.specs.ServerView.{ServerView, server_of}
 use Rattle.ata_types.specs.declared.call.NoSuchGrant.{NoSuchGrant}
 
 -- both want the same disks
@@ -44,17 +44,17 @@ turns Such Other such other port (Unserved ∷ rest) replies old new t = turns S
 settles : (port : ℕ) (found : List ProbeResult) (replies : List Reply) (old new : ServerState) → ResolvePorts port found replies old new → SameWanted old new
 settles port [] replies old new s = ap (λ (s : ServerState). s.wanted) s.1
 settles port (found ∷ rest) replies old new (mid, its, later, are, does, more) =
-    settles (port + 1) rest later mid new more ∙ ap (λ (s : ServerState). s.wanted) does.server
+    settles (port + 1) rest later mid new more ∙ ap (λ (s : ServerState). s.wanted) does.server_is
 
 puts : (port : Port) (ids : List RequestId) (tasks : List PlacedTask) (old new : ServerState) → PutsInSlots port ids tasks old new → SameWanted old new
 puts port [] [] old new same = ap (λ (s : ServerState). s.wanted) same
 puts port [] (t ∷ tasks) old new none = absurd none
 puts port (id ∷ ids) [] old new none = absurd none
-puts port (id ∷ ids) (t ∷ tasks) old new (mid, one, more) = puts port ids tasks mid new more ∙ ap (λ (s : ServerState). s.wanted) one.server
+puts port (id ∷ ids) (t ∷ tasks) old new (mid, one, more) = puts port ids tasks mid new more ∙ ap (λ (s : ServerState). s.wanted) one.server_is
 
 issues_batch : (port : Port) (ids : List RequestId) (old new : ServerState) → IssuesTogetherIfAny port ids old new → SameWanted old new
 issues_batch port [] old new same = ap (λ (s : ServerState). s.wanted) same
-issues_batch port (id ∷ ids) old new issues = ap (λ (s : ServerState). s.wanted) issues.server ∙ puts port (id ∷ ids) issues.tasks old issues.taken issues.puts
+issues_batch port (id ∷ ids) old new issues = ap (λ (s : ServerState). s.wanted) issues.server_is ∙ puts port (id ∷ ids) issues.tasks old issues.taken issues.puts
 
 issues : (port : ℕ) (found : List ProbeResult) (old new : ServerState) → IssuePorts port found old new → SameWanted old new
 issues port [] old new same = ap (λ (s : ServerState). s.wanted) same
@@ -63,14 +63,14 @@ issues port (Unready state ∷ rest) old new more = issues (port + 1) rest old n
 issues port (Unserved ∷ rest) old new more = issues (port + 1) rest old new more
 
 ticks_port : (book : List BookEntry) (port : Port) (replies : List Reply) (old new : ServerState) → TicksPort book port replies old new → SameWanted old new
-ticks_port book port replies old new t = ⊎_elim (λ error_handled. error_handled.3.others.wanted) (λ rests. ap (λ (s : ServerState). s.wanted) rests.2) t
+ticks_port book port replies old new t = ⊎_elim (λ error_handled. error_handled.3.leaves_others.wanted) (λ rests. ap (λ (s : ServerState). s.wanted) rests.2) t
 
 same_port : (port : Port) (old new : ServerState) → new ≡ old → SameWanted old new
 same_port port old new same = ap (λ (s : ServerState). s.wanted) same
 
 services_by : (stuck : Bool) (ports : List ProbeResult) (replies : List Reply) (old new : ServerState) → ServicesBy stuck ports replies old new → SameWanted old new
 services_by false ports replies old new s =
-    turns ServesPort ProbesUnready (λ port its one other served. served.part.others.wanted) (λ port one other tried. tried.part.others.wanted) 0 ports replies old new s
+    turns ServicesPort ProbesUnready (λ port its one other served. served.is_port_turn.leaves_others.wanted) (λ port one other tried. tried.is_port_turn.leaves_others.wanted) 0 ports replies old new s
 services_by true ports replies old new s = settles 0 ports replies old new s
 
 ticks_by : (stuck : Bool) (replies : List Reply) (old new : ServerState) → TicksBy stuck replies old new → SameWanted old new
@@ -92,8 +92,8 @@ module _ {A : Type 0} (device : A → Device) (old new : ServerView A) where
   reset_wants replies (Ok done) resets =
       issues 0 resets.0.taken.ports resets.0.settled (server_of device new) resets.0.issues
       ∙ settles 0 resets.0.taken.ports replies resets.0.taken resets.0.settled resets.0.settles
-      ∙ ap (λ (s : ServerState). s.wanted) resets.0.takes.server
-  reset_wants replies (Err why) stuck = ap (λ (s : ServerState). s.wanted) stuck.1.server
+      ∙ ap (λ (s : ServerState). s.wanted) resets.0.takes.server_is
+  reset_wants replies (Err why) stuck = ap (λ (s : ServerState). s.wanted) stuck.1.server_is
 
   pub revoke_wants : (client : ClientId) (number : ℕ) (replies : List Reply) (result : Result (Unit {0}) NoSuchGrant) → Revokes device old new client number replies result → new.wanted ≡ old.wanted
   revoke_wants client number replies (Ok done) revokes = by old.stuck refl
@@ -102,6 +102,6 @@ module _ {A : Type 0} (device : A → Device) (old new : ServerView A) where
       r = revokes.0
 
       by : (stuck : Bool) → old.stuck ≡ stuck → new.wanted ≡ old.wanted
-      by false on = issues_batch r.revokes.has.0.port _ r.mid (server_of device new) (r.issues on) ∙ ap (λ (s : ServerState). s.wanted) r.revokes.server
-      by true off = ap (λ (s : ServerState). s.wanted) (r.stalled off ∙ r.revokes.server)
+      by false on = issues_batch r.revokes.has_grant_row.0.port _ r.mid (server_of device new) (r.issues on) ∙ ap (λ (s : ServerState). s.wanted) r.revokes.server_is
+      by true off = ap (λ (s : ServerState). s.wanted) (r.stalled off ∙ r.revokes.server_is)
   revoke_wants client number replies (Err none) refused = ap (λ (s : ServerView A). s.wanted) refused.2

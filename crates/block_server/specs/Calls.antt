@@ -12,21 +12,21 @@ use Rattle.ata_types.specs.declared.request.Reply.{Reply}
 use Rattle.ata_types.specs.declared.request.Request.{Request}
 use Rattle.ata_types.specs.declared.request.RequestId.{RequestId}
 use Rattle.adapter.specs.Access.{Loads, Stores}
-use Rattle.adapter.specs.Asked.{Asked}
+use Rattle.adapter.specs.ToldSteps.{DoesOrFailsStep}
 use Rattle.adapter.specs.Device.{Device}
 use Rattle.adapter.specs.Steps.{Steps}
 use Rattle.adapter.specs.declared.access.DeviceStep.{DeviceStep}
 use Rattle.block_machine.specs.Refusals.{IsAcceptable, IsFirstRefusal, MayAccessFrame, IsFirstMemFault}
 use Rattle.block_machine.specs.Rules.{IsNamed}
-use Rattle.block_server.specs.View.{ServerView, server_of}
-use Rattle.dma_frames.specs.Table.{owner_of, lent_to}
+use Rattle.block_server.specs.ServerView.{ServerView, server_of}
+use Rattle.dma_frames.specs.FrameTables.{owner_of, lent_to}
 use Rattle.host_boot.specs.declared.ProbeResult.{ProbeResult}
-use Rattle.block_machine.specs.Due.{due_of}
-use Rattle.request_queue.specs.Entries.{IsAnyOverdue, asks_of}
-use Rattle.server_history.specs.Served.{Accepts, with_accepted}
-use Rattle.server_history.specs.Turns.{ServePorts, Ticks, a_tick_older}
+use Rattle.block_machine.specs.DueRequests.{due_of}
+use Rattle.request_queue.specs.BookEntries.{IsAnyOverdue, unanswered_of}
+use Rattle.server_history.specs.IssuingAndAnswering.{Accepts, with_accepted}
+use Rattle.server_history.specs.Turns.{ServicePorts, Ticks, a_tick_older}
 use Rattle.server_history.specs.Resets.{ResolvePorts}
-use Rattle.server_history.specs.Server.{ServerState, mode_in, admission_context}
+use Rattle.server_history.specs.ServerState.{ServerState, mode_in, admission_context}
 
 -- only the adapter is another
 abbrev pub SameServer : {A : Type 0} → ServerView A → ServerView A → Type 0
@@ -44,8 +44,9 @@ pub record AcceptsRequest {A : Type 0} (device : A → Device) (old new : Server
   pub port : Port
   pub accepts : Accepts port r id (server_of device old) (server_of device new)
   pub stuck : new.stuck ≡ old.stuck
-  pub same : due_of (mode_in (server_of device old) port) port
-      (asks_of (with_accepted port r id accepts.table (server_of device old)).book) ≡ [] → new.adapter ≡ old.adapter
+  pub quiet_if_none_due : due_of (mode_in (server_of device old) port) port
+      (unanswered_of (with_accepted port r id accepts.table (server_of device old)).book) ≡ [] → new.adapter
+      ≡ old.adapter
 
 -- A refused request is told the first cause that applies, and changes nothing: neither server nor adapter.
 abbrev pub Submits : {A : Type 0} → (A → Device) → ServerView A → ServerView A → Request → Result RequestId Refusal
@@ -57,7 +58,7 @@ Submits device old new r (Err refusal) = IsFirstRefusal (admission_context (serv
 -- Each ready port was served, and each other one that is served was probed, in rising number. Since a reset that got
 -- stuck, all requests were told what their ports are: dead.
 abbrev pub ServicesBy : Bool → List ProbeResult → List Reply → ServerState → ServerState → Type 0
-ServicesBy false ports replies old new = ServePorts 0 ports replies old new
+ServicesBy false ports replies old new = ServicePorts 0 ports replies old new
 ServicesBy true ports replies old new = ResolvePorts 0 ports replies old new
 
 -- So a service does; it doesn't end a reset.
@@ -104,7 +105,7 @@ StoresFrame device old new client frame offset bytes (Err fault) =
 -- The device does what it is told, or nothing; of the server nothing else changes.
 pub record StepsDevice {A : Type 0} (device : A → Device) (old new : ServerView A) (step : DeviceStep)
     (done : Bool) : Type 0 where
-  pub asked : done ≡ true → Asked step (device old.adapter) (device new.adapter)
+  pub step_is_done : done ≡ true → DoesOrFailsStep step (device old.adapter) (device new.adapter)
   pub steps : Steps (device old.adapter) (device new.adapter)
   pub refused : done ≡ false → device new.adapter ≡ device old.adapter
-  pub rest : SameServer old new
+  pub server_is_same : SameServer old new

@@ -3,8 +3,8 @@ use Rattle.std.specs.Prelude.{ℕ, ◌≡◌, ◌<◌, ◌+◌, ◌/◌, ◌%◌
 use Rattle.host_boot.specs.TakeOver.{probe_result_of}
 use Rattle.host_boot.specs.declared.Host.{Host}
 use Rattle.hba_regs.specs.Bits.{bit}
-use Rattle.server_history.specs.Server.{probed_mode}
-use Rattle.port_driver.specs.Parts.{NotesProbeResult, no_port}
+use Rattle.server_history.specs.ServerState.{probed_mode}
+use Rattle.port_driver.specs.PortAndShared.{NotesProbeResult, no_port}
 use Rattle.port_driver.specs.declared.served_port.ServedPort.{ServedPort}
 
 -- the port of this number
@@ -21,8 +21,8 @@ without_loans p = record p { kept = [] }
 
 -- of four ports, by their numbers, each has become such a one
 pub record EachBecomes (Such : ℕ → ServedPort → ServedPort → Type 0) (old new : List ServedPort) : Type 0 where
-  pub four : length new ≡ 4
-  pub each : (number : ℕ) → number < 4 → Such number (port_in old number) (port_in new number)
+  pub four_ports : length new ≡ 4
+  pub each_becomes : (number : ℕ) → number < 4 → Such number (port_in old number) (port_in new number)
 
 -- the port of this number was found by the host, and takes commands as adapter and disk can
 pub record BeginsAsHostFound (host : Host) (number : ℕ) (old new : ServedPort) : Type 0 where

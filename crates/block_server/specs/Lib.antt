@@ -1,11 +1,11 @@
-pub mod Clients
-pub mod View
+pub mod ClientPromise
+pub mod ServerView
 pub mod FourPorts
-pub mod Seen
-pub mod Made
+pub mod FieldView
+pub mod InitialServer
 pub mod Calls
 pub mod CallResults
-pub mod Running
+pub mod AbstractCalls
 pub mod Promise
 pub mod Resetting
 pub mod Revoking

@@ -14,7 +14,7 @@ use Rattle.adapter.specs.declared.access.DeviceStep.{DeviceStep}
 use Rattle.refinement.specs.PortFacts.{RunsWell}
 use Rattle.refinement.specs.Slots.{ServesRequest}
 use Rattle.block_machine.specs.Events.{CallRecord, AbstractCall, AbstractState, Reset, RevokeOf, Service, Tick, AnswersEnded, HasTimedOut, WasIssued, abstract_after}
-use Rattle.block_machine.specs.Histories.{JointEvent, JointState, now}
+use Rattle.block_machine.specs.Histories.{JointEvent, JointState, joint_state_after}
 use Rattle.block_machine.specs.Ports.{SamePort}
 use Rattle.block_machine.specs.State.{Machine, Pending}
 use Rattle.block_machine.specs.Steps.{Answer, AllTouched}
@@ -23,10 +23,10 @@ use Rattle.driver_history.specs.Evidence.{StaysHealthy}
 use Rattle.driver_history.specs.Histories.{IssuesAllDue}
 use Rattle.host_boot.specs.TakeOver.{probe_result_of}
 use Rattle.server_history.specs.Histories.{LeadsToServer}
-use Rattle.server_history.specs.Server.{state_of}
-use Rattle.block_server.specs.Clients.{ConfinesMoves, AllAdded, FlushesSurviveReplug, ServesClients}
-use Rattle.block_server.specs.Running.{ask_of, machine_result_of}
-use Rattle.block_server.specs.View.{ServerView, server_of, visible_of}
+use Rattle.server_history.specs.ServerState.{state_of}
+use Rattle.block_server.specs.ClientPromise.{ConfinesMoves, AllAdded, FlushesSurviveReplug, MeetsClientPromise}
+use Rattle.block_server.specs.AbstractCalls.{abstract_call_of, machine_result_of}
+use Rattle.block_server.specs.ServerView.{ServerView, server_of, visible_of}
 
 -- What is told where nothing goes wrong. A call that revokes a grant tells Revoked, of requests that aren't issued
 -- (which ones: `AnswersRevoke`). Each other one tells Ok, of a request that was issued when the call began, of which
@@ -40,28 +40,30 @@ IsFaultFreeAnswer ask old e told = (told ≡ outcome.Ok) × WasIssued old e.requ
 -- was, with the same disk. What is answered there is told as where nothing goes wrong (`IsFaultFreeAnswer`); a service
 -- answers each request that had ended when it began. And of the port's unanswered requests a submit, a service and a
 -- revocation issue exactly those that are due once all else is done.
-pub record ServesClientsOf (port : Port) (old : AbstractState) (call : CallRecord DeviceStep) : Type 0 where
+pub record MeetsPortPromise (port : Port) (old : AbstractState) (call : CallRecord DeviceStep) : Type 0 where
   pub same : SamePort old.ports call.ports port
   pub answers : (e : Pending) (told : Outcome) → Contains call.steps (Answer e told) → e.request.port ≡ port
       → IsFaultFreeAnswer call.ask old.machine e told
-  pub ended : call.ask ≡ Service → AnswersEnded old.machine call.steps port
+  pub answers_ended : call.ask ≡ Service → AnswersEnded old.machine call.steps port
   pub issues : IssuesAllDue call.ask call.steps (abstract_after old call).machine call.ports port
 
 -- The call goes well for the port, with its engine running all the time and after it, and serves the port's clients.
-abbrev pub IsServedWell : Port → JointState Device → JointEvent Device DeviceStep → Type 0
-IsServedWell port old h = GoesWellFor old h port × ServesClientsOf port old.abstract h.event
+abbrev pub GoesWellForClients : Port → JointState Device → JointEvent Device DeviceStep → Type 0
+GoesWellForClients port old h = GoesWellFor old h port × MeetsPortPromise port old.abstract h.event
 
 -- In a call after these ones, a service answers each request of a port that is ready when it begins of which the bits
 -- of PxCI and PxSACT were clear then; and each port is served well that the call is healthy for.
 pub record KeepsPortPromise (first : JointState Device) (past : List (JointEvent Device DeviceStep))
     (h : JointEvent Device DeviceStep) : Type 0 where
-  pub seen : (port : Port) (slot : ℕ) (id : RequestId) → h.event.ask ≡ Service
-      → (now first past).abstract.ports.state port ≡ Ready
-      → ServesRequest (now first past).abstract.machine (now first past).device.memory
-      ((now first past).device.port port.0) port.0 slot id
-      → ((now first past).device.port port.0).ci slot ≡ false → ((now first past).device.port port.0).sact slot ≡ false
+  pub clear_bits_are_answered : (port : Port) (slot : ℕ) (id : RequestId) → h.event.ask ≡ Service
+      → (joint_state_after first past).abstract.ports.state port ≡ Ready
+      → ServesRequest (joint_state_after first past).abstract.machine (joint_state_after first past).device.memory
+      ((joint_state_after first past).device.port port.0) port.0 slot id
+      → ((joint_state_after first past).device.port port.0).ci slot ≡ false
+      → ((joint_state_after first past).device.port port.0).sact slot ≡ false
       → (done : Pending) × (done.request.id ≡ id) × Contains h.event.steps (Answer done outcome.Ok)
-  pub served : (port : Port) → IsHealthyFor (now first past) h port → IsServedWell port (now first past) h
+  pub goes_well_if_healthy : (port : Port) → IsHealthyFor (joint_state_after first past) h port
+      → GoesWellForClients port (joint_state_after first past) h
 
 -- What is promised of the device. With these calls the history leads to the server after them: so
 -- `CallCorresponds` of driver_history has of each of them which accesses were made, what stands behind the evidence,
@@ -77,9 +79,9 @@ pub record DrivesDevice {A : Type 0} (device : A → Device) (first : JointState
   pub healthy : (port : Port) → state_of (probe_result_of old.ports port.0) ≡ Ready
       → StaysHealthy port.0 (device old.adapter) (device new.adapter)
       → AllAdded (λ before h. (h.event.ask ≢ Reset)
-      × (h.event.ask ≡ Tick → HasTimedOut (now first before).abstract port → ⊥))
+      × (h.event.ask ≡ Tick → HasTimedOut (joint_state_after first before).abstract port → ⊥))
       past added
-      → AllAdded (λ before h. IsServedWell port (now first before) h) past added
+      → AllAdded (λ before h. GoesWellForClients port (joint_state_after first before) h) past added
       × (state_of (probe_result_of new.ports port.0) ≡ Ready) × RunsWell ((device new.adapter).port port.0)
 
 -- After a history that leads to the server before them, the calls of a list, which said this, add theirs: with what is
@@ -88,11 +90,12 @@ pub record KeepsPromise {A : Type 0} (device : A → Device) (first : JointState
     (past : List (JointEvent Device DeviceStep))
     (old new : ServerView A) (calls : List (Call DeviceStep)) (said : List (CallResult (ArrayVec Reply))) : Type 0 where
   pub added : List (JointEvent Device DeviceStep)
-  pub clients : ServesClients first past added (visible_of device old) (visible_of device new) (map ask_of calls)
+  pub meets_client_promise : MeetsClientPromise first past added (visible_of device old) (visible_of device new)
+      (map abstract_call_of calls)
       (map machine_result_of said)
-  pub moves : ConfinesMoves first past added
-  pub disks : FlushesSurviveReplug first (added ++ past)
-  pub driver : DrivesDevice device first past added old new
+  pub confines_moves : ConfinesMoves first past added
+  pub flushes_survive_replug : FlushesSurviveReplug first (added ++ past)
+  pub drives_device : DrivesDevice device first past added old new
 
 -- So it is after each such history. (There is one since the server was made: `begun` of `IsInitialServer`; and with the
 -- calls it leads to the server after them.)
@@ -105,6 +108,6 @@ Simulates device old new calls said = (first : JointState Device) (past : List (
 pub record RunsAsPromised {A : Type 0} (device : A → Device) (old new : ServerView A) (calls : List (Call DeviceStep))
     (before after : List (CallResult (ArrayVec Reply))) : Type 0 where
   pub said : List (CallResult (ArrayVec Reply))
-  pub told : after ≡ before ++ said
-  pub each : length said ≡ length calls
-  pub keeps : Simulates device old new calls said
+  pub results_are : after ≡ before ++ said
+  pub one_result_a_call : length said ≡ length calls
+  pub simulates_calls : Simulates device old new calls said

@@ -7,7 +7,7 @@ use Rattle.block_machine.specs.Events.{CallResult, WasReset}
 use Rattle.ata_types.specs.declared.call.AdapterStuck.{AdapterStuck}
 use Rattle.server_history.specs.Resets.{ResetsServer}
 use Rattle.server_history.specs.StuckServer.{ResetGetsStuck}
-use Rattle.block_server.specs.View.{ServerView, server_of}
+use Rattle.block_server.specs.ServerView.{ServerView, server_of}
 
 -- what a reset says, by its replies
 abbrev pub reset_said : Result (Unit {0}) AdapterStuck → List Reply → CallResult

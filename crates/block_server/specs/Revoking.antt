@@ -4,14 +4,14 @@ use Rattle.std.specs.declared.result.Result.{Result}
 use Rattle.ata_types.specs.declared.request.ClientId.{ClientId}
 use Rattle.ata_types.specs.declared.request.Reply.{Reply}
 use Rattle.adapter.specs.Device.{Device}
-use Rattle.block_machine.specs.Due.{due_of}
+use Rattle.block_machine.specs.DueRequests.{due_of}
 use Rattle.block_machine.specs.Events.{CallResult, WasRevoked}
 use Rattle.block_machine.specs.Rules.{HasRow}
-use Rattle.request_queue.specs.Entries.{asks_of}
-use Rattle.server_history.specs.Revoked.{RevokesGrant}
-use Rattle.server_history.specs.Served.{IssuesAll}
-use Rattle.server_history.specs.Server.{ServerState, mode_in}
-use Rattle.block_server.specs.View.{ServerView, server_of}
+use Rattle.request_queue.specs.BookEntries.{unanswered_of}
+use Rattle.server_history.specs.Revoking.{RevokesGrant}
+use Rattle.server_history.specs.IssuingAndAnswering.{IssuesAll}
+use Rattle.server_history.specs.ServerState.{ServerState, mode_in}
+use Rattle.block_server.specs.ServerView.{ServerView, server_of}
 use Rattle.ata_types.specs.declared.call.NoSuchGrant.{NoSuchGrant}
 
 -- what a revocation says, by its replies
@@ -25,10 +25,11 @@ pub record RevokesAndIssues {A : Type 0} (device : A → Device) (client : Clien
     (old new : ServerView A) : Type 0 where
   pub mid : ServerState
   pub revokes : RevokesGrant client number replies (server_of device old) mid
-  pub issues : old.stuck ≡ false → IssuesAll revokes.has.0.port mid (server_of device new)
+  pub issues : old.stuck ≡ false → IssuesAll revokes.has_grant_row.0.port mid (server_of device new)
   pub stalled : old.stuck ≡ true → server_of device new ≡ mid
   pub quiet : (old.stuck ≡ true)
-      ⊎ (due_of (mode_in (server_of device old) revokes.has.0.port) revokes.has.0.port (asks_of mid.book) ≡ [])
+      ⊎ (due_of (mode_in (server_of device old) revokes.has_grant_row.0.port) revokes.has_grant_row.0.port
+      (unanswered_of mid.book) ≡ [])
       → new.adapter ≡ old.adapter
 
 -- What a revocation says, and did: the client's grant was revoked, with these replies; or the client has none of this

@@ -4,9 +4,9 @@ ghost use Rattle.ata_types.specs.declared.Port.{Port};
 ghost use Rattle.block_server.specs.FourPorts.{by_port, port_in};
 ghost use Rattle.host_boot.specs.declared.ProbeResult.TheVariants.{Unserved};
 ghost use Rattle.refinement.specs.Relation.{port_at};
-ghost use Rattle.request_queue.specs.Entries.{IsAnyOverdue, IsOverdue, is_among};
+ghost use Rattle.request_queue.specs.BookEntries.{IsAnyOverdue, IsOverdue, is_among};
 ghost use Rattle.server_history.specs.ErrorHandling.{HasNoUsedSlot};
-ghost use Rattle.server_history.specs.Server.{quarantined_at, plain_mode};
+ghost use Rattle.server_history.specs.ServerState.{quarantined_at, plain_mode};
 ghost use Rattle.server_history.specs.Turns.{is_ready};
 
 use ata_types::{PORTS, Port};
@@ -125,9 +125,9 @@ pub(crate) fn overdue_ports(book: &Book, any_overdue: bool) -> [bool; PORTS]
         return [false; PORTS];
     }
     [
-        book.overdue(Port(0)),
-        book.overdue(Port(1)),
-        book.overdue(Port(2)),
-        book.overdue(Port(3)),
+        book.has_overdue(Port(0)),
+        book.has_overdue(Port(1)),
+        book.has_overdue(Port(2)),
+        book.has_overdue(Port(3)),
     ]
 }

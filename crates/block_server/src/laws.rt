@@ -12,11 +12,11 @@ ghost use Rattle.refinement.specs.PortFacts.{RunsWell, Undisturbed};
 ghost use Rattle.configuration.specs.declared.Config.{Config};
 ghost use Rattle.host_boot.specs.TakeOver.{probe_result_of};
 ghost use Rattle.server_history.specs.Histories.{ExtendsHistory};
-ghost use Rattle.server_history.specs.Server.{state_of};
+ghost use Rattle.server_history.specs.ServerState.{state_of};
 ghost use Rattle.block_server.specs.Promise.{Simulates};
-ghost use Rattle.block_server.specs.Made.{IsInitialServer};
-ghost use Rattle.block_server.specs.Running.{ask_of, machine_result_of};
-ghost use Rattle.block_server.specs.View.{ServerView, server_of};
+ghost use Rattle.block_server.specs.InitialServer.{IsInitialServer};
+ghost use Rattle.block_server.specs.AbstractCalls.{abstract_call_of, machine_result_of};
+ghost use Rattle.block_server.specs.ServerView.{ServerView, server_of};
 ghost use Rattle.block_server.specs.Costs.{MOST_NEW_ACCESSES, MOST_RESET_ACCESSES, MOST_REVOKE_ACCESSES, MOST_SERVICE_ACCESSES, MOST_SUBMIT_ACCESSES, MOST_TICK_ACCESSES};
 
 use adapter::Stepped;
@@ -35,11 +35,12 @@ use host_boot::laws::law_what_was_taken_over_may_be_served;
 /// due, each service answers what has ended, with Ok, and nothing else, and the port stays as it is, unless a tick
 /// restarts it.
 pub fn law_runs_keep_their_promise<A: Stepped>()
-    ensures none { (s : ServerView A) → Simulates A.device s s [] [] }
-    ensures one { (old new : ServerView A) (call : Call DeviceStep) (one : CallResult (ArrayVec Reply))
-        → ExtendsHistory (server_of A.device old) (server_of A.device new) (ask_of call) (machine_result_of one)
+    ensures no_calls { (s : ServerView A) → Simulates A.device s s [] [] }
+    ensures one_call { (old new : ServerView A) (call : Call DeviceStep) (one : CallResult (ArrayVec Reply))
+        → ExtendsHistory (server_of A.device old) (server_of A.device new) (abstract_call_of call)
+        (machine_result_of one)
         → new.wanted ≡ old.wanted → Simulates A.device old new (call ∷ []) (one ∷ []) }
-    ensures more { (old mid new : ServerView A) (calls further : List (Call DeviceStep))
+    ensures calls_join { (old mid new : ServerView A) (calls further : List (Call DeviceStep))
         (said more : List (CallResult (ArrayVec Reply))) → Simulates A.device old mid calls said
         → Simulates A.device mid new further more → Simulates A.device old new (calls ++ further) (said ++ more) }
 {

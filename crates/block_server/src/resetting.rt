@@ -1,14 +1,14 @@
 // What becomes of ports and requests where the adapter is reset.
 ghost use Rattle.std.specs.Prelude.{◌≡◌, ◌<◌, ◌≤◌, ◌+◌, ◌*◌, ◌++◌, List, length, map};
-ghost use Rattle.adapter.specs.Counted.{MakesAtMost};
+ghost use Rattle.adapter.specs.AccessBounds.{MakesAtMost};
 ghost use Rattle.ata_types.specs.declared.request.Reply.{Reply};
 ghost use Rattle.port_driver.specs.Costs.{ISSUE_DUE_ACCESSES};
 ghost use Rattle.block_server.specs.FourPorts.{EachBecomes, BeginsAsHostFound, by_port, without_loans};
-ghost use Rattle.block_server.specs.Seen.{with_ports};
-ghost use Rattle.port_driver.specs.Parts.{NotesProbeResult};
-ghost use Rattle.server_history.specs.Kept.{IsKeptIn, MayGiveBack, TakesBack};
+ghost use Rattle.block_server.specs.FieldView.{with_ports};
+ghost use Rattle.port_driver.specs.PortAndShared.{NotesProbeResult};
+ghost use Rattle.server_history.specs.KeptLoans.{IsKeptIn, MayGiveBack, TakesBack};
 ghost use Rattle.server_history.specs.Resets.{IssuePorts, MayResolve, ResolvePorts};
-ghost use Rattle.server_history.specs.Server.{InCallInvariant, ServerState, plain_mode};
+ghost use Rattle.server_history.specs.ServerState.{InCallInvariant, ServerState, plain_mode};
 ghost use Rattle.server_history.specs.StuckServer.{found_after_stuck_reset};
 
 use adapter::Adapter;

@@ -11,10 +11,10 @@ use ata_types::{Call, CallResult, ClientId, Frame, MOST_CALL_BYTES, MemFault, Re
 
 impl<A: Adapter> Server<A> {
     ghost use Rattle.block_machine.specs.Events.{LoadAt};
-    ghost use Rattle.block_server.specs.Running.{machine_result_of};
-    ghost use Rattle.block_server.specs.View.{server_of};
+    ghost use Rattle.block_server.specs.AbstractCalls.{machine_result_of};
+    ghost use Rattle.block_server.specs.ServerView.{server_of};
     ghost use Rattle.server_history.specs.Histories.{ExtendsHistory};
-    ghost use Rattle.adapter.specs.Counted.{MakesAtMost};
+    ghost use Rattle.adapter.specs.AccessBounds.{MakesAtMost};
 
     /// At most `MOST_CALL_BYTES` of a frame. A function of its own, since its caller would have room for them on its
     /// stack else.
@@ -42,16 +42,17 @@ impl<A: Adapter> Server<A> {
 
 impl<A: Stepped> Server<A> {
     ghost use Rattle.block_server.specs.Promise.{RunsAsPromised};
-    ghost use Rattle.block_server.specs.Running.{ask_of, machine_result_of};
-    ghost use Rattle.block_server.specs.View.{server_of};
+    ghost use Rattle.block_server.specs.AbstractCalls.{abstract_call_of, machine_result_of};
+    ghost use Rattle.block_server.specs.ServerView.{server_of};
     ghost use Rattle.server_history.specs.Histories.{ExtendsHistory};
-    ghost use Rattle.adapter.specs.Counted.{MakesAtMost};
+    ghost use Rattle.adapter.specs.AccessBounds.{MakesAtMost};
     ghost use Rattle.block_server.specs.Costs.{most_accesses_of, most_accesses_of_all};
 
     /// Makes the call. What a service, a tick, a reset that ends, or a revocation of a grant that is there answered is
     /// all that `replies` has then; of what it has after another call nothing is told.
     fn make_call(&mut self, call: &Call<DeviceStep>, replies: &mut Replies) -> CallResult<()>
-        ensures adds { ExtendsHistory (server_of A.device self.old) (server_of A.device self.new) (ask_of call.now)
+        ensures adds { ExtendsHistory (server_of A.device self.old) (server_of A.device self.new)
+            (abstract_call_of call.now)
             (machine_result_of (with_replies result replies.new.items)) }
         ensures wanted { self.new.wanted ≡ self.old.wanted }
         ensures cost { MakesAtMost (most_accesses_of call.now)

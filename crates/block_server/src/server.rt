@@ -56,9 +56,9 @@ pub struct Server<A: Adapter> {
 }
 
 impl<A: Adapter> Model for Server<A> {
-    ghost use Rattle.block_server.specs.Seen.{server_view_of};
+    ghost use Rattle.block_server.specs.FieldView.{server_view_of};
     ghost use Rattle.server_history.specs.Histories.{InvariantByStuck};
-    ghost use Rattle.block_server.specs.View.{ServerView, server_of};
+    ghost use Rattle.block_server.specs.ServerView.{ServerView, server_of};
 
     ghost Value = { ServerView A };
 
@@ -71,15 +71,15 @@ impl<A: Adapter> Server<A> {
     ghost use Rattle.block_machine.specs.Events.{Reset, Service, Served, Submit, Submitted, State, Shown, Tick, WasReset};
     ghost use Rattle.block_machine.specs.Refusals.{IsAcceptable, IsFirstRefusal};
     ghost use Rattle.block_server.specs.Calls.{AcceptsRequest, IsRequestForPort, Submits, Services, TicksServer};
-    ghost use Rattle.block_server.specs.Made.{IsReadyFor, IsInitialServer, RefusesConfig};
-    ghost use Rattle.block_server.specs.View.{server_of};
+    ghost use Rattle.block_server.specs.InitialServer.{IsReadyFor, IsInitialServer, RefusesConfig};
+    ghost use Rattle.block_server.specs.ServerView.{server_of};
     ghost use Rattle.configuration.specs.Rules.{LacksEveryFault};
     ghost use Rattle.host_boot.specs.TakeOver.{probe_result_of};
     ghost use Rattle.server_history.specs.Histories.{ExtendsHistory};
     ghost use Rattle.block_server.specs.Resetting.{DoesReset, reset_said};
-    ghost use Rattle.server_history.specs.Server.{last_disk_of, remembered_at, admission_context, state_of, last_sectors_of, trims_of};
+    ghost use Rattle.server_history.specs.ServerState.{last_disk_of, remembered_at, admission_context, state_of, last_sectors_of, trims_of};
     ghost use Rattle.ata_types.specs.declared.PortState.TheVariants.{Ready};
-    ghost use Rattle.adapter.specs.Counted.{MakesAtMost};
+    ghost use Rattle.adapter.specs.AccessBounds.{MakesAtMost};
     ghost use Rattle.block_server.specs.Costs.{MOST_NEW_ACCESSES, MOST_RESET_ACCESSES, MOST_SERVICE_ACCESSES, MOST_SUBMIT_ACCESSES, MOST_TICK_ACCESSES};
 
     /// A server of an idle adapter, by a configuration: who owns which frames, which grants there are, and which disks
@@ -220,7 +220,7 @@ impl<A: Adapter> Server<A> {
         if self.lacks_trim(r, row.port) {
             return Err(Refusal::TrimUnsupported);
         }
-        if self.shared.book.unanswered(r.client) >= MOST_CLIENT_UNANSWERED {
+        if self.shared.book.unanswered_count(r.client) >= MOST_CLIENT_UNANSWERED {
             return Err(Refusal::ClientFull);
         }
         if self.last >= u64::MAX {
@@ -493,9 +493,9 @@ impl<A: Adapter> Server<A> {
 impl<A: Stepped> Server<A> {
     ghost use Rattle.block_machine.specs.Events.{Device as Told, Stepped};
     ghost use Rattle.block_server.specs.Calls.{StepsDevice};
-    ghost use Rattle.block_server.specs.View.{server_of};
+    ghost use Rattle.block_server.specs.ServerView.{server_of};
     ghost use Rattle.server_history.specs.Histories.{ExtendsHistory};
-    ghost use Rattle.adapter.specs.Counted.{MakesAtMost};
+    ghost use Rattle.adapter.specs.AccessBounds.{MakesAtMost};
 
     /// Has the device do a step, if that is possible.
     pub fn device(&mut self, step: &DeviceStep) -> bool

@@ -1,4 +1,4 @@
 -- The definitions that the contracts cite.
 pub mod Faults
 pub mod Program
-pub mod Words
+pub mod CommandLine

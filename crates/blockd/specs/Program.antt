@@ -10,7 +10,7 @@ use Rattle.sector_store.specs.Stores.{followed_by_zeros}
 use Rattle.sector_store.specs.declared.store.MemStore.{MemStore}
 use Rattle.blockd.specs.declared.command_line.Args.{Args}
 use Rattle.device_model.specs.declared.model.Model.{Model}
-use Rattle.play.specs.Played.{Ends}
+use Rattle.play.specs.PlayedScript.{Ends}
 use Rattle.play.specs.declared.session.Ended.{Ended}
 use Rattle.play.specs.declared.session.Ended.TheVariants.{Done}
 use Rattle.blockd.specs.Faults.{outcome_of}

@@ -5,7 +5,7 @@
 ghost use Rattle.std.specs.Prelude.{◌≡◌, ◌≢◌, ◌↔◌, IsTrue, codes, [], List, false, map, string_bytes, IfOk, None};
 ghost use Rattle.clap.specs.Words.{app_of, rule_of, fault_of, first_of, found_of, matches_of, rows_of};
 ghost use Rattle.blockd.specs.declared.command_line.ArgsFault.TheVariants.{NoMemory};
-ghost use Rattle.blockd.specs.Words.{blockd_app, file_option, AreGiven, HaveValues};
+ghost use Rattle.blockd.specs.CommandLine.{blockd_app, file_option, AreArgsOf, MatchesHaveValues};
 
 use clap::error::ErrorKind;
 use clap::{Arg, ArgAction, ArgMatches, Command};
@@ -107,9 +107,9 @@ fn is_traced(matches: &ArgMatches<'_>) -> bool
 
 impl Args {
     fn from_matches(alloc: Global, matches: &ArgMatches<'_>) -> Result<Args, ArgsFault>
-        ensures ok { IfOk result (HaveValues (rows_of (found_of matches.now))) }
+        ensures ok { IfOk result (MatchesHaveValues (rows_of (found_of matches.now))) }
         ensures refused { result ≡ Err ArgsFault.Refused
-            → (args : Args) → HaveValues (rows_of (found_of matches.now)) args → ⊥ }
+            → (args : Args) → MatchesHaveValues (rows_of (found_of matches.now)) args → ⊥ }
     {
         Ok(Args {
             config: text(alloc, matches, "config")?,
@@ -123,9 +123,9 @@ impl Args {
     /// are refused exactly where `clap` finds a fault in them under this command: a file is missing, a file or the flag
     /// is given twice, the flag has a value, a word is unknown or too many, or help is asked for.
     pub fn read(alloc: Global, words: &[&str]) -> Result<Args, ArgsFault>
-        ensures ok { IfOk result (AreGiven (map (λ word. word.now) words.now)) }
+        ensures ok { IfOk result (AreArgsOf (map (λ word. word.now) words.now)) }
         ensures refused { result ≡ Err ArgsFault.Refused
-            → (args : Args) → AreGiven (map (λ word. word.now) words.now) args → ⊥ }
+            → (args : Args) → AreArgsOf (map (λ word. word.now) words.now) args → ⊥ }
     {
         Args::from_matches(alloc, &matches(alloc, words)?)
     }

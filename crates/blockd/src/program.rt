@@ -95,7 +95,7 @@ pub fn disks_over(alloc: Global, image: FileStore) -> Result<(DiskStore, DiskSto
 
 /// What is told of how a play ended, once the output was asked to hand on what it gathered. One that failed isn't asked
 /// again; where all was played, and it fails now, it is that which is told.
-fn hand_on<W: io::Write>(ended: Ended, out: &mut W) -> Result<(), BlockdError>
+fn flush_output<W: io::Write>(ended: Ended, out: &mut W) -> Result<(), BlockdError>
     ensures keeps { Keeps (W.contents out.old) (W.contents out.new) }
     ensures tells { TellsEnd ended result }
 {
@@ -123,5 +123,5 @@ pub fn run_script<S: SectorStore, W: io::Write>(
         result }
 {
     let finished = play(alloc, config, script, image, blank, trace, out);
-    hand_on(finished.ended, out)
+    flush_output(finished.ended, out)
 }

@@ -8,7 +8,7 @@ use Rattle.ata_types.specs.declared.request.Frame.{Frame}
 use Rattle.adapter.specs.declared.command.Prd.{Prd}
 use Rattle.adapter.specs.Decoding.{pieces, piece_addresses, IsWholePieces}
 use Rattle.adapter.specs.Encoding.{IsAllowedPrd}
-use Rattle.command_table.specs.Places.{place_of, places_of, frame_number}
+use Rattle.command_table.specs.SectorPlaces.{place_of, places_of, frame_number}
 use Rattle.command_table.specs.FrameRuns.{IsLongestRun, CoversRun, PrdsCoverFrames, frame_count_in}
 
 -- the frames hold so many bytes, and the last of them at least one
@@ -22,7 +22,7 @@ module _ (frames : List Frame) (bytes : ℕ) (e : Prd) (fits : Fits frames bytes
   size_is = c.size
 
   pub some_bytes : 0 < e.bytes
-  some_bytes = let s = size_is in let n = c.run.some in let l = fits.last in let w = c.run.within in omega (arith, s, n, l, w)
+  some_bytes = let s = size_is in let n = c.run.is_not_empty in let l = fits.last in let w = c.run.within in omega (arith, s, n, l, w)
 
   pub few_bytes : e.bytes ≤ 4096 * length frames
   few_bytes = let s = size_is in let w = c.run.within in omega (arith, s, w)
@@ -42,8 +42,8 @@ all_allowed (e ∷ es) frames bytes fits even few j =
     (record {
       even_address = let a = j.0.address in omega (arith, a);
       even_bytes = omega (arith, s, even);
-      some = some_bytes frames bytes e fits j.0;
-      limit = omega (arith, few_bytes frames bytes e fits j.0, few);
+      is_not_empty = some_bytes frames bytes e fits j.0;
+      is_at_most_4_mib = omega (arith, few_bytes frames bytes e fits j.0, few);
     })
     (all_allowed es _ _ (fits_on frames bytes e fits j.0) (omega (arith, s, even)) (omega (arith, d, few)) j.1)
 
@@ -93,7 +93,7 @@ module _ (frames : List Frame) where
   cover_from (e ∷ es) s left whole fits j =
       let n : ℕ = frame_count_in e in
       let size = j.0.size in
-      let some = j.0.run.some in
+      let some = j.0.run.is_not_empty in
       let number : (k : ℕ) → frame_number (drop s frames) k ≡ frame_number frames (s + k) = λ (k : ℕ). ap (λ (f : Frame). f.0) (get_or-drop s frames k (record { 0 = 0 })) in
       let base : s + 0 ≡ s = omega arith in
       let start : frame_number (drop s frames) 0 ≡ frame_number frames s = number 0 ∙ ap (frame_number frames) base in
@@ -127,10 +127,10 @@ longest frames from n within some rising ends =
     let base : from + 0 ≡ from = omega arith in
     let first : frame_number (drop from frames) 0 ≡ frame_number frames from = number 0 ∙ ap (frame_number frames) base in
     record {
-      some = some;
+      is_not_empty = some;
       within = omega (arith, d, within);
       rising = λ k lt. number k ∙ (rising k lt ∙ ap (λ (x : ℕ). x + k) (sym first));
-      ends = λ lt e. ends (omega (arith, d, lt)) (sym (number n) ∙ (e ∙ ap (λ (x : ℕ). x + n) first));
+      run_ends = λ lt e. ends (omega (arith, d, lt)) (sym (number n) ∙ (e ∙ ap (λ (x : ℕ). x + n) first));
     }
 
 -- one PRD more, of the longest run of the frames that are left

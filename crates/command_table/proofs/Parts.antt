@@ -1,7 +1,7 @@
 -- Parts of a buffer that was written to.
 use Rattle.std.proofs.Common.{◌≡◌, ℕ, ◌+◌, ◌<◌, ◌≤◌, List, length, slice_index, get_or, drop, sym, ◌∙◌, arith, length-drop}
 use Rattle.std.proofs.lemmas.List.{same_lists, get_or-take, get_or-drop, get_or_default, length-take}
-use Rattle.command_table.specs.Bytes.{StoresBytes, bytes_from}
+use Rattle.command_table.specs.BufferBytes.{StoresBytes, bytes_from}
 
 -- two lists of numbers of one length that agree at each place are one
 pub numbers_alike : (xs ys : List ℕ) → length xs ≡ length ys → ((k : ℕ) → k < length xs → get_or xs k 0 ≡ get_or ys k 0) → xs ≡ ys

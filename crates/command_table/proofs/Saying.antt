@@ -10,9 +10,9 @@ use Rattle.adapter.specs.Encoding.{EncodesCommand, EncodesHeader, EncodesPrd}
 use Rattle.adapter.specs.declared.command.Command.{Command}
 use Rattle.adapter.specs.declared.command.Operation.{Operation}
 use Rattle.adapter.specs.declared.command.Prd.{Prd}
-use Rattle.command_table.specs.Bytes.{bytes_from}
+use Rattle.command_table.specs.BufferBytes.{bytes_from}
 use Rattle.command_table.specs.Laws.{MemoryLaws}
-use Rattle.command_table.specs.Written.{IsTableFor}
+use Rattle.command_table.specs.TableStores.{IsTableFor}
 use Rattle.command_table.proofs.Parts.{numbers_alike}
 
 -- where memory holds the front of some bytes, it holds each part of that front
@@ -66,14 +66,14 @@ module _ (laws : MemoryLaws) (memory : ℕ → ℕ) (list slot at : ℕ) (prds :
           header = subst W (direction m.operation slot m.first m.count is.fields) (subst H (sym head) heads);
           fis = subst C is.fields (subst F (sym fis_here) fis);
           meaning = is.meaning;
-          stand = prds_stand memory prds (at + 128) (λ i d lt.
+          prds_stand = prds_stand memory prds (at + 128) (λ i d lt.
               let P : List ℕ → Type 0 = λ bytes. EncodesPrd bytes (slice_index_or prds i d) in
               let place : at + (TABLE_HEAD + PRD_BYTES * i) ≡ at + TABLE_HEAD + PRD_BYTES * i = omega arith in
               subst P (sym (part_here (TABLE_HEAD + PRD_BYTES * i) 16 (omega arith)) ∙ ap (λ (a : ℕ). bytes_at memory a 16) place) (each i d lt));
-          few = omega arith;
-          whole = is.whole;
-          in_order = is.in_order;
-          as_many = is.as_many;
+          prd_count_is_allowed = omega arith;
+          prds_are_whole_pieces = is.prds_are_whole_pieces;
+          places_are = is.places_are;
+          place_count_is = is.place_count_is;
         },
         refl,
         refl,

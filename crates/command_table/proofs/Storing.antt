@@ -18,16 +18,16 @@ use Rattle.adapter.specs.Encoding.{EncodesCommand, EncodesHeader, EncodesPrd}
 use Rattle.adapter.specs.declared.command.Command.{Command}
 use Rattle.adapter.specs.declared.command.Operation.{Operation}
 use Rattle.adapter.specs.declared.command.Prd.{Prd}
-use Rattle.refinement.specs.Driven.{AnyAccess, IsRelated, IsDrivenBy, IsSimulated, SparesOtherPorts, NoneWrites}
+use Rattle.refinement.specs.Fragments.{AnyAccess, IsRelated, IsDrivenBy, IsSimulated, SparesOtherPorts, NoneWrites}
 use Rattle.refinement.specs.Links.{SameAdapter}
 use Rattle.refinement.specs.Driver.{KeepsTables, MayStore, MissesTable}
-use Rattle.refinement.specs.Places.{list_of, scratch_of, table_of}
+use Rattle.refinement.specs.MemoryLayout.{list_of, scratch_of, table_of}
 use Rattle.refinement.specs.Slots.{SlotStates, SlotDecodesTo}
-use Rattle.command_table.specs.Bytes.{bytes_from}
+use Rattle.command_table.specs.BufferBytes.{bytes_from}
 use Rattle.command_table.specs.Laws.{Laws}
 use Rattle.command_table.specs.Laws.AccessPurpose.{Tables, TablesAndBlock}
-use Rattle.command_table.specs.Written.{IsTableFor, IsHeader, IsInTable, IsStoreWithBlock, IsTableStore, IsUnused}
-use Rattle.command_table.specs.Places.{places_of}
+use Rattle.command_table.specs.TableStores.{IsTableFor, IsHeader, IsInTable, IsStoreWithBlock, IsTableStore, IsUnused}
+use Rattle.command_table.specs.SectorPlaces.{places_of}
 use Rattle.command_table.proofs.Saying.{table_says}
 
 -- the driver may store them
@@ -43,7 +43,7 @@ may_store uses port slot at bytes below small free here = inl (record { port = p
 pub store_free : Laws → (uses : SlotStates) (d : Device) (port slot at : ℕ) (bytes : List ℕ) → IsRelated uses d → DRIVER_BYTES ≤ d.size → port < 4 → slot < 32 → IsUnused port slot uses → IsTableStore port slot (Storing at bytes) →
     IsStable (IsUnowned at (length bytes)) d
 store_free laws uses d port slot at bytes a room below small free here =
-    laws.free uses a.machine d a.reached a.knows.agrees at (length bytes)
+    laws.free uses a.machine d a.reached a.driver_relation.state_relation at (length bytes)
     (elim here [ inl h ↦ let place = h.0 in let size = h.1 in omega (arith, room, place, size, below, small) | inr table ↦ let t = table.1 in omega (arith, room, t) ])
     (may_store uses port slot at bytes below small free here)
 
@@ -77,7 +77,7 @@ module _ (laws : Laws) (port slot : ℕ) (below : port < 4) (small : slot < 32) 
 
   module _ (on : IsOn old) (uses : SlotStates) (free : IsUnused port slot uses) (a : IsRelated uses old) where
     pub store_left : KeepsTables uses (record old { memory = patched old.memory at bytes }) new
-    store_left = laws.stores uses a.machine old new a.reached a.knows.agrees on.no_reset at bytes call
+    store_left = laws.stores uses a.machine old new a.reached a.driver_relation.state_relation on.no_reset at bytes call
 
     pub store_agrees : IsRelated uses new
     store_agrees = laws.fragments.agreed (Tables port slot) (λ uses. uses) uses old new free store_followed a
@@ -127,7 +127,7 @@ module _ (laws : Laws) (port slot : ℕ) (below : port < 4) (small : slot < 32) 
       laws.told uses (record mid { memory = stored }) new
       (store_left laws port slot below small (list_of port + 32 * slot) header mid new in_header second mid_on uses free mid_agrees)
       port slot m places below small
-      (record { says = x.0; table_is = x.1; few = let same = x.2 in rw same few })
+      (record { decodes_to = x.0; table_is = x.1; prds_are_few = let same = x.2 in rw same few })
 
 -- ---- a block behind them
 
@@ -143,7 +143,7 @@ may_store_block uses port at block below is size free = inr (record { port = por
 pub block_free : Laws → (uses : SlotStates) (d : Device) (port at : ℕ) (block : List ℕ) → IsRelated uses d → DRIVER_BYTES ≤ d.size → port < 4 → at ≡ scratch_of port → length block ≡ 512 → IsUnused port 0 uses →
     IsStable (IsUnowned at (length block)) d
 block_free laws uses d port at block a room below is size free =
-    laws.free uses a.machine d a.reached a.knows.agrees at (length block) (omega (arith, room, below, is, size)) (may_store_block uses port at block below is size free)
+    laws.free uses a.machine d a.reached a.driver_relation.state_relation at (length block) (omega (arith, room, below, is, size)) (may_store_block uses port at block below is size free)
 
 module _ (laws : Laws) (port at : ℕ) (below : port < 4) (is : at ≡ scratch_of port) (block : List ℕ) (size : length block ≡ 512) (old new : Device) (call : Stores at block old new) where
   pub block_followed : IsSimulated (IsStoreWithBlock port 0) (IsUnused port 0) old new
@@ -160,14 +160,14 @@ module _ (laws : Laws) (port at : ℕ) (below : port < 4) (is : at ≡ scratch_o
 
   pub block_told : (uses : SlotStates) → IsRelated uses old → IsOn old → (m : Meaning) (places : List ℕ) → SlotDecodesTo old.memory (list_of port) port 0 m places → SlotDecodesTo new.memory (list_of port) port 0 m places
   block_told uses a on m places told =
-      laws.beside uses at block old new (laws.stores uses a.machine old new a.reached a.knows.agrees on.no_reset at block call) port 0 m places below (omega arith) (block_misses port at (length block) is) told
+      laws.beside uses at block old new (laws.stores uses a.machine old new a.reached a.driver_relation.state_relation on.no_reset at block call) port 0 m places below (omega arith) (block_misses port at (length block) is) told
 
 -- after header and table, the slot is unused still, and the memory as large
 pub table_agrees : Laws → (port : ℕ) (uses : SlotStates) (old mid : Device) → IsUnused port 0 uses → IsSimulated (IsTableStore port 0) (IsUnused port 0) old mid → IsRelated uses old → IsRelated uses mid
 table_agrees laws port uses old mid = laws.fragments.agreed (Tables port 0) (λ uses. uses) uses old mid
 
 pub table_size : ((old new : Device) → IsDrivenBy AnyAccess old new → SameAdapter old new) → (port : ℕ) (old mid : Device) → IsSimulated (IsTableStore port 0) (IsUnused port 0) old mid → mid.size ≡ old.size
-table_size same port old mid table = (same old mid (record { accesses = table.driven.accesses; all = table.driven.all; only = All-weaker (IsTableStore port 0) AnyAccess (λ access here. tt) table.driven.accesses table.driven.only })).size
+table_size same port old mid table = (same old mid (record { accesses = table.is_driven.accesses; all_are_done = table.is_driven.all_are_done; accesses_are_of_kind = All-weaker (IsTableStore port 0) AnyAccess (λ access here. tt) table.is_driven.accesses table.is_driven.accesses_are_of_kind })).size
 
 -- header and table, and then a block
 pub with_block : Laws → (port : ℕ) (old mid new : Device) → IsSimulated (IsTableStore port 0) (IsUnused port 0) old mid → IsSimulated (IsStoreWithBlock port 0) (IsUnused port 0) mid new →
@@ -182,7 +182,7 @@ pub table_for_block : (m : Meaning) (command : Command) (prds : List Prd) (port 
 table_for_block m command prds port frame same meaning fields one whole places = record {
   meaning = meaning;
   fields = fields;
-  whole = whole;
-  in_order = (let at : 4096 * frame + 512 * (0 % 8) ≡ scratch_of port = omega (arith, same) in ap (λ (a : ℕ). a ∷ []) (sym at)) ∙ sym places;
-  as_many = sym one;
+  prds_are_whole_pieces = whole;
+  places_are = (let at : 4096 * frame + 512 * (0 % 8) ≡ scratch_of port = omega (arith, same) in ap (λ (a : ℕ). a ∷ []) (sym at)) ∙ sym places;
+  place_count_is = sym one;
 }

@@ -4,23 +4,23 @@ use Rattle.ata_types.specs.declared.memory.TheConstants.{FRAME_BYTES}
 use Rattle.ata_types.specs.declared.limits.TheConstants.{MOST_REQUEST_FRAMES}
 use Rattle.ata_types.specs.declared.request.Frame.{Frame}
 use Rattle.adapter.specs.declared.command.Prd.{Prd}
-use Rattle.command_table.specs.Places.{frame_number}
+use Rattle.command_table.specs.SectorPlaces.{frame_number}
 
 -- So many bytes, of words of two, fill the frames: the last of them perhaps in part, but at least one byte of it. There
 -- are no more frames than a request may name.
 pub record FillFrames (frames : List Frame) (bytes : ℕ) : Type 0 where
-  pub room : length frames ≤ MOST_REQUEST_FRAMES
+  pub frame_count_is_allowed : length frames ≤ MOST_REQUEST_FRAMES
   pub even : bytes % 2 ≡ 0
-  pub within : bytes ≤ FRAME_BYTES * length frames
-  pub last : FRAME_BYTES * length frames < bytes + FRAME_BYTES
+  pub bytes_fit : bytes ≤ FRAME_BYTES * length frames
+  pub last_frame_is_used : FRAME_BYTES * length frames < bytes + FRAME_BYTES
 
 -- The first n frames, at least one, are the longest run from the first on: their numbers rise by one, and the next
 -- frame, if there is one, doesn't go on so.
 pub record IsLongestRun (frames : List Frame) (n : ℕ) : Type 0 where
-  pub some : 0 < n
+  pub is_not_empty : 0 < n
   pub within : n ≤ length frames
   pub rising : (k : ℕ) → k < n → frame_number frames k ≡ frame_number frames 0 + k
-  pub ends : n < length frames → frame_number frames n ≢ frame_number frames 0 + n
+  pub run_ends : n < length frames → frame_number frames n ≢ frame_number frames 0 + n
 
 -- How many frames the PRD covers, the last of them perhaps in part. (A request has 128 frames at most, so a PRD has 512
 -- KiB at most: AHCI allows 4 MiB.)

@@ -13,10 +13,10 @@ use Rattle.block_machine.specs.State.{Machine}
 use Rattle.refinement.specs.Driver.{KeepsTables, MayStore, MissesTable}
 use Rattle.refinement.specs.Laws.{FragmentLaws}
 use Rattle.refinement.specs.Links.{SameAdapter}
-use Rattle.refinement.specs.Places.{list_of}
+use Rattle.refinement.specs.MemoryLayout.{list_of}
 use Rattle.refinement.specs.Relation.{StateRelation}
 use Rattle.refinement.specs.Slots.{SlotDecodesTo, SlotStates}
-use Rattle.command_table.specs.Written.{IsStoreWithBlock, IsTableStore, IsUnused}
+use Rattle.command_table.specs.TableStores.{IsStoreWithBlock, IsTableStore, IsUnused}
 
 -- header and table of a slot of a port are stored; or these of its slot 0, and a block
 pub data AccessPurpose : Type 0 where

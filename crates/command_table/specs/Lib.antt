@@ -1,6 +1,6 @@
 pub mod Laws
-pub mod Places
+pub mod SectorPlaces
 pub mod FrameRuns
-pub mod Bytes
-pub mod Written
+pub mod BufferBytes
+pub mod TableStores
 pub mod Costs

@@ -2,7 +2,7 @@
 ghost use Rattle.command_table.specs.Laws.{Laws};
 
 use adapter::laws::law_memory_reads_back;
-use refinement::kinds::law_fragment_prerequisites;
+use refinement::access_kinds::law_fragment_prerequisites;
 use refinement::laws::{
     law_bytes_to_store_are_free, law_free_slots_are_left, law_stored_commands_stay,
 };

@@ -16,13 +16,13 @@ use Rattle.adapter.specs.Decoding.{IsWholePieces}
 use Rattle.adapter.specs.Trim.{consecutive, trim_sectors}
 use Rattle.adapter.specs.declared.command.Command.{Command}
 use Rattle.adapter.specs.declared.command.Operation.TheVariants as operation
-use Rattle.refinement.specs.Driven.{RelatesWith, IsSoleBit, IsSimulated}
-use Rattle.refinement.specs.Places.{list_of, scratch_of}
+use Rattle.refinement.specs.Fragments.{RelatesWith, IsSoleBit, IsSimulated}
+use Rattle.refinement.specs.MemoryLayout.{list_of, scratch_of}
 use Rattle.refinement.specs.Slots.{Free, SlotDecodesTo}
-use Rattle.command_table.specs.Written.{IsStoreWithBlock, IsTableFor, IsTableStore, IsUnused}
+use Rattle.command_table.specs.TableStores.{IsStoreWithBlock, IsTableFor, IsTableStore, IsUnused}
 use Rattle.commands.specs.Batches.{AreUnused, HasBitsOf, IsBatchStored, IsStoreForBatch, SaysTask, PlacedTask, StoresTransfer, batch_of_one}
 use Rattle.commands.specs.Issuing.{IsArmedFor, MayIssueTransfer}
-use Rattle.commands.specs.Tasks.{Arms, IsFitTransfer, IsStoreFor, RunsItsList, meaning_of}
+use Rattle.commands.specs.Tasks.{WritesSactIfQueued, IsFitTransfer, IsStoreFor, RunsItsList, meaning_of}
 use Rattle.commands.specs.PlainTasks.{flush_task, trim_task}
 use Rattle.commands.proofs.Batch.{all_as, all_one, contains_here, one_apart, one_has_bits}
 use Rattle.commands.proofs.Stores.{simulated_as}
@@ -38,9 +38,9 @@ pub flush_table : (command : Command) → command ≡ command_of operation.Flush
 flush_table command is = record {
   meaning = record { ranged = λ e. absurd cc; not_ranged = λ _. (refl, refl) };
   fields = is;
-  whole = All-nil IsWholePieces;
-  in_order = refl;
-  as_many = refl;
+  prds_are_whole_pieces = All-nil IsWholePieces;
+  places_are = refl;
+  place_count_is = refl;
 }
 
 pub is_trim : IsMeaning trim
@@ -49,22 +49,22 @@ is_trim = record { ranged = λ e. absurd cc; not_ranged = λ _. (refl, refl) }
 -- a task alone is armed
 pub armed_one : (port : Port) (t : PlacedTask) (own : ℕ) (old mid armed : Device) → IsOn old → HasPort old port.0 → t.slot < 32 → t.slot ≤ old.cap / 256 % 32 → RunsItsList port.0 old → RelatesWith (IsUnused port.0 t.slot) old →
     is_queued (meaning_of t.task).operation ≡ t.task.queued → (t.task.op ≡ Trim → t.slot ≡ 0) → IsSimulated (IsStoreFor t.task.op port.0 t.slot) (IsUnused port.0 t.slot) old mid → SaysTask port.0 t mid.memory →
-    IsSoleBit t.slot own → Arms t.task.queued port own mid armed → IsArmedFor port t.task.queued (t ∷ []) own old armed
+    IsSoleBit t.slot own → WritesSactIfQueued t.task.queued port own mid armed → IsArmedFor port t.task.queued (t ∷ []) own old armed
 armed_one port t own old mid armed on there small usable may agreed kind head stores say sole arms = record {
-  on = on;
-  there = there;
-  may = may;
-  agreed = (agreed.0, all_one (λ x. agreed.0 port.0 x.slot ≡ Free) t agreed.1, agreed.2);
-  apart = one_apart t;
-  small = all_one (λ x. x.slot < 32) t small;
-  usable = all_one (λ x. x.slot ≤ old.cap / 256 % 32) t usable;
-  kinds = all_one (λ x. x.task.queued ≡ t.task.queued) t refl;
-  kind = all_one (λ x. is_queued (meaning_of x.task).operation ≡ x.task.queued) t kind;
-  head = all_one (λ x. x.task.op ≡ Trim → x.slot ≡ 0) t head;
+  adapter_is_on = on;
+  has_port = there;
+  list_runs = may;
+  machine_is_related = (agreed.0, all_one (λ x. agreed.0 port.0 x.slot ≡ Free) t agreed.1, agreed.2);
+  slots_are_apart = one_apart t;
+  slots_in_range = all_one (λ x. x.slot < 32) t small;
+  slots_are_usable = all_one (λ x. x.slot ≤ old.cap / 256 % 32) t usable;
+  all_are_of_kind = all_one (λ x. x.task.queued ≡ t.task.queued) t refl;
+  operation_is_queued = all_one (λ x. is_queued (meaning_of x.task).operation ≡ x.task.queued) t kind;
+  trim_in_slot_0 = all_one (λ x. x.task.op ≡ Trim → x.slot ≡ 0) t head;
   mid = mid;
   stores = simulated_as (IsStoreFor t.task.op port.0 t.slot) (IsStoreForBatch port.0 (t ∷ [])) (IsUnused port.0 t.slot) (AreUnused port.0 (t ∷ [])) old mid (λ access is. (t, contains_here t [], is))
       (λ uses free. All-head (λ x. uses port.0 x.slot ≡ Free) t [] free) stores;
-  say = all_one (λ x. SaysTask port.0 x mid.memory) t say;
+  slots_say_tasks = all_one (λ x. SaysTask port.0 x mid.memory) t say;
   bits = one_has_bits t own sole;
   arms = arms;
 }
@@ -73,36 +73,36 @@ module _ (port : Port) (range : Range) (frames : List Frame) (own : ℕ) (old mi
     (may : RunsItsList port.0 old) (alone : IsSoleBit 0 own) where
   pub armed_flush : IsSimulated (IsTableStore port.0 0) (IsUnused port.0 0) old mid → SlotDecodesTo mid.memory (list_of port.0) port.0 0 flush [] → IsArmedFor port false (batch_of_one 0 (flush_task range) frames) own old mid
   armed_flush stores told =
-      armed_one port (record { slot = 0; task = flush_task range; frames = frames }) own old mid mid on there (omega arith) (omega arith) may agreed refl (λ trim. refl) stores (record { told = told; block = tt }) alone refl
+      armed_one port (record { slot = 0; task = flush_task range; frames = frames }) own old mid mid on there (omega arith) (omega arith) may agreed refl (λ trim. refl) stores (record { slot_says_task = told; block_names_sectors = tt }) alone refl
 
   pub armed_trim : IsSimulated (IsStoreWithBlock port.0 0) (IsUnused port.0 0) old mid → SlotDecodesTo mid.memory (list_of port.0) port.0 0 trim (scratch_of port.0 ∷ []) →
       trim_sectors (bytes_at mid.memory (scratch_of port.0) 512) ≡ consecutive range.first.0 range.count → IsArmedFor port false (batch_of_one 0 (trim_task range) frames) own old mid
   armed_trim stores told block =
-      armed_one port (record { slot = 0; task = trim_task range; frames = frames }) own old mid mid on there (omega arith) (omega arith) may agreed refl (λ trim. refl) stores (record { told = told; block = block }) alone refl
+      armed_one port (record { slot = 0; task = trim_task range; frames = frames }) own old mid mid on there (omega arith) (omega arith) may agreed refl (λ trim. refl) stores (record { slot_says_task = told; block_names_sectors = block }) alone refl
 
 -- a transfer that was stored
-pub armed_transfer : (port : Port) (t : PlacedTask) (own : ℕ) (old mid armed : Device) → MayIssueTransfer port t.slot t.task t.frames old → StoresTransfer port t old mid → IsSoleBit t.slot own → Arms t.task.queued port own mid armed →
+pub armed_transfer : (port : Port) (t : PlacedTask) (own : ℕ) (old mid armed : Device) → MayIssueTransfer port t.slot t.task t.frames old → StoresTransfer port t old mid → IsSoleBit t.slot own → WritesSactIfQueued t.task.queued port own mid armed →
     IsArmedFor port t.task.queued (t ∷ []) own old armed
 armed_transfer port t own old mid armed may x sole arms =
-    armed_one port t own old mid armed may.may.on may.may.there may.small may.usable may.may.may may.may.agreed (kind_of t.task.queued t.task.op may.fits.transfers) (never_trim t.slot t.task.op may.fits.transfers)
-    (stored_for port.0 t.slot old mid t.task.op may.fits.transfers x.stores) x.says sole arms
+    armed_one port t own old mid armed may.may.adapter_is_on may.may.has_port may.slot_in_range may.usable may.may.list_runs may.may.machine_is_related (kind_of t.task.queued t.task.op may.fits.is_transfer) (never_trim t.slot t.task.op may.fits.is_transfer)
+    (stored_for port.0 t.slot old mid t.task.op may.fits.is_transfer x.stores) x.says sole arms
 
 -- a batch that was stored, whose bits of PxSACT are written
 pub armed_batch : (port : Port) (tasks : List PlacedTask) (mask : ℕ) (old mid armed : Device) → IsBatchStored port tasks old mid → HasBitsOf tasks mask → Writes (Px port Sact) mask mid armed → IsArmedFor port true tasks mask old armed
 armed_batch port tasks mask old mid armed x bits call = record {
-  on = x.on;
-  there = x.there;
-  may = x.may;
-  agreed = x.agreed;
-  apart = x.apart;
-  small = x.small;
-  usable = x.usable;
-  kinds = x.queued;
-  kind = all_as (λ t. IsFitTransfer t.task t.frames) (λ t. is_queued (meaning_of t.task).operation ≡ t.task.queued) (λ t fit. kind_of t.task.queued t.task.op fit.transfers) tasks x.fit;
-  head = all_as (λ t. IsFitTransfer t.task t.frames) (λ t. t.task.op ≡ Trim → t.slot ≡ 0) (λ t fit. never_trim t.slot t.task.op fit.transfers) tasks x.fit;
+  adapter_is_on = x.adapter_is_on;
+  has_port = x.has_port;
+  list_runs = x.list_runs;
+  machine_is_related = x.machine_is_related;
+  slots_are_apart = x.slots_are_apart;
+  slots_in_range = x.slots_in_range;
+  slots_are_usable = x.slots_are_usable;
+  all_are_of_kind = x.all_are_queued;
+  operation_is_queued = all_as (λ t. IsFitTransfer t.task t.frames) (λ t. is_queued (meaning_of t.task).operation ≡ t.task.queued) (λ t fit. kind_of t.task.queued t.task.op fit.is_transfer) tasks x.transfers_fit;
+  trim_in_slot_0 = all_as (λ t. IsFitTransfer t.task t.frames) (λ t. t.task.op ≡ Trim → t.slot ≡ 0) (λ t fit. never_trim t.slot t.task.op fit.is_transfer) tasks x.transfers_fit;
   mid = mid;
   stores = x.stores;
-  say = x.say;
+  slots_say_tasks = x.slots_say_tasks;
   bits = bits;
   arms = call;
 }

@@ -11,14 +11,14 @@ use Rattle.hba_regs.specs.Bits.{bit}
 use Rattle.hba_regs.specs.declared.reg.Reg.TheVariants.{Px}
 use Rattle.hba_regs.specs.declared.reg.PortReg.{PortReg}
 use Rattle.hba_regs.specs.declared.reg.PortReg.TheVariants.{Ci, Sact}
-use Rattle.adapter.specs.Access.{port_written, written}
+use Rattle.adapter.specs.Access.{port_after_write, written}
 use Rattle.adapter.specs.Device.{DevicePort, Device}
 use Rattle.adapter.specs.Memory.{changed}
 use Rattle.adapter.specs.Steps.{with_port}
 use Rattle.block_machine.specs.State.{Pending}
 use Rattle.refinement.specs.Acts.{DriverSlots}
-use Rattle.refinement.specs.Driven.{IsSoleBit}
-use Rattle.refinement.specs.Slots.{SlotState, Armed, Serves, SlotStates, put}
+use Rattle.refinement.specs.Fragments.{IsSoleBit}
+use Rattle.refinement.specs.Slots.{SlotState, Armed, Serves, SlotStates, set_slot_state}
 use Rattle.commands.specs.Batches.{HasBitsOf, HaveOwnSlots, IsSlotOf, PlacedTask, with_serving_batch}
 
 -- ---- lists
@@ -99,27 +99,27 @@ one_apart t = λ i j d less small. absurd (omega (arith, less, small))
 
 pub one_has_bits : (t : PlacedTask) (v : ℕ) → IsSoleBit t.slot v → HasBitsOf (t ∷ []) v
 one_has_bits t v sole = record {
-  here = all_one (λ x. bit v x.slot ≡ true) t sole.here;
-  alone = λ k set. ⊎_elim
+  slots_are_set = all_one (λ x. bit v x.slot ≡ true) t sole.bit_is_set;
+  no_other_is_set = λ k set. ⊎_elim
       (λ (e : k ≡ t.slot). (t, contains_here t [], sym e))
-      (λ (other : k ≢ t.slot). absurd (true≢false (sym set ∙ sole.alone k other)))
+      (λ (other : k ≢ t.slot). absurd (true≢false (sym set ∙ sole.no_other_bit_is_set k other)))
       (cases_eq k t.slot);
 }
 
 pub none_has_bits : HasBitsOf [] 0
 none_has_bits = record {
-  here = All-nil (λ (t : PlacedTask). bit 0 t.slot ≡ true);
-  alone = λ k set. absurd (true≢false (sym set ∙ ap (λ (n : ℕ). n == 1) (bit_at-zero k)));
+  slots_are_set = All-nil (λ (t : PlacedTask). bit 0 t.slot ≡ true);
+  no_other_is_set = λ k set. absurd (true≢false (sym set ∙ ap (λ (n : ℕ). n == 1) (bit_at-zero k)));
 }
 
 -- a bit more, of a value of 32 bits
 pub bits_grow : (tasks : List PlacedTask) (t : PlacedTask) (mask new : ℕ) → mask < 2 ^ 32 → new < 2 ^ 32 → HasBitsOf tasks mask → bit new t.slot ≡ true → ((k : ℕ) → k < 32 → k ≢ t.slot → bit new k ≡ bit mask k) →
     HasBitsOf (tasks ++ t ∷ []) new
 bits_grow tasks t mask new fits new_fits has set others = record {
-  here = All-push (λ x. bit new x.slot ≡ true) tasks t (all_as (λ x. bit mask x.slot ≡ true) (λ x. bit new x.slot ≡ true) (λ x was. stays x.slot was) tasks has.here) set;
-  alone = λ k is. ⊎_elim
+  slots_are_set = All-push (λ x. bit new x.slot ≡ true) tasks t (all_as (λ x. bit mask x.slot ≡ true) (λ x. bit new x.slot ≡ true) (λ x was. stays x.slot was) tasks has.slots_are_set) set;
+  no_other_is_set = λ k is. ⊎_elim
       (λ (e : k ≡ t.slot). (t, Contains-append_right tasks (t ∷ []) t (contains_here t []), sym e))
-      (λ (other : k ≢ t.slot). let was = has.alone k (sym (others k (below new k new_fits is) other) ∙ is) in (was.0, Contains-append_left tasks (t ∷ []) was.0 was.1, was.2))
+      (λ (other : k ≢ t.slot). let was = has.no_other_is_set k (sym (others k (below new k new_fits is) other) ∙ is) in (was.0, Contains-append_left tasks (t ∷ []) was.0 was.1, was.2))
       (cases_eq k t.slot);
 }
   where
@@ -138,49 +138,49 @@ bits_grow tasks t mask new fits new_fits has set others = record {
 -- ---- uses of slots, given what putting a slot to a use does
 
 abbrev pub PutsHere : Type 0
-PutsHere = (uses : SlotStates) (port slot : ℕ) (u : SlotState) → put uses port slot u port slot ≡ u
+PutsHere = (uses : SlotStates) (port slot : ℕ) (u : SlotState) → set_slot_state uses port slot u port slot ≡ u
 
 abbrev pub PutsNoOther : Type 0
-PutsNoOther = (uses : SlotStates) (port slot : ℕ) (u : SlotState) (other_port other_slot : ℕ) → (other_port ≡ port → other_slot ≡ slot → ⊥) → put uses port slot u other_port other_slot ≡ uses other_port other_slot
+PutsNoOther = (uses : SlotStates) (port slot : ℕ) (u : SlotState) (other_port other_slot : ℕ) → (other_port ≡ port → other_slot ≡ slot → ⊥) → set_slot_state uses port slot u other_port other_slot ≡ uses other_port other_slot
 
 -- each slot is armed
 abbrev pub uses_armed : ℕ → List PlacedTask → SlotStates → SlotStates
 uses_armed port [] uses = uses
-uses_armed port (t ∷ ts) uses = uses_armed port ts (put uses port t.slot Armed)
+uses_armed port (t ∷ ts) uses = uses_armed port ts (set_slot_state uses port t.slot Armed)
 
 -- each slot serves the request in its place
 abbrev pub uses_served : ℕ → List PlacedTask → List Pending → SlotStates → SlotStates
-uses_served port (t ∷ ts) (e ∷ es) uses = uses_served port ts es (put uses port t.slot (Serves e.request.id))
+uses_served port (t ∷ ts) (e ∷ es) uses = uses_served port ts es (set_slot_state uses port t.slot (Serves e.request.id))
 uses_served port [] es uses = uses
 uses_served port (t ∷ ts) [] uses = uses
 
 pub serving_batch_is : (port : Port) (ts : List PlacedTask) (es : List Pending) (s : DriverSlots) → record s { uses = uses_served port.0 ts es s.uses } ≡ with_serving_batch port ts es s
 serving_batch_is port [] es s = refl
 serving_batch_is port (t ∷ ts) [] s = refl
-serving_batch_is port (t ∷ ts) (e ∷ es) s = serving_batch_is port ts es (record s { uses = put s.uses port.0 t.slot (Serves e.request.id) })
+serving_batch_is port (t ∷ ts) (e ∷ es) s = serving_batch_is port ts es (record s { uses = set_slot_state s.uses port.0 t.slot (Serves e.request.id) })
 
 module _ (here : PutsHere) (no_other : PutsNoOther) (port : ℕ) where
   pub armed_others : (ts : List PlacedTask) (uses : SlotStates) (q k : ℕ) → (q ≡ port → IsSlotOf ts k → ⊥) → uses_armed port ts uses q k ≡ uses q k
   armed_others [] uses q k other = refl
   armed_others (t ∷ ts) uses q k other =
-      armed_others ts (put uses port t.slot Armed) q k (λ e is. other e (slot_there t ts k is))
+      armed_others ts (set_slot_state uses port t.slot Armed) q k (λ e is. other e (slot_there t ts k is))
       ∙ no_other uses port t.slot Armed q k (λ e is. other e (t, contains_here t ts, sym is))
 
   pub armed_here : (ts : List PlacedTask) (uses : SlotStates) → HaveOwnSlots ts → (k : ℕ) → IsSlotOf ts k → uses_armed port ts uses port k ≡ Armed
   armed_here [] uses apart k is = absurd (no_slot k is)
   armed_here (t ∷ ts) uses apart k is = ⊎_elim
-      (λ (later : IsSlotOf ts k). armed_here ts (put uses port t.slot Armed) (rest_apart t ts apart) k later)
+      (λ (later : IsSlotOf ts k). armed_here ts (set_slot_state uses port t.slot Armed) (rest_apart t ts apart) k later)
       (λ (not : IsSlotOf ts k → ⊥).
       let e : k ≡ t.slot = ⊎_elim (λ (x : k ≡ t.slot). x) (λ (later : IsSlotOf ts k). absurd (not later)) (slot_split t ts k is) in
-      armed_others ts (put uses port t.slot Armed) port k (λ _ later. not later)
-      ∙ (ap (put uses port t.slot Armed port) e ∙ here uses port t.slot Armed))
+      armed_others ts (set_slot_state uses port t.slot Armed) port k (λ _ later. not later)
+      ∙ (ap (set_slot_state uses port t.slot Armed port) e ∙ here uses port t.slot Armed))
       (slot_cases ts k)
 
   pub served_others : (ts : List PlacedTask) (es : List Pending) (uses : SlotStates) (q k : ℕ) → (q ≡ port → IsSlotOf ts k → ⊥) → uses_served port ts es uses q k ≡ uses q k
   served_others [] es uses q k other = refl
   served_others (t ∷ ts) [] uses q k other = refl
   served_others (t ∷ ts) (e ∷ es) uses q k other =
-      served_others ts es (put uses port t.slot (Serves e.request.id)) q k (λ x is. other x (slot_there t ts k is))
+      served_others ts es (set_slot_state uses port t.slot (Serves e.request.id)) q k (λ x is. other x (slot_there t ts k is))
       ∙ no_other uses port t.slot (Serves e.request.id) q k (λ x is. other x (t, contains_here t ts, sym is))
 
   pub served_here : (R : PlacedTask → Pending → Type 0) (ts : List PlacedTask) (es : List Pending) (uses : SlotStates) → HaveOwnSlots ts → AllZip R ts es →
@@ -189,8 +189,8 @@ module _ (here : PutsHere) (no_other : PutsNoOther) (port : ℕ) where
   served_here R [] (e ∷ es) uses apart zip = zip
   served_here R (t ∷ ts) [] uses apart zip = zip
   served_here R (t ∷ ts) (e ∷ es) uses apart zip = (
-    served_others ts es (put uses port t.slot (Serves e.request.id)) port t.slot (λ _ is. first_apart t ts apart is) ∙ here uses port t.slot (Serves e.request.id),
-    served_here R ts es (put uses port t.slot (Serves e.request.id)) (rest_apart t ts apart) zip.1,
+    served_others ts es (set_slot_state uses port t.slot (Serves e.request.id)) port t.slot (λ _ is. first_apart t ts apart is) ∙ here uses port t.slot (Serves e.request.id),
+    served_here R ts es (set_slot_state uses port t.slot (Serves e.request.id)) (rest_apart t ts apart) zip.1,
   )
 
   -- how these slots were used before is all one
@@ -200,11 +200,11 @@ module _ (here : PutsHere) (no_other : PutsNoOther) (port : ℕ) where
   same_served_at R [] (e ∷ es) one other q k zip same = absurd zip
   same_served_at R (t ∷ ts) [] one other q k zip same = absurd zip
   same_served_at R (t ∷ ts) (e ∷ es) one other q k zip same =
-      same_served_at R ts es (put one port t.slot u) (put other port t.slot u) q k zip.1 (λ beside. ⊎_elim
+      same_served_at R ts es (set_slot_state one port t.slot u) (set_slot_state other port t.slot u) q k zip.1 (λ beside. ⊎_elim
       (λ (at_port : q ≡ port). ⊎_elim
       (λ (at_slot : k ≡ t.slot).
-      subst (λ (n : ℕ). put one port t.slot u n k ≡ put other port t.slot u n k) (sym at_port)
-      (subst (λ (n : ℕ). put one port t.slot u port n ≡ put other port t.slot u port n) (sym at_slot) (here one port t.slot u ∙ sym (here other port t.slot u))))
+      subst (λ (n : ℕ). set_slot_state one port t.slot u n k ≡ set_slot_state other port t.slot u n k) (sym at_port)
+      (subst (λ (n : ℕ). set_slot_state one port t.slot u port n ≡ set_slot_state other port t.slot u port n) (sym at_slot) (here one port t.slot u ∙ sym (here other port t.slot u))))
       (λ (ne : k ≢ t.slot). aside beside (λ _ x. ne x))
       (cases_eq k t.slot))
       (λ (ne : q ≢ port). aside beside (λ x _. ne x))
@@ -213,7 +213,7 @@ module _ (here : PutsHere) (no_other : PutsNoOther) (port : ℕ) where
       u : SlotState
       u = Serves e.request.id
 
-      aside : (q ≡ port → IsSlotOf ts k → ⊥) → (q ≡ port → k ≡ t.slot → ⊥) → put one port t.slot u q k ≡ put other port t.slot u q k
+      aside : (q ≡ port → IsSlotOf ts k → ⊥) → (q ≡ port → k ≡ t.slot → ⊥) → set_slot_state one port t.slot u q k ≡ set_slot_state other port t.slot u q k
       aside beside ne =
           no_other one port t.slot u q k ne
           ∙ (same (λ x is. ⊎_elim (ne x) (beside x) (slot_split t ts k is)) ∙ sym (no_other other port t.slot u q k ne))
@@ -230,8 +230,8 @@ own_bit slot = 2 ^ slot
 
 pub own_bit_is : (slot : ℕ) → IsSoleBit slot (own_bit slot)
 own_bit_is slot = record {
-  here = ap (λ (n : ℕ). n == 1) (bit_at-pow_same slot);
-  alone = λ k other. ap (λ (n : ℕ). n == 1) (bit_at-pow_other slot k other);
+  bit_is_set = ap (λ (n : ℕ). n == 1) (bit_at-pow_same slot);
+  no_other_bit_is_set = λ k other. ap (λ (n : ℕ). n == 1) (bit_at-pow_other slot k other);
 }
 
 -- these bits, and then the slots' ones
@@ -246,7 +246,7 @@ bits_stay (t ∷ ts) bits k set = bits_stay ts (λ j. bits j || bit (own_bit t.s
 bits_set : (ts : List PlacedTask) (bits : ℕ → Bool) (k : ℕ) → IsSlotOf ts k → with_bits ts bits k ≡ true
 bits_set [] bits k is = absurd (no_slot k is)
 bits_set (t ∷ ts) bits k is = ⊎_elim
-    (λ (e : k ≡ t.slot). bits_stay ts (λ j. bits j || bit (own_bit t.slot) j) k (or_right (bits k) (bit (own_bit t.slot) k) (ap (bit (own_bit t.slot)) e ∙ (own_bit_is t.slot).here)))
+    (λ (e : k ≡ t.slot). bits_stay ts (λ j. bits j || bit (own_bit t.slot) j) k (or_right (bits k) (bit (own_bit t.slot) k) (ap (bit (own_bit t.slot)) e ∙ (own_bit_is t.slot).bit_is_set)))
     (λ (later : IsSlotOf ts k). bits_set ts (λ j. bits j || bit (own_bit t.slot) j) k later)
     (slot_split t ts k is)
 
@@ -254,7 +254,7 @@ bits_unset : (ts : List PlacedTask) (bits : ℕ → Bool) (k : ℕ) → bits k �
 bits_unset [] bits k clear not = clear
 bits_unset (t ∷ ts) bits k clear not =
     bits_unset ts (λ j. bits j || bit (own_bit t.slot) j) k
-    (ap (λ (b : Bool). b || bit (own_bit t.slot) k) clear ∙ (own_bit_is t.slot).alone k (λ e. not (t, contains_here t ts, sym e))) (λ is. not (slot_there t ts k is))
+    (ap (λ (b : Bool). b || bit (own_bit t.slot) k) clear ∙ (own_bit_is t.slot).no_other_bit_is_set k (λ e. not (t, contains_here t ts, sym e))) (λ is. not (slot_there t ts k is))
 
 -- bit by bit, or all at once
 pub bits_at_once : (ts : List PlacedTask) (v : ℕ) → HasBitsOf ts v → (bits : ℕ → Bool) → with_bits ts bits ≡ (λ k. bits k || bit v k)
@@ -262,9 +262,9 @@ bits_at_once ts v has bits = λ i k. at k i
   where
     at : (k : ℕ) → with_bits ts bits k ≡ (bits k || bit v k)
     at k = ⊎_elim
-        (λ (is : IsSlotOf ts k). bits_set ts bits k is ∙ sym (or_right (bits k) (bit v k) (sym (ap (bit v) is.2) ∙ All-contains (λ t. bit v t.slot ≡ true) ts is.0 has.here is.1)))
+        (λ (is : IsSlotOf ts k). bits_set ts bits k is ∙ sym (or_right (bits k) (bit v k) (sym (ap (bit v) is.2) ∙ All-contains (λ t. bit v t.slot ≡ true) ts is.0 has.slots_are_set is.1)))
         (λ (not : IsSlotOf ts k → ⊥). ⊎_elim
-        (λ (set : bit v k ≡ true). absurd (not (has.alone k set)))
+        (λ (set : bit v k ≡ true). absurd (not (has.no_other_is_set k set)))
         (λ (clear : bit v k ≡ false). ⊎_elim
         (λ (was : bits k ≡ true). bits_stay ts bits k was ∙ sym (or_left (bits k) (bit v k) was))
         (λ (was : bits k ≡ false). bits_unset ts bits k was not ∙ sym (ap (λ (b : Bool). b || bit v k) was ∙ clear))
@@ -292,7 +292,7 @@ pub record BitReg : Type 0 where
   pub reg : PortReg
   pub get : DevicePort → ℕ → Bool
   pub set : (ℕ → Bool) → DevicePort → DevicePort
-  pub writes : (v tape : ℕ) (p : DevicePort) → port_written reg v tape p ≡ set (λ k. get p k || bit v k) p
+  pub writes : (v tape : ℕ) (p : DevicePort) → port_after_write reg v tape p ≡ set (λ k. get p k || bit v k) p
   pub again : (one then : ℕ → Bool) (p : DevicePort) → set then (set one p) ≡ set then p
   pub reads : (bits : ℕ → Bool) (p : DevicePort) → get (set bits p) ≡ bits
   pub same : (p : DevicePort) → set (get p) p ≡ p
@@ -330,7 +330,7 @@ module _ (r : BitReg) (port : Port) (d : Device) where
   pub bits_more : (bits : ℕ → Bool) (v : ℕ) → written (Px port r.reg) v (bits_on r port d bits) ≡ bits_on r port d (λ k. bits k || bit v k)
   bits_more bits v =
       let p : DevicePort = d.port port.0 in
-      ap (λ (q : DevicePort). with_port (bits_on r port d bits) port.0 (port_written r.reg v (length d.tape) q)) (changed_here d.port port.0 (r.set bits p))
+      ap (λ (q : DevicePort). with_port (bits_on r port d bits) port.0 (port_after_write r.reg v (length d.tape) q)) (changed_here d.port port.0 (r.set bits p))
       ∙ (ap (λ (q : DevicePort). with_port (bits_on r port d bits) port.0 q)
       (r.writes v (length d.tape) (r.set bits p)
       ∙ (ap (λ (f : ℕ → Bool). r.set (λ k. f k || bit v k) (r.set bits p)) (r.reads bits p) ∙ r.again bits (λ k. bits k || bit v k) p))

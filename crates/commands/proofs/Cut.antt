@@ -6,7 +6,7 @@ use Rattle.std.proofs.lemmas.List.{get_or-drop}
 use Rattle.std.proofs.Math.Nat.{min-eq_left, min-eq_right}
 use Rattle.byteorder.specs.Endian.{little_from}
 use Rattle.adapter.specs.Trim.{consecutive, trim_sectors}
-use Rattle.commands.specs.Block.{entry_first, entry_length, entry_first_for, entry_length_for}
+use Rattle.commands.specs.TrimBlocks.{entry_first, entry_length, entry_first_for, entry_length_for}
 
 consecutive-add : (m n a : ℕ) → consecutive a (m + n) ≡ consecutive a m ++ consecutive (a + m) n
 consecutive-add zero n a =

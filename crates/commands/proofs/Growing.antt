@@ -16,12 +16,12 @@ use Rattle.block_machine.specs.Histories.{IsReachable}
 use Rattle.block_machine.specs.Expected.{after}
 use Rattle.block_machine.specs.State.{Machine}
 use Rattle.refinement.specs.Acts.{Act, ActsReach, AreActsDone, DriverSlots, accesses_of, act_steps, driver_state}
-use Rattle.refinement.specs.Driven.{OnlyDeviceActs, RelatesWith}
+use Rattle.refinement.specs.Fragments.{OnlyDeviceActs, RelatesWith}
 use Rattle.refinement.specs.Driver.{DriverAdvances, DriverRelation, DriverState, MayStore, MissesTable}
 use Rattle.refinement.specs.Links.{SameAdapter}
-use Rattle.refinement.specs.Readying.{IsStored, LeavesStored}
-use Rattle.refinement.specs.Slots.{Free, Armed, SlotDecodesTo, SlotStates, put}
-use Rattle.command_table.specs.Written.{IsHeader, IsInTable, IsTableStore, IsUnused}
+use Rattle.refinement.specs.ReadySlots.{IsStored, LeavesStored}
+use Rattle.refinement.specs.Slots.{Free, Armed, SlotDecodesTo, SlotStates, set_slot_state}
+use Rattle.command_table.specs.TableStores.{IsHeader, IsInTable, IsTableStore, IsUnused}
 use Rattle.commands.specs.Batches.{AreUnused, IsBatchStored, IsSlotOf, IsStoreForBatch, SaysTask, PlacedTask, StoresTransfer}
 use Rattle.commands.specs.Issuing.{MayIssueTransfer}
 use Rattle.commands.specs.Tasks.{IsFitTransfer, IsStoreFor, IsTransfer, RunsItsList, addresses_of, meaning_of}
@@ -41,25 +41,25 @@ pub record Laws : Type 0 where
 
 pub none_stored : (port : Port) (d : Device) → IsOn d → HasPort d port.0 → DRIVER_BYTES ≤ d.size → RunsItsList port.0 d → RelatesWith (AreUnused port.0 []) d → IsBatchStored port [] d d
 none_stored port d on there room may agreed = record {
-  on = on;
-  there = there;
-  room = room;
-  may = may;
-  agreed = agreed;
-  apart = λ i j x less small. absurd (omega (arith, small));
-  small = All-nil (λ (t : PlacedTask). t.slot < 32);
-  usable = All-nil (λ (t : PlacedTask). t.slot ≤ d.cap / 256 % 32);
-  fit = All-nil (λ (t : PlacedTask). IsFitTransfer t.task t.frames);
-  queued = All-nil (λ (t : PlacedTask). t.task.queued ≡ true);
+  adapter_is_on = on;
+  has_port = there;
+  driver_memory_fits = room;
+  list_runs = may;
+  machine_is_related = agreed;
+  slots_are_apart = λ i j x less small. absurd (omega (arith, small));
+  slots_in_range = All-nil (λ (t : PlacedTask). t.slot < 32);
+  slots_are_usable = All-nil (λ (t : PlacedTask). t.slot ≤ d.cap / 256 % 32);
+  transfers_fit = All-nil (λ (t : PlacedTask). IsFitTransfer t.task t.frames);
+  all_are_queued = All-nil (λ (t : PlacedTask). t.task.queued ≡ true);
   stores = simulated_none (IsStoreForBatch port.0 []) (AreUnused port.0 []) d;
-  say = All-nil (λ (t : PlacedTask). SaysTask port.0 t d.memory);
+  slots_say_tasks = All-nil (λ (t : PlacedTask). SaysTask port.0 t d.memory);
 }
 
 -- what is stored for one slot misses header and table of another
 module _ (laws : Laws) (port : Port) (slot other : ℕ) (low : port.0 < 4) (small : slot < 32) (other_small : other < 32) (apart : other ≢ slot) where
   -- the other one is used
   abbrev uses : SlotStates
-  uses = put (λ p k. Free) port.0 other Armed
+  uses = set_slot_state (λ p k. Free) port.0 other Armed
 
   table_misses : (at : ℕ) (bytes : List ℕ) → IsTableStore port.0 slot (Storing at bytes) → MissesTable port.0 other at (length bytes)
   table_misses at bytes here =
@@ -77,10 +77,10 @@ module _ (laws : Laws) (port : Port) (slot other : ℕ) (low : port.0 < 4) (smal
 
   table_leaves : (access : Access) → IsTableStore port.0 slot access → LeavesStored port other access
   table_leaves (Storing place bytes) here = record {
-    host = tt;
-    start = λ v e. absurd cc;
-    list = tt;
-    table = λ at some e.
+    ghc_is_not_written = tt;
+    st_is_not_cleared = λ v e. absurd cc;
+    clb_is_not_written = tt;
+    table_is_not_stored_to = λ at some e.
         let z : IsTableStore port.0 slot (Storing at some) = subst (IsTableStore port.0 slot) e here in
         table_misses at some z;
   }
@@ -100,16 +100,16 @@ module _ (laws : Laws) (port : Port) (tasks : List PlacedTask) (t : PlacedTask) 
   kinds = batch_stores port.0 tasks
 
   mid_on : IsOn mid
-  mid_on = stores_on laws.leaving port (IsStoreForBatch port.0 tasks) kinds start mid b.stores.driven b.on
+  mid_on = stores_on laws.leaving port (IsStoreForBatch port.0 tasks) kinds start mid b.stores.is_driven b.adapter_is_on
 
   mid_may : RunsItsList port.0 mid
-  mid_may = stores_may laws.leaving port (IsStoreForBatch port.0 tasks) kinds start mid b.stores.driven b.on b.may
+  mid_may = stores_may laws.leaving port (IsStoreForBatch port.0 tasks) kinds start mid b.stores.is_driven b.adapter_is_on b.list_runs
 
   mid_there : HasPort mid port.0
-  mid_there = stores_there laws.leaving port (IsStoreForBatch port.0 tasks) kinds start mid b.stores.driven b.there
+  mid_there = stores_there laws.leaving port (IsStoreForBatch port.0 tasks) kinds start mid b.stores.is_driven b.has_port
 
   mid_same : SameAdapter start mid
-  mid_same = stores_same laws.leaving port (IsStoreForBatch port.0 tasks) kinds start mid b.stores.driven
+  mid_same = stores_same laws.leaving port (IsStoreForBatch port.0 tasks) kinds start mid b.stores.is_driven
 
   fewer : (uses : SlotStates) → AreUnused port.0 both uses → AreUnused port.0 tasks uses
   fewer uses free = all_in (λ x. uses port.0 x.slot ≡ Free) tasks (λ x is. All-contains (λ y. uses port.0 y.slot ≡ Free) both x free (Contains-append_left tasks (t ∷ []) x is))
@@ -121,16 +121,16 @@ module _ (laws : Laws) (port : Port) (tasks : List PlacedTask) (t : PlacedTask) 
   s : DriverSlots
   s = record { uses = agreed.0; parked = agreed.2.parked }
 
-  x : ActsReach b.stores.driven.accesses (driver_state s start) agreed.2.machine (driver_state s mid) (OnlyDeviceActs (IsStoreForBatch port.0 tasks) agreed.0)
+  x : ActsReach b.stores.is_driven.accesses (driver_state s start) agreed.2.machine (driver_state s mid) (OnlyDeviceActs (IsStoreForBatch port.0 tasks) agreed.0)
   unfolding s
-  x = b.stores.comes s agreed.2.machine agreed.2.reached agreed.2.knows (fewer agreed.0 agreed.1)
+  x = b.stores.acts_reach s agreed.2.machine agreed.2.reached agreed.2.driver_relation (fewer agreed.0 agreed.1)
 
   m : Machine
   m = after agreed.2.machine (act_steps x.acts)
 
   goes : DriverAdvances (driver_state s start) agreed.2.machine (act_steps x.acts) (driver_state s mid)
   unfolding s
-  goes = laws.acts.goes x.acts (driver_state s start) (driver_state s mid) agreed.2.machine agreed.2.knows x.done
+  goes = laws.acts.goes x.acts (driver_state s start) (driver_state s mid) agreed.2.machine agreed.2.driver_relation x.acts_are_done
 
   m_reached : IsReachable m
   unfolding s m
@@ -140,55 +140,55 @@ module _ (laws : Laws) (port : Port) (tasks : List PlacedTask) (t : PlacedTask) 
   unfolding s m
   may_prepare = record {
     may = record {
-      on = mid_on;
-      there = mid_there;
-      room = subst (λ (n : ℕ). DRIVER_BYTES ≤ n) (sym mid_same.size) b.room;
-      agreed = (agreed.0, its agreed.0 agreed.1, record { machine = m; parked = agreed.2.parked; reached = m_reached; knows = goes.knows });
-      may = mid_may;
+      adapter_is_on = mid_on;
+      has_port = mid_there;
+      driver_memory_fits = subst (λ (n : ℕ). DRIVER_BYTES ≤ n) (sym mid_same.size) b.driver_memory_fits;
+      machine_is_related = (agreed.0, its agreed.0 agreed.1, record { machine = m; parked = agreed.2.parked; reached = m_reached; driver_relation = goes.driver_relation });
+      list_runs = mid_may;
     };
-    small = small;
+    slot_in_range = small;
     usable = subst (λ (n : ℕ). t.slot ≤ n / 256 % 32) (sym mid_same.cap) usable;
     fits = fit;
   }
 
   module _ (new : Device) (w : StoresTransfer port t mid new) where
     new_may : RunsItsList port.0 new
-    new_may = stores_may laws.leaving port (IsTableStore port.0 t.slot) (table_stores port.0 t.slot) mid new w.stores.driven mid_on mid_may
+    new_may = stores_may laws.leaving port (IsTableStore port.0 t.slot) (table_stores port.0 t.slot) mid new w.stores.is_driven mid_on mid_may
 
     stays : (y : PlacedTask) → Contains tasks y → SaysTask port.0 y new.memory
     unfolding s m
     stays y is =
-        let says : SaysTask port.0 y mid.memory = All-contains (λ z. SaysTask port.0 z mid.memory) tasks y b.say is in
-        let its_small : y.slot < 32 = All-contains (λ z. z.slot < 32) tasks y b.small is in
-        let its_fit : IsFitTransfer y.task y.frames = All-contains (λ z. IsFitTransfer z.task z.frames) tasks y b.fit is in
+        let says : SaysTask port.0 y mid.memory = All-contains (λ z. SaysTask port.0 z mid.memory) tasks y b.slots_say_tasks is in
+        let its_small : y.slot < 32 = All-contains (λ z. z.slot < 32) tasks y b.slots_in_range is in
+        let its_fit : IsFitTransfer y.task y.frames = All-contains (λ z. IsFitTransfer z.task z.frames) tasks y b.transfers_fit is in
         let places : List ℕ = addresses_of port.0 y.task.op y.task.range.count y.frames in
-        let z : ActsReach w.stores.driven.accesses (driver_state s mid) m (driver_state s new) (OnlyDeviceActs (IsTableStore port.0 t.slot) s.uses) = w.stores.comes s m m_reached goes.knows (its agreed.0 agreed.1) in
+        let z : ActsReach w.stores.is_driven.accesses (driver_state s mid) m (driver_state s new) (OnlyDeviceActs (IsTableStore port.0 t.slot) s.uses) = w.stores.acts_reach s m m_reached goes.driver_relation (its agreed.0 agreed.1) in
         let after_both : IsStored new port.0 y.slot (meaning_of y.task) places =
-        laws.stays port y.slot (meaning_of y.task) places z.acts (driver_state s mid) (driver_state s new) m m_reached goes.knows z.done
+        laws.stays port y.slot (meaning_of y.task) places z.acts (driver_state s mid) (driver_state s new) m m_reached goes.driver_relation z.acts_are_done
         (subst (All (LeavesStored port y.slot)) (sym z.accesses_are)
-        (all_as (IsTableStore port.0 t.slot) (LeavesStored port y.slot) (table_leaves laws port t.slot y.slot b.there.0 small its_small (λ e. apart (y, is, e))) w.stores.driven.accesses w.stores.driven.only))
-        mid_on (stored_in port y.slot (meaning_of y.task) places mid mid_there its_small mid_may says.told) in
+        (all_as (IsTableStore port.0 t.slot) (LeavesStored port y.slot) (table_leaves laws port t.slot y.slot b.has_port.0 small its_small (λ e. apart (y, is, e))) w.stores.is_driven.accesses w.stores.is_driven.accesses_are_of_kind))
+        mid_on (stored_in port y.slot (meaning_of y.task) places mid mid_there its_small mid_may says.slot_says_task) in
         record {
-          told = subst (λ (list : ℕ). SlotDecodesTo new.memory list port.0 y.slot (meaning_of y.task) places) new_may.list after_both.told;
-          block = no_block y.task.range port.0 new.memory y.task.op its_fit.transfers;
+          slot_says_task = subst (λ (list : ℕ). SlotDecodesTo new.memory list port.0 y.slot (meaning_of y.task) places) new_may.list_is_in_place after_both.slot_decodes_to;
+          block_names_sectors = no_block y.task.range port.0 new.memory y.task.op its_fit.is_transfer;
         }
 
     pub grows : IsBatchStored port both start new
     grows = record {
-      on = b.on;
-      there = b.there;
-      room = b.room;
-      may = b.may;
-      agreed = agreed;
-      apart = all_pairs_push (λ (one other : PlacedTask). one.slot ≡ other.slot → ⊥) tasks t b.apart (λ k d below e. apart (_, (k, below, get_or_default tasks k _ d below), e));
-      small = All-push (λ y. y.slot < 32) tasks t b.small small;
-      usable = All-push (λ y. y.slot ≤ start.cap / 256 % 32) tasks t b.usable usable;
-      fit = All-push (λ y. IsFitTransfer y.task y.frames) tasks t b.fit fit;
-      queued = All-push (λ y. y.task.queued ≡ true) tasks t b.queued queued;
+      adapter_is_on = b.adapter_is_on;
+      has_port = b.has_port;
+      driver_memory_fits = b.driver_memory_fits;
+      list_runs = b.list_runs;
+      machine_is_related = agreed;
+      slots_are_apart = all_pairs_push (λ (one other : PlacedTask). one.slot ≡ other.slot → ⊥) tasks t b.slots_are_apart (λ k d below e. apart (_, (k, below, get_or_default tasks k _ d below), e));
+      slots_in_range = All-push (λ y. y.slot < 32) tasks t b.slots_in_range small;
+      slots_are_usable = All-push (λ y. y.slot ≤ start.cap / 256 % 32) tasks t b.slots_are_usable usable;
+      transfers_fit = All-push (λ y. IsFitTransfer y.task y.frames) tasks t b.transfers_fit fit;
+      all_are_queued = All-push (λ y. y.task.queued ≡ true) tasks t b.all_are_queued queued;
       stores = simulated_then laws.acts (IsStoreForBatch port.0 both) (AreUnused port.0 both) start mid new
           (simulated_as (IsStoreForBatch port.0 tasks) (IsStoreForBatch port.0 both) (AreUnused port.0 tasks) (AreUnused port.0 both) start mid
           (λ access is. (is.0, Contains-append_left tasks (t ∷ []) is.0 is.1, is.2)) fewer b.stores)
           (simulated_as (IsTableStore port.0 t.slot) (IsStoreForBatch port.0 both) (IsUnused port.0 t.slot) (AreUnused port.0 both) mid new
-          (λ access is. (t, Contains-append_right tasks (t ∷ []) t (contains_here t []), store_of_table port.0 t.slot access t.task.op fit.transfers is)) its w.stores);
-      say = All-push (λ y. SaysTask port.0 y new.memory) tasks t (all_in (λ y. SaysTask port.0 y new.memory) tasks stays) w.says;
+          (λ access is. (t, Contains-append_right tasks (t ∷ []) t (contains_here t []), store_of_table port.0 t.slot access t.task.op fit.is_transfer is)) its w.stores);
+      slots_say_tasks = All-push (λ y. SaysTask port.0 y new.memory) tasks t (all_in (λ y. SaysTask port.0 y new.memory) tasks stays) w.says;
     }

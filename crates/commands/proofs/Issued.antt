@@ -20,25 +20,25 @@ use Rattle.adapter.specs.Device.{DevicePort, Device}
 use Rattle.adapter.specs.Rules.{IsOn, HasPort, MayWrite, IsStable}
 use Rattle.adapter.specs.Steps.{Steps}
 use Rattle.adapter.specs.declared.command.Operation.{Operation}
-use Rattle.block_machine.specs.Due.{is_plain}
-use Rattle.block_machine.specs.Events.{AllByDevice, AllMay}
+use Rattle.block_machine.specs.DueRequests.{is_plain}
+use Rattle.block_machine.specs.Events.{AllByDevice, AllEnabled}
 use Rattle.block_machine.specs.Histories.{IsReachable, IsSimulatedBySteps}
 use Rattle.block_machine.specs.Expected.{after}
 use Rattle.block_machine.specs.State.{Accepted, Pending, Machine}
-use Rattle.block_machine.specs.Steps.{Step, Issue, May, after_step}
+use Rattle.block_machine.specs.Steps.{Step, Issue, IsEnabled, after_step}
 use Rattle.block_machine.specs.declared.due.QueueMode.{QueueMode}
 use Rattle.refinement.specs.Acts.{Act, ActsReach, AreActsDone, DriverSlots, IsActDone, IsIssueOn, IsIssueStep, IsOneDecision, accesses_of, act_steps, driver_state}
 use Rattle.refinement.specs.Relation.{StateRelation, port_at}
-use Rattle.refinement.specs.Driven.{IsSoleBit, OnlyDeviceActs, known}
-use Rattle.refinement.specs.Driver.{ByDevice, DriverAdvances, DriverRelation, DriverState, EndsInSteps, IsPrepared, KeepsTables, MissesTable, serving}
-use Rattle.refinement.specs.Follows.{SimulatesSteps}
+use Rattle.refinement.specs.Fragments.{IsSoleBit, OnlyDeviceActs, driver_state_of}
+use Rattle.refinement.specs.Driver.{IsBackedByDeviceAlone, DriverAdvances, DriverRelation, DriverState, EndsInSteps, IsPrepared, KeepsTables, MissesTable, with_slot_serving}
+use Rattle.refinement.specs.Simulation.{SimulatesSteps}
 use Rattle.refinement.specs.Links.{DoesNotWrite, LeavesControls, SameAdapter}
-use Rattle.refinement.specs.Readying.{IsReadied, IsReadyToIssue, IsStored}
-use Rattle.refinement.specs.Slots.{SlotState, Free, Armed, Own, Serves, SlotStates, put, MeansRequest, HasTrimBlock, IsArmed, HasListInPlace, RelatesSlot, SlotDecodesTo}
-use Rattle.refinement.specs.Started.{ClearsNoStart}
+use Rattle.refinement.specs.ReadySlots.{IsReadied, IsReadyToIssue, IsStored}
+use Rattle.refinement.specs.Slots.{SlotState, Free, Armed, Own, Serves, SlotStates, set_slot_state, MeansRequest, HasTrimBlock, IsArmed, HasListInPlace, RelatesSlot, SlotDecodesTo}
+use Rattle.refinement.specs.StartedPort.{ClearsNoStart}
 use Rattle.commands.specs.Batches.{AreUnused, HaveOwnSlots, IsBatchIssued, IsBatchAccess, IsSlotOf, IsStoreForBatch, IssuesBatchAtEnd, MayServeBatch, SaysTask, PlacedTask, StoresThenWritesAll, issues_of, with_serving_batch}
 use Rattle.commands.specs.Issuing.{IsArmedFor}
-use Rattle.commands.specs.Tasks.{Arms, HasBlockOf, IsBeingIssued, IsTaskOf, RunsItsList, addresses_of, meaning_of, task_operation, issuing_writes}
+use Rattle.commands.specs.Tasks.{WritesSactIfQueued, HasBlockOf, IsBeingIssued, IsTaskOf, RunsItsList, addresses_of, meaning_of, task_operation, issuing_writes}
 use Rattle.commands.proofs.Batch.{all_as, all_in, all_one, armed_here, armed_others, uses_armed, bits_begin, bits_more, bits_on, bits_written, changed_here, ci_bits, contains_here, contains_there, first_apart, own_bit, own_bit_is, rest_apart, sact_bits, served_armed, served_here, served_others, uses_served, serving_batch_is, with_bits, zip_as}
 use Rattle.commands.proofs.Stores.{ActLaws, IsStoring, Leaving, batch_stores, does_then, store_for, stored_in, stores_may, stores_on, stores_same, stores_there, storing_writes_none}
 use Rattle.commands.proofs.Telling.{task_block, task_means}
@@ -53,17 +53,17 @@ pub record Laws : Type 0 where
   pub controls : (port : Port) (access : Access) (old new : Device) → old.hr ≡ false → Does access old new → LeavesControls access port (old.port port.0) (new.port port.0)
   pub ends : (k later : DriverState) (m : Machine) (access : Access) (own : List Step) → (e : EndsInSteps k m own later) → IsOneDecision access own → Does access k.device later.device
       → IsActDone k m (record { access = Some access; steps = own ++ e.steps; later = later })
-  pub part : (k : DriverState) (new : Device) → Steps k.device new → IsSimulatedBySteps DriverRelation k (record k { device = new }) (ByDevice k.device new)
-  pub access : (k later : DriverState) (m : Machine) → IsSimulatedBySteps DriverRelation k later (ByDevice k.device later.device) → IsReachable m → DriverRelation m k
+  pub part : (k : DriverState) (new : Device) → Steps k.device new → IsSimulatedBySteps DriverRelation k (record k { device = new }) (IsBackedByDeviceAlone k.device new)
+  pub access : (k later : DriverState) (m : Machine) → IsSimulatedBySteps DriverRelation k later (IsBackedByDeviceAlone k.device later.device) → IsReachable m → DriverRelation m k
       → (steps : List Step) × AllByDevice steps × DriverAdvances k m steps later
   pub none : (k : DriverState) (m : Machine) → DriverRelation m k → DriverAdvances k m [] k
   pub compose : (a b c : DriverState) (m : Machine) (early late : List Step) → DriverAdvances a m early b → DriverAdvances b (after m early) late c → DriverAdvances a m (late ++ early) c
-  pub due : (m : Machine) (steps : List Step) → IsReachable m → AllByDevice steps → AllMay m steps → (own : List Step) → All IsIssueStep own → AllMay m own → AllMay (after m steps) own
+  pub due : (m : Machine) (steps : List Step) → IsReachable m → AllByDevice steps → AllEnabled m steps → (own : List Step) → All IsIssueStep own → AllEnabled m own → AllEnabled (after m steps) own
   pub after : (m : Machine) (late early : List Step) → after m (late ++ early) ≡ after (after m early) late
   pub arms : (k : DriverState) (m : Machine) (port : Port) (slot v : ℕ) → DriverRelation m k → k.uses port.0 slot ≡ Free → (k.device.port port.0).st ≡ true → IsSoleBit slot v
-      → DriverAdvances k m [] (record k { uses = put k.uses port.0 slot Armed; device = written (Px port Sact) v k.device })
+      → DriverAdvances k m [] (record k { uses = set_slot_state k.uses port.0 slot Armed; device = written (Px port Sact) v k.device })
   pub issues : (k : DriverState) (m : Machine) (port : Port) (slot : ℕ) (mode : QueueMode) (e : Pending) (v : ℕ) → IsReachable m → DriverRelation m k
-      → IsPrepared k.uses m k.device port.0 slot mode e v → DriverAdvances k m (Issue mode e ∷ []) (serving k port.0 slot e.request.id (written (Px port Ci) v k.device))
+      → IsPrepared k.uses m k.device port.0 slot mode e v → DriverAdvances k m (Issue mode e ∷ []) (with_slot_serving k port.0 slot e.request.id (written (Px port Ci) v k.device))
   pub stays : (uses : SlotStates) (m : Machine) (port : Port) (slot : ℕ) (c : Meaning) (places : List ℕ) (access : Access) (old new : Device) → IsReachable m → StateRelation uses m old
       → old.hr ≡ false → ClearsNoStart port access → DoesNotWrite (Px port Clb) access
       → ((at : ℕ) (bytes : List ℕ) → access ≡ Storing at bytes → MissesTable port.0 slot at (length bytes)) → Does access old new → IsStored old port.0 slot c places
@@ -73,7 +73,7 @@ pub record Laws : Type 0 where
   pub permitted : (uses : SlotStates) (m : Machine) (d : Device) (port : Port) (v : ℕ) → IsReachable m → StateRelation uses m d → IsOn d → HasPort d port.0
       → (d.port port.0).st ≡ true → ((slot : ℕ) → bit v slot ≡ true → IsReadyToIssue uses d port.0 slot) → IsStable (MayWrite (Px port Ci) v) d
   pub prepared : (uses : SlotStates) (m : Machine) (d : Device) (port slot : ℕ) (c : Meaning) (places : List ℕ) (mode : QueueMode) (e : Pending) (v : ℕ)
-      → IsReadied uses d port slot c places → May m (Issue mode e) → e.request.port.0 ≡ port → slot < mode.usable → (is_plain mode e.request.asked.op ≡ true → slot ≡ 0)
+      → IsReadied uses d port slot c places → IsEnabled m (Issue mode e) → e.request.port.0 ≡ port → slot < mode.usable → (is_plain mode e.request.asked.op ≡ true → slot ≡ 0)
       → MeansRequest port slot e.request c places → is_queued c.operation ≡ not (is_plain mode e.request.asked.op)
       → HasTrimBlock e.request.asked.op d.memory port e.request → bit v slot ≡ true → ((k : ℕ) → k ≢ slot → bit v k ≡ false) → IsPrepared uses m d port slot mode e v
   pub follows : (uses : SlotStates) (m : Machine) (old new : Device) → IsReachable m → StateRelation uses m old → Steps old new → SimulatesSteps uses m old new
@@ -81,9 +81,9 @@ pub record Laws : Type 0 where
   pub leaves_steps : (uses : SlotStates) (m : Machine) (old new : Device) → IsReachable m → StateRelation uses m old → old.hr ≡ false → Steps old new → KeepsTables uses old new
   pub block : (uses : SlotStates) (old new : Device) → KeepsTables uses old new → (port : ℕ) (r : Accepted) → port < 4 → ((o : Operation) → uses port 0 ≡ Own o → ⊥) → HasTrimBlock r.asked.op old.memory port r
       → HasTrimBlock r.asked.op new.memory port r
-  pub put_here : (uses : SlotStates) (port slot : ℕ) (u : SlotState) → put uses port slot u port slot ≡ u
+  pub put_here : (uses : SlotStates) (port slot : ℕ) (u : SlotState) → set_slot_state uses port slot u port slot ≡ u
   pub put_others : (uses : SlotStates) (port slot : ℕ) (u : SlotState) (other_port other_slot : ℕ) → (other_port ≡ port → other_slot ≡ slot → ⊥)
-      → put uses port slot u other_port other_slot ≡ uses other_port other_slot
+      → set_slot_state uses port slot u other_port other_slot ≡ uses other_port other_slot
 
 -- ---- issues
 
@@ -105,11 +105,11 @@ issues_on port mode (t ∷ tasks) (e ∷ es) zip =
     All-append (IsIssueOn port) (issues_of mode es) (Issue mode e ∷ []) (issues_on port mode tasks es zip.1) (all_one (IsIssueOn port) (Issue mode e) zip.0.port_is)
 
 -- what may come one after another, in two parts
-may_split : Laws → (m : Machine) (late early : List Step) → AllMay m (late ++ early) → AllMay m early × AllMay (after m early) late
+may_split : Laws → (m : Machine) (late early : List Step) → AllEnabled m (late ++ early) → AllEnabled m early × AllEnabled (after m early) late
 may_split laws m [] early all = (all, tt)
 may_split laws m (step ∷ late) early all =
     let rest = may_split laws m late early all.0 in
-    (rest.0, (rest.1, subst (λ (n : Machine). May n step) (laws.after m late early) all.1))
+    (rest.0, (rest.1, subst (λ (n : Machine). IsEnabled n step) (laws.after m late early) all.1))
 
 -- ---- slots are armed, or left alone
 
@@ -149,33 +149,33 @@ places_for port t = addresses_of port.0 t.task.op t.task.range.count t.frames
 module _ (laws : Laws) (port : Port) where
   -- bit by bit
   all_armed : (ts : List PlacedTask) (uses : SlotStates) (parked : ℕ → List RequestId) (bits : ℕ → Bool) (d : Device) (m : Machine) → HaveOwnSlots ts → AreUnused port.0 ts uses →
-      ((t : PlacedTask) → Contains ts t → (d.port port.0).st ≡ true) → DriverRelation m (known uses parked (bits_on sact_bits port d bits)) →
-      DriverAdvances (known uses parked (bits_on sact_bits port d bits)) m [] (known (uses_armed port.0 ts uses) parked (bits_on sact_bits port d (with_bits ts bits)))
-  all_armed [] uses parked bits d m apart free runs knows = laws.none (known uses parked (bits_on sact_bits port d bits)) m knows
+      ((t : PlacedTask) → Contains ts t → (d.port port.0).st ≡ true) → DriverRelation m (driver_state_of uses parked (bits_on sact_bits port d bits)) →
+      DriverAdvances (driver_state_of uses parked (bits_on sact_bits port d bits)) m [] (driver_state_of (uses_armed port.0 ts uses) parked (bits_on sact_bits port d (with_bits ts bits)))
+  all_armed [] uses parked bits d m apart free runs knows = laws.none (driver_state_of uses parked (bits_on sact_bits port d bits)) m knows
   all_armed (t ∷ ts) uses parked bits d m apart free runs knows =
-      let k : DriverState = known uses parked (bits_on sact_bits port d bits) in
-      let put_uses : SlotStates = put uses port.0 t.slot Armed in
+      let k : DriverState = driver_state_of uses parked (bits_on sact_bits port d bits) in
+      let put_uses : SlotStates = set_slot_state uses port.0 t.slot Armed in
       let more : ℕ → Bool = λ j. bits j || bit (own_bit t.slot) j in
-      let next : DriverState = known put_uses parked (bits_on sact_bits port d more) in
+      let next : DriverState = driver_state_of put_uses parked (bits_on sact_bits port d more) in
       let first : DriverAdvances k m [] next =
-      subst (λ (new : Device). DriverAdvances k m [] (known put_uses parked new)) (bits_more sact_bits port d bits (own_bit t.slot))
+      subst (λ (new : Device). DriverAdvances k m [] (driver_state_of put_uses parked new)) (bits_more sact_bits port d bits (own_bit t.slot))
       (laws.arms k m port t.slot (own_bit t.slot) knows (All-contains (λ x. uses port.0 x.slot ≡ Free) (t ∷ ts) t free (contains_here t ts))
       (ap (λ (p : DevicePort). p.st) (changed_here d.port port.0 (record (d.port port.0) { sact = bits })) ∙ runs t (contains_here t ts)) (own_bit_is t.slot)) in
-      let rest : DriverAdvances next m [] (known (uses_armed port.0 ts put_uses) parked (bits_on sact_bits port d (with_bits ts more))) =
+      let rest : DriverAdvances next m [] (driver_state_of (uses_armed port.0 ts put_uses) parked (bits_on sact_bits port d (with_bits ts more))) =
       all_armed ts put_uses parked more d m (rest_apart t ts apart)
       (all_in (λ x. put_uses port.0 x.slot ≡ Free) ts (λ x is.
       laws.put_others uses port.0 t.slot Armed port.0 x.slot (λ _ e. first_apart t ts apart (x, is, e)) ∙ All-contains (λ y. uses port.0 y.slot ≡ Free) (t ∷ ts) x free (contains_there t ts x is)))
-      (λ x is. runs x (contains_there t ts x is)) first.knows in
-      laws.compose k next (known (uses_armed port.0 ts put_uses) parked (bits_on sact_bits port d (with_bits ts more))) m [] [] first rest
+      (λ x is. runs x (contains_there t ts x is)) first.driver_relation in
+      laws.compose k next (driver_state_of (uses_armed port.0 ts put_uses) parked (bits_on sact_bits port d (with_bits ts more))) m [] [] first rest
 
   -- a slot's bytes say what they did, whatever bits of PxCI are set
   stored_on_bits : (d : Device) (bits : ℕ → Bool) (slot : ℕ) (c : Meaning) (places : List ℕ) → IsStored d port.0 slot c places → IsStored (bits_on ci_bits port d bits) port.0 slot c places
   stored_on_bits d bits slot c places x =
       let same : (bits_on ci_bits port d bits).port port.0 ≡ record (d.port port.0) { ci = bits } = changed_here d.port port.0 (record (d.port port.0) { ci = bits }) in
       record {
-        started = ap (λ (p : DevicePort). p.st) same ∙ x.started;
-        placed = subst (λ (p : DevicePort). HasListInPlace p port.0 slot) (sym same) (record { port_below = x.placed.port_below; slot_below = x.placed.slot_below; list = x.placed.list });
-        told = subst (λ (p : DevicePort). SlotDecodesTo d.memory p.bases.clb port.0 slot c places) (sym same) x.told;
+        st_is_set = ap (λ (p : DevicePort). p.st) same ∙ x.st_is_set;
+        list_is_in_place = subst (λ (p : DevicePort). HasListInPlace p port.0 slot) (sym same) (record { port_below = x.list_is_in_place.port_below; slot_below = x.list_is_in_place.slot_below; list = x.list_is_in_place.list });
+        slot_decodes_to = subst (λ (p : DevicePort). SlotDecodesTo d.memory p.bases.clb port.0 slot c places) (sym same) x.slot_decodes_to;
       }
 
   -- request by request
@@ -184,41 +184,41 @@ module _ (laws : Laws) (port : Port) where
     ItsTask t e = IsTaskOf port t.slot t.task t.frames mode e
 
     all_issued : (ts : List PlacedTask) (es : List Pending) (uses : SlotStates) (parked : ℕ → List RequestId) (bits : ℕ → Bool) (d : Device) (m : Machine) → AllZip ItsTask ts es → HaveOwnSlots ts →
-        IsReachable m → DriverRelation m (known uses parked (bits_on ci_bits port d bits)) → AllMay m (issues_of mode es) →
+        IsReachable m → DriverRelation m (driver_state_of uses parked (bits_on ci_bits port d bits)) → AllEnabled m (issues_of mode es) →
         ((t : PlacedTask) → Contains ts t → is_queued (meaning_of t.task).operation ≡ t.task.queued) →
         ((t : PlacedTask) → Contains ts t → IsReadied uses d port.0 t.slot (meaning_of t.task) (places_for port t)) → ((t : PlacedTask) → Contains ts t → HasBlockOf t.task.op t.task.range port.0 d.memory) →
-        DriverAdvances (known uses parked (bits_on ci_bits port d bits)) m (issues_of mode es) (known (uses_served port.0 ts es uses) parked (bits_on ci_bits port d (with_bits ts bits)))
-    all_issued [] [] uses parked bits d m zip apart reached knows may kinds readied blocks = laws.none (known uses parked (bits_on ci_bits port d bits)) m knows
+        DriverAdvances (driver_state_of uses parked (bits_on ci_bits port d bits)) m (issues_of mode es) (driver_state_of (uses_served port.0 ts es uses) parked (bits_on ci_bits port d (with_bits ts bits)))
+    all_issued [] [] uses parked bits d m zip apart reached knows may kinds readied blocks = laws.none (driver_state_of uses parked (bits_on ci_bits port d bits)) m knows
     all_issued [] (e ∷ es) uses parked bits d m zip apart reached knows may kinds readied blocks = absurd zip
     all_issued (t ∷ ts) [] uses parked bits d m zip apart reached knows may kinds readied blocks = absurd zip
     all_issued (t ∷ ts) (e ∷ es) uses parked bits d m zip apart reached knows may kinds readied blocks =
-        let k : DriverState = known uses parked (bits_on ci_bits port d bits) in
-        let put_uses : SlotStates = put uses port.0 t.slot (Serves e.request.id) in
+        let k : DriverState = driver_state_of uses parked (bits_on ci_bits port d bits) in
+        let put_uses : SlotStates = set_slot_state uses port.0 t.slot (Serves e.request.id) in
         let more : ℕ → Bool = λ j. bits j || bit (own_bit t.slot) j in
-        let next : DriverState = known put_uses parked (bits_on ci_bits port d more) in
-        let last : DriverState = known (uses_served port.0 ts es put_uses) parked (bits_on ci_bits port d (with_bits ts more)) in
+        let next : DriverState = driver_state_of put_uses parked (bits_on ci_bits port d more) in
+        let last : DriverState = driver_state_of (uses_served port.0 ts es put_uses) parked (bits_on ci_bits port d (with_bits ts more)) in
         let x : IsReadied uses d port.0 t.slot (meaning_of t.task) (places_for port t) = readied t (contains_here t ts) in
-        let z : AllMay m (Issue mode e ∷ []) × AllMay (after_step m (Issue mode e)) (issues_of mode es) = may_split laws m (issues_of mode es) (Issue mode e ∷ []) may in
+        let z : AllEnabled m (Issue mode e ∷ []) × AllEnabled (after_step m (Issue mode e)) (issues_of mode es) = may_split laws m (issues_of mode es) (Issue mode e ∷ []) may in
         let first : DriverAdvances k m (Issue mode e ∷ []) next =
-        subst (λ (new : Device). DriverAdvances k m (Issue mode e ∷ []) (known put_uses parked new)) (bits_more ci_bits port d bits (own_bit t.slot))
+        subst (λ (new : Device). DriverAdvances k m (Issue mode e ∷ []) (driver_state_of put_uses parked new)) (bits_more ci_bits port d bits (own_bit t.slot))
         (laws.issues k m port t.slot mode e (own_bit t.slot) reached knows
         (laws.prepared uses m (bits_on ci_bits port d bits) port.0 t.slot (meaning_of t.task) (places_for port t) mode e (own_bit t.slot)
-        (record { used = x.used; stored = stored_on_bits d bits t.slot (meaning_of t.task) (places_for port t) x.stored }) z.0.1 (ap (λ (q : Port). q.0) zip.0.port_is) zip.0.usable (head t e zip.0)
+        (record { slot_state_is = x.slot_state_is; stored = stored_on_bits d bits t.slot (meaning_of t.task) (places_for port t) x.stored }) z.0.1 (ap (λ (q : Port). q.0) zip.0.port_is) zip.0.slot_is_usable (head t e zip.0)
         (task_means port t.slot t.task t.frames mode e zip.0) (kind t e zip.0 (kinds t (contains_here t ts)))
-        (task_block port t.slot t.task t.frames mode e zip.0 d.memory (blocks t (contains_here t ts))) (own_bit_is t.slot).here (own_bit_is t.slot).alone)) in
+        (task_block port t.slot t.task t.frames mode e zip.0 d.memory (blocks t (contains_here t ts))) (own_bit_is t.slot).bit_is_set (own_bit_is t.slot).no_other_bit_is_set)) in
         let rest : DriverAdvances next (after_step m (Issue mode e)) (issues_of mode es) last =
-        all_issued ts es put_uses parked more d (after_step m (Issue mode e)) zip.1 (rest_apart t ts apart) (laws.acts.reached k next m (Issue mode e ∷ []) reached first) first.knows z.1
+        all_issued ts es put_uses parked more d (after_step m (Issue mode e)) zip.1 (rest_apart t ts apart) (laws.acts.reached k next m (Issue mode e ∷ []) reached first) first.driver_relation z.1
         (λ y is. kinds y (contains_there t ts y is))
         (λ y is. let old : IsReadied uses d port.0 y.slot (meaning_of y.task) (places_for port y) = readied y (contains_there t ts y is) in
-        record { used = laws.put_others uses port.0 t.slot (Serves e.request.id) port.0 y.slot (λ _ s. first_apart t ts apart (y, is, s)) ∙ old.used; stored = old.stored })
+        record { slot_state_is = laws.put_others uses port.0 t.slot (Serves e.request.id) port.0 y.slot (λ _ s. first_apart t ts apart (y, is, s)) ∙ old.slot_state_is; stored = old.stored })
         (λ y is. blocks y (contains_there t ts y is)) in
         laws.compose k next last m (Issue mode e ∷ []) (issues_of mode es) first rest
       where
         kind : (t : PlacedTask) (e : Pending) → ItsTask t e → is_queued (meaning_of t.task).operation ≡ t.task.queued → is_queued (meaning_of t.task).operation ≡ not (is_plain mode e.request.asked.op)
-        kind t e is its = its ∙ (is.kind ∙ sym (ap (λ (o : Op). not (is_plain mode o)) is.operation))
+        kind t e is its = its ∙ (is.queued_is ∙ sym (ap (λ (o : Op). not (is_plain mode o)) is.operation_is))
 
         head : (t : PlacedTask) (e : Pending) → ItsTask t e → is_plain mode e.request.asked.op ≡ true → t.slot ≡ 0
-        head t e is plain = is.head (is.kind ∙ ap not (sym (ap (is_plain mode) is.operation) ∙ plain))
+        head t e is plain = is.plain_in_slot_0 (is.queued_is ∙ ap not (sym (ap (is_plain mode) is.operation_is) ∙ plain))
 
   -- a trim's block stands still, where no command of the driver's own is in slot 0
   module _ (uses : SlotStates) (old new : Device) (low : port.0 < 4) (leaves : KeepsTables uses old new) where
@@ -233,7 +233,7 @@ module _ (laws : Laws) (port : Port) where
           id = record { 0 = 0 };
           port = port;
           asked = record { client = record { 0 = 0 }; grant = 0; op = Trim; first = range.first; count = range.count; frames = record { items = [] } };
-          held = λ k place. 0;
+          held_blocks = λ k place. 0;
         }
 
   -- ---- the whole
@@ -243,24 +243,24 @@ module _ (laws : Laws) (port : Port) where
     stores_only = batch_stores port.0 tasks
 
     mid_on : IsOn b.mid
-    mid_on = stores_on laws.leaving port (IsStoreForBatch port.0 tasks) stores_only old b.mid b.stores.driven b.on
+    mid_on = stores_on laws.leaving port (IsStoreForBatch port.0 tasks) stores_only old b.mid b.stores.is_driven b.adapter_is_on
 
     mid_may : RunsItsList port.0 b.mid
-    mid_may = stores_may laws.leaving port (IsStoreForBatch port.0 tasks) stores_only old b.mid b.stores.driven b.on b.may
+    mid_may = stores_may laws.leaving port (IsStoreForBatch port.0 tasks) stores_only old b.mid b.stores.is_driven b.adapter_is_on b.list_runs
 
     mid_there : HasPort b.mid port.0
-    mid_there = stores_there laws.leaving port (IsStoreForBatch port.0 tasks) stores_only old b.mid b.stores.driven b.there
+    mid_there = stores_there laws.leaving port (IsStoreForBatch port.0 tasks) stores_only old b.mid b.stores.is_driven b.has_port
 
     stored : (t : PlacedTask) → Contains tasks t → IsStored b.mid port.0 t.slot (meaning_of t.task) (places_for port t)
     stored t is =
-        let says = All-contains (λ x. SaysTask port.0 x b.mid.memory) tasks t b.say is in
-        stored_in port t.slot (meaning_of t.task) (places_for port t) b.mid mid_there (All-contains (λ x. x.slot < 32) tasks t b.small is) mid_may says.told
+        let says = All-contains (λ x. SaysTask port.0 x b.mid.memory) tasks t b.slots_say_tasks is in
+        stored_in port t.slot (meaning_of t.task) (places_for port t) b.mid mid_there (All-contains (λ x. x.slot < 32) tasks t b.slots_in_range is) mid_may says.slot_says_task
 
     kind : (t : PlacedTask) → Contains tasks t → is_queued (meaning_of t.task).operation ≡ t.task.queued
-    kind = λ t is. All-contains (λ x. is_queued (meaning_of x.task).operation ≡ x.task.queued) tasks t b.kind is
+    kind = λ t is. All-contains (λ x. is_queued (meaning_of x.task).operation ≡ x.task.queued) tasks t b.operation_is_queued is
 
     its_kind : (t : PlacedTask) → Contains tasks t → t.task.queued ≡ queued
-    its_kind = λ t is. All-contains (λ x. x.task.queued ≡ queued) tasks t b.kinds is
+    its_kind = λ t is. All-contains (λ x. x.task.queued ≡ queued) tasks t b.all_are_of_kind is
 
     unused : (s : DriverSlots) → AreUnused port.0 tasks s.uses → (t : PlacedTask) → Contains tasks t → s.uses port.0 t.slot ≡ Free
     unused s free t is = All-contains (λ x. s.uses port.0 x.slot ≡ Free) tasks t free is
@@ -278,19 +278,19 @@ module _ (laws : Laws) (port : Port) where
           let between : DriverState = driver_state s call.mid in
           let x : (steps : List Step) × AllByDevice steps × DriverAdvances k m steps between = laws.access k between m (laws.part k call.mid call.steps) reached knows in
           let bits : ℕ → Bool = (call.mid.port port.0).sact in
-          let y : DriverAdvances (known s.uses s.parked (bits_on sact_bits port call.mid bits)) (after m x.0) []
-          (known (uses_armed port.0 tasks s.uses) s.parked (bits_on sact_bits port call.mid (with_bits tasks bits))) =
-          all_armed tasks s.uses s.parked bits call.mid (after m x.0) b.apart free
-          (λ t is. (laws.stands s.uses m port.0 t.slot (meaning_of t.task) (places_for port t) b.mid call.mid reached knows.agrees mid_on.no_reset call.steps (stored t is)).started)
-          (subst (λ (d : Device). DriverRelation (after m x.0) (known s.uses s.parked d)) (sym (bits_begin sact_bits port call.mid)) x.2.knows) in
+          let y : DriverAdvances (driver_state_of s.uses s.parked (bits_on sact_bits port call.mid bits)) (after m x.0) []
+          (driver_state_of (uses_armed port.0 tasks s.uses) s.parked (bits_on sact_bits port call.mid (with_bits tasks bits))) =
+          all_armed tasks s.uses s.parked bits call.mid (after m x.0) b.slots_are_apart free
+          (λ t is. (laws.stands s.uses m port.0 t.slot (meaning_of t.task) (places_for port t) b.mid call.mid reached knows.state_relation mid_on.no_reset call.steps (stored t is)).st_is_set)
+          (subst (λ (d : Device). DriverRelation (after m x.0) (driver_state_of s.uses s.parked d)) (sym (bits_begin sact_bits port call.mid)) x.2.driver_relation) in
           let z : DriverAdvances between (after m x.0) [] later_armed =
-          subst (λ (d : Device). DriverAdvances between (after m x.0) [] (known (uses_armed port.0 tasks s.uses) s.parked d)) (sym (bits_written sact_bits port call.mid tasks own b.bits) ∙ sym call.effect)
-          (subst (λ (d : Device). DriverAdvances (known s.uses s.parked d) (after m x.0) [] (known (uses_armed port.0 tasks s.uses) s.parked (bits_on sact_bits port call.mid (with_bits tasks bits))))
+          subst (λ (d : Device). DriverAdvances between (after m x.0) [] (driver_state_of (uses_armed port.0 tasks s.uses) s.parked d)) (sym (bits_written sact_bits port call.mid tasks own b.bits) ∙ sym call.effect)
+          (subst (λ (d : Device). DriverAdvances (driver_state_of s.uses s.parked d) (after m x.0) [] (driver_state_of (uses_armed port.0 tasks s.uses) s.parked (bits_on sact_bits port call.mid (with_bits tasks bits))))
           (bits_begin sact_bits port call.mid) y) in
           let g : DriverAdvances k m x.0 later_armed = laws.compose k between later_armed m x.0 [] x.2 z in
-          record { steps = x.0; only = x.1; may = g.may; backed = g.backed; knows = g.knows }
+          record { steps = x.0; only = x.1; steps_are_enabled = g.steps_are_enabled; is_backed = g.is_backed; driver_relation = g.driver_relation }
 
-    armed_from : (kind : Bool) → Arms kind port own b.mid armed → (s : DriverSlots) (m : Machine) → IsReachable m → DriverRelation m (driver_state s b.mid) → AreUnused port.0 tasks s.uses →
+    armed_from : (kind : Bool) → WritesSactIfQueued kind port own b.mid armed → (s : DriverSlots) (m : Machine) → IsReachable m → DriverRelation m (driver_state s b.mid) → AreUnused port.0 tasks s.uses →
         Reaches port tasks kind (arming_of port kind own) s m b.mid armed
     armed_from true call s m reached knows free =
         let e : EndsInSteps (driver_state s b.mid) m [] (driver_state (with_armed true port tasks s) armed) = arm_ends call s m reached knows free in
@@ -300,7 +300,7 @@ module _ (laws : Laws) (port : Port) where
           done = (laws.ends (driver_state s b.mid) (driver_state (with_armed true port tasks s) armed) m (Writing (Px port Sact) own) [] e tt call, refl);
           accesses_are = refl;
           device = e.only;
-          own = λ t is. all_one (λ (a : Act). IsUnissued (a.later.uses port.0 t.slot)) act (inr (armed_here laws.put_here laws.put_others port.0 tasks s.uses b.apart t.slot (t, is, refl)));
+          own = λ t is. all_one (λ (a : Act). IsUnissued (a.later.uses port.0 t.slot)) act (inr (armed_here laws.put_here laws.put_others port.0 tasks s.uses b.slots_are_apart t.slot (t, is, refl)));
           others = λ q k other. all_one (λ (a : Act). a.later.uses q k ≡ s.uses q k) act (armed_others laws.put_here laws.put_others port.0 tasks s.uses q k other);
         }
     armed_from false same s m reached knows free = record {
@@ -312,29 +312,29 @@ module _ (laws : Laws) (port : Port) where
       others = λ q k other. All-nil (λ (a : Act). a.later.uses q k ≡ s.uses q k);
     }
 
-    armed_on : (kind : Bool) → Arms kind port own b.mid armed → IsOn armed
+    armed_on : (kind : Bool) → WritesSactIfQueued kind port own b.mid armed → IsOn armed
     armed_on true call = laws.on (Writing (Px port Sact) own) b.mid armed mid_on (λ v e. absurd cc) call
     armed_on false same = subst IsOn (sym same) mid_on
 
     on_armed : IsOn armed
     on_armed = armed_on queued b.arms
 
-    armed_same : (kind : Bool) → Arms kind port own b.mid armed → (armed.pi ≡ b.mid.pi) × (armed.cap ≡ b.mid.cap)
+    armed_same : (kind : Bool) → WritesSactIfQueued kind port own b.mid armed → (armed.pi ≡ b.mid.pi) × (armed.cap ≡ b.mid.cap)
     armed_same true call = let z = laws.same (Writing (Px port Sact) own) b.mid armed call in (z.pi, z.cap)
     armed_same false same = (ap (λ (d : Device). d.pi) same, ap (λ (d : Device). d.cap) same)
 
-    armed_runs : (kind : Bool) → Arms kind port own b.mid armed → (armed.port port.0).st ≡ true
-    armed_runs true call = ((laws.controls port (Writing (Px port Sact) own) b.mid armed mid_on.no_reset call).command (λ e. absurd cc)).0 ∙ mid_may.started
-    armed_runs false same = ap (λ (d : Device). (d.port port.0).st) same ∙ mid_may.started
+    armed_runs : (kind : Bool) → WritesSactIfQueued kind port own b.mid armed → (armed.port port.0).st ≡ true
+    armed_runs true call = ((laws.controls port (Writing (Px port Sact) own) b.mid armed mid_on.no_reset call).command (λ e. absurd cc)).0 ∙ mid_may.st_is_set
+    armed_runs false same = ap (λ (d : Device). (d.port port.0).st) same ∙ mid_may.st_is_set
 
-    armed_stored : (kind : Bool) → Arms kind port own b.mid armed → (uses : SlotStates) (m : Machine) → IsReachable m → StateRelation uses m b.mid → (t : PlacedTask) → Contains tasks t →
+    armed_stored : (kind : Bool) → WritesSactIfQueued kind port own b.mid armed → (uses : SlotStates) (m : Machine) → IsReachable m → StateRelation uses m b.mid → (t : PlacedTask) → Contains tasks t →
         IsStored armed port.0 t.slot (meaning_of t.task) (places_for port t)
     armed_stored true call uses m reached agrees t is =
         laws.stays uses m port t.slot (meaning_of t.task) (places_for port t) (Writing (Px port Sact) own) b.mid armed reached agrees mid_on.no_reset (λ v e. absurd cc) (λ e. absurd cc) (λ at bytes e. absurd cc) call (stored t is)
     armed_stored false same uses m reached agrees t is = subst (λ (d : Device). IsStored d port.0 t.slot (meaning_of t.task) (places_for port t)) (sym same) (stored t is)
 
     armed_used : (kind : Bool) (s : DriverSlots) → AreUnused port.0 tasks s.uses → (t : PlacedTask) → Contains tasks t → (with_armed kind port tasks s).uses port.0 t.slot ≡ unused_use kind
-    armed_used true s free t is = armed_here laws.put_here laws.put_others port.0 tasks s.uses b.apart t.slot (t, is, refl)
+    armed_used true s free t is = armed_here laws.put_here laws.put_others port.0 tasks s.uses b.slots_are_apart t.slot (t, is, refl)
     armed_used false s free t is = unused s free t is
 
     -- a trim isn't queued, so its slot 0 is free
@@ -342,14 +342,14 @@ module _ (laws : Laws) (port : Port) where
     trim_free s free t is trim =
         let plain : t.task.queued ≡ false = sym (kind t is) ∙ ap (λ (o : Op). is_queued (task_operation t.task.queued o)) trim ∙ never t.task.queued in
         ap (λ (q : Bool). (with_armed q port tasks s).uses port.0 0) (sym (its_kind t is) ∙ plain)
-        ∙ (ap (s.uses port.0) (sym (All-contains (λ x. x.task.op ≡ Trim → x.slot ≡ 0) tasks t b.head is trim)) ∙ unused s free t is)
+        ∙ (ap (s.uses port.0) (sym (All-contains (λ x. x.task.op ≡ Trim → x.slot ≡ 0) tasks t b.trim_in_slot_0 is trim)) ∙ unused s free t is)
       where
         never : (q : Bool) → is_queued (task_operation q Trim) ≡ false
         never true = refl
         never false = refl
 
     -- a queued task has no block, and a plain one's is as it was
-    armed_block : (kind : Bool) → Arms kind port own b.mid armed → kind ≡ queued → (t : PlacedTask) → Contains tasks t → (op : Op) → t.task.op ≡ op → HasBlockOf op t.task.range port.0 b.mid.memory → HasBlockOf op t.task.range port.0 armed.memory
+    armed_block : (kind : Bool) → WritesSactIfQueued kind port own b.mid armed → kind ≡ queued → (t : PlacedTask) → Contains tasks t → (op : Op) → t.task.op ≡ op → HasBlockOf op t.task.range port.0 b.mid.memory → HasBlockOf op t.task.range port.0 armed.memory
     armed_block true call is_kind t is Trim trim block =
         absurd (let z : true ≡ false = is_kind ∙ sym (its_kind t is) ∙ sym (kind t is) ∙ ap (λ (o : Op). is_queued (task_operation t.task.queued o)) trim ∙ never t.task.queued in cc)
       where
@@ -362,11 +362,11 @@ module _ (laws : Laws) (port : Port) where
     armed_block kind call is_kind t is Flush e block = tt
 
     block_then : (t : PlacedTask) → Contains tasks t → HasBlockOf t.task.op t.task.range port.0 armed.memory
-    block_then t is = let says = All-contains (λ x. SaysTask port.0 x b.mid.memory) tasks t b.say is in armed_block queued b.arms refl t is t.task.op refl says.block
+    block_then t is = let says = All-contains (λ x. SaysTask port.0 x b.mid.memory) tasks t b.slots_say_tasks is in armed_block queued b.arms refl t is t.task.op refl says.block_names_sectors
 
     -- from a machine that agrees, acts lead to the armed slots, which are ready for PxCI
     record Stage (s : DriverSlots) (m : Machine) : Type 0 where
-      reaches : Reaches port tasks queued (b.stores.driven.accesses ++ arming_of port queued own) s m old armed
+      reaches : Reaches port tasks queued (b.stores.is_driven.accesses ++ arming_of port queued own) s m old armed
       goes : DriverAdvances (driver_state s old) m (act_steps reaches.acts) (driver_state (with_armed queued port tasks s) armed)
       reached : IsReachable (after m (act_steps reaches.acts))
       readied : (t : PlacedTask) → Contains tasks t → IsReadied (with_armed queued port tasks s).uses armed port.0 t.slot (meaning_of t.task) (places_for port t)
@@ -377,27 +377,27 @@ module _ (laws : Laws) (port : Port) where
         later : DriverState
         later = driver_state (with_armed queued port tasks s) armed
 
-        x : ActsReach b.stores.driven.accesses (driver_state s old) m (driver_state s b.mid) (OnlyDeviceActs (IsStoreForBatch port.0 tasks) s.uses)
-        x = b.stores.comes s m reached knows free
+        x : ActsReach b.stores.is_driven.accesses (driver_state s old) m (driver_state s b.mid) (OnlyDeviceActs (IsStoreForBatch port.0 tasks) s.uses)
+        x = b.stores.acts_reach s m reached knows free
 
         g : DriverAdvances (driver_state s old) m (act_steps x.acts) (driver_state s b.mid)
-        g = laws.acts.goes x.acts (driver_state s old) (driver_state s b.mid) m knows x.done
+        g = laws.acts.goes x.acts (driver_state s old) (driver_state s b.mid) m knows x.acts_are_done
 
         mid_reached : IsReachable (after m (act_steps x.acts))
         mid_reached = laws.acts.reached (driver_state s old) (driver_state s b.mid) m (act_steps x.acts) reached g
 
         y : Reaches port tasks queued (arming_of port queued own) s (after m (act_steps x.acts)) b.mid armed
-        y = armed_from queued b.arms s (after m (act_steps x.acts)) mid_reached g.knows free
+        y = armed_from queued b.arms s (after m (act_steps x.acts)) mid_reached g.driver_relation free
 
         kept : (q : Port) → All (λ act. act.later.uses q.0 ≡ s.uses q.0) x.acts
         kept q = x.tells.kept q (λ access is. storing_writes_none (Px q Ci) access (stores_only access is)) (λ access is. storing_writes_none (Px q Sact) access (stores_only access is))
 
-        reaches : Reaches port tasks queued (b.stores.driven.accesses ++ arming_of port queued own) s m old armed
+        reaches : Reaches port tasks queued (b.stores.is_driven.accesses ++ arming_of port queued own) s m old armed
         reaches = record {
           acts = x.acts ++ y.acts;
-          done = laws.acts.more x.acts y.acts (driver_state s old) (driver_state s b.mid) later m x.done y.done;
+          done = laws.acts.more x.acts y.acts (driver_state s old) (driver_state s b.mid) later m x.acts_are_done y.done;
           accesses_are = laws.acts.accesses x.acts y.acts
-              ∙ (ap (λ (early : List Access). early ++ accesses_of y.acts) x.accesses_are ∙ ap (λ (late : List Access). b.stores.driven.accesses ++ late) y.accesses_are);
+              ∙ (ap (λ (early : List Access). early ++ accesses_of y.acts) x.accesses_are ∙ ap (λ (late : List Access). b.stores.is_driven.accesses ++ late) y.accesses_are);
           device = subst AllByDevice (sym (laws.acts.steps x.acts y.acts)) (laws.acts.device (act_steps y.acts) (act_steps x.acts) y.device x.tells.only);
           own = λ t is. let P : Act → Type 0 = λ act. IsUnissued (act.later.uses port.0 t.slot) in
               All-append P x.acts y.acts
@@ -413,28 +413,28 @@ module _ (laws : Laws) (port : Port) where
 
         readied : (t : PlacedTask) → Contains tasks t → IsReadied (with_armed queued port tasks s).uses armed port.0 t.slot (meaning_of t.task) (places_for port t)
         readied t is = record {
-          used = armed_used queued s free t is ∙ sym (use_of queued (is_queued (meaning_of t.task).operation) (kind t is ∙ its_kind t is));
-          stored = armed_stored queued b.arms s.uses (after m (act_steps x.acts)) mid_reached g.knows.agrees t is;
+          slot_state_is = armed_used queued s free t is ∙ sym (use_of queued (is_queued (meaning_of t.task).operation) (kind t is ∙ its_kind t is));
+          stored = armed_stored queued b.arms s.uses (after m (act_steps x.acts)) mid_reached g.driver_relation.state_relation t is;
         }
 
     -- the machine that the caller knows of
     abbrev s0 : DriverSlots
-    s0 = record { uses = b.agreed.0; parked = b.agreed.2.parked }
+    s0 = record { uses = b.machine_is_related.0; parked = b.machine_is_related.2.parked }
 
-    known_stage : Stage s0 b.agreed.2.machine
-    known_stage = stage s0 b.agreed.2.machine b.agreed.2.reached b.agreed.2.knows b.agreed.1
+    known_stage : Stage s0 b.machine_is_related.2.machine
+    known_stage = stage s0 b.machine_is_related.2.machine b.machine_is_related.2.reached b.machine_is_related.2.driver_relation b.machine_is_related.1
 
     permitted : IsStable (MayWrite (Px port Ci) own) armed
     permitted =
         let x = known_stage in
         let same = armed_same queued b.arms in
-        let whole = stores_same laws.leaving port (IsStoreForBatch port.0 tasks) stores_only old b.mid b.stores.driven in
-        laws.permitted (with_armed queued port tasks s0).uses (after b.agreed.2.machine (act_steps x.reaches.acts)) armed port own x.reached x.goes.knows.agrees on_armed
-        (b.there.0, ap (λ (pi : ℕ). bit pi port.0) (same.0 ∙ whole.pi) ∙ b.there.1) (armed_runs queued b.arms)
+        let whole = stores_same laws.leaving port (IsStoreForBatch port.0 tasks) stores_only old b.mid b.stores.is_driven in
+        laws.permitted (with_armed queued port tasks s0).uses (after b.machine_is_related.2.machine (act_steps x.reaches.acts)) armed port own x.reached x.goes.driver_relation.state_relation on_armed
+        (b.has_port.0, ap (λ (pi : ℕ). bit pi port.0) (same.0 ∙ whole.pi) ∙ b.has_port.1) (armed_runs queued b.arms)
         (λ slot set.
-        let t : IsSlotOf tasks slot = b.bits.alone slot set in
+        let t : IsSlotOf tasks slot = b.bits.no_other_is_set slot set in
         subst (IsReadyToIssue (with_armed queued port tasks s0).uses armed port.0) t.2 (record {
-          usable = subst (λ (cap : ℕ). t.0.slot ≤ cap / 256 % 32) (sym (same.1 ∙ whole.cap)) (All-contains (λ z. z.slot ≤ old.cap / 256 % 32) tasks t.0 b.usable t.1);
+          usable = subst (λ (cap : ℕ). t.0.slot ≤ cap / 256 % 32) (sym (same.1 ∙ whole.cap)) (All-contains (λ z. z.slot ≤ old.cap / 256 % 32) tasks t.0 b.slots_are_usable t.1);
           command = meaning_of t.0.task;
           places = places_for port t.0;
           readied = x.readied t.0 t.1;
@@ -443,7 +443,7 @@ module _ (laws : Laws) (port : Port) where
     -- ---- PxCI is written
 
     module _ (new : Device) (call : Writes (Px port Ci) own armed new) where
-      arming_does : (kind : Bool) → Arms kind port own b.mid armed → DoesAll (arming_of port kind own) b.mid armed
+      arming_does : (kind : Bool) → WritesSactIfQueued kind port own b.mid armed → DoesAll (arming_of port kind own) b.mid armed
       arming_does true arms = (armed, arms, refl)
       arming_does false arms = arms
 
@@ -452,25 +452,25 @@ module _ (laws : Laws) (port : Port) where
       arming_only false = All-nil (IsBatchAccess port)
 
       is_issuing : (access : Access) → IsStoreForBatch port.0 tasks access → IsBatchAccess port access
-      is_issuing (Storing at bytes) here = (here.0.slot, All-contains (λ x. x.slot < 32) tasks here.0 b.small here.1, store_for here.0.task.op port.0 here.0.slot (Storing at bytes) here.2)
+      is_issuing (Storing at bytes) here = (here.0.slot, All-contains (λ x. x.slot < 32) tasks here.0 b.slots_in_range here.1, store_for here.0.task.op port.0 here.0.slot (Storing at bytes) here.2)
       is_issuing (Reading q v) here = absurd (stores_only (Reading q v) here)
       is_issuing (Writing q v) here = absurd (stores_only (Writing q v) here)
       is_issuing (Loading at bytes) here = absurd (stores_only (Loading at bytes) here)
 
       abbrev accesses : List Access
-      accesses = (b.stores.driven.accesses ++ arming_of port queued own) ++ Writing (Px port Ci) own ∷ []
+      accesses = (b.stores.is_driven.accesses ++ arming_of port queued own) ++ Writing (Px port Ci) own ∷ []
 
       driven_only : All (IsBatchAccess port) accesses
       driven_only =
           let P : Access → Type 0 = IsBatchAccess port in
-          All-append P (b.stores.driven.accesses ++ arming_of port queued own) (Writing (Px port Ci) own ∷ [])
-          (All-append P b.stores.driven.accesses (arming_of port queued own) (all_as (IsStoreForBatch port.0 tasks) P is_issuing b.stores.driven.accesses b.stores.driven.only) (arming_only queued))
+          All-append P (b.stores.is_driven.accesses ++ arming_of port queued own) (Writing (Px port Ci) own ∷ [])
+          (All-append P b.stores.is_driven.accesses (arming_of port queued own) (all_as (IsStoreForBatch port.0 tasks) P is_issuing b.stores.is_driven.accesses b.stores.is_driven.accesses_are_of_kind) (arming_only queued))
           (all_one P (Writing (Px port Ci) own) (inr refl))
 
       driven_all : DoesAll accesses old new
       driven_all =
-          does_then (b.stores.driven.accesses ++ arming_of port queued own) (Writing (Px port Ci) own ∷ []) old armed new
-          (does_then b.stores.driven.accesses (arming_of port queued own) old b.mid armed b.stores.driven.all (arming_does queued b.arms)) (new, call, refl)
+          does_then (b.stores.is_driven.accesses ++ arming_of port queued own) (Writing (Px port Ci) own ∷ []) old armed new
+          (does_then b.stores.is_driven.accesses (arming_of port queued own) old b.mid armed b.stores.is_driven.all_are_done (arming_does queued b.arms)) (new, call, refl)
 
       writes_are : (kind : Bool) → arming_of port kind own ++ Writing (Px port Ci) own ∷ [] ≡ issuing_writes port kind own
       writes_are true = refl
@@ -478,12 +478,12 @@ module _ (laws : Laws) (port : Port) where
 
       in_order : StoresThenWritesAll port queued tasks accesses
       in_order = record {
-        stores = b.stores.driven.accesses;
-        only = b.stores.driven.only;
+        stores = b.stores.is_driven.accesses;
+        only = b.stores.is_driven.accesses_are_of_kind;
         mask = own;
         bits = b.bits;
-        order = append_assoc b.stores.driven.accesses (arming_of port queued own) (Writing (Px port Ci) own ∷ [])
-            ∙ ap (λ (late : List Access). b.stores.driven.accesses ++ late) (writes_are queued);
+        order = append_assoc b.stores.is_driven.accesses (arming_of port queued own) (Writing (Px port Ci) own ∷ [])
+            ∙ ap (λ (late : List Access). b.stores.is_driven.accesses ++ late) (writes_are queued);
       }
 
       -- ---- from a machine on which the requests may be issued
@@ -495,7 +495,7 @@ module _ (laws : Laws) (port : Port) where
         serves_as false s = serving_batch_is port tasks es s
 
         -- the write of PxCI
-        module _ (s : DriverSlots) (m : Machine) (reached : IsReachable m) (knows : DriverRelation m (driver_state s armed)) (may : AllMay m (issues_of mode es))
+        module _ (s : DriverSlots) (m : Machine) (reached : IsReachable m) (knows : DriverRelation m (driver_state s armed)) (may : AllEnabled m (issues_of mode es))
             (readied : (t : PlacedTask) → Contains tasks t → IsReadied s.uses armed port.0 t.slot (meaning_of t.task) (places_for port t)) (trims : (t : PlacedTask) → Contains tasks t → t.task.op ≡ Trim → s.uses port.0 0 ≡ Free) where
           abbrev k : DriverState
           k = driver_state s armed
@@ -504,48 +504,48 @@ module _ (laws : Laws) (port : Port) where
           between = driver_state s call.mid
 
           abbrev served : DriverState
-          served = known (uses_served port.0 tasks es s.uses) s.parked new
+          served = driver_state_of (uses_served port.0 tasks es s.uses) s.parked new
 
           issue_ends : EndsInSteps k m (issues_of mode es) served
           issue_ends =
               let x : (steps : List Step) × AllByDevice steps × DriverAdvances k m steps between = laws.access k between m (laws.part k call.mid call.steps) reached knows in
               let bits : ℕ → Bool = (call.mid.port port.0).ci in
-              let leaves : KeepsTables s.uses armed call.mid = laws.leaves_steps s.uses m armed call.mid reached knows.agrees on_armed.no_reset call.steps in
-              let y : DriverAdvances (known s.uses s.parked (bits_on ci_bits port call.mid bits)) (after m x.0) (issues_of mode es)
-              (known (uses_served port.0 tasks es s.uses) s.parked (bits_on ci_bits port call.mid (with_bits tasks bits))) =
-              all_issued mode tasks es s.uses s.parked bits call.mid (after m x.0) zip b.apart (laws.acts.reached k between m x.0 reached x.2)
-              (subst (λ (d : Device). DriverRelation (after m x.0) (known s.uses s.parked d)) (sym (bits_begin ci_bits port call.mid)) x.2.knows)
-              (laws.due m x.0 reached x.1 x.2.may (issues_of mode es) (only_issues mode es) may) kind
+              let leaves : KeepsTables s.uses armed call.mid = laws.leaves_steps s.uses m armed call.mid reached knows.state_relation on_armed.no_reset call.steps in
+              let y : DriverAdvances (driver_state_of s.uses s.parked (bits_on ci_bits port call.mid bits)) (after m x.0) (issues_of mode es)
+              (driver_state_of (uses_served port.0 tasks es s.uses) s.parked (bits_on ci_bits port call.mid (with_bits tasks bits))) =
+              all_issued mode tasks es s.uses s.parked bits call.mid (after m x.0) zip b.slots_are_apart (laws.acts.reached k between m x.0 reached x.2)
+              (subst (λ (d : Device). DriverRelation (after m x.0) (driver_state_of s.uses s.parked d)) (sym (bits_begin ci_bits port call.mid)) x.2.driver_relation)
+              (laws.due m x.0 reached x.1 x.2.steps_are_enabled (issues_of mode es) (only_issues mode es) may) kind
               (λ t is. record {
-                used = (readied t is).used;
-                stored = laws.stands s.uses m port.0 t.slot (meaning_of t.task) (places_for port t) armed call.mid reached knows.agrees on_armed.no_reset call.steps (readied t is).stored;
+                slot_state_is = (readied t is).slot_state_is;
+                stored = laws.stands s.uses m port.0 t.slot (meaning_of t.task) (places_for port t) armed call.mid reached knows.state_relation on_armed.no_reset call.steps (readied t is).stored;
               })
-              (λ t is. block_stays s.uses armed call.mid b.there.0 leaves t.task.op t.task.range (trims t is) (block_then t is)) in
+              (λ t is. block_stays s.uses armed call.mid b.has_port.0 leaves t.task.op t.task.range (trims t is) (block_then t is)) in
               let z : DriverAdvances between (after m x.0) (issues_of mode es) served =
-              subst (λ (d : Device). DriverAdvances between (after m x.0) (issues_of mode es) (known (uses_served port.0 tasks es s.uses) s.parked d)) (sym (bits_written ci_bits port call.mid tasks own b.bits) ∙ sym call.effect)
-              (subst (λ (d : Device). DriverAdvances (known s.uses s.parked d) (after m x.0) (issues_of mode es) (known (uses_served port.0 tasks es s.uses) s.parked (bits_on ci_bits port call.mid (with_bits tasks bits))))
+              subst (λ (d : Device). DriverAdvances between (after m x.0) (issues_of mode es) (driver_state_of (uses_served port.0 tasks es s.uses) s.parked d)) (sym (bits_written ci_bits port call.mid tasks own b.bits) ∙ sym call.effect)
+              (subst (λ (d : Device). DriverAdvances (driver_state_of s.uses s.parked d) (after m x.0) (issues_of mode es) (driver_state_of (uses_served port.0 tasks es s.uses) s.parked (bits_on ci_bits port call.mid (with_bits tasks bits))))
               (bits_begin ci_bits port call.mid) y) in
               let g : DriverAdvances k m (issues_of mode es ++ x.0) served = laws.compose k between served m x.0 (issues_of mode es) x.2 z in
-              record { steps = x.0; only = x.1; may = g.may; backed = g.backed; knows = g.knows }
+              record { steps = x.0; only = x.1; steps_are_enabled = g.steps_are_enabled; is_backed = g.is_backed; driver_relation = g.driver_relation }
 
         comes : (s : DriverSlots) (m : Machine) → IsReachable m → DriverRelation m (driver_state s old) → MayServeBatch port tasks mode es s m →
             ActsReach accesses (driver_state s old) m (driver_state (with_serving_batch port tasks es s) new) (IssuesBatchAtEnd port tasks mode es s.uses)
         comes s m reached knows fits = record {
           acts = x.reaches.acts ++ act ∷ [];
-          done = laws.acts.more x.reaches.acts (act ∷ []) (driver_state s old) before later m x.reaches.done (last, refl);
+          acts_are_done = laws.acts.more x.reaches.acts (act ∷ []) (driver_state s old) before later m x.reaches.done (last, refl);
           accesses_are = laws.acts.accesses x.reaches.acts (act ∷ []) ∙ ap (λ (early : List Access). early ++ Writing (Px port Ci) own ∷ []) x.reaches.accesses_are;
           tells = record {
-            before = ends.steps ++ act_steps x.reaches.acts;
-            once = (x.reaches.acts, act, refl, x.reaches.device);
-            device = laws.acts.device ends.steps (act_steps x.reaches.acts) ends.only x.reaches.device;
-            last = laws.acts.steps x.reaches.acts (act ∷ []) ∙ append_assoc (issues_of mode es) ends.steps (act_steps x.reaches.acts);
-            own = zip_as (λ t e. uses_served port.0 tasks es s.uses port.0 t.slot ≡ Serves e.request.id) (λ t e. All (λ a. IsBeingIssued e.request.id (a.later.uses port.0 t.slot)) (x.reaches.acts ++ act ∷ [])) tasks es
+            device_steps = ends.steps ++ act_steps x.reaches.acts;
+            last_act_issues = (x.reaches.acts, act, refl, x.reaches.device);
+            only_device_before = laws.acts.device ends.steps (act_steps x.reaches.acts) ends.only x.reaches.device;
+            issues_come_last = laws.acts.steps x.reaches.acts (act ∷ []) ∙ append_assoc (issues_of mode es) ends.steps (act_steps x.reaches.acts);
+            own_slots_are = zip_as (λ t e. uses_served port.0 tasks es s.uses port.0 t.slot ≡ Serves e.request.id) (λ t e. All (λ a. IsBeingIssued e.request.id (a.later.uses port.0 t.slot)) (x.reaches.acts ++ act ∷ [])) tasks es
                 (λ t e is serves. let P : Act → Type 0 = λ a. IsBeingIssued e.request.id (a.later.uses port.0 t.slot) in
                 All-append P x.reaches.acts (act ∷ [])
                 (all_as (λ a. IsUnissued (a.later.uses port.0 t.slot)) P (λ a u. ⊎_elim (λ free. inl free) (λ is_armed. inr (inl is_armed)) u) x.reaches.acts (x.reaches.own t is))
                 (all_one P act (inr (inr (ap (λ (z : DriverSlots). z.uses port.0 t.slot) (sym (serving_batch_is port tasks es s)) ∙ serves)))))
-                (served_here laws.put_here laws.put_others port.0 (ItsTask mode) tasks es s.uses b.apart zip);
-            others = λ q k other. let P : Act → Type 0 = λ a. a.later.uses q k ≡ s.uses q k in
+                (served_here laws.put_here laws.put_others port.0 (ItsTask mode) tasks es s.uses b.slots_are_apart zip);
+            other_slots_are_kept = λ q k other. let P : Act → Type 0 = λ a. a.later.uses q k ≡ s.uses q k in
                 All-append P x.reaches.acts (act ∷ []) (x.reaches.others q k other)
                 (all_one P act (ap (λ (z : DriverSlots). z.uses q k) (sym (serving_batch_is port tasks es s)) ∙ served_others laws.put_here laws.put_others port.0 tasks es s.uses q k other));
           };
@@ -558,17 +558,17 @@ module _ (laws : Laws) (port : Port) where
             later = driver_state (with_serving_batch port tasks es s) new
 
             x : Stage s m
-            x = stage s m reached knows fits.free
+            x = stage s m reached knows fits.slots_are_free
 
             m2 : Machine
             m2 = after m (act_steps x.reaches.acts)
 
-            may2 : AllMay m2 (issues_of mode es)
-            may2 = laws.due m (act_steps x.reaches.acts) reached x.reaches.device x.goes.may (issues_of mode es) (only_issues mode es) fits.may
+            may2 : AllEnabled m2 (issues_of mode es)
+            may2 = laws.due m (act_steps x.reaches.acts) reached x.reaches.device x.goes.steps_are_enabled (issues_of mode es) (only_issues mode es) fits.may_be_issued
 
             ends : EndsInSteps before m2 (issues_of mode es) later
             ends = subst (λ (z : DriverSlots). EndsInSteps before m2 (issues_of mode es) (driver_state z new)) (serves_as queued s)
-                (issue_ends (with_armed queued port tasks s) m2 x.reached x.goes.knows may2 x.readied (trim_free s fits.free))
+                (issue_ends (with_armed queued port tasks s) m2 x.reached x.goes.driver_relation may2 x.readied (trim_free s fits.slots_are_free))
 
             act : Act
             act = record { access = Some (Writing (Px port Ci) own); steps = issues_of mode es ++ ends.steps; later = later }
@@ -582,50 +582,50 @@ module _ (laws : Laws) (port : Port) where
       uses0 = (with_armed queued port tasks s0).uses
 
       abbrev m0 : Machine
-      m0 = after b.agreed.2.machine (act_steps known_stage.reaches.acts)
+      m0 = after b.machine_is_related.2.machine (act_steps known_stage.reaches.acts)
 
       set : (t : PlacedTask) → Contains tasks t → (new.port port.0).ci t.slot ≡ true
       set t is = ap (λ (d : Device). (d.port port.0).ci t.slot) call.effect
           ∙ (ap (λ (p : DevicePort). p.ci t.slot) (changed_here call.mid.port port.0 _)
-          ∙ or_right ((call.mid.port port.0).ci t.slot) (bit own t.slot) (All-contains (λ x. bit own x.slot ≡ true) tasks t b.bits.here is))
+          ∙ or_right ((call.mid.port port.0).ci t.slot) (bit own t.slot) (All-contains (λ x. bit own x.slot ≡ true) tasks t b.bits.slots_are_set is))
 
       stored_then : (t : PlacedTask) → Contains tasks t → IsStored new port.0 t.slot (meaning_of t.task) (places_for port t)
       stored_then t is =
-          laws.stays uses0 m0 port t.slot (meaning_of t.task) (places_for port t) (Writing (Px port Ci) own) armed new known_stage.reached known_stage.goes.knows.agrees on_armed.no_reset
+          laws.stays uses0 m0 port t.slot (meaning_of t.task) (places_for port t) (Writing (Px port Ci) own) armed new known_stage.reached known_stage.goes.driver_relation.state_relation on_armed.no_reset
           (λ v e. absurd cc) (λ e. absurd cc) (λ at bytes e. absurd cc) call (known_stage.readied t is).stored
 
       block_new : (t : PlacedTask) → Contains tasks t → HasBlockOf t.task.op t.task.range port.0 new.memory
       block_new t is =
-          block_stays uses0 armed new b.there.0 (laws.leaves uses0 m0 armed new known_stage.reached known_stage.goes.knows.agrees on_armed.no_reset (Px port Ci) own call) t.task.op t.task.range
-          (trim_free s0 b.agreed.1 t is) (block_then t is)
+          block_stays uses0 armed new b.has_port.0 (laws.leaves uses0 m0 armed new known_stage.reached known_stage.goes.driver_relation.state_relation on_armed.no_reset (Px port Ci) own call) t.task.op t.task.range
+          (trim_free s0 b.machine_is_related.1 t is) (block_then t is)
 
       -- an armed slot's bit of PxSACT goes as ST does
       active : (t : PlacedTask) → Contains tasks t → t.task.queued ≡ true → (new.port port.0).sact t.slot ≡ true
       active t is its_queued =
-          let f : SimulatesSteps uses0 m0 armed call.mid = laws.follows uses0 m0 armed call.mid known_stage.reached known_stage.goes.knows.agrees call.steps in
-          let used : uses0 port.0 t.slot ≡ Armed = (known_stage.readied t is).used ∙ cond-true (is_queued (meaning_of t.task).operation) Armed Free (kind t is ∙ its_queued) in
-          let h : IsArmed (call.mid.port port.0) t.slot = subst (λ (u : SlotState). RelatesSlot (after m0 f.steps) call.mid.memory call.mid.tape (call.mid.port port.0) port.0 t.slot u) used (f.agrees.slot port.0 t.slot) in
+          let f : SimulatesSteps uses0 m0 armed call.mid = laws.follows uses0 m0 armed call.mid known_stage.reached known_stage.goes.driver_relation.state_relation call.steps in
+          let used : uses0 port.0 t.slot ≡ Armed = (known_stage.readied t is).slot_state_is ∙ cond-true (is_queued (meaning_of t.task).operation) Armed Free (kind t is ∙ its_queued) in
+          let h : IsArmed (call.mid.port port.0) t.slot = subst (λ (u : SlotState). RelatesSlot (after m0 f.steps) call.mid.memory call.mid.tape (call.mid.port port.0) port.0 t.slot u) used (f.agrees.relates_slots port.0 t.slot) in
           ap (λ (d : Device). (d.port port.0).sact t.slot) call.effect
           ∙ (ap (λ (p : DevicePort). p.sact t.slot) (changed_here call.mid.port port.0 _)
           ∙ (h.armed
-          ∙ (sym (ap (λ (d : Device). (d.port port.0).st) call.effect ∙ ap (λ (p : DevicePort). p.st) (changed_here call.mid.port port.0 _)) ∙ (stored_then t is).started)))
+          ∙ (sym (ap (λ (d : Device). (d.port port.0).st) call.effect ∙ ap (λ (p : DevicePort). p.st) (changed_here call.mid.port port.0 _)) ∙ (stored_then t is).st_is_set)))
 
       issued : IsBatchIssued port tasks old new
       issued = record {
-        on = laws.on (Writing (Px port Ci) own) armed new on_armed (λ v e. absurd cc) call;
+        adapter_is_on = laws.on (Writing (Px port Ci) own) armed new on_armed (λ v e. absurd cc) call;
         issues = record {
           queued = queued;
-          kinds = b.kinds;
-          small = b.small;
-          apart = b.apart;
-          driven = record { accesses = accesses; all = driven_all; only = driven_only };
+          all_are_of_kind = b.all_are_of_kind;
+          slots_in_range = b.slots_in_range;
+          slots_are_apart = b.slots_are_apart;
+          driven = record { accesses = accesses; all_are_done = driven_all; accesses_are_of_kind = driven_only };
           order = in_order;
-          comes = λ mode es zip. comes mode es zip;
+          machine_follows = λ mode es zip. comes mode es zip;
         };
         stored = all_in (λ t. IsStored new port.0 t.slot (meaning_of t.task) (places_for port t)) tasks stored_then;
-        block = all_in (λ t. HasBlockOf t.task.op t.task.range port.0 new.memory) tasks block_new;
-        set = all_in (λ t. (new.port port.0).ci t.slot ≡ true) tasks set;
-        active = all_in (λ t. t.task.queued ≡ true → (new.port port.0).sact t.slot ≡ true) tasks active;
+        block_names_sectors = all_in (λ t. HasBlockOf t.task.op t.task.range port.0 new.memory) tasks block_new;
+        ci_is_set = all_in (λ t. (new.port port.0).ci t.slot ≡ true) tasks set;
+        sact_is_set = all_in (λ t. t.task.queued ≡ true → (new.port port.0).sact t.slot ≡ true) tasks active;
       }
 
     pub leads : IsStable (MayWrite (Px port Ci) own) armed × ((new : Device) → Writes (Px port Ci) own armed new → IsBatchIssued port tasks old new)

@@ -11,14 +11,14 @@ use Rattle.adapter.specs.Access.{Access}
 use Rattle.adapter.specs.Access.Access.{Reading, Writing, Loading, Storing}
 use Rattle.adapter.specs.Device.{Device}
 use Rattle.adapter.specs.declared.command.Operation.{Operation}
-use Rattle.block_machine.specs.Events.{AllMay}
+use Rattle.block_machine.specs.Events.{AllEnabled}
 use Rattle.block_machine.specs.Histories.{IsReachable}
 use Rattle.block_machine.specs.Expected.{after}
 use Rattle.block_machine.specs.State.{Machine, Pending}
 use Rattle.block_machine.specs.Steps.{Step}
 use Rattle.block_machine.specs.declared.due.QueueMode.{QueueMode}
 use Rattle.refinement.specs.Acts.{Act, AreActsDone, ActsReach, DriverSlots, driver_state, act_steps}
-use Rattle.refinement.specs.Driven.{AnyUse, IsSimulated, SparesOtherPorts, GainsNoMove}
+use Rattle.refinement.specs.Fragments.{AnyUse, IsSimulated, SparesOtherPorts, GainsNoMove}
 use Rattle.refinement.specs.Driver.{EndsInSteps, DriverAdvances, IsBacked, DriverState, DriverRelation}
 use Rattle.refinement.specs.Slots.{Own, SlotState, op_of}
 use Rattle.commands.specs.Masks.{ReadsDone, ReadsCiOrSact}
@@ -67,34 +67,34 @@ module _ (laws : Laws) (port : Port) (tasks : List PlacedTask) (mode : QueueMode
 
   x : ActsReach i.driven.accesses (driver_state s old) m later (IssuesBatchAtEnd port tasks mode es s.uses)
   unfolding later
-  x = i.comes mode es is s m reached knows fits
+  x = i.machine_follows mode es is s m reached knows fits
 
   g : DriverAdvances (driver_state s old) m (act_steps x.acts) later
-  g = laws.goes x.acts (driver_state s old) later m knows x.done
+  g = laws.goes x.acts (driver_state s old) later m knows x.acts_are_done
 
   pub ends : EndsInSteps (driver_state s old) m (issues_of mode es) (driver_state (with_serving_batch port tasks es s) new)
   unfolding later
   ends = record {
-    steps = x.tells.before;
-    only = x.tells.device;
-    may = subst (λ (steps : List Step). AllMay m steps) x.tells.last g.may;
-    backed = subst (λ (steps : List Step). IsBacked old new m steps) x.tells.last g.backed;
-    knows = subst (λ (steps : List Step). DriverRelation (after m steps) later) x.tells.last g.knows;
+    steps = x.tells.device_steps;
+    only = x.tells.only_device_before;
+    steps_are_enabled = subst (λ (steps : List Step). AllEnabled m steps) x.tells.issues_come_last g.steps_are_enabled;
+    is_backed = subst (λ (steps : List Step). IsBacked old new m steps) x.tells.issues_come_last g.is_backed;
+    driver_relation = subst (λ (steps : List Step). DriverRelation (after m steps) later) x.tells.issues_come_last g.driver_relation;
   }
 
   pub silent : (q : ℕ) (o : Operation) → op_of o ≡ None → (s.uses q 0 ≡ Own o → ⊥) → GainsNoMove q o old new
   unfolding later
-  silent q o own not = laws.silent x.acts (driver_state s old) later m q o own reached knows not (never (cases_eq q port.0) (slot_cases tasks 0)) x.done
+  silent q o own not = laws.silent x.acts (driver_state s old) later m q o own reached knows not (never (cases_eq q port.0) (slot_cases tasks 0)) x.acts_are_done
     where
       P : Act → Type 0
       P act = act.later.uses q 0 ≡ Own o → ⊥
 
       beside : (q ≡ port.0 → IsSlotOf tasks 0 → ⊥) → All P x.acts
-      beside other = all_as (λ act. act.later.uses q 0 ≡ s.uses q 0) P (λ act same is_own. not (sym same ∙ is_own)) x.acts (x.tells.others q 0 other)
+      beside other = all_as (λ act. act.later.uses q 0 ≡ s.uses q 0) P (λ act same is_own. not (sym same ∙ is_own)) x.acts (x.tells.other_slots_are_kept q 0 other)
 
       never : (q ≡ port.0) ⊎ (q ≡ port.0 → ⊥) → IsSlotOf tasks 0 ⊎ (IsSlotOf tasks 0 → ⊥) → All P x.acts
       never (inl at_port) (inl t) =
-          let z = zip_at (λ t e. All (λ act. IsBeingIssued e.request.id (act.later.uses port.0 t.slot)) x.acts) tasks es x.tells.own t.0 t.1 in
+          let z = zip_at (λ t e. All (λ act. IsBeingIssued e.request.id (act.later.uses port.0 t.slot)) x.acts) tasks es x.tells.own_slots_are t.0 t.1 in
           all_as (λ act. IsBeingIssued z.0.request.id (act.later.uses port.0 t.0.slot)) P
           (λ act way is_own. not_own z.0.request.id o (act.later.uses port.0 t.0.slot) way (ap (act.later.uses port.0) t.2 ∙ (sym (ap (λ (n : ℕ). act.later.uses n 0) at_port) ∙ is_own))) x.acts z.1
       never (inr other) slots = beside (λ a b. other a)
@@ -104,16 +104,16 @@ module _ (laws : Laws) (port : Port) (tasks : List PlacedTask) (mode : QueueMode
 
 pub finding_followed : (port : Port) (mask done : ℕ) (old new : Device) → ReadsDone port mask done old new → IsSimulated (ReadsCiOrSact port) AnyUse old new
 finding_followed port mask done old new f = record {
-  driven = f.driven;
-  comes = λ s m reached knows any.
-      let x = f.comes s m reached knows tt in
+  is_driven = f.driven;
+  acts_reach = λ s m reached knows any.
+      let x = f.machine_follows s m reached knows tt in
       record {
         acts = x.acts;
-        done = x.done;
+        acts_are_done = x.acts_are_done;
         accesses_are = x.accesses_are;
         tells = record {
-          only = x.tells.device;
-          kept = λ q issues arms. all_as (λ act. act.later.uses ≡ s.uses) (λ act. act.later.uses q.0 ≡ s.uses q.0) (λ act same. ap (λ (uses : ℕ → ℕ → SlotState). uses q.0) same) x.acts x.tells.used;
+          only = x.tells.only_device_steps;
+          kept = λ q issues arms. all_as (λ act. act.later.uses ≡ s.uses) (λ act. act.later.uses q.0 ≡ s.uses q.0) (λ act same. ap (λ (uses : ℕ → ℕ → SlotState). uses q.0) same) x.acts x.tells.slots_are_kept;
         };
       };
 }

@@ -10,7 +10,7 @@ use Rattle.hba_regs.specs.declared.reg.PortReg.TheVariants.{Ci, Sact}
 use Rattle.adapter.specs.Access.{Access, Does, Reads}
 use Rattle.adapter.specs.Access.Access.{Reading, Writing}
 use Rattle.adapter.specs.Device.{DevicePort, Device}
-use Rattle.adapter.specs.Kept.{Keeps}
+use Rattle.adapter.specs.KeptBySteps.{Keeps}
 use Rattle.adapter.specs.Rules.{IsOn}
 use Rattle.adapter.specs.Steps.{Steps}
 use Rattle.block_machine.specs.Events.{AllByDevice}
@@ -20,7 +20,7 @@ use Rattle.block_machine.specs.State.{Machine}
 use Rattle.block_machine.specs.Steps.{Step, NoneQuarantined}
 use Rattle.refinement.specs.Acts.{Act, DriverSlots, IsActDone, ActsReach, driver_state}
 use Rattle.refinement.specs.Relation.{StateRelation}
-use Rattle.refinement.specs.Driver.{DriverState, DriverRelation, ByDevice, DriverAdvances}
+use Rattle.refinement.specs.Driver.{DriverState, DriverRelation, IsBackedByDeviceAlone, DriverAdvances}
 use Rattle.refinement.specs.PortFacts.{EndedIn, IsSlotClear}
 use Rattle.refinement.specs.Links.{LeavesControls}
 use Rattle.refinement.specs.Slots.{Serves, SlotStates}
@@ -29,7 +29,7 @@ use Rattle.commands.proofs.Batch.{changed_here}
 
 -- what laws of the crates below say
 pub record Laws : Type 0 where
-  pub access : (k later : DriverState) (m : Machine) (access : Access) → IsSimulatedBySteps DriverRelation k later (ByDevice k.device later.device) → IsReachable m → DriverRelation m k
+  pub access : (k later : DriverState) (m : Machine) (access : Access) → IsSimulatedBySteps DriverRelation k later (IsBackedByDeviceAlone k.device later.device) → IsReachable m → DriverRelation m k
       → Does access k.device later.device → (steps : List Step) × AllByDevice steps × IsActDone k m (record { access = Some access; steps = steps; later = later })
   pub on : (access : Access) (old new : Device) → IsOn old → ((v : ℕ) → access ≡ Writing Ghc v → (bit v 31 ≡ true) × (bit v 0 ≡ false)) → Does access old new → IsOn new
   pub controls : (port : Port) (access : Access) (old new : Device) → old.hr ≡ false → Does access old new → LeavesControls access port (old.port port.0) (new.port port.0)
@@ -38,7 +38,7 @@ pub record Laws : Type 0 where
   pub reached : (k later : DriverState) (m : Machine) (steps : List Step) → IsReachable m → DriverAdvances k m steps later → IsReachable (after m steps)
   pub device : (late early : List Step) → AllByDevice late → AllByDevice early → AllByDevice (late ++ early)
   pub after_both : (m : Machine) (late early : List Step) → after m (late ++ early) ≡ after (after m early) late
-  pub reading : (k : DriverState) (r : Reg) (v : ℕ) (new : Device) → Reads r v k.device new → IsSimulatedBySteps DriverRelation k (record k { device = new }) (ByDevice k.device new)
+  pub reading : (k : DriverState) (r : Reg) (v : ℕ) (new : Device) → Reads r v k.device new → IsSimulatedBySteps DriverRelation k (record k { device = new }) (IsBackedByDeviceAlone k.device new)
   pub keeps : (old new : Device) → Steps old new → Keeps old new
   pub kept : (m : Machine) (steps : List Step) (port : Port) → AllByDevice steps → NoneQuarantined m port → NoneQuarantined (after m steps) port
 
@@ -77,7 +77,7 @@ module _ (laws : Laws) (port : Port) (mask done issued active : ℕ) (old mid ne
 
   -- what was read clear is clear, and what was clear is read so
   ci_clear : (slot : ℕ) → slot < 32 → bit issued slot ≡ false → (new.port port.0).ci slot ≡ false
-  ci_clear slot small read = new_ci slot ∙ ((laws.keeps mid second.mid second.steps).port port.0).ci slot (mid_ci slot ∙ (sym (first.shows slot small) ∙ read))
+  ci_clear slot small read = new_ci slot ∙ ((laws.keeps mid second.mid second.steps).ports_are_kept port.0).ci slot (mid_ci slot ∙ (sym (first.shows slot small) ∙ read))
 
   sact_clear : (slot : ℕ) → slot < 32 → bit active slot ≡ false → (new.port port.0).sact slot ≡ false
   sact_clear slot small read = new_sact slot ∙ (sym (second.shows slot small) ∙ read)
@@ -85,9 +85,9 @@ module _ (laws : Laws) (port : Port) (mask done issued active : ℕ) (old mid ne
   sees : SeesClear port mask done old
   sees slot small asked ci sact =
       clear slot small
-      ∙ are_clear (bit mask slot) (bit issued slot) (bit active slot) asked (first.shows slot small ∙ ((laws.keeps old first.mid first.steps).port port.0).ci slot ci)
+      ∙ are_clear (bit mask slot) (bit issued slot) (bit active slot) asked (first.shows slot small ∙ ((laws.keeps old first.mid first.steps).ports_are_kept port.0).ci slot ci)
       (second.shows slot small
-      ∙ ((laws.keeps mid second.mid second.steps).port port.0).sact slot (mid_sact slot ∙ ((laws.keeps old first.mid first.steps).port port.0).sact slot sact))
+      ∙ ((laws.keeps mid second.mid second.steps).ports_are_kept port.0).sact slot (mid_sact slot ∙ ((laws.keeps old first.mid first.steps).ports_are_kept port.0).sact slot sact))
 
   started : (old.port port.0).st ≡ true → (new.port port.0).st ≡ true
   started st =
@@ -102,16 +102,16 @@ module _ (laws : Laws) (port : Port) (mask done issued active : ℕ) (old mid ne
   comes : (s : DriverSlots) (m : Machine) → IsReachable m → DriverRelation m (driver_state s old) → Unit {0} → ActsReach accesses (driver_state s old) m (driver_state s new) (FindsEnds port done old new s m)
   comes s m reached knows any = record {
     acts = one ∷ two ∷ [];
-    done = (x.2, (y.2, refl));
+    acts_are_done = (x.2, (y.2, refl));
     accesses_are = refl;
     tells = record {
-      device = laws.device y.0 x.0 y.1 x.1;
-      used = All-cons P one (two ∷ []) refl (All-cons P two [] refl (All-nil P));
-      ended = λ st slot id small is serves.
+      only_device_steps = laws.device y.0 x.0 y.1 x.1;
+      slots_are_kept = All-cons P one (two ∷ []) refl (All-cons P two [] refl (All-nil P));
+      requests_have_ended = λ st slot id small is serves.
           let bits = all_clear (bit mask slot) (bit issued slot) (bit active slot) (sym (clear slot small) ∙ is) in
-          let found = laws.ends s.uses (after (after m x.0) y.0) new port slot id y.2.goes.knows.agrees serves (started st) (ci_clear slot small bits.0) (sact_clear slot small bits.1) in
+          let found = laws.ends s.uses (after (after m x.0) y.0) new port slot id y.2.driver_advances.driver_relation.state_relation serves (started st) (ci_clear slot small bits.0) (sact_clear slot small bits.1) in
           (found.0.over, subst (λ (n : Machine). EndedIn n port id) (sym (laws.after_both m y.0 x.0)) found.1);
-      kept = laws.kept m (y.0 ++ x.0) port (laws.device y.0 x.0 y.1 x.1);
+      none_is_quarantined = laws.kept m (y.0 ++ x.0) port (laws.device y.0 x.0 y.1 x.1);
     };
   }
     where
@@ -123,7 +123,7 @@ module _ (laws : Laws) (port : Port) (mask done issued active : ℕ) (old mid ne
 
       y : (steps : List Step) × AllByDevice steps × IsActDone (driver_state s mid) (after m x.0) (record { access = Some (Reading (Px port Sact) active); steps = steps; later = driver_state s new })
       y = laws.access (driver_state s mid) (driver_state s new) (after m x.0) (Reading (Px port Sact) active) (laws.reading (driver_state s mid) (Px port Sact) active new second)
-          (laws.reached (driver_state s old) (driver_state s mid) m x.0 reached x.2.goes) x.2.goes.knows second
+          (laws.reached (driver_state s old) (driver_state s mid) m x.0 reached x.2.driver_advances) x.2.driver_advances.driver_relation second
 
       one : Act
       one = record { access = Some (Reading (Px port Ci) issued); steps = x.0; later = driver_state s mid }
@@ -137,13 +137,13 @@ module _ (laws : Laws) (port : Port) (mask done issued active : ℕ) (old mid ne
     active = active;
     driven = record {
       accesses = accesses;
-      all = (mid, first, (new, second, refl));
-      only = All-cons (ReadsCiOrSact port) (Reading (Px port Ci) issued) (Reading (Px port Sact) active ∷ []) (inl refl)
+      all_are_done = (mid, first, (new, second, refl));
+      accesses_are_of_kind = All-cons (ReadsCiOrSact port) (Reading (Px port Ci) issued) (Reading (Px port Sact) active ∷ []) (inl refl)
           (All-cons (ReadsCiOrSact port) (Reading (Px port Sact) active) [] (inr refl) (All-nil (ReadsCiOrSact port)));
     };
     reads = refl;
-    tells = clear;
-    comes = comes;
+    done_is = clear;
+    machine_follows = comes;
   }
 
   pub finds_done : ReadsDone port mask done old new × SeesClear port mask done old

@@ -14,7 +14,7 @@ use Rattle.block_machine.specs.declared.due.QueueMode.{QueueMode}
 use Rattle.refinement.specs.Relation.{port_at}
 use Rattle.refinement.specs.TwoReads.{ReadsIntoFrame, TwoStoredReads, two_memory}
 use Rattle.refinement.specs.Slots.{Free}
-use Rattle.refinement.specs.Witness.{ready_with}
+use Rattle.refinement.specs.ReadWitness.{ready_device}
 use Rattle.commands.specs.Batches.{AreUnused, HasBitsOf, IsSlotOf, IsStoreForBatch, SaysTask, PlacedTask}
 use Rattle.commands.specs.Tasks.{IsFitTransfer, IsTaskOf}
 use Rattle.commands.specs.Witness.{BatchMayBeIssued}
@@ -37,10 +37,10 @@ both : (P : PlacedTask → Type 0) → P (read_in 0 100 100) → P (read_in 1 10
 both P one other = All-cons P (read_in 0 100 100) (read_in 1 108 101 ∷ []) one (all_one P (read_in 1 108 101) other)
 
 fits : (slot first frame : ℕ) → first < 281474976710656 → IsFitTransfer (read_in slot first frame).task (read_in slot first frame).frames
-fits slot first frame small = record { transfers = inl refl; some = omega arith; few = omega arith; first = small; number = refl }
+fits slot first frame small = record { is_transfer = inl refl; count_is_positive = omega arith; count_is_allowed = omega arith; first_in_range = small; frame_count_is = refl }
 
 has_bits : HasBitsOf tasks 3
-has_bits = record { here = both (λ t. bit 3 t.slot ≡ true) refl refl; alone = alone }
+has_bits = record { slots_are_set = both (λ t. bit 3 t.slot ≡ true) refl refl; no_other_is_set = alone }
   where
     alone : (slot : ℕ) → bit 3 slot ≡ true → IsSlotOf tasks slot
     alone zero set = (read_in 0 100 100, contains_here (read_in 0 100 100) (read_in 1 108 101 ∷ []), refl)
@@ -51,13 +51,13 @@ has_bits = record { here = both (λ t. bit 3 t.slot ≡ true) refl refl; alone =
 its_task : (mode : QueueMode) (slot first frame : ℕ) (e : Pending) → mode.queued ≡ true → slot < mode.usable → ReadsIntoFrame first frame e → IsTaskOf (port_at 0) slot (read_in slot first frame).task (read_in slot first frame).frames mode e
 its_task mode slot first frame e queued usable asks = record {
   port_is = asks.port_is;
-  operation = asks.operation;
-  first = ap (λ (n : ℕ). let s : Sector = record { 0 = n } in s) asks.first_is;
-  count = asks.count;
+  operation_is = asks.operation;
+  first_is = ap (λ (n : ℕ). let s : Sector = record { 0 = n } in s) asks.first_is;
+  count_is = asks.count;
   frames_are = asks.frames;
-  kind = sym (ap (λ b. not (not b)) queued);
-  usable = usable;
-  head = λ plain. absurd (let z : true ≡ false = plain in cc);
+  queued_is = sym (ap (λ b. not (not b)) queued);
+  slot_is_usable = usable;
+  plain_in_slot_0 = λ plain. absurd (let z : true ≡ false = plain in cc);
 }
 
 module _ (known : TwoStoredReads) where
@@ -65,25 +65,25 @@ module _ (known : TwoStoredReads) where
   unfolding changed
   batch_may_be_issued = record {
     tasks = tasks;
-    two = refl;
+    has_two_tasks = refl;
     stored = record {
-      on = record { ae = refl; no_reset = refl };
-      there = (omega arith, refl);
-      room = omega arith;
-      may = record { started = refl; list = refl };
-      agreed = (λ port slot. Free, both (λ t. Free ≡ Free) refl refl, record { machine = known.machine; parked = λ port. []; reached = known.reached; knows = known.knows });
-      apart = AllPairs-cons (λ (a b : PlacedTask). a.slot ≡ b.slot → ⊥) (read_in 0 100 100) (read_in 1 108 101 ∷ []) (all_one (λ (b : PlacedTask). 0 ≡ b.slot → ⊥) (read_in 1 108 101) (λ e. omega (arith, e))) (one_apart (read_in 1 108 101));
-      small = both (λ t. t.slot < 32) (omega arith) (omega arith);
-      usable = both (λ t. t.slot ≤ (ready_with two_memory).cap / 256 % 32) (omega arith) (omega arith);
-      fit = both (λ t. IsFitTransfer t.task t.frames) (fits 0 100 100 (omega arith)) (fits 1 108 101 (omega arith));
-      queued = both (λ t. t.task.queued ≡ true) refl refl;
-      stores = simulated_none (IsStoreForBatch 0 tasks) (AreUnused 0 tasks) (ready_with two_memory);
-      say = both (λ t. SaysTask 0 t two_memory) (record { told = known.first_says; block = tt }) (record { told = known.second_says; block = tt });
+      adapter_is_on = record { ae = refl; no_reset = refl };
+      has_port = (omega arith, refl);
+      driver_memory_fits = omega arith;
+      list_runs = record { st_is_set = refl; list_is_in_place = refl };
+      machine_is_related = (λ port slot. Free, both (λ t. Free ≡ Free) refl refl, record { machine = known.machine; parked = λ port. []; reached = known.reached; driver_relation = known.driver_relation });
+      slots_are_apart = AllPairs-cons (λ (a b : PlacedTask). a.slot ≡ b.slot → ⊥) (read_in 0 100 100) (read_in 1 108 101 ∷ []) (all_one (λ (b : PlacedTask). 0 ≡ b.slot → ⊥) (read_in 1 108 101) (λ e. omega (arith, e))) (one_apart (read_in 1 108 101));
+      slots_in_range = both (λ t. t.slot < 32) (omega arith) (omega arith);
+      slots_are_usable = both (λ t. t.slot ≤ (ready_device two_memory).cap / 256 % 32) (omega arith) (omega arith);
+      transfers_fit = both (λ t. IsFitTransfer t.task t.frames) (fits 0 100 100 (omega arith)) (fits 1 108 101 (omega arith));
+      all_are_queued = both (λ t. t.task.queued ≡ true) refl refl;
+      stores = simulated_none (IsStoreForBatch 0 tasks) (AreUnused 0 tasks) (ready_device two_memory);
+      slots_say_tasks = both (λ t. SaysTask 0 t two_memory) (record { slot_says_task = known.first_says; block_names_sectors = tt }) (record { slot_says_task = known.second_says; block_names_sectors = tt });
     };
     mask = 3;
     bits = has_bits;
     mode = known.mode;
-    requests = known.first ∷ known.second ∷ [];
-    are = (its_task known.mode 0 100 100 known.first known.queued (let u = known.usable in omega (arith, u)) known.first_asks, (its_task known.mode 1 108 101 known.second known.queued known.usable known.second_asks, tt));
-    may = record { free = both (λ t. Free ≡ Free) refl refl; may = known.may };
+    requests = known.first_request ∷ known.second_request ∷ [];
+    are_tasks = (its_task known.mode 0 100 100 known.first_request known.queued (let u = known.usable in omega (arith, u)) known.first_asks, (its_task known.mode 1 108 101 known.second_request known.queued known.usable known.second_asks, tt));
+    may = record { slots_are_free = both (λ t. Free ≡ Free) refl refl; may_be_issued = known.may };
   }

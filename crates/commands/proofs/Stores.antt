@@ -17,13 +17,13 @@ use Rattle.block_machine.specs.Expected.{after}
 use Rattle.block_machine.specs.State.{Machine}
 use Rattle.block_machine.specs.Steps.{Step}
 use Rattle.refinement.specs.Acts.{Act, AreActsDone, driver_state, accesses_of, act_steps}
-use Rattle.refinement.specs.Driven.{AnyAccess, IsDrivenBy, IsSimulated, LeavesPort, SparesOtherPorts}
+use Rattle.refinement.specs.Fragments.{AnyAccess, IsDrivenBy, IsSimulated, LeavesPort, SparesOtherPorts}
 use Rattle.refinement.specs.Driver.{DriverAdvances, DriverRelation, DriverState}
 use Rattle.refinement.specs.Links.{SameAdapter, DoesNotWrite}
-use Rattle.refinement.specs.Places.{list_of}
-use Rattle.refinement.specs.Readying.{IsStored}
+use Rattle.refinement.specs.MemoryLayout.{list_of}
+use Rattle.refinement.specs.ReadySlots.{IsStored}
 use Rattle.refinement.specs.Slots.{SlotDecodesTo, SlotStates}
-use Rattle.command_table.specs.Written.{IsStoreWithBlock, IsTableStore}
+use Rattle.command_table.specs.TableStores.{IsStoreWithBlock, IsTableStore}
 use Rattle.commands.specs.Batches.{IsStoreForBatch, PlacedTask}
 use Rattle.commands.specs.Tasks.{IsStoreFor, RunsItsList}
 use Rattle.commands.proofs.Batch.{all_as}
@@ -81,8 +81,8 @@ module _ (laws : Leaving) (port : Port) (May : Access → Type 0) (stores : (acc
   as_kind : (Kind : Access → Type 0) → ((access : Access) → IsStoring access → Kind access) → IsDrivenBy Kind old mid
   as_kind Kind more = record {
     accesses = driven.accesses;
-    all = driven.all;
-    only = all_as May Kind (λ access is. more access (stores access is)) driven.accesses driven.only;
+    all_are_done = driven.all_are_done;
+    accesses_are_of_kind = all_as May Kind (λ access is. more access (stores access is)) driven.accesses driven.accesses_are_of_kind;
   }
 
   -- no store is of a register, so the port is left as by accesses of another one
@@ -102,15 +102,15 @@ module _ (laws : Leaving) (port : Port) (May : Access → Type 0) (stores : (acc
 
   pub stores_may : IsOn old → RunsItsList port.0 old → RunsItsList port.0 mid
   stores_may on may = record {
-    started = (stores_left on).controls.st ∙ may.started;
-    list = ap (λ (x : Bases). x.clb) (stores_left on).keeps.bases ∙ may.list;
+    st_is_set = (stores_left on).controls.st ∙ may.st_is_set;
+    list_is_in_place = ap (λ (x : Bases). x.clb) (stores_left on).keeps.bases ∙ may.list_is_in_place;
   }
 
 pub stored_in : (port : Port) (slot : ℕ) (c : Meaning) (places : List ℕ) (d : Device) → HasPort d port.0 → slot < 32 → RunsItsList port.0 d → SlotDecodesTo d.memory (list_of port.0) port.0 slot c places → IsStored d port.0 slot c places
 stored_in port slot c places d there small may told = record {
-  started = may.started;
-  placed = record { port_below = there.0; slot_below = small; list = may.list };
-  told = subst (λ (list : ℕ). SlotDecodesTo d.memory list port.0 slot c places) (sym may.list) told;
+  st_is_set = may.st_is_set;
+  list_is_in_place = record { port_below = there.0; slot_below = small; list = may.list_is_in_place };
+  slot_decodes_to = subst (λ (list : ℕ). SlotDecodesTo d.memory list port.0 slot c places) (sym may.list_is_in_place) told;
 }
 
 -- ---- one fragment after another
@@ -131,10 +131,10 @@ does_then (access ∷ accesses) then old mid new (one, does, more) rest = (one, 
 -- no access is made
 pub simulated_none : (May : Access → Type 0) (Fits : SlotStates → Type 0) (d : Device) → IsSimulated May Fits d d
 simulated_none May Fits d = record {
-  driven = record { accesses = []; all = refl; only = All-nil May };
-  comes = λ s m reached knows fits. record {
+  is_driven = record { accesses = []; all_are_done = refl; accesses_are_of_kind = All-nil May };
+  acts_reach = λ s m reached knows fits. record {
     acts = [];
-    done = refl;
+    acts_are_done = refl;
     accesses_are = refl;
     tells = record { only = tt; kept = λ q issues arms. All-nil (λ (act : Act). act.later.uses q.0 ≡ s.uses q.0) };
   };
@@ -144,12 +144,12 @@ simulated_none May Fits d = record {
 pub simulated_as : (May More : Access → Type 0) (Fits Fewer : SlotStates → Type 0) (old new : Device) → ((access : Access) → May access → More access) → ((uses : SlotStates) → Fewer uses → Fits uses) → IsSimulated May Fits old new →
     IsSimulated More Fewer old new
 simulated_as May More Fits Fewer old new more fewer x = record {
-  driven = record { accesses = x.driven.accesses; all = x.driven.all; only = all_as May More more x.driven.accesses x.driven.only };
-  comes = λ s m reached knows fits.
-      let y = x.comes s m reached knows (fewer s.uses fits) in
+  is_driven = record { accesses = x.is_driven.accesses; all_are_done = x.is_driven.all_are_done; accesses_are_of_kind = all_as May More more x.is_driven.accesses x.is_driven.accesses_are_of_kind };
+  acts_reach = λ s m reached knows fits.
+      let y = x.acts_reach s m reached knows (fewer s.uses fits) in
       record {
         acts = y.acts;
-        done = y.done;
+        acts_are_done = y.acts_are_done;
         accesses_are = y.accesses_are;
         tells = record { only = y.tells.only; kept = λ q issues arms. y.tells.kept q (λ access is. issues access (more access is)) (λ access is. arms access (more access is)) };
       };
@@ -157,20 +157,20 @@ simulated_as May More Fits Fewer old new more fewer x = record {
 
 pub simulated_then : ActLaws → (May : Access → Type 0) (Fits : SlotStates → Type 0) (old mid new : Device) → IsSimulated May Fits old mid → IsSimulated May Fits mid new → IsSimulated May Fits old new
 simulated_then laws May Fits old mid new a b = record {
-  driven = record {
-    accesses = a.driven.accesses ++ b.driven.accesses;
-    all = does_then a.driven.accesses b.driven.accesses old mid new a.driven.all b.driven.all;
-    only = All-append May a.driven.accesses b.driven.accesses a.driven.only b.driven.only;
+  is_driven = record {
+    accesses = a.is_driven.accesses ++ b.is_driven.accesses;
+    all_are_done = does_then a.is_driven.accesses b.is_driven.accesses old mid new a.is_driven.all_are_done b.is_driven.all_are_done;
+    accesses_are_of_kind = All-append May a.is_driven.accesses b.is_driven.accesses a.is_driven.accesses_are_of_kind b.is_driven.accesses_are_of_kind;
   };
-  comes = λ s m reached knows fits.
-      let x = a.comes s m reached knows fits in
-      let g = laws.goes x.acts (driver_state s old) (driver_state s mid) m knows x.done in
-      let y = b.comes s (after m (act_steps x.acts)) (laws.reached (driver_state s old) (driver_state s mid) m (act_steps x.acts) reached g) g.knows fits in
+  acts_reach = λ s m reached knows fits.
+      let x = a.acts_reach s m reached knows fits in
+      let g = laws.goes x.acts (driver_state s old) (driver_state s mid) m knows x.acts_are_done in
+      let y = b.acts_reach s (after m (act_steps x.acts)) (laws.reached (driver_state s old) (driver_state s mid) m (act_steps x.acts) reached g) g.driver_relation fits in
       record {
         acts = x.acts ++ y.acts;
-        done = laws.more x.acts y.acts (driver_state s old) (driver_state s mid) (driver_state s new) m x.done y.done;
+        acts_are_done = laws.more x.acts y.acts (driver_state s old) (driver_state s mid) (driver_state s new) m x.acts_are_done y.acts_are_done;
         accesses_are = laws.accesses x.acts y.acts
-            ∙ (ap (λ (early : List Access). early ++ accesses_of y.acts) x.accesses_are ∙ ap (λ (late : List Access). a.driven.accesses ++ late) y.accesses_are);
+            ∙ (ap (λ (early : List Access). early ++ accesses_of y.acts) x.accesses_are ∙ ap (λ (late : List Access). a.is_driven.accesses ++ late) y.accesses_are);
         tells = record {
           only = subst AllByDevice (sym (laws.steps x.acts y.acts)) (laws.device (act_steps y.acts) (act_steps x.acts) y.tells.only x.tells.only);
           kept = λ q issues arms. All-append (λ (act : Act). act.later.uses q.0 ≡ s.uses q.0) x.acts y.acts (x.tells.kept q issues arms) (y.tells.kept q issues arms);

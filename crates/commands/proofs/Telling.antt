@@ -16,14 +16,14 @@ use Rattle.adapter.specs.Commands.{command_of, is_queued, is_ranged, piece_count
 use Rattle.adapter.specs.Decoding.{pieces, IsWholePieces}
 use Rattle.adapter.specs.declared.command.Command.{Command}
 use Rattle.adapter.specs.declared.command.Prd.{Prd}
-use Rattle.block_machine.specs.Due.{is_plain}
+use Rattle.block_machine.specs.DueRequests.{is_plain}
 use Rattle.block_machine.specs.State.{Accepted, Pending}
 use Rattle.block_machine.specs.declared.due.QueueMode.{QueueMode}
-use Rattle.refinement.specs.Driven.{IsSimulated}
-use Rattle.refinement.specs.Places.{place_in}
-use Rattle.refinement.specs.Slots.{ArePlaces, HasTrimBlock, MeansRequest, op_of}
-use Rattle.command_table.specs.Places.{place_of, places_of}
-use Rattle.command_table.specs.Written.{IsTableFor, IsTableStore, IsUnused}
+use Rattle.refinement.specs.Fragments.{IsSimulated}
+use Rattle.refinement.specs.MemoryLayout.{place_in}
+use Rattle.refinement.specs.Slots.{AreRequestPlaces, HasTrimBlock, MeansRequest, op_of}
+use Rattle.command_table.specs.SectorPlaces.{place_of, places_of}
+use Rattle.command_table.specs.TableStores.{IsTableFor, IsTableStore, IsUnused}
 use Rattle.commands.specs.Tasks.{HasBlockOf, IsStoreFor, IsTransfer, IsTaskOf, addresses_of, value_in_fis, meaning_of, task_operation}
 use Rattle.commands.specs.declared.ncq.Task.{Task}
 
@@ -81,9 +81,9 @@ table_says r frames port slot transfers some few first command prds fields whole
         not_ranged = λ h. absurd (true≢false (sym (ranged r.queued r.op transfers) ∙ h));
       };
       fields = fields;
-      whole = whole;
-      in_order = sym places;
-      as_many = as_many frames r.range.count ∙ sym (moves_all r.range.count r.queued r.op transfers);
+      prds_are_whole_pieces = whole;
+      places_are = sym places;
+      place_count_is = as_many frames r.range.count ∙ sym (moves_all r.range.count r.queued r.op transfers);
     })))
 
 -- ---- the request of a task
@@ -107,7 +107,7 @@ in_order count frames r counts same = (
 )
 
 -- the addresses that the slot's bytes say are those of the request's sectors, or of its block
-are_places : (op : Op) (port count : ℕ) (frames : List Frame) (r : Accepted) → r.asked.count ≡ count → r.asked.frames.items ≡ frames → ArePlaces op port r (addresses_of port op count frames)
+are_places : (op : Op) (port count : ℕ) (frames : List Frame) (r : Accepted) → r.asked.count ≡ count → r.asked.frames.items ≡ frames → AreRequestPlaces op port r (addresses_of port op count frames)
 are_places Trim port count frames r counts same = refl
 are_places Flush port count frames r counts same = refl
 are_places Read port count frames r counts same = in_order count frames r counts same
@@ -116,33 +116,33 @@ are_places Write port count frames r counts same = in_order count frames r count
 module _ (port : Port) (slot : ℕ) (r : Task) (frames : List Frame) (mode : QueueMode) (e : Pending) (is : IsTaskOf port slot r frames mode e) where
   -- a trim is plain, so it is in slot 0
   head : r.op ≡ Trim → slot ≡ 0
-  head trim = is.head (is.kind ∙ ap (λ (op : Op). not (is_plain mode op)) trim)
+  head trim = is.plain_in_slot_0 (is.queued_is ∙ ap (λ (op : Op). not (is_plain mode op)) trim)
 
   names_first : (queued : Bool) (op : Op) → is_ranged (task_operation queued op) ≡ true → value_in_fis op r.range.first.0 ≡ e.request.asked.first.0
-  names_first true Read named = sym (ap (λ (s : Sector). s.0) is.first)
-  names_first false Read named = sym (ap (λ (s : Sector). s.0) is.first)
-  names_first true Write named = sym (ap (λ (s : Sector). s.0) is.first)
-  names_first false Write named = sym (ap (λ (s : Sector). s.0) is.first)
+  names_first true Read named = sym (ap (λ (s : Sector). s.0) is.first_is)
+  names_first false Read named = sym (ap (λ (s : Sector). s.0) is.first_is)
+  names_first true Write named = sym (ap (λ (s : Sector). s.0) is.first_is)
+  names_first false Write named = sym (ap (λ (s : Sector). s.0) is.first_is)
   names_first queued Trim named = absurd (true≢false (sym named))
   names_first queued Flush named = absurd (true≢false (sym named))
 
   pub task_means : MeansRequest port.0 slot e.request (meaning_of r) (addresses_of port.0 r.op r.range.count frames)
   task_means = record {
-    op = op_is r.queued r.op ∙ ap Some (sym is.operation);
-    first = names_first r.queued r.op;
+    op_is = op_is r.queued r.op ∙ ap Some (sym is.operation_is);
+    first_sector_is = names_first r.queued r.op;
     places_are =
-        subst (λ (o : Op). ArePlaces o port.0 e.request (addresses_of port.0 r.op r.range.count frames)) (sym is.operation)
-        (are_places r.op port.0 r.range.count frames e.request is.count is.frames_are);
-    head = λ trim. head (sym is.operation ∙ trim);
+        subst (λ (o : Op). AreRequestPlaces o port.0 e.request (addresses_of port.0 r.op r.range.count frames)) (sym is.operation_is)
+        (are_places r.op port.0 r.range.count frames e.request is.count_is is.frames_are);
+    trim_is_in_slot_0 = λ trim. head (sym is.operation_is ∙ trim);
   }
 
   -- its block is the request's
   block_of : (op : Op) (memory : ℕ → ℕ) → HasBlockOf op r.range port.0 memory → HasTrimBlock op memory port.0 e.request
   block_of Trim memory block =
-      block ∙ (ap (λ (s : Sector). consecutive s.0 r.range.count) (sym is.first) ∙ ap (consecutive e.request.asked.first.0) (sym is.count))
+      block ∙ (ap (λ (s : Sector). consecutive s.0 r.range.count) (sym is.first_is) ∙ ap (consecutive e.request.asked.first.0) (sym is.count_is))
   block_of Read memory block = tt
   block_of Write memory block = tt
   block_of Flush memory block = tt
 
   pub task_block : (memory : ℕ → ℕ) → HasBlockOf r.op r.range port.0 memory → HasTrimBlock e.request.asked.op memory port.0 e.request
-  task_block memory block = subst (λ (o : Op). HasTrimBlock o memory port.0 e.request) (sym is.operation) (block_of r.op memory block)
+  task_block memory block = subst (λ (o : Op). HasTrimBlock o memory port.0 e.request) (sym is.operation_is) (block_of r.op memory block)

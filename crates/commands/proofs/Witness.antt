@@ -10,16 +10,16 @@ use Rattle.adapter.specs.FirstRead.{first_read_device}
 use Rattle.adapter.specs.Memory.{changed}
 use Rattle.adapter.specs.ReadDone.{read_of}
 use Rattle.adapter.specs.Decoding.{DecodesTo, piece_addresses}
-use Rattle.block_machine.specs.Confined.{WasAccepted}
-use Rattle.block_machine.specs.Due.{is_plain}
+use Rattle.block_machine.specs.Confinement.{WasAccepted}
+use Rattle.block_machine.specs.DueRequests.{is_plain}
 use Rattle.block_machine.specs.Expected.{IsLegal, IsInitial, after}
 use Rattle.block_machine.specs.Rules.{frame_count_for}
 use Rattle.block_machine.specs.State.{Accepted, Machine, Pending}
-use Rattle.block_machine.specs.Steps.{Issue, May, Step}
+use Rattle.block_machine.specs.Steps.{Issue, IsEnabled, Step}
 use Rattle.block_machine.specs.declared.due.QueueMode.{QueueMode}
-use Rattle.refinement.specs.Driver.{IsPrepared, idle}
-use Rattle.refinement.specs.Slots.{ArePlaces, op_of}
-use Rattle.refinement.specs.Witness.{PreparedReadWitness, prepared_read}
+use Rattle.refinement.specs.Driver.{IsPrepared, idle_driver_state}
+use Rattle.refinement.specs.Slots.{AreRequestPlaces, op_of}
+use Rattle.refinement.specs.ReadWitness.{PreparedReadWitness, prepared_read}
 use Rattle.commands.specs.Tasks.{IsFitTransfer}
 use Rattle.commands.specs.Witness.{FirstMayBeIssued}
 use Rattle.commands.specs.declared.ncq.Task.{Task}
@@ -35,8 +35,8 @@ frames_fit start (step ∷ past) r was = ⊎_elim
 -- given what the laws say of the first read, and of requests that are issued
 module _ (known : PreparedReadWitness) (one : (memory : ℕ → ℕ) (list slot : ℕ) (m n : Meaning) (xs ys : List ℕ) → DecodesTo memory list slot m xs → DecodesTo memory list slot n ys → (m ≡ n) × (xs ≡ ys))
     (says : DecodesTo first_read_device.memory 0 0 (read_of 100 8) (piece_addresses 0x64000 8))
-    (issued : (start : Machine) (history : List Step) (mode : QueueMode) (e : Pending) → IsInitial start → IsLegal start history → May (after start history) (Issue mode e) → WasAccepted start history e.request) where
-  prepared : IsPrepared (idle prepared_read).uses known.machine prepared_read 0 0 known.mode known.request 1
+    (issued : (start : Machine) (history : List Step) (mode : QueueMode) (e : Pending) → IsInitial start → IsLegal start history → IsEnabled (after start history) (Issue mode e) → WasAccepted start history e.request) where
+  prepared : IsPrepared (idle_driver_state prepared_read).uses known.machine prepared_read 0 0 known.mode known.request 1
   prepared = known.prepared
 
   abbrev request : Accepted
@@ -45,24 +45,24 @@ module _ (known : PreparedReadWitness) (one : (memory : ℕ → ℕ) (list slot 
   -- memory says the first read, so the request is that read
   same : (prepared.command ≡ read_of 100 8) × (prepared.places ≡ piece_addresses 0x64000 8)
   unfolding changed
-  same = one first_read_device.memory 0 0 prepared.command (read_of 100 8) prepared.places (piece_addresses 0x64000 8) prepared.told.says says
+  same = one first_read_device.memory 0 0 prepared.command (read_of 100 8) prepared.places (piece_addresses 0x64000 8) prepared.slot_decodes_to.decodes_to says
 
   read_is : request.asked.op ≡ Read
-  read_is = some_read (sym prepared.means.op ∙ ap (λ (m : Meaning). op_of m.operation) same.0)
+  read_is = some_read (sym prepared.means.op_is ∙ ap (λ (m : Meaning). op_of m.operation) same.0)
     where
       some_read : {op : Op} → Some op ≡ Some Read → op ≡ Read
       some_read e = cc
 
   first_is : request.asked.first.0 ≡ 100
-  first_is = sym (prepared.means.first (ap (λ (m : Meaning). is_ranged m.operation) same.0)) ∙ ap (λ (m : Meaning). m.first) same.0
+  first_is = sym (prepared.means.first_sector_is (ap (λ (m : Meaning). is_ranged m.operation) same.0)) ∙ ap (λ (m : Meaning). m.first) same.0
 
   count_is : request.asked.count ≡ 8
-  count_is = sym (subst (λ (op : Op). ArePlaces op 0 request prepared.places) read_is prepared.means.places_are).0 ∙ ap (λ (places : List ℕ). length places) same.1
+  count_is = sym (subst (λ (op : Op). AreRequestPlaces op 0 request prepared.places) read_is prepared.means.places_are).0 ∙ ap (λ (places : List ℕ). length places) same.1
 
   number_is : length request.asked.frames.items ≡ (request.asked.count + 7) / 8
   number_is =
-      frames_fit known.reached.first known.reached.past request
-      (issued known.reached.first known.reached.past known.mode known.request known.reached.starts known.reached.legal (subst (λ (m : Machine). May m (Issue known.mode known.request)) known.reached.is prepared.may))
+      frames_fit known.reached.initial_machine known.reached.steps_since request
+      (issued known.reached.initial_machine known.reached.steps_since known.mode known.request known.reached.is_initial known.reached.is_legal (subst (λ (m : Machine). IsEnabled m (Issue known.mode known.request)) known.reached.leads_to_machine prepared.may))
       ∙ ap (λ (op : Op). frame_count_for op request.asked.count) read_is
 
   is_plain_read : is_plain known.mode request.asked.op ≡ true
@@ -77,25 +77,25 @@ module _ (known : PreparedReadWitness) (one : (memory : ℕ → ℕ) (list slot 
 
   fits : IsFitTransfer transfer request.asked.frames.items
   fits = record {
-    transfers = inl read_is;
-    some = let count = count_is in omega (arith, count);
-    few = let count = count_is in omega (arith, count);
-    first = subst (λ (n : ℕ). n < 2 ^ 48) (sym first_is) (omega arith);
-    number = number_is;
+    is_transfer = inl read_is;
+    count_is_positive = let count = count_is in omega (arith, count);
+    count_is_allowed = let count = count_is in omega (arith, count);
+    first_in_range = subst (λ (n : ℕ). n < 2 ^ 48) (sym first_is) (omega arith);
+    frame_count_is = number_is;
   }
 
   pub first_may_be_issued : FirstMayBeIssued
   unfolding changed
   first_may_be_issued = record {
-    on = record { ae = refl; no_reset = refl };
-    there = (lit< tt, refl);
-    room = omega arith;
-    may = record { started = refl; list = refl };
-    agreed = record {
+    adapter_is_on = record { ae = refl; no_reset = refl };
+    has_port = (lit< tt, refl);
+    driver_memory_fits = omega arith;
+    may = record { st_is_set = refl; list_is_in_place = refl };
+    machine_is_related = record {
       machine = known.machine;
       parked = λ port. [];
       reached = known.reached;
-      knows = known.knows;
+      driver_relation = known.driver_relation;
     };
     mode = known.mode;
     request = known.request;
@@ -104,14 +104,14 @@ module _ (known : PreparedReadWitness) (one : (memory : ℕ → ℕ) (list slot 
     frames = request.asked.frames.items;
     fits = fits;
     plain = refl;
-    is = record {
+    is_task = record {
       port_is = ap (λ (n : ℕ). let port : Port = record { 0 = n } in port) prepared.port_is;
-      operation = refl;
-      first = refl;
-      count = refl;
+      operation_is = refl;
+      first_is = refl;
+      count_is = refl;
       frames_are = refl;
-      kind = sym (ap (λ (b : Bool). not b) is_plain_read);
-      usable = prepared.usable;
-      head = λ q. refl;
+      queued_is = sym (ap (λ (b : Bool). not b) is_plain_read);
+      slot_is_usable = prepared.usable;
+      plain_in_slot_0 = λ q. refl;
     };
   }

@@ -13,16 +13,16 @@ use Rattle.adapter.specs.Access.{Access}
 use Rattle.adapter.specs.Access.Access.{Writing, Storing}
 use Rattle.adapter.specs.Device.{Device}
 use Rattle.adapter.specs.Rules.{IsOn, HasPort}
-use Rattle.block_machine.specs.Events.{AllByDevice, AllMay}
+use Rattle.block_machine.specs.Events.{AllByDevice, AllEnabled}
 use Rattle.block_machine.specs.State.{Machine, Pending}
 use Rattle.block_machine.specs.Steps.{Step, Issue}
 use Rattle.block_machine.specs.declared.due.QueueMode.{QueueMode}
 use Rattle.refinement.specs.Acts.{Act, ActsReachWith, DriverSlots, act_steps}
-use Rattle.refinement.specs.Driven.{IsDrivenBy, IsSimulated, RelatesWith}
-use Rattle.refinement.specs.Places.{list_of}
-use Rattle.refinement.specs.Readying.{IsStored}
+use Rattle.refinement.specs.Fragments.{IsDrivenBy, IsSimulated, RelatesWith}
+use Rattle.refinement.specs.MemoryLayout.{list_of}
+use Rattle.refinement.specs.ReadySlots.{IsStored}
 use Rattle.refinement.specs.Slots.{Free, SlotDecodesTo, SlotStates}
-use Rattle.command_table.specs.Written.{IsStoreWithBlock, IsTableStore, IsUnused}
+use Rattle.command_table.specs.TableStores.{IsStoreWithBlock, IsTableStore, IsUnused}
 use Rattle.commands.specs.Tasks.{HasBlockOf, IsBeingIssued, IsFitTransfer, IsStoreFor, IsTaskOf, RunsItsList, addresses_of, meaning_of, with_serving, issuing_writes}
 use Rattle.commands.specs.declared.ncq.Task.{Task}
 
@@ -52,14 +52,14 @@ AreUnused port tasks uses = All (λ t. uses port t.slot ≡ Free) tasks
 
 -- the value has the bits of their slots, and no other
 pub record HasBitsOf (tasks : List PlacedTask) (v : ℕ) : Type 0 where
-  pub here : All (λ t. bit v t.slot ≡ true) tasks
-  pub alone : (slot : ℕ) → bit v slot ≡ true → IsSlotOf tasks slot
+  pub slots_are_set : All (λ t. bit v t.slot ≡ true) tasks
+  pub no_other_is_set : (slot : ℕ) → bit v slot ≡ true → IsSlotOf tasks slot
 
 -- the slot's header and table say what the task is to do, and a trim's block names its sectors
 pub record SaysTask (port : ℕ) (t : PlacedTask) (memory : ℕ → ℕ) : Type 0 where
-  pub told : SlotDecodesTo memory (list_of port) port t.slot (meaning_of t.task)
+  pub slot_says_task : SlotDecodesTo memory (list_of port) port t.slot (meaning_of t.task)
       (addresses_of port t.task.op t.task.range.count t.frames)
-  pub block : HasBlockOf t.task.op t.task.range port memory
+  pub block_names_sectors : HasBlockOf t.task.op t.task.range port memory
 
 -- ---- it is stored
 
@@ -69,25 +69,25 @@ IsStoreForBatch port tasks access = (t : PlacedTask) × Contains tasks t × IsSt
 
 -- What a transfer's command needs was stored in its slot, and nothing else was done: header and table, which say it.
 pub record StoresTransfer (port : Port) (t : PlacedTask) (old new : Device) : Type 0 where
-  pub on : IsOn new
+  pub adapter_is_on : IsOn new
   pub stores : IsSimulated (IsTableStore port.0 t.slot) (IsUnused port.0 t.slot) old new
   pub says : SaysTask port.0 t new.memory
 
 -- Accesses that store for queued transfers led there, and no others: each transfer has a slot of its own that the
 -- adapter has (AHCI 1.3.1, 3.1.1, CAP.NCS) and that wasn't in use, and the slot says it. The port runs.
 pub record IsBatchStored (port : Port) (tasks : List PlacedTask) (old stored : Device) : Type 0 where
-  pub on : IsOn old
-  pub there : HasPort old port.0
-  pub room : DRIVER_BYTES ≤ old.size
-  pub may : RunsItsList port.0 old
-  pub agreed : RelatesWith (AreUnused port.0 tasks) old
-  pub apart : HaveOwnSlots tasks
-  pub small : All (λ t. t.slot < 32) tasks
-  pub usable : All (λ t. t.slot ≤ old.cap / 256 % 32) tasks
-  pub fit : All (λ t. IsFitTransfer t.task t.frames) tasks
-  pub queued : All (λ t. t.task.queued ≡ true) tasks
+  pub adapter_is_on : IsOn old
+  pub has_port : HasPort old port.0
+  pub driver_memory_fits : DRIVER_BYTES ≤ old.size
+  pub list_runs : RunsItsList port.0 old
+  pub machine_is_related : RelatesWith (AreUnused port.0 tasks) old
+  pub slots_are_apart : HaveOwnSlots tasks
+  pub slots_in_range : All (λ t. t.slot < 32) tasks
+  pub slots_are_usable : All (λ t. t.slot ≤ old.cap / 256 % 32) tasks
+  pub transfers_fit : All (λ t. IsFitTransfer t.task t.frames) tasks
+  pub all_are_queued : All (λ t. t.task.queued ≡ true) tasks
   pub stores : IsSimulated (IsStoreForBatch port.0 tasks) (AreUnused port.0 tasks) old stored
-  pub say : All (λ t. SaysTask port.0 t stored.memory) tasks
+  pub slots_say_tasks : All (λ t. SaysTask port.0 t stored.memory) tasks
 
 -- ---- it is issued
 
@@ -115,8 +115,8 @@ issues_of mode (e ∷ es) = issues_of mode es ++ Issue mode e ∷ []
 pub record MayServeBatch (port : Port) (tasks : List PlacedTask) (mode : QueueMode) (es : List Pending) (s :
     DriverSlots)
     (m : Machine) : Type 0 where
-  pub free : AreUnused port.0 tasks s.uses
-  pub may : AllMay m (issues_of mode es)
+  pub slots_are_free : AreUnused port.0 tasks s.uses
+  pub may_be_issued : AllEnabled m (issues_of mode es)
 
 -- each slot serves the request in its place
 abbrev pub with_serving_batch : Port → List PlacedTask → List Pending → DriverSlots → DriverSlots
@@ -129,34 +129,36 @@ with_serving_batch port _ _ s = s
 -- the first.
 pub record IssuesBatchAtEnd (port : Port) (tasks : List PlacedTask) (mode : QueueMode) (es : List Pending)
     (uses : SlotStates) (acts : List Act) : Type 0 where
-  pub once : (early : List Act) × (act : Act) × (acts ≡ early ++ act ∷ []) × AllByDevice (act_steps early)
-  pub before : List Step
-  pub device : AllByDevice before
-  pub last : act_steps acts ≡ issues_of mode es ++ before
-  pub own : AllZip (λ t e. All (λ act. IsBeingIssued e.request.id (act.later.uses port.0 t.slot)) acts) tasks es
-  pub others : (q k : ℕ) → (q ≡ port.0 → IsSlotOf tasks k → ⊥) → All (λ act. act.later.uses q k ≡ uses q k) acts
+  pub last_act_issues : (early : List Act) × (act : Act) × (acts ≡ early ++ act ∷ []) × AllByDevice (act_steps early)
+  pub device_steps : List Step
+  pub only_device_before : AllByDevice device_steps
+  pub issues_come_last : act_steps acts ≡ issues_of mode es ++ device_steps
+  pub own_slots_are : AllZip (λ t e. All (λ act. IsBeingIssued e.request.id (act.later.uses port.0 t.slot)) acts) tasks
+      es
+  pub other_slots_are_kept : (q k : ℕ) → (q ≡ port.0 → IsSlotOf tasks k → ⊥)
+      → All (λ act. act.later.uses q k ≡ uses q k) acts
 
 -- Such accesses led there, in this order. And from each machine that agrees with the slots free, and on which requests
 -- that are these tasks may be issued one after another, acts with these accesses lead to one that agrees with a driver
 -- whose slots serve them.
 pub record IssuesBatch (port : Port) (tasks : List PlacedTask) (old new : Device) : Type 0 where
   pub queued : Bool
-  pub kinds : All (λ t. t.task.queued ≡ queued) tasks
-  pub small : All (λ t. t.slot < 32) tasks
-  pub apart : HaveOwnSlots tasks
+  pub all_are_of_kind : All (λ t. t.task.queued ≡ queued) tasks
+  pub slots_in_range : All (λ t. t.slot < 32) tasks
+  pub slots_are_apart : HaveOwnSlots tasks
   pub driven : IsDrivenBy (IsBatchAccess port) old new
   pub order : StoresThenWritesAll port queued tasks driven.accesses
-  pub comes : (mode : QueueMode) (es : List Pending)
+  pub machine_follows : (mode : QueueMode) (es : List Pending)
       → AllZip (λ t e. IsTaskOf port t.slot t.task t.frames mode e) tasks es
       → ActsReachWith driven.accesses (MayServeBatch port tasks mode es) (with_serving_batch port tasks es)
       (λ s m. IssuesBatchAtEnd port tasks mode es s.uses) old new
 
 -- What the write of PxCI makes of a batch: each slot's bytes say its task, and its bits are set.
 pub record IsBatchIssued (port : Port) (tasks : List PlacedTask) (old new : Device) : Type 0 where
-  pub on : IsOn new
+  pub adapter_is_on : IsOn new
   pub issues : IssuesBatch port tasks old new
   pub stored : All (λ t. IsStored new port.0 t.slot (meaning_of t.task)
       (addresses_of port.0 t.task.op t.task.range.count t.frames)) tasks
-  pub block : All (λ t. HasBlockOf t.task.op t.task.range port.0 new.memory) tasks
-  pub set : All (λ t. (new.port port.0).ci t.slot ≡ true) tasks
-  pub active : All (λ t. t.task.queued ≡ true → (new.port port.0).sact t.slot ≡ true) tasks
+  pub block_names_sectors : All (λ t. HasBlockOf t.task.op t.task.range port.0 new.memory) tasks
+  pub ci_is_set : All (λ t. (new.port port.0).ci t.slot ≡ true) tasks
+  pub sact_is_set : All (λ t. t.task.queued ≡ true → (new.port port.0).sact t.slot ≡ true) tasks

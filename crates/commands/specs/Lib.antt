@@ -4,5 +4,5 @@ pub mod Masks
 pub mod Tasks
 pub mod Witness
 pub mod Costs
-pub mod Block
+pub mod TrimBlocks
 pub mod PlainTasks

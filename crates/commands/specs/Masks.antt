@@ -13,7 +13,7 @@ use Rattle.block_machine.specs.Expected.{after}
 use Rattle.block_machine.specs.State.{Machine}
 use Rattle.block_machine.specs.Steps.{NoneQuarantined}
 use Rattle.refinement.specs.Acts.{Act, DriverSlots, ActsReachWith, act_steps}
-use Rattle.refinement.specs.Driven.{IsDrivenBy}
+use Rattle.refinement.specs.Fragments.{IsDrivenBy}
 use Rattle.refinement.specs.PortFacts.{EndedIn}
 use Rattle.refinement.specs.Slots.{Serves, IsOver}
 
@@ -26,11 +26,11 @@ ReadsCiOrSact port access = ⊥
 -- done and serves a request is over, and the request has ended. And no request of the port was kept meanwhile.
 pub record FindsEnds (port : Port) (done : ℕ) (old new : Device) (s : DriverSlots) (m : Machine)
     (acts : List Act) : Type 0 where
-  pub device : AllByDevice (act_steps acts)
-  pub used : All (λ act. act.later.uses ≡ s.uses) acts
-  pub ended : (old.port port.0).st ≡ true → (slot : ℕ) (id : RequestId) → slot < 32 → bit done slot ≡ true
+  pub only_device_steps : AllByDevice (act_steps acts)
+  pub slots_are_kept : All (λ act. act.later.uses ≡ s.uses) acts
+  pub requests_have_ended : (old.port port.0).st ≡ true → (slot : ℕ) (id : RequestId) → slot < 32 → bit done slot ≡ true
       → s.uses port.0 slot ≡ Serves id → IsOver (new.port port.0) slot × EndedIn (after m (act_steps acts)) port id
-  pub kept : NoneQuarantined m port → NoneQuarantined (after m (act_steps acts)) port
+  pub none_is_quarantined : NoneQuarantined m port → NoneQuarantined (after m (act_steps acts)) port
 
 -- the bits of the mask that are clear in what was read of PxCI and of PxSACT
 abbrev pub IsDoneMask : ℕ → ℕ → ℕ → ℕ → Type 0
@@ -44,8 +44,8 @@ pub record ReadsDone (port : Port) (mask done : ℕ) (old new : Device) : Type 0
   pub active : ℕ
   pub driven : IsDrivenBy (ReadsCiOrSact port) old new
   pub reads : driven.accesses ≡ Reading (Px port Ci) issued ∷ Reading (Px port Sact) active ∷ []
-  pub tells : IsDoneMask mask issued active done
-  pub comes : ActsReachWith driven.accesses (λ s m. Unit {0}) (λ s. s) (FindsEnds port done old new) old new
+  pub done_is : IsDoneMask mask issued active done
+  pub machine_follows : ActsReachWith driven.accesses (λ s m. Unit {0}) (λ s. s) (FindsEnds port done old new) old new
 
 -- a slot of the mask whose bits were clear when the call began is done
 abbrev pub SeesClear : Port → ℕ → ℕ → Device → Type 0

@@ -18,14 +18,14 @@ use Rattle.adapter.specs.Memory.{bytes_at}
 use Rattle.adapter.specs.Trim.{consecutive, trim_sectors}
 use Rattle.adapter.specs.declared.command.Operation.{Operation}
 use Rattle.adapter.specs.declared.command.Operation.TheVariants as operation
-use Rattle.block_machine.specs.Due.{is_plain}
+use Rattle.block_machine.specs.DueRequests.{is_plain}
 use Rattle.block_machine.specs.State.{Pending}
 use Rattle.block_machine.specs.declared.due.QueueMode.{QueueMode}
 use Rattle.refinement.specs.Acts.{DriverSlots}
-use Rattle.refinement.specs.Places.{list_of, scratch_of}
-use Rattle.refinement.specs.Slots.{SlotState, Free, Armed, Serves, put}
-use Rattle.command_table.specs.Written.{IsStoreWithBlock, IsTableStore}
-use Rattle.command_table.specs.Places.{places_of}
+use Rattle.refinement.specs.MemoryLayout.{list_of, scratch_of}
+use Rattle.refinement.specs.Slots.{SlotState, Free, Armed, Serves, set_slot_state}
+use Rattle.command_table.specs.TableStores.{IsStoreWithBlock, IsTableStore}
+use Rattle.command_table.specs.SectorPlaces.{places_of}
 use Rattle.commands.specs.declared.ncq.Task.{Task}
 
 -- ---- tasks
@@ -37,11 +37,11 @@ IsTransfer op = (op ≡ Read) ⊎ (op ≡ Write)
 -- A read or a write of 1 to 1024 sectors, the first of them below 2^48, and the frames that they need, eight sectors to
 -- a frame.
 pub record IsFitTransfer (r : Task) (frames : List Frame) : Type 0 where
-  pub transfers : IsTransfer r.op
-  pub some : 1 ≤ r.range.count
-  pub few : r.range.count ≤ MOST_REQUEST_SECTORS
-  pub first : r.range.first.0 < 2 ^ 48
-  pub number : length frames ≡ (r.range.count + 7) / 8
+  pub is_transfer : IsTransfer r.op
+  pub count_is_positive : 1 ≤ r.range.count
+  pub count_is_allowed : r.range.count ≤ MOST_REQUEST_SECTORS
+  pub first_in_range : r.range.first.0 < 2 ^ 48
+  pub frame_count_is : length frames ≡ (r.range.count + 7) / 8
 
 -- the command that does what a request asks, queued if it is to be
 abbrev pub task_operation : Bool → Op → Operation
@@ -87,20 +87,20 @@ HasBlockOf _ range port memory = Unit {0}
 pub record IsTaskOf (port : Port) (slot : ℕ) (r : Task) (frames : List Frame) (mode : QueueMode)
     (e : Pending) : Type 0 where
   pub port_is : e.request.port ≡ port
-  pub operation : e.request.asked.op ≡ r.op
-  pub first : e.request.asked.first ≡ r.range.first
-  pub count : e.request.asked.count ≡ r.range.count
+  pub operation_is : e.request.asked.op ≡ r.op
+  pub first_is : e.request.asked.first ≡ r.range.first
+  pub count_is : e.request.asked.count ≡ r.range.count
   pub frames_are : e.request.asked.frames.items ≡ frames
-  pub kind : r.queued ≡ not (is_plain mode r.op)
-  pub usable : slot < mode.usable
-  pub head : r.queued ≡ false → slot ≡ 0
+  pub queued_is : r.queued ≡ not (is_plain mode r.op)
+  pub slot_is_usable : slot < mode.usable
+  pub plain_in_slot_0 : r.queued ≡ false → slot ≡ 0
 
 -- ---- issuing
 
 -- the port runs, with its command list in its place
 pub record RunsItsList (port : ℕ) (d : Device) : Type 0 where
-  pub started : (d.port port).st ≡ true
-  pub list : (d.port port).bases.clb ≡ list_of port
+  pub st_is_set : (d.port port).st ≡ true
+  pub list_is_in_place : (d.port port).bases.clb ≡ list_of port
 
 -- what is stored for a task: the slot's header and table, and a trim's block
 abbrev pub IsStoreFor : Op → ℕ → ℕ → Access → Type 0
@@ -113,13 +113,13 @@ issuing_writes port true v = Writing (Px port Sact) v ∷ Writing (Px port Ci) v
 issuing_writes port false v = Writing (Px port Ci) v ∷ []
 
 -- PxSACT was written, for a queued command; for a plain one nothing was done
-abbrev pub Arms : Bool → Port → ℕ → Device → Device → Type 0
-Arms true port v old new = Writes (Px port Sact) v old new
-Arms false port v old new = new ≡ old
+abbrev pub WritesSactIfQueued : Bool → Port → ℕ → Device → Device → Type 0
+WritesSactIfQueued true port v old new = Writes (Px port Sact) v old new
+WritesSactIfQueued false port v old new = new ≡ old
 
 -- the slot serves the request
 abbrev pub with_serving : Port → ℕ → RequestId → DriverSlots → DriverSlots
-with_serving port slot id s = record s { uses = put s.uses port.0 slot (Serves id) }
+with_serving port slot id s = record s { uses = set_slot_state s.uses port.0 slot (Serves id) }
 
 -- on its way from being free to serving this request
 abbrev pub IsBeingIssued : RequestId → SlotState → Type 0

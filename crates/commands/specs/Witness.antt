@@ -5,13 +5,13 @@ use Rattle.ata_types.specs.declared.memory.TheConstants.{DRIVER_BYTES}
 use Rattle.ata_types.specs.declared.request.Frame.{Frame}
 use Rattle.adapter.specs.Rules.{IsOn, HasPort}
 use Rattle.block_machine.specs.State.{Pending}
-use Rattle.block_machine.specs.Steps.{Issue, May}
+use Rattle.block_machine.specs.Steps.{Issue, IsEnabled}
 use Rattle.block_machine.specs.declared.due.QueueMode.{QueueMode}
 use Rattle.refinement.specs.Relation.{port_at}
-use Rattle.refinement.specs.Driven.{IsRelated}
+use Rattle.refinement.specs.Fragments.{IsRelated}
 use Rattle.refinement.specs.Slots.{Free}
 use Rattle.refinement.specs.TwoReads.{two_memory}
-use Rattle.refinement.specs.Witness.{prepared_read, ready_with}
+use Rattle.refinement.specs.ReadWitness.{prepared_read, ready_device}
 use Rattle.commands.specs.Batches.{HasBitsOf, IsBatchStored, MayServeBatch, PlacedTask}
 use Rattle.commands.specs.Tasks.{IsFitTransfer, IsTaskOf, RunsItsList}
 use Rattle.commands.specs.declared.ncq.Task.{Task}
@@ -20,31 +20,32 @@ use Rattle.commands.specs.declared.ncq.Task.{Task}
 -- was written: with a machine that agrees where no slot is used, and on which a request of that port is due that is a
 -- plain transfer, which slot 0 may take.
 pub record FirstMayBeIssued : Type 0 where
-  pub on : IsOn prepared_read
-  pub there : HasPort prepared_read 0
-  pub room : DRIVER_BYTES ≤ prepared_read.size
+  pub adapter_is_on : IsOn prepared_read
+  pub has_port : HasPort prepared_read 0
+  pub driver_memory_fits : DRIVER_BYTES ≤ prepared_read.size
   pub may : RunsItsList 0 prepared_read
-  pub agreed : IsRelated (λ port slot. Free) prepared_read
+  pub machine_is_related : IsRelated (λ port slot. Free) prepared_read
   pub mode : QueueMode
   pub request : Pending
-  pub due : May agreed.machine (Issue mode request)
+  pub due : IsEnabled machine_is_related.machine (Issue mode request)
   pub transfer : Task
   pub frames : List Frame
   pub fits : IsFitTransfer transfer frames
   pub plain : transfer.queued ≡ false
-  pub is : IsTaskOf (port_at 0) 0 transfer frames mode request
+  pub is_task : IsTaskOf (port_at 0) 0 transfer frames mode request
 
 -- Two queued transfers are stored in slots of port 0, with a machine that agrees, on which both requests may be
 -- issued; and a value has the slots' bits. So what is asked before a batch is issued can be met, and what is said of
 -- issuing it speaks of something.
 pub record BatchMayBeIssued : Type 0 where
   pub tasks : List PlacedTask
-  pub two : length tasks ≡ 2
-  pub stored : IsBatchStored (port_at 0) tasks (ready_with two_memory) (ready_with two_memory)
+  pub has_two_tasks : length tasks ≡ 2
+  pub stored : IsBatchStored (port_at 0) tasks (ready_device two_memory) (ready_device two_memory)
   pub mask : ℕ
   pub bits : HasBitsOf tasks mask
   pub mode : QueueMode
   pub requests : List Pending
-  pub are : AllZip (λ t e. IsTaskOf (port_at 0) t.slot t.task t.frames mode e) tasks requests
+  pub are_tasks : AllZip (λ t e. IsTaskOf (port_at 0) t.slot t.task t.frames mode e) tasks requests
   pub may : MayServeBatch (port_at 0) tasks mode requests
-      (record { uses = stored.agreed.0; parked = stored.agreed.2.parked }) stored.agreed.2.machine
+      (record { uses = stored.machine_is_related.0; parked = stored.machine_is_related.2.parked })
+      stored.machine_is_related.2.machine

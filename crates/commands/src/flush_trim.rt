@@ -11,9 +11,9 @@ ghost use Rattle.adapter.specs.Commands.{command_of};
 ghost use Rattle.adapter.specs.Trim.{consecutive, trim_sectors};
 ghost use Rattle.adapter.specs.declared.command.Operation.TheVariants as operation;
 ghost use Rattle.commands.specs.Issuing.{IsIssued, MayIssueTask};
-ghost use Rattle.commands.specs.Block.{IsRangeCut, entry_first, entry_length, entry_first_for, entry_length_for};
+ghost use Rattle.commands.specs.TrimBlocks.{IsRangeCut, entry_first, entry_length, entry_first_for, entry_length_for};
 ghost use Rattle.commands.specs.PlainTasks.{flush_task, trim_task};
-ghost use Rattle.adapter.specs.Counted.{MakesAtMost};
+ghost use Rattle.adapter.specs.AccessBounds.{MakesAtMost};
 ghost use Rattle.command_table.specs.Costs.{TABLE_WITH_BLOCK_ACCESSES, TABLE_ACCESSES};
 
 use super::ncq::bit_of;

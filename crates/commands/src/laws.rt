@@ -14,7 +14,7 @@ ghost use Rattle.block_machine.specs.Histories.{IsReachable};
 ghost use Rattle.block_machine.specs.State.{Machine, Pending};
 ghost use Rattle.block_machine.specs.declared.due.QueueMode.{QueueMode};
 ghost use Rattle.refinement.specs.Acts.{DriverSlots, driver_state};
-ghost use Rattle.refinement.specs.Driven.{AnyUse, IsSimulated, RelatesWith, SparesOtherPorts, GainsNoMove};
+ghost use Rattle.refinement.specs.Fragments.{AnyUse, IsSimulated, RelatesWith, SparesOtherPorts, GainsNoMove};
 ghost use Rattle.refinement.specs.Driver.{EndsInSteps, DriverRelation};
 ghost use Rattle.refinement.specs.Slots.{Own, op_of};
 ghost use Rattle.commands.specs.Batches.{AreUnused, HasBitsOf, IsBatchIssued, IsBatchStored, IsBatchAccess, IsSlotOf, IssuesBatch, MayServeBatch, PlacedTask, StoresTransfer, issues_of, with_serving_batch};
@@ -76,9 +76,9 @@ pub fn law_writing_issues()
 /// A batch begins empty, on a port that runs. And a queued transfer more may be prepared in a slot of its own that was
 /// unused when the batch began, as all of its slots were; that makes it one of the batch.
 pub fn law_batches_grow()
-    ensures none { (port : Port) (d : Device) → IsOn d → HasPort d port.0 → DRIVER_BYTES ≤ d.size
+    ensures empty_batch { (port : Port) (d : Device) → IsOn d → HasPort d port.0 → DRIVER_BYTES ≤ d.size
         → RunsItsList port.0 d → RelatesWith (AreUnused port.0 []) d → IsBatchStored port [] d d }
-    ensures more { (port : Port) (tasks : List PlacedTask) (t : PlacedTask) (start mid : Device)
+    ensures one_more_task { (port : Port) (tasks : List PlacedTask) (t : PlacedTask) (start mid : Device)
         → IsBatchStored port tasks start mid → RelatesWith (AreUnused port.0 (tasks ++ t ∷ [])) start
         → (IsSlotOf tasks t.slot → ⊥) → t.slot < 32 → t.slot ≤ start.cap / 256 % 32
         → IsFitTransfer t.task t.frames → t.task.queued ≡ true
@@ -97,8 +97,8 @@ pub fn law_batches_grow()
 
 /// So does its mask, of 32 bits: it begins with none, and has the bit of the task's slot more.
 pub fn law_batch_masks_grow()
-    ensures none { HasBitsOf [] 0 }
-    ensures more { (tasks : List PlacedTask) (t : PlacedTask) (mask later : ℕ) → mask < 2 ^ 32 → later < 2 ^ 32
+    ensures empty_mask { HasBitsOf [] 0 }
+    ensures one_more_bit { (tasks : List PlacedTask) (t : PlacedTask) (mask later : ℕ) → mask < 2 ^ 32 → later < 2 ^ 32
         → HasBitsOf tasks mask → bit later t.slot ≡ true
         → ((k : ℕ) → k < 32 → k ≢ t.slot → bit later k ≡ bit mask k) → HasBitsOf (tasks ++ t ∷ []) later }
 {}

@@ -5,9 +5,9 @@
 //! issuing (`IsIssued`, `IsBatchIssued`). The crate knows no client and no book.
 #![tactic(auto)]
 
-mod finding;
 mod flush_trim;
 pub mod laws;
+mod laws_of_done;
 mod ncq;
 
 pub use flush_trim::{issue_flush, issue_trim, trim_block};

@@ -10,19 +10,19 @@ ghost use Rattle.std.specs.Prelude.{◌≡◌, ◌≤◌, ◌<◌, ◌*◌, ◌/
 ghost use Rattle.adapter.specs.Commands.{command_of};
 ghost use Rattle.adapter.specs.Device.{Device};
 ghost use Rattle.adapter.specs.Rules.{IsOn, HasPort};
-ghost use Rattle.refinement.specs.Driven.{IsSoleBit};
+ghost use Rattle.refinement.specs.Fragments.{IsSoleBit};
 ghost use Rattle.hba_regs.specs.declared.reg.PortReg.TheVariants.{Ci, Sact};
 ghost use Rattle.hba_regs.specs.declared.reg.Reg.TheVariants.{Px};
 ghost use Rattle.commands.specs.Batches.{HasBitsOf, IsBatchIssued, IsBatchStored, PlacedTask, StoresTransfer};
 ghost use Rattle.commands.specs.Issuing.{IsIssued, MayIssueTask, MayIssueTransfer};
 ghost use Rattle.commands.specs.Masks.{IsDoneMask, ReadsDone, SeesClear};
-ghost use Rattle.commands.specs.Tasks.{Arms, IsFitTransfer, IsTransfer, task_operation};
-ghost use Rattle.adapter.specs.Counted.{MakesAtMost};
+ghost use Rattle.commands.specs.Tasks.{WritesSactIfQueued, IsFitTransfer, IsTransfer, task_operation};
+ghost use Rattle.adapter.specs.AccessBounds.{MakesAtMost};
 ghost use Rattle.command_table.specs.Costs.{TABLE_ACCESSES};
 ghost use Rattle.commands.specs.Costs.{BATCH_ACCESSES, DONE_ACCESSES, ISSUE_ACCESSES};
 
-use crate::finding::law_reading_finds_done;
 use crate::laws::law_writing_issues;
+use crate::laws_of_done::law_reading_finds_done;
 use adapter::{Adapter, Command};
 use ata_types::{
     DRIVER_BYTES, Frame, MOST_REQUEST_FRAMES, MOST_REQUEST_SECTORS, Op, Port, READ_DMA_EXT,
@@ -99,7 +99,7 @@ fn arm<A: Adapter>(adapter: &mut A, port: Port, own: u32, queued: bool)
     requires on { IsOn (A.device adapter.old) }
     requires there { HasPort (A.device adapter.old) port.0 }
     requires started { ((A.device adapter.old).port port.0).st ≡ true }
-    ensures arms { Arms queued port own (A.device adapter.old) (A.device adapter.new) }
+    ensures arms { WritesSactIfQueued queued port own (A.device adapter.old) (A.device adapter.new) }
     ensures cost { MakesAtMost 1 (A.access_count adapter.old) (A.access_count adapter.new) }
 {
     law_writing_is_permitted();

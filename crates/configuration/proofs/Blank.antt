@@ -3,7 +3,7 @@ use Rattle.std.proofs.Common.{◌≡◌, false, true, ℕ, List, Some, arith, co
 use Rattle.toml.specs.Data.{no_members}
 use Rattle.toml.specs.Errors.{IsBlank}
 use Rattle.toml.specs.Parse.{lines, parse_document}
-use Rattle.configuration.specs.Schema.{HasAllKeys, HasKeys, required}
+use Rattle.configuration.specs.Schema.{HasAllKeys, HasKeys, required_key}
 use Rattle.configuration.specs.declared.schema.ValueType.TheVariants.{Integer}
 
 pub blank-document : (text : List ℕ) → IsBlank text → parse_document text ≡ Some no_members
@@ -12,4 +12,4 @@ blank-document text is = rw is refl
 
 pub blank-keys : HasAllKeys no_members → ⊥
 unfolding HasKeys
-blank-keys h = let bad : false ≡ true = h.itself.0 0 (required (codes "frames") Integer) (omega arith) refl in cc
+blank-keys h = let bad : false ≡ true = h.itself.0 0 (required_key (codes "frames") Integer) (omega arith) refl in cc

@@ -10,16 +10,16 @@ use Rattle.std.proofs.lemmas.List.Kept.{AllPairs-cons}
 use Rattle.std.proofs.lemmas.Map.Made.{IsDistinct-from_AllPairs}
 use Rattle.std.proofs.lemmas.Map.Steps.{length-le_from_distinct_below}
 use Rattle.block_machine.specs.Rules.{DifferInName}
-use Rattle.configuration.specs.Ranges.{IsClientConfig}
+use Rattle.configuration.specs.Ranges.{IsClientInRange}
 use Rattle.configuration.specs.Rules.{ConfiguresPort, IsInRange, LacksEveryFault}
 use Rattle.configuration.specs.declared.ClientConfig.{ClientConfig}
 use Rattle.configuration.specs.declared.Config.{Config}
 use Rattle.configuration.specs.declared.FaultKind.TheVariants.{OutOfRange, Duplicate, SharedFrames, UnknownPort}
-use Rattle.dma_frames.specs.Table.{FrameExtent, ExtentsApart}
+use Rattle.dma_frames.specs.FrameTables.{FrameExtent, ExtentsApart}
 use Rattle.identify.specs.declared.wanted.Wanted.{Wanted}
 use Rattle.identify.specs.declared.wanted.Wanted.TheVariants.{Nothing}
-use Rattle.configuration.specs.Parts.{AreWantedOf, wanted_disk, row_of, owner_extent}
-use Rattle.configuration.specs.Plan.{AreExtents, HasClientFrames, IsClient, IsPlan, IsPlanOf, IsServedGrant, PlanView}
+use Rattle.configuration.specs.PlanParts.{AreWantedOf, wanted_disk, row_of, owner_extent}
+use Rattle.configuration.specs.Plan.{AreClientExtents, HasClientFrames, IsClientNumber, IsPlan, IsPlanOf, IsServedGrant, PlanView}
 
 -- what each two elements have in common, each two of their images have
 AllPairs-map : {X Y : Type 0} (R : Y → Y → Type 0) (f : X → Y) (xs : List X) → AllPairs (λ x y. R (f x) (f y)) xs
@@ -55,7 +55,7 @@ module _ (c : Config) (sound : LacksEveryFault c) where
   pub in_range : IsInRange c
   in_range = sound OutOfRange
 
-  pub clients_within : All (IsClientConfig MOST_FRAMES) c.client.items
+  pub clients_within : All (IsClientInRange MOST_FRAMES) c.client.items
   clients_within = λ k d low.
       let is = in_range.parts.clients k d low in
       record {
@@ -75,9 +75,9 @@ module _ (c : Config) (sound : LacksEveryFault c) where
       let once = AllPairs-map (λ a b. a ≢ b) id clients (sound Duplicate).clients in
       omega (arith, eight (map id clients) range once, length-map clients id)
 
-  runs : AreExtents c.frames (map owner_extent c.client.items)
+  runs : AreClientExtents c.frames (map owner_extent c.client.items)
   runs = record {
-    owners = All-map (λ (run : FrameExtent). IsClient run.0) owner_extent c.client.items
+    owners = All-map (λ (run : FrameExtent). IsClientNumber run.0) owner_extent c.client.items
         (λ k d low. ((in_range.parts.clients k d low).least, (in_range.parts.clients k d low).most));
     within = All-map (HasClientFrames c.frames) owner_extent c.client.items
         (λ k d low. let is = in_range.parts.clients k d low in (is.first_frame, is.some, is.within));
@@ -98,7 +98,7 @@ module _ (c : Config) (sound : LacksEveryFault c) where
         number = is.number;
         port = is.port;
         disk = (disk.0, disk.1, λ nothing. some_disk _ (sym named ∙ nothing));
-        some = is.some;
+        count_is_positive = is.some;
         sectors = is.within;
       }
 
@@ -109,7 +109,7 @@ module _ (c : Config) (sound : LacksEveryFault c) where
   pub plan_fits : (p : PlanView) → IsPlanOf c p → IsPlan p
   plan_fits p is = record {
     memory = subst (λ n. (FEWEST_FRAMES ≤ n) × (n ≤ MOST_FRAMES)) (sym is.frames) in_range.numbers.frames;
-    runs = subst (λ n. AreExtents n p.owners) (sym is.frames) (subst (AreExtents c.frames) (sym is.owners) runs);
+    runs = subst (λ n. AreClientExtents n p.owners) (sym is.frames) (subst (AreClientExtents c.frames) (sym is.owners) runs);
     few = omega (arith, ap length is.grants, length-map c.grant.items row_of, in_range.numbers.few_grants);
     grants = subst (All (IsServedGrant p.wanted)) (sym is.grants)
         (All-map (IsServedGrant p.wanted) row_of c.grant.items (served p.wanted is.wanted));

@@ -1,7 +1,7 @@
 -- A choice of letters in their order, taken apart letter by letter.
 use Rattle.std.proofs.Common.{◌≡◌, ◌==◌, ◌∙◌, ◌++◌, ℕ, Bool, true, false, if◌then◌else◌, List, [], ◌∷◌, codes, ◌↔◌, IsTrue, length, refl, ap, append-nil, arith, sym}
 use Rattle.std.proofs.lemmas.Bool.{eqb-true}
-use Rattle.configuration.specs.Ranges.{IsRights, letter_if, without_first_letter}
+use Rattle.configuration.specs.Ranges.{IsRightsText, letter_if, without_first_letter}
 
 letter_or_not : (letter c : ℕ) (cs : List ℕ) (b : Bool) → (c == letter) ≡ b
     → (p : Bool) × (c ∷ cs ≡ letter_if p (letter ∷ []) ++ (if b then cs else c ∷ cs))
@@ -57,7 +57,7 @@ no_length (x ∷ xs) is = absurd (omega (arith, eqb-true (length (x ∷ xs)) 0 i
 
 -- a text is rights where it isn't empty, and nothing is left of it without its letters
 pub rights_by_left : (text rest : List ℕ) (is_empty is_right : Bool) → rest ≡ left text → is_empty ≡ (length text == 0)
-    → is_empty ≡ false → is_right ≡ (length rest == 0) → IsTrue is_right ↔ IsRights text
+    → is_empty ≡ false → is_right ≡ (length rest == 0) → IsTrue is_right ↔ IsRightsText text
 rights_by_left text rest is_empty is_right left_is empty_is some is =
     let empty = λ (xs : List ℕ) (no : xs ≡ []). ap (λ ys. length ys == 0) no in (
       (λ yes. record {

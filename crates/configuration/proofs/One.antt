@@ -6,7 +6,7 @@ use Rattle.configuration.specs.declared.FaultKind.{FaultKind}
 use Rattle.configuration.specs.declared.FaultKind.TheVariants.{NotToml, WrongKeys, WrongTypes, OutOfRange, Duplicate, SharedFrames, UnknownClient, UnknownPort}
 use Rattle.configuration.specs.Document.{IsDocument, IsDocumentFault, DocumentReadsAs, TextReadsAs, IsTextFault, document, keys, negative, rule, types, unreadable}
 use Rattle.configuration.specs.Rules.{IsLeastFault, kind_number}
-use Rattle.configuration.specs.Tables.{Spells}
+use Rattle.configuration.specs.TomlTables.{Spells}
 use Rattle.configuration.proofs.Same.{meets-alike, same-values}
 
 kind_of : ℕ → FaultKind

@@ -10,9 +10,9 @@ use Rattle.configuration.specs.declared.GrantConfig.{GrantConfig}
 use Rattle.configuration.specs.declared.FaultKind.{FaultKind}
 use Rattle.configuration.specs.declared.FaultKind.TheVariants.{NotToml, WrongKeys, WrongTypes, OutOfRange, Duplicate, SharedFrames, UnknownClient, UnknownPort}
 use Rattle.configuration.specs.declared.PortConfig.{PortConfig}
-use Rattle.configuration.specs.Ranges.{IsClientConfig, IsGrant, IsPort, IsRights, IsSerialText}
+use Rattle.configuration.specs.Ranges.{IsClientInRange, IsGrantInRange, IsPortInRange, IsRightsText, IsSerialText}
 use Rattle.configuration.specs.Rules.{FramesApart, DifferInId, DifferInGrant, DifferInNumber, HasClient, ConfiguresPort, IsTrimWord, LacksFault}
-use Rattle.configuration.specs.Tables.{HasNumber, HasText, HasTextOrIsAbsent, Spells, SpellsClient, SpellsGrant, SpellsPort, tables_at}
+use Rattle.configuration.specs.TomlTables.{HasNumber, HasText, HasTextOrIsAbsent, Spells, SpellsClient, SpellsGrant, SpellsPort, tables_at}
 use Rattle.configuration.proofs.Zips.{All-alike, AllPairs-alike, Any-alike, same-length, same-list, zips-alike}
 
 one-number : (m : Members) (name : List ℕ) (n k : ℕ) → HasNumber m name n → HasNumber m name k → n ≡ k
@@ -99,13 +99,13 @@ serial-alike s None is h = tt
 serial-alike None (Some t) is h = let none : ⊥ = cc in absurd none
 serial-alike (Some s) (Some t) is h = let same : string_bytes s ≡ string_bytes t = cc in subst IsSerialText same h
 
-port-alike : (p q : PortConfig) → SamePort p q → IsPort p → IsPort q
+port-alike : (p q : PortConfig) → SamePort p q → IsPortInRange p → IsPortInRange q
 port-alike p q same h = record {
   number = subst (λ n. n ≤ 3) same.number h.number;
   serial = serial-alike p.serial q.serial same.serial h.serial;
 }
 
-grant-alike : (g h : GrantConfig) → SameGrant g h → IsGrant g → IsGrant h
+grant-alike : (g h : GrantConfig) → SameGrant g h → IsGrantInRange g → IsGrantInRange h
 grant-alike g h same is = record {
   least = subst (λ n. 1 ≤ n) same.client is.least;
   most = subst (λ n. n ≤ CLIENTS) same.client is.most;
@@ -113,7 +113,7 @@ grant-alike g h same is = record {
   port = subst (λ n. n ≤ 3) same.port is.port;
   some = subst (λ n. 1 ≤ n) same.count is.some;
   within = rw (sym same.first, sym same.count) is.within;
-  rights = subst IsRights same.rights is.rights;
+  rights = subst IsRightsText same.rights is.rights;
 }
 
 -- the same values meet the same rules
@@ -132,10 +132,10 @@ meets-alike c d OutOfRange same h = record {
   };
   trim = subst IsTrimWord same.trim h.trim;
   parts = record {
-    ports = All-alike SamePort IsPort IsPort port-alike c.port.items d.port.items same.ports h.parts.ports;
-    clients = subst (λ n. All (IsClientConfig n) d.client.items) same.frames
-        (subst (All (IsClientConfig c.frames)) same.clients h.parts.clients);
-    grants = All-alike SameGrant IsGrant IsGrant grant-alike c.grant.items d.grant.items same.grants h.parts.grants;
+    ports = All-alike SamePort IsPortInRange IsPortInRange port-alike c.port.items d.port.items same.ports h.parts.ports;
+    clients = subst (λ n. All (IsClientInRange n) d.client.items) same.frames
+        (subst (All (IsClientInRange c.frames)) same.clients h.parts.clients);
+    grants = All-alike SameGrant IsGrantInRange IsGrantInRange grant-alike c.grant.items d.grant.items same.grants h.parts.grants;
   };
 }
 meets-alike c d Duplicate same h = record {

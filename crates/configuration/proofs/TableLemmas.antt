@@ -7,7 +7,7 @@ use Rattle.toml.specs.View.{view, items_view, members_view}
 use Rattle.toml.specs.declared.value.Value.{Value}
 use Rattle.configuration.specs.declared.schema.ValueType.TheVariants.{Tables}
 use Rattle.configuration.specs.Schema.{AreTables, HasType}
-use Rattle.configuration.specs.Tables.{names_of, tables_of}
+use Rattle.configuration.specs.TomlTables.{names_of, tables_of}
 use Rattle.configuration.proofs.Lists.{All-cons_option, All-unmap, cons_option-All}
 
 names_of-view : (es : List (String Global × Value)) → names_of (members_view es) ≡ map string_bytes (keys_of es)

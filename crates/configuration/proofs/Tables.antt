@@ -6,7 +6,7 @@ use Rattle.toml.proofs.Views.{items_view-push}
 use Rattle.toml.specs.Data.{Data, Items, Members, no_items, item, as_table, push_item}
 use Rattle.toml.specs.View.{view, items_view}
 use Rattle.toml.specs.declared.value.Value.{Value}
-use Rattle.configuration.specs.Tables.{tables_of}
+use Rattle.configuration.specs.TomlTables.{tables_of}
 
 cons_option-append : {X : Type 0} (o : Option X) (xs ys : List X) → cons_option o (xs ++ ys) ≡ cons_option o xs ++ ys
 cons_option-append None xs ys = refl

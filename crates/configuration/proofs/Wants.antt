@@ -6,7 +6,7 @@ use Rattle.std.specs.List.{slice_get}
 use Rattle.configuration.specs.Rules.{DifferInNumber, ConfiguresPort}
 use Rattle.configuration.specs.declared.PortConfig.{PortConfig}
 use Rattle.identify.specs.declared.wanted.Wanted.{Wanted}
-use Rattle.configuration.specs.Parts.{IsWantedIn, wanted_disk}
+use Rattle.configuration.specs.PlanParts.{IsWantedIn, wanted_disk}
 
 -- ports of one number stand at one place
 one_place : (ports : List PortConfig) (i j : ℕ) (d : PortConfig) → AllPairs DifferInNumber ports → i < length ports

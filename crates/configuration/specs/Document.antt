@@ -10,7 +10,7 @@ use Rattle.configuration.specs.declared.FaultKind.{FaultKind}
 use Rattle.configuration.specs.declared.FaultKind.TheVariants.{NotToml, WrongKeys, WrongTypes, OutOfRange}
 use Rattle.configuration.specs.Schema.{HasAllKeys, HasAllTypes}
 use Rattle.configuration.specs.Rules.{LacksEveryFault, IsLeastFault}
-use Rattle.configuration.specs.Tables.{Spells}
+use Rattle.configuration.specs.TomlTables.{Spells}
 
 -- the document has the right keys and types, and these values, which meet every rule
 pub record DocumentReadsAs (document : Members) (c : Config) : Type 0 where

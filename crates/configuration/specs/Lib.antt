@@ -2,6 +2,6 @@ pub mod Document
 pub mod Ranges
 pub mod Rules
 pub mod Schema
-pub mod Tables
-pub mod Parts
+pub mod TomlTables
+pub mod PlanParts
 pub mod Plan

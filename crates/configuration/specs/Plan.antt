@@ -6,10 +6,10 @@ use Rattle.ata_types.specs.declared.memory.TheConstants.{DRIVER_FRAMES, FEWEST_F
 use Rattle.ata_types.specs.declared.request.ClientId.{ClientId}
 use Rattle.block_machine.specs.Rules.{DifferInName}
 use Rattle.configuration.specs.declared.Config.{Config}
-use Rattle.dma_frames.specs.Table.{FrameExtent, ExtentsApart}
+use Rattle.dma_frames.specs.FrameTables.{FrameExtent, ExtentsApart}
 use Rattle.identify.specs.declared.wanted.Wanted.{Wanted}
 use Rattle.identify.specs.declared.wanted.Wanted.TheVariants.{Nothing}
-use Rattle.configuration.specs.Parts.{owner_extent, row_of, AreWantedOf}
+use Rattle.configuration.specs.PlanParts.{owner_extent, row_of, AreWantedOf}
 
 -- What a plan says: how many frames of memory there are, who owns which of them, the grants, and the disk that is
 -- wanted in each port.
@@ -27,37 +27,37 @@ plan_view_of frames owners grants wanted =
 -- ---- what a server can serve
 
 -- a memory that the server can use: the driver's frames, and one more at least
-abbrev pub IsMemory : ℕ → Type 0
-IsMemory frames = (FEWEST_FRAMES ≤ frames) × (frames ≤ MOST_FRAMES)
+abbrev pub IsUsableMemory : ℕ → Type 0
+IsUsableMemory frames = (FEWEST_FRAMES ≤ frames) × (frames ≤ MOST_FRAMES)
 
 -- the client is one of 1 to 8
-abbrev pub IsClient : ClientId → Type 0
-IsClient client = (1 ≤ client.0) × (client.0 ≤ CLIENTS)
+abbrev pub IsClientNumber : ClientId → Type 0
+IsClientNumber client = (1 ≤ client.0) × (client.0 ≤ CLIENTS)
 
 -- the run has a frame, and all its frames are clients' frames of the memory
 abbrev pub HasClientFrames : ℕ → FrameExtent → Type 0
 HasClientFrames frames run = (DRIVER_FRAMES ≤ run.1.0) × (1 ≤ run.2) × (run.1.0 + run.2 ≤ frames)
 
 -- Runs of client frames, each of a client, and no frame in two of them.
-pub record AreExtents (frames : ℕ) (runs : List FrameExtent) : Type 0 where
-  pub owners : All (λ run. IsClient run.0) runs
+pub record AreClientExtents (frames : ℕ) (runs : List FrameExtent) : Type 0 where
+  pub owners : All (λ run. IsClientNumber run.0) runs
   pub within : All (HasClientFrames frames) runs
   pub apart : AllPairs ExtentsApart runs
 
 -- A grant that a server can serve where these disks are wanted: of a client 1 to 8, under a number of 63 or less, on
 -- one of the ports 0 to 3 in which a disk is wanted, of one sector at least, all of them below 2^48.
 pub record IsServedGrant (wanted : List Wanted) (row : GrantRow) : Type 0 where
-  pub client : IsClient row.client
+  pub client : IsClientNumber row.client
   pub number : row.number ≤ 63
   pub port : row.port.0 ≤ 3
   pub disk : (w : Wanted) × (slice_get wanted row.port.0 ≡ Some w) × (w ≢ Nothing)
-  pub some : 1 ≤ row.count
+  pub count_is_positive : 1 ≤ row.count
   pub sectors : row.first.0 + row.count ≤ 2 ^ 48
 
 -- A server can serve the plan: at most 64 grants, no two of one client under one number.
 pub record IsPlan (p : PlanView) : Type 0 where
-  pub memory : IsMemory p.frames
-  pub runs : AreExtents p.frames p.owners
+  pub memory : IsUsableMemory p.frames
+  pub runs : AreClientExtents p.frames p.owners
   pub few : length p.grants ≤ MOST_GRANTS
   pub grants : All (IsServedGrant p.wanted) p.grants
   pub names : AllPairs DifferInName p.grants

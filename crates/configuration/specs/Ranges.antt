@@ -12,12 +12,12 @@ pub record IsSerialText (text : List ℕ) : Type 0 where
   pub few : length text ≤ 20
   pub printable : All (λ c. (32 ≤ c) × (c ≤ 126)) text
 
-pub record IsPort (p : PortConfig) : Type 0 where
+pub record IsPortInRange (p : PortConfig) : Type 0 where
   pub number : p.number ≤ 3
   pub serial : IfSome p.serial (λ s. IsSerialText (string_bytes s))
 
 -- The client's frames begin behind the driver's and end within the memory's.
-pub record IsClientConfig (memory_frames : ℕ) (c : ClientConfig) : Type 0 where
+pub record IsClientInRange (memory_frames : ℕ) (c : ClientConfig) : Type 0 where
   pub least : 1 ≤ c.id
   pub most : c.id ≤ CLIENTS
   pub first_frame : DRIVER_FRAMES ≤ c.first_frame
@@ -34,17 +34,17 @@ abbrev pub letter_if : Bool → List ℕ → List ℕ
 letter_if is_chosen letter = if is_chosen then letter else []
 
 -- a choice of r, w, t and f, in this order, that isn't empty
-pub record IsRights (text : List ℕ) : Type 0 where
+pub record IsRightsText (text : List ℕ) : Type 0 where
   pub some : text ≢ []
   pub choice : (r : Bool) × (w : Bool) × (t : Bool) × (f : Bool)
       × (text ≡ letter_if r (codes "r") ++ (letter_if w (codes "w") ++ (letter_if t (codes "t") ++ letter_if f (codes
       "f"))))
 
-pub record IsGrant (g : GrantConfig) : Type 0 where
+pub record IsGrantInRange (g : GrantConfig) : Type 0 where
   pub least : 1 ≤ g.client
   pub most : g.client ≤ CLIENTS
   pub number : g.number ≤ 63
   pub port : g.port ≤ 3
   pub some : 1 ≤ g.count
   pub within : g.first + g.count ≤ 2 ^ 48
-  pub rights : IsRights (string_bytes g.rights)
+  pub rights : IsRightsText (string_bytes g.rights)

@@ -10,7 +10,7 @@ use Rattle.configuration.specs.declared.ClientConfig.{ClientConfig}
 use Rattle.configuration.specs.declared.GrantConfig.{GrantConfig}
 use Rattle.configuration.specs.declared.FaultKind.{FaultKind}
 use Rattle.configuration.specs.declared.FaultKind.TheVariants.{NotToml, WrongKeys, WrongTypes, OutOfRange, Duplicate, SharedFrames, UnknownClient, UnknownPort}
-use Rattle.configuration.specs.Ranges.{IsPort, IsClientConfig, IsGrant}
+use Rattle.configuration.specs.Ranges.{IsPortInRange, IsClientInRange, IsGrantInRange}
 
 pub record HasNumbersInRange (c : Config) : Type 0 where
   pub frames : (FEWEST_FRAMES ≤ c.frames) × (c.frames ≤ MOST_FRAMES)
@@ -22,9 +22,9 @@ abbrev pub IsTrimWord : List ℕ → Type 0
 IsTrimWord text = (text ≡ codes "full") ⊎ ((text ≡ codes "weak") ⊎ (text ≡ codes "none"))
 
 pub record HasPartsInRange (c : Config) : Type 0 where
-  pub ports : All IsPort c.port.items
-  pub clients : All (IsClientConfig c.frames) c.client.items
-  pub grants : All IsGrant c.grant.items
+  pub ports : All IsPortInRange c.port.items
+  pub clients : All (IsClientInRange c.frames) c.client.items
+  pub grants : All IsGrantInRange c.grant.items
 
 -- every number and text is in its range, and there are at most 64 grants
 pub record IsInRange (c : Config) : Type 0 where

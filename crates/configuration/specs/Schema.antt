@@ -1,7 +1,7 @@
 -- The keys of a configuration, and what they ask of a document (this project's own).
 use Rattle.std.specs.Prelude.{◌≡◌, ℕ, Bool, true, false, List, [], ◌∷◌, Some, IsTrue, IsSome, IfSome, All, Any, codes}
 use Rattle.toml.specs.Data.{Data, Items, Members, no_items, item, get_member, as_integer, as_bool, as_str, as_array, as_table}
-use Rattle.configuration.specs.Tables.{names_of, tables_at}
+use Rattle.configuration.specs.TomlTables.{names_of, tables_at}
 use Rattle.configuration.specs.declared.schema.Key.{Key}
 use Rattle.configuration.specs.declared.schema.ValueType.{ValueType}
 use Rattle.configuration.specs.declared.schema.ValueType.TheVariants.{Integer, Boolean, Text, Tables}
@@ -12,29 +12,33 @@ pub record KeyRule : Type 0 where
   pub value_type : ValueType
   pub is_required : Bool
 
-abbrev pub required : List ℕ → ValueType → KeyRule
-required name value_type = record { name = name; value_type = value_type; is_required = true }
+abbrev pub required_key : List ℕ → ValueType → KeyRule
+required_key name value_type = record { name = name; value_type = value_type; is_required = true }
 
-abbrev pub optional : List ℕ → ValueType → KeyRule
-optional name value_type = record { name = name; value_type = value_type; is_required = false }
+abbrev pub optional_key : List ℕ → ValueType → KeyRule
+optional_key name value_type = record { name = name; value_type = value_type; is_required = false }
 
 -- A list is an array of tables, in either spelling of TOML. One table in its place (`[port]`) is of a wrong type, and
 -- isn't looked into; so is an array with something else in it, of which the keys of the tables are looked at, too.
 abbrev pub document_keys : List KeyRule
-document_keys = required (codes "frames") Integer ∷ required (codes "slots") Integer ∷ required (codes "ncq") Boolean
-    ∷ required (codes "depth") Integer ∷ required (codes "trim") Text ∷ optional (codes "cache") Boolean
-    ∷ optional (codes "port") Tables ∷ optional (codes "client") Tables ∷ optional (codes "grant") Tables ∷ []
+document_keys =
+    required_key (codes "frames") Integer ∷ required_key (codes "slots") Integer ∷ required_key (codes "ncq") Boolean
+    ∷ required_key (codes "depth") Integer ∷ required_key (codes "trim") Text ∷ optional_key (codes "cache") Boolean
+    ∷ optional_key (codes "port") Tables ∷ optional_key (codes "client") Tables ∷ optional_key (codes "grant") Tables
+    ∷ []
 
 abbrev pub port_keys : List KeyRule
-port_keys = required (codes "number") Integer ∷ optional (codes "serial") Text ∷ []
+port_keys = required_key (codes "number") Integer ∷ optional_key (codes "serial") Text ∷ []
 
 abbrev pub client_keys : List KeyRule
-client_keys = required (codes "id") Integer ∷ required (codes "first_frame") Integer
-    ∷ required (codes "frames") Integer ∷ []
+client_keys = required_key (codes "id") Integer ∷ required_key (codes "first_frame") Integer
+    ∷ required_key (codes "frames") Integer ∷ []
 
 abbrev pub grant_keys : List KeyRule
-grant_keys = required (codes "client") Integer ∷ required (codes "number") Integer ∷ required (codes "port") Integer
-    ∷ required (codes "first") Integer ∷ required (codes "count") Integer ∷ required (codes "rights") Text ∷ []
+grant_keys =
+    required_key (codes "client") Integer ∷ required_key (codes "number") Integer ∷ required_key (codes "port") Integer
+    ∷ required_key (codes "first") Integer ∷ required_key (codes "count") Integer ∷ required_key (codes "rights") Text
+    ∷ []
 
 -- the rule that a key of the code stands for
 abbrev pub key_rule_of : Key → KeyRule

@@ -3,7 +3,7 @@
 ghost use Rattle.std.specs.Prelude.{◌≡◌, ◌↔◌, IsTrue, IfOk, IfErr, All, codes};
 ghost use Rattle.toml.specs.Errors.{IsBlank};
 ghost use Rattle.toml.specs.View.{table_view};
-ghost use Rattle.configuration.specs.Tables.{tables_at};
+ghost use Rattle.configuration.specs.TomlTables.{tables_at};
 ghost use Rattle.configuration.specs.Schema.{HasAllKeys, HasAllTypes, HasKeys, HasTypes, document_keys, port_keys, client_keys, grant_keys};
 
 use super::read::ReadFault;

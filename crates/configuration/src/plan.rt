@@ -4,9 +4,9 @@
 //! `Grants::from_rows` as it is.
 ghost use Rattle.std.specs.Prelude.{◌≡◌, ◌≤◌, OnOk, IfOk, IfErr, All, AllPairs, length, map, option_map, string_bytes};
 ghost use Rattle.ata_types.specs.declared.limits.TheConstants.{CLIENTS, MOST_GRANTS};
-ghost use Rattle.configuration.specs.Ranges.{IsClientConfig, IsGrant, IsPort, IsSerialText};
+ghost use Rattle.configuration.specs.Ranges.{IsClientInRange, IsGrantInRange, IsPortInRange, IsSerialText};
 ghost use Rattle.configuration.specs.Rules.{DifferInNumber};
-ghost use Rattle.configuration.specs.Parts.{owner_extent, rights_of, row_of, filled_serial, wanted_disk, AreWantedOf, IsWantedIn};
+ghost use Rattle.configuration.specs.PlanParts.{owner_extent, rights_of, row_of, filled_serial, wanted_disk, AreWantedOf, IsWantedIn};
 
 use crate::{ClientConfig, Config, FaultKind, GrantConfig, PortConfig};
 use arrayvec::ArrayVec;
@@ -97,7 +97,7 @@ impl Plan {
 /// The frames that each client owns.
 fn runs_of(clients: &[ClientConfig]) -> ArrayVec<(ClientId, Frame, u16), CLIENTS>
     requires few { length clients.now ≤ CLIENTS }
-    requires clients { All (IsClientConfig MOST_FRAMES) clients.now }
+    requires clients { All (IsClientInRange MOST_FRAMES) clients.now }
     ensures { result.items ≡ map owner_extent clients.now }
 {
     let mut runs = ArrayVec::new();
@@ -108,7 +108,7 @@ fn runs_of(clients: &[ClientConfig]) -> ArrayVec<(ClientId, Frame, u16), CLIENTS
 }
 
 fn owner_extent(client: &ClientConfig) -> (ClientId, Frame, u16)
-    requires { IsClientConfig MOST_FRAMES client.now }
+    requires { IsClientInRange MOST_FRAMES client.now }
     ensures { result ≡ owner_extent client.now }
 {
     (
@@ -121,7 +121,7 @@ fn owner_extent(client: &ClientConfig) -> (ClientId, Frame, u16)
 /// What each grant allows.
 fn rows_of(grants: &[GrantConfig]) -> ArrayVec<GrantRow, MOST_GRANTS>
     requires few { length grants.now ≤ MOST_GRANTS }
-    requires grants { All IsGrant grants.now }
+    requires grants { All IsGrantInRange grants.now }
     ensures { result.items ≡ map row_of grants.now }
 {
     let mut rows = ArrayVec::new();
@@ -132,7 +132,7 @@ fn rows_of(grants: &[GrantConfig]) -> ArrayVec<GrantRow, MOST_GRANTS>
 }
 
 fn row_of(grant: &GrantConfig) -> GrantRow
-    requires { IsGrant grant.now }
+    requires { IsGrantInRange grant.now }
     ensures { result ≡ row_of grant.now }
 {
     GrantRow {
@@ -160,7 +160,7 @@ fn rights_of(text: &str) -> Rights
 
 /// The disks that are wanted, by port.
 fn wanted_of(ports: &[PortConfig]) -> [Wanted; PORTS]
-    requires ports { All IsPort ports.now }
+    requires ports { All IsPortInRange ports.now }
     requires once { AllPairs DifferInNumber ports.now }
     ensures { AreWantedOf ports.now result }
 {
@@ -174,7 +174,7 @@ fn wanted_of(ports: &[PortConfig]) -> [Wanted; PORTS]
 
 /// The disk that is wanted in the port with this number.
 fn wanted_in(ports: &[PortConfig], number: u64) -> Wanted
-    requires ports { All IsPort ports.now }
+    requires ports { All IsPortInRange ports.now }
     requires once { AllPairs DifferInNumber ports.now }
     ensures { IsWantedIn ports.now number result }
 {
@@ -186,7 +186,7 @@ fn wanted_in(ports: &[PortConfig], number: u64) -> Wanted
 
 /// The disk that a port asks for.
 fn wanted_disk(port: &PortConfig) -> Wanted
-    requires { IsPort port.now }
+    requires { IsPortInRange port.now }
     ensures { result ≡ wanted_disk (option_map string_bytes port.now.serial) }
 {
     match &port.serial {

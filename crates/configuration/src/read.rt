@@ -4,9 +4,9 @@ ghost use Rattle.std.specs.Prelude.{◌≡◌, ℕ, Bool, List, Option, Some, No
 ghost use Rattle.std.specs.List.{AllZip};
 ghost use Rattle.toml.specs.Data.{Members};
 ghost use Rattle.toml.specs.View.{table_view, items_view};
-ghost use Rattle.configuration.specs.Tables.{HasNumber, HasText, IsSetOrAbsent, HasTextOrIsAbsent, tables_of};
+ghost use Rattle.configuration.specs.TomlTables.{HasNumber, HasText, IsSetOrAbsent, HasTextOrIsAbsent, tables_of};
 
-use super::table::{find, items_at};
+use super::table::{items_at, value_at};
 use super::{ClientConfig, Config, GrantConfig, PortConfig};
 use std::alloc::{AllocError, AllocFailed, Global};
 use toml::{Table, Value};
@@ -44,7 +44,7 @@ fn number(table: &Table, name: &str) -> Result<u64, ReadFault>
     ensures ok { IfOk result (HasNumber (table_view table.now) name.now) }
     ensures none { result ≡ Err ReadFault.NoValue → (n : ℕ) → HasNumber (table_view table.now) name.now n → ⊥ }
 {
-    match find(table, name).and_then(Value::as_integer) {
+    match value_at(table, name).and_then(Value::as_integer) {
         Some(number) if number >= 0 => Ok(number as u64),
         _ => Err(ReadFault::NoValue),
     }
@@ -54,7 +54,7 @@ fn text(alloc: Global, table: &Table, name: &str) -> Result<String, ReadFault>
     ensures ok { IfOk result (λ t. HasText (table_view table.now) name.now (string_bytes t)) }
     ensures none { result ≡ Err ReadFault.NoValue → (t : List ℕ) → HasText (table_view table.now) name.now t → ⊥ }
 {
-    match find(table, name).and_then(Value::as_str) {
+    match value_at(table, name).and_then(Value::as_str) {
         Some(text) => Ok(String::from_str(alloc, text)?),
         None => Err(ReadFault::NoValue),
     }
@@ -65,7 +65,7 @@ fn optional_text(alloc: Global, table: &Table, name: &str) -> Result<Option<Stri
     ensures none { result ≡ Err ReadFault.NoValue
         → (t : Option (List ℕ)) → HasTextOrIsAbsent (table_view table.now) name.now t → ⊥ }
 {
-    match find(table, name) {
+    match value_at(table, name) {
         Some(_) => Ok(Some(text(alloc, table, name)?)),
         None => Ok(None),
     }
@@ -77,7 +77,7 @@ fn is_set(table: &Table, name: &str) -> Result<bool, ReadFault>
     ensures none { result ≡ Err ReadFault.NoValue
         → (is_set : Bool) → IsSetOrAbsent (table_view table.now) name.now is_set → ⊥ }
 {
-    match find(table, name) {
+    match value_at(table, name) {
         Some(value) => value.as_bool().ok_or(ReadFault::NoValue),
         None => Ok(false),
     }
@@ -93,7 +93,7 @@ trait FromTable: Sized + Drop {
 }
 
 impl FromTable for PortConfig {
-    ghost use Rattle.configuration.specs.Tables.{SpellsPort};
+    ghost use Rattle.configuration.specs.TomlTables.{SpellsPort};
 
     ghost spells = { SpellsPort };
 
@@ -106,7 +106,7 @@ impl FromTable for PortConfig {
 }
 
 impl FromTable for ClientConfig {
-    ghost use Rattle.configuration.specs.Tables.{SpellsClient};
+    ghost use Rattle.configuration.specs.TomlTables.{SpellsClient};
 
     ghost spells = { SpellsClient };
 
@@ -120,7 +120,7 @@ impl FromTable for ClientConfig {
 }
 
 impl FromTable for GrantConfig {
-    ghost use Rattle.configuration.specs.Tables.{SpellsGrant};
+    ghost use Rattle.configuration.specs.TomlTables.{SpellsGrant};
 
     ghost spells = { SpellsGrant };
 
@@ -155,14 +155,14 @@ fn each_from_table<T: FromTable>(alloc: Global, items: &[Value]) -> Result<Vec<T
 }
 
 impl Config {
-    ghost use Rattle.configuration.specs.Tables.{Spells};
+    ghost use Rattle.configuration.specs.TomlTables.{Spells};
 
     /// The values of a document whose keys and types are right.
     pub(super) fn from_table(alloc: Global, table: &Table) -> Result<Config, ReadFault>
         ensures ok { IfOk result (Spells (table_view table.now)) }
         ensures none { result ≡ Err ReadFault.NoValue → (c : Config) → Spells (table_view table.now) c → ⊥ }
     {
-        let Some(ncq) = find(table, "ncq").and_then(Value::as_bool) else {
+        let Some(ncq) = value_at(table, "ncq").and_then(Value::as_bool) else {
             return Err(ReadFault::NoValue);
         };
         Ok(Config {

@@ -1,7 +1,7 @@
 //! The rules that the values of a configuration have to meet.
 
 ghost use Rattle.std.specs.Prelude.{◌≡◌, ◌↔◌, IsTrue, IfErr, OnOk, All, AllPairs, string_bytes};
-ghost use Rattle.configuration.specs.Ranges.{IsClientConfig, IsGrant, IsPort, IsRights, IsSerialText, without_first_letter};
+ghost use Rattle.configuration.specs.Ranges.{IsClientInRange, IsGrantInRange, IsPortInRange, IsRightsText, IsSerialText, without_first_letter};
 ghost use Rattle.configuration.specs.Rules.{FramesApart, DifferInId, DifferInGrant, DifferInNumber, HasClient, ConfiguresPort};
 
 use super::{ClientConfig, Config, FaultKind, GrantConfig, PortConfig};
@@ -34,7 +34,7 @@ fn without_first_letter(letter: u8, text: &[u8]) -> &[u8]
 
 /// Whether a text is a choice of the letters r, w, t and f, in this order, that isn't empty.
 fn are_rights(text: &str) -> bool
-    ensures { IsTrue result ↔ IsRights text.now }
+    ensures { IsTrue result ↔ IsRightsText text.now }
 {
     let rest = without_first_letter(b'w', without_first_letter(b'r', text.as_bytes()));
     !text.is_empty() && without_first_letter(b'f', without_first_letter(b't', rest)).is_empty()
@@ -52,7 +52,7 @@ fn is_serial(text: &str) -> bool
 
 impl PortConfig {
     fn is_in_range(&self) -> bool
-        ensures { IsTrue result ↔ IsPort self.now }
+        ensures { IsTrue result ↔ IsPortInRange self.now }
     {
         self.number < PORTS as u64
             && match &self.serial {
@@ -64,7 +64,7 @@ impl PortConfig {
 
 impl ClientConfig {
     fn is_in_range(&self, memory_frames: u64) -> bool
-        ensures { IsTrue result ↔ IsClientConfig memory_frames self.now }
+        ensures { IsTrue result ↔ IsClientInRange memory_frames self.now }
     {
         (1..=LAST_CLIENT).contains(&self.id)
             && u64::from(DRIVER_FRAMES) <= self.first_frame
@@ -76,7 +76,7 @@ impl ClientConfig {
 
 impl GrantConfig {
     fn is_in_range(&self) -> bool
-        ensures { IsTrue result ↔ IsGrant self.now }
+        ensures { IsTrue result ↔ IsGrantInRange self.now }
     {
         (1..=LAST_CLIENT).contains(&self.client)
             && self.number < GRANT_NUMBERS
@@ -89,13 +89,13 @@ impl GrantConfig {
 }
 
 fn are_ports(ports: &[PortConfig]) -> bool
-    ensures { IsTrue result ↔ All IsPort ports.now }
+    ensures { IsTrue result ↔ All IsPortInRange ports.now }
 {
     ports.iter().all(|port| port.is_in_range())
 }
 
 fn are_clients(clients: &[ClientConfig], memory_frames: u64) -> bool
-    ensures { IsTrue result ↔ All (IsClientConfig memory_frames) clients.now }
+    ensures { IsTrue result ↔ All (IsClientInRange memory_frames) clients.now }
 {
     clients
         .iter()
@@ -103,7 +103,7 @@ fn are_clients(clients: &[ClientConfig], memory_frames: u64) -> bool
 }
 
 fn are_grants(grants: &[GrantConfig]) -> bool
-    ensures { IsTrue result ↔ All IsGrant grants.now }
+    ensures { IsTrue result ↔ All IsGrantInRange grants.now }
 {
     grants.iter().all(|grant| grant.is_in_range())
 }

@@ -4,10 +4,10 @@ ghost use Rattle.std.specs.Prelude.{◌≡◌, ◌↔◌, IsTrue, IsSome, IfSome
 ghost use Rattle.std.specs.BTreeMap.{keys};
 ghost use Rattle.toml.specs.Data.{as_table};
 ghost use Rattle.toml.specs.View.{view, table_view};
-ghost use Rattle.configuration.specs.Tables.{tables_at};
+ghost use Rattle.configuration.specs.TomlTables.{tables_at};
 ghost use Rattle.configuration.specs.Schema.{HasKeys, HasTypes, key_rule_of};
 
-use super::table::{find, items_at};
+use super::table::{items_at, value_at};
 use toml::{Table, Value};
 
 /// The type of a value, as TOML has it.
@@ -64,13 +64,13 @@ impl Key {
     fn is_present(&self, table: &Table) -> bool
         ensures { IsTrue result ↔ IsPresent (table_view table.now) (key_rule_of self.now) }
     {
-        !self.is_required || find(table, self.name).is_some()
+        !self.is_required || value_at(table, self.name).is_some()
     }
 
     fn has_its_type(&self, table: &Table) -> bool
         ensures { IsTrue result ↔ HasItsType (table_view table.now) (key_rule_of self.now) }
     {
-        match find(table, self.name) {
+        match value_at(table, self.name) {
             Some(value) => self.value_type.fits(value),
             None => true,
         }

@@ -11,7 +11,7 @@ use Rattle.hba_regs.specs.Bits.{bit}
 use Rattle.adapter.specs.Memory.{changed}
 use Rattle.device_model.proofs.Absurd.{true-false}
 use Rattle.device_model.proofs.Places.{fun_ext, changed_same, changed_other}
-use Rattle.device_model.specs.Bits.{word_bits}
+use Rattle.device_model.specs.WordBits.{word_bits}
 
 -- a bit is nought or one
 nought_or_one : (n k : ℕ) → (bit_at n k ≡ 0) ⊎ (bit_at n k ≡ 1)

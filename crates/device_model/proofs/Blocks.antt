@@ -7,7 +7,7 @@ use Rattle.adapter.specs.Memory.{changed}
 use Rattle.adapter.specs.Steps.{snapshot_of_bytes}
 use Rattle.device_model.proofs.Absurd.{some-none, some_one, true-false}
 use Rattle.device_model.proofs.Places.{changed_same, changed_other}
-use Rattle.device_model.specs.Block.{HasBlock, brought}
+use Rattle.device_model.specs.TakenBlocks.{HasBlock, brought}
 use Rattle.device_model.specs.declared.port.TakenCommand.{TakenCommand}
 use Rattle.device_model.specs.declared.port.CommandKind.TheVariants.{Trim}
 
@@ -25,9 +25,9 @@ at_set taken slot new k t is =
 -- no command is taken any more
 pub block_gone : (taken : ℕ → Option TakenCommand) (block : List ℕ) → ((k : ℕ) → taken k ≡ None) → HasBlock taken block
 block_gone taken block none = record {
-  alone = λ slot other t u here there trim. some-none here (none slot);
-  is = λ slot t b here brought. some-none here (none slot);
-  low = λ slot t here. some-none here (none slot);
+  trim_is_alone = λ slot other t u here there trim. some-none here (none slot);
+  block_is = λ slot t b here brought. some-none here (none slot);
+  first_in_range = λ slot t here. some-none here (none slot);
 }
 
 module _ (taken : ℕ → Option TakenCommand) (block : List ℕ) (slot : ℕ) (has : HasBlock taken block) where
@@ -36,7 +36,7 @@ module _ (taken : ℕ → Option TakenCommand) (block : List ℕ) (slot : ℕ) (
       ((other : ℕ) (u : TakenCommand) → other ≢ slot → taken other ≡ Some u → (command.command_kind ≡ Trim → ⊥) × (u.command_kind ≡ Trim → ⊥)) →
       HasBlock (changed taken slot (Some command)) block
   block_put command new low beside = record {
-    alone = λ a b t u here there trim.
+    trim_is_alone = λ a b t u here there trim.
         elim (at_set taken slot (Some command) a t here) [
           | inl first ↦
               elim (at_set taken slot (Some command) b u there) [
@@ -48,36 +48,36 @@ module _ (taken : ℕ → Option TakenCommand) (block : List ℕ) (slot : ℕ) (
           | inr first ↦
               elim (at_set taken slot (Some command) b u there) [
                 | inl second ↦ absurd ((beside a t first.0 first.1).1 trim)
-                | inr second ↦ has.alone a b t u first.1 second.1 trim
+                | inr second ↦ has.trim_is_alone a b t u first.1 second.1 trim
               ]
         ];
-    is = λ a t b here brought.
+    block_is = λ a t b here brought.
         elim (at_set taken slot (Some command) a t here) [
           | inl first ↦ some-none brought (ap (λ (x : TakenCommand). x.block) (sym (some_one first.1)) ∙ new)
-          | inr first ↦ has.is a t b first.1 brought
+          | inr first ↦ has.block_is a t b first.1 brought
         ];
-    low = λ a t here.
+    first_in_range = λ a t here.
         elim (at_set taken slot (Some command) a t here) [
           | inl first ↦ subst (λ (x : TakenCommand). x.first < 2 ^ 48) (some_one first.1) low
-          | inr first ↦ has.low a t first.1
+          | inr first ↦ has.first_in_range a t first.1
         ];
   }
 
   -- one is taken no more
   pub block_removed : HasBlock (changed taken slot None) block
   block_removed = record {
-    alone = λ a b t u here there trim.
+    trim_is_alone = λ a b t u here there trim.
         elim (at_set taken slot None a t here) [
           | inl first ↦ absurd (cc first.1)
           | inr first ↦
               elim (at_set taken slot None b u there) [
                 | inl second ↦ absurd (cc second.1)
-                | inr second ↦ has.alone a b t u first.1 second.1 trim
+                | inr second ↦ has.trim_is_alone a b t u first.1 second.1 trim
               ]
         ];
-    is = λ a t b here brought.
-        elim (at_set taken slot None a t here) [ inl first ↦ absurd (cc first.1) | inr first ↦ has.is a t b first.1 brought ];
-    low = λ a t here. elim (at_set taken slot None a t here) [ inl first ↦ absurd (cc first.1) | inr first ↦ has.low a t first.1 ];
+    block_is = λ a t b here brought.
+        elim (at_set taken slot None a t here) [ inl first ↦ absurd (cc first.1) | inr first ↦ has.block_is a t b first.1 brought ];
+    first_in_range = λ a t here. elim (at_set taken slot None a t here) [ inl first ↦ absurd (cc first.1) | inr first ↦ has.first_in_range a t first.1 ];
   }
 
   module _ (old new : TakenCommand) (held : taken slot ≡ Some old) (kind : new.command_kind ≡ old.command_kind) (number : new.first ≡ old.first) where
@@ -86,9 +86,9 @@ module _ (taken : ℕ → Option TakenCommand) (block : List ℕ) (slot : ℕ) (
         elim (at_set taken slot (Some new) a t here) [
           | inl first ↦
               let one : t.first ≡ new.first = ap (λ (x : TakenCommand). x.first) (sym (some_one first.1)) in
-              let was = has.low slot old held in
+              let was = has.first_in_range slot old held in
               omega (arith, one, number, was)
-          | inr first ↦ has.low a t first.1
+          | inr first ↦ has.first_in_range a t first.1
         ]
 
     goes_alone : (a b : ℕ) (t u : TakenCommand) → changed taken slot (Some new) a ≡ Some t →
@@ -99,42 +99,42 @@ module _ (taken : ℕ → Option TakenCommand) (block : List ℕ) (slot : ℕ) (
               let was : old.command_kind ≡ Trim = sym kind ∙ (ap (λ (x : TakenCommand). x.command_kind) (some_one first.1) ∙ trim) in
               elim (at_set taken slot (Some new) b u there) [
                 | inl second ↦ second.0 ∙ sym first.0
-                | inr second ↦ has.alone slot b old u held second.1 was ∙ sym first.0
+                | inr second ↦ has.trim_is_alone slot b old u held second.1 was ∙ sym first.0
               ]
           | inr first ↦
               elim (at_set taken slot (Some new) b u there) [
-                | inl second ↦ second.0 ∙ has.alone a slot t old first.1 held trim
-                | inr second ↦ has.alone a b t u first.1 second.1 trim
+                | inl second ↦ second.0 ∙ has.trim_is_alone a slot t old first.1 held trim
+                | inr second ↦ has.trim_is_alone a b t u first.1 second.1 trim
               ]
         ]
 
     -- a command goes on, with the block that it had
     pub block_on : new.block ≡ old.block → HasBlock (changed taken slot (Some new)) block
     block_on same = record {
-      alone = goes_alone;
-      low = goes_low;
-      is = λ a t b here brought.
+      trim_is_alone = goes_alone;
+      first_in_range = goes_low;
+      block_is = λ a t b here brought.
           elim (at_set taken slot (Some new) a t here) [
             | inl first ↦
                 let one : new ≡ t = some_one first.1 in
-                let had = has.is slot old b held (sym same ∙ (ap (λ (x : TakenCommand). x.block) one ∙ brought)) in
+                let had = has.block_is slot old b held (sym same ∙ (ap (λ (x : TakenCommand). x.block) one ∙ brought)) in
                 (ap (λ (x : TakenCommand). x.command_kind) (sym one) ∙ (kind ∙ had.0), had.1)
-            | inr first ↦ has.is a t b first.1 brought
+            | inr first ↦ has.block_is a t b first.1 brought
           ];
     }
 
     -- a trim has brought a block
     pub block_moved : (bytes : List ℕ) → old.command_kind ≡ Trim → new.block ≡ Some (snapshot_of_bytes bytes) → HasBlock (changed taken slot (Some new)) bytes
     block_moved bytes trim is_new = record {
-      alone = goes_alone;
-      low = goes_low;
-      is = λ a t b here brought.
+      trim_is_alone = goes_alone;
+      first_in_range = goes_low;
+      block_is = λ a t b here brought.
           elim (at_set taken slot (Some new) a t here) [
             | inl first ↦
                 let one : new ≡ t = some_one first.1 in
                 let same : snapshot_of_bytes bytes ≡ b = some_one (sym is_new ∙ (ap (λ (x : TakenCommand). x.block) one ∙ brought)) in
                 (ap (λ (x : TakenCommand). x.command_kind) (sym one) ∙ (kind ∙ trim), ap (λ (x : Snapshot (List ℕ)). x.value) (sym same))
-            | inr first ↦ let ne = first.0 in absurd (ne (has.alone slot a old t held first.1 trim))
+            | inr first ↦ let ne = first.0 in absurd (ne (has.trim_is_alone slot a old t held first.1 trim))
           ];
     }
 
@@ -145,4 +145,4 @@ block_is taken block slot t has held some = by t.block refl
   where
     by : (o : Option (Snapshot (List ℕ))) → t.block ≡ o → block ≡ brought t.block
     by None e = true-false some (ap is_some e)
-    by (Some b) e = sym (has.is slot t b held e).1 ∙ ap brought (sym e)
+    by (Some b) e = sym (has.block_is slot t b held e).1 ∙ ap brought (sym e)

@@ -7,7 +7,7 @@ use Rattle.std.proofs.lemmas.Option.{same_Some}
 use Rattle.sector_store.specs.Stores.{FailsOn, replaced}
 use Rattle.sector_store.specs.declared.store.Failures.{Failures}
 use Rattle.device_model.proofs.Absurd.{fun_ext, some-none}
-use Rattle.device_model.specs.Cached.{HasRoomForOld, RollsBack, WritesFail, sector_told}
+use Rattle.device_model.specs.WriteCaches.{HasRoomForOld, RollsBack, WritesFail, sector_told}
 use Rattle.device_model.specs.declared.cache.Cache.{Cache}
 use Rattle.device_model.specs.OldSectors.{AreRising, AddsOldSector, old_number_at, old_bytes_of, with_old_bytes}
 use Rattle.device_model.specs.declared.old_sectors.OldSector.{OldSector}
@@ -310,11 +310,11 @@ module _ {S : Type 0} (size : S → ℕ) (told : S → Option (ℕ → List ℕ)
       let t = turned olds 0 rising (λ _ _. omega arith) was now back in
       record {
         failed = t.failed;
-        few = few_of t.failed t.few;
-        fails = t.fails;
-        sized = t.sized;
-        back = t.back;
-        left = t.left;
+        failed_count_is_allowed = few_of t.failed t.few;
+        writes_fail = t.fails;
+        size_is_kept = t.sized;
+        sectors_are_rolled_back = t.back;
+        failed_are_kept = t.left;
       }
     where
       few_of : (l : List ℕ) → (1 ≤ length l → length l + 0 ≤ size was) → length l ≤ size was
@@ -326,8 +326,8 @@ module _ {S : Type 0} (size : S → ℕ) (told : S → Option (ℕ → List ℕ)
       (sector_told (told now) k ≡ sector_told (told was) k) ⊎ (sector_told (told now) k ≡ sector_told into k)
   turned_each into was now t k =
       elim (is_there t.failed k) [
-        | inl at ↦ inl (t.left k (inr at))
-        | inr never ↦ elim (below_or k (size was)) [ inl lt ↦ inr (t.back k lt never) | inr past ↦ inl (t.left k (inl past)) ]
+        | inl at ↦ inl (t.failed_are_kept k (inr at))
+        | inr never ↦ elim (below_or k (size was)) [ inl lt ↦ inr (t.sectors_are_rolled_back k lt never) | inr past ↦ inl (t.failed_are_kept k (inl past)) ]
       ]
 
 -- each sector is as it was, or has its old bytes

@@ -2,10 +2,10 @@
 use Rattle.std.proofs.Common.{ℕ, Bool, true, false, ◌≡◌, ◌<◌, ◌≤◌, ◌+◌, ◌-◌, min, ◌⊎◌, List, [], ◌∷◌, Option, Some, length, refl, sym, ◌∙◌, ap, subst, inl, inr, arith, zero, suc, drop, take}
 use Rattle.std.proofs.lemmas.Bool.{cases_lt}
 use Rattle.std.specs.Prelude.{if◌then◌else◌, option_map, slice_set}
-use Rattle.adapter.specs.Asked.{DoesClear}
+use Rattle.adapter.specs.ToldSteps.{DoesClear}
 use Rattle.adapter.specs.Commands.{is_queued}
 use Rattle.adapter.specs.Device.{Disk, DevicePort, FetchedCommand, Device}
-use Rattle.adapter.specs.Steps.{Can, IsWorking, MayClear, device_after, clear_entry, disk_cleared, with_clear}
+use Rattle.adapter.specs.Steps.{Can, IsWorking, MayClear, device_after, clear_entry, disk_cleared, port_after_clear}
 use Rattle.adapter.specs.Steps.DeviceTransition.{Clear, Fault}
 use Rattle.adapter.specs.Trim.{consecutive}
 use Rattle.adapter.specs.declared.access.DeviceStep.TheVariants as asked
@@ -14,14 +14,14 @@ use Rattle.ata_types.specs.declared.Port.{Port}
 use Rattle.ata_types.specs.declared.Slot.{Slot}
 use Rattle.sector_store.specs.declared.store.Failures.{Failures}
 use Rattle.device_model.specs.Disks.{bay_of, port_has_cache, disk_over, bay_failures, disk_failures, has_cache, lasting_of, page_source_of}
-use Rattle.device_model.specs.Does.{ClearsFewer, HasCleared, CommandFails, IsSectorFault}
-use Rattle.device_model.specs.Modelled.{device_at, media_of, all_media_at}
-use Rattle.device_model.specs.Paged.{GainsOwnPages, with_logged_error}
-use Rattle.device_model.specs.Sent.{SendsFault}
+use Rattle.device_model.specs.StepEffects.{ClearsFewer, HasCleared, CommandFails, IsSectorFault}
+use Rattle.device_model.specs.ModelState.{device_at, media_of, all_media_at}
+use Rattle.device_model.specs.DiskPages.{GainsOwnPages, with_logged_error}
+use Rattle.device_model.specs.SentFises.{SendsFault}
 use Rattle.device_model.specs.Slots.{IsNextRun}
 use Rattle.device_model.specs.Trims.{HasClear, next_uncleared, next_run_length, uncleared}
-use Rattle.device_model.specs.View.{taken_of}
-use Rattle.device_model.specs.WholeAdapter.{HasDisks, AllMedia, device_of, all_media_cleared}
+use Rattle.device_model.specs.PortView.{taken_of}
+use Rattle.device_model.specs.WholeAdapter.{HasDisks, AllMedia, device_of, all_media_after_clear}
 use Rattle.device_model.specs.declared.bay.Bay.{Bay}
 use Rattle.device_model.specs.declared.clearing.SectorExtent.{SectorExtent}
 use Rattle.device_model.specs.declared.hardware.Hardware.{Hardware}
@@ -37,14 +37,14 @@ use Rattle.device_model.proofs.TwoDisks.{has_disks, outside_kept, outside_zeros,
 pub may_clear : (d : Device) (port slot most first count : ℕ) (t : FetchedCommand) → HasClear d port slot most t → first ≡ next_uncleared t →
     count ≤ next_run_length most t → first + count ≤ (d.port port).disk.size → MayClear d port slot t first count
 may_clear d port slot most first count t has start few on_disk =
-    let some = has.some in
-    let enough = has.enough in
+    let some = has.count_is_positive in
+    let enough = has.enough_are_left in
     record {
       works = has.works;
       trim = has.trim;
-      moved = has.moved;
-      next = next_one t (omega (arith, some, enough)) ∙ ap (λ (k : ℕ). k ∷ []) (sym start);
-      sectors = span_sectors most count t few enough ∙ ap (λ (k : ℕ). consecutive k count) (sym start);
+      block_is_moved = has.block_is_moved;
+      first_is_next = next_one t (omega (arith, some, enough)) ∙ ap (λ (k : ℕ). k ∷ []) (sym start);
+      sectors_follow = span_sectors most count t few enough ∙ ap (λ (k : ℕ). consecutive k count) (sym start);
       inside = inr on_disk;
     }
 
@@ -58,9 +58,9 @@ can_clear d port slot first count t sized some can = record {
   ];
   works = can.works;
   trim = can.trim;
-  moved = can.moved;
-  some = some;
-  enough = by count (uncleared t) first can.sectors;
+  block_is_moved = can.block_is_moved;
+  count_is_positive = some;
+  enough_are_left = by count (uncleared t) first can.sectors_follow;
 }
   where
     by : (n : ℕ) (xs : List ℕ) (a : ℕ) → take n xs ≡ consecutive a n → n ≤ length xs
@@ -73,8 +73,8 @@ module _ (old new : Device) (port slot most first count : ℕ) (t : FetchedComma
   abbrev further : FetchedCommand
   further = record t { cleared = t.cleared + count }
 
-  cleared_port : new.port port ≡ with_clear (old.port port) slot t first count
-  cleared_port = ap (λ (d : Device). d.port port) effect ∙ here_after old port (with_clear (old.port port) slot t first count)
+  cleared_port : new.port port ≡ port_after_clear (old.port port) slot t first count
+  cleared_port = ap (λ (d : Device). d.port port) effect ∙ here_after old port (port_after_clear (old.port port) slot t first count)
 
   cleared_taken : (new.port port).taken slot ≡ Some further
   cleared_taken = ap (λ (p : DevicePort). p.taken slot) cleared_port ∙ taken_after (old.port port) slot (Some further)
@@ -85,26 +85,26 @@ module _ (old new : Device) (port slot most first count : ℕ) (t : FetchedComma
   -- all that could be is cleared
   pub all_cleared : count ≡ next_run_length most t → HasCleared old new port slot most
   all_cleared whole = record {
-    t = t;
-    was = has.works.taken;
-    is = cleared_taken ∙ ap (λ (n : ℕ). Some (record t { cleared = t.cleared + n })) whole;
+    fetched_command = t;
+    command_before = has.works.taken;
+    command_after = cleared_taken ∙ ap (λ (n : ℕ). Some (record t { cleared = t.cleared + n })) whole;
   }
 
   -- or the next one still can be
   pub more_clear : count < next_run_length most t → HasClear new port slot 1 further
   more_clear more =
-      let next = next_on most count t more has.enough in
+      let next = next_on most count t more has.enough_are_left in
       let P : DevicePort → Type 0 = λ p. IsWorking p Trim in
       record {
         has_disks = disks has.has_disks;
         works = record {
           taken = cleared_taken;
-          working = subst P (sym cleared_port) (still_works (old.port port) (with_clear (old.port port) slot t first count) Trim has.works.working refl refl refl refl refl);
+          working = subst P (sym cleared_port) (still_works (old.port port) (port_after_clear (old.port port) slot t first count) Trim has.works.working refl refl refl refl refl);
         };
         trim = has.trim;
-        moved = has.moved;
-        some = omega arith;
-        enough = next.0;
+        block_is_moved = has.block_is_moved;
+        count_is_positive = omega arith;
+        enough_are_left = next.0;
       }
 
   pub cleared_size : (new.port port).disk.size ≡ (old.port port).disk.size
@@ -113,7 +113,7 @@ module _ (old new : Device) (port slot most first count : ℕ) (t : FetchedComma
 -- what the hardware has found to clear can be, on a port that has disks
 pub found_clear : (h : Hardware) (o : AllMedia) (d : Device) (port slot most : ℕ) (run : SectorExtent) (r : TakenCommand) → HasDisks d port → device_of h o ≡ d →
     IsNextRun h port slot most run r → HasClear d port slot most (taken_of r)
-found_clear h o d port slot most run r has same is = next_has_clear h o d port slot most r has same is.holds is.can
+found_clear h o d port slot most run r has same is = next_has_clear h o d port slot most r has same is.works_on is.can_clear
 
 -- So many of the next sectors of a trim are cleared, or none: the rest is as it was, and the next one, if there is one, can be cleared.
 pub record IsPart {S : Type 0} (size : S → ℕ) (told : S → Option (ℕ → List ℕ)) (p : Port) (slot : Slot) (most first count : ℕ) (t : FetchedCommand) (old new : Model S) : Type 0 where
@@ -122,7 +122,7 @@ pub record IsPart {S : Type 0} (size : S → ℕ) (told : S → Option (ℕ → 
   pub all : 1 ≤ count → count ≡ next_run_length most t → HasCleared (device_at size told old) (device_at size told new) p.0 slot.0 most
   pub more : count < next_run_length most t → HasClear (device_at size told new) p.0 slot.0 1 (record t { cleared = t.cleared + count })
   pub disk_size : ((device_at size told new).port p.0).disk.size ≡ ((device_at size told old).port p.0).disk.size
-  pub pages : GainsOwnPages size old new
+  pub gains_own_pages : GainsOwnPages size old new
 
 module _ {S : Type 0} (size : S → ℕ) (told : S → Option (ℕ → List ℕ)) (failures : S → Option Failures) (p : Port) (slot : Slot) (most : ℕ) (m then_model : Model S)
     (a b : Bay S) (was : bay_of m p.0 ≡ Some a) (items : then_model.bays.items ≡ slice_set m.bays.items p.0 (Some b)) (rest : b ≡ with_store a b.disk.store b.cache) (lasts : lasting_of told b ≡ lasting_of told a)
@@ -139,7 +139,7 @@ module _ {S : Type 0} (size : S → ℕ) (told : S → Option (ℕ → List ℕ)
   pub size_is : (old_device.port p.0).disk.size ≡ size a.disk.store
   size_is = ap (λ x. (media_of size told x).disk.size) was
 
-  module _ (cleared : (o : AllMedia) → device_of then_model.hardware (all_media_cleared o p.0 first count) ≡ device_after (Clear p.0 slot.0 (taken_of r) first count) (device_of h o))
+  module _ (cleared : (o : AllMedia) → device_of then_model.hardware (all_media_after_clear o p.0 first count) ≡ device_after (Clear p.0 slot.0 (taken_of r) first count) (device_of h o))
       (zeros : new_disk ≡ disk_cleared old_disk first count) where
     clear_effect : device_at size told then_model ≡ device_after (Clear p.0 slot.0 (taken_of r) first count) old_device
     clear_effect =
@@ -153,11 +153,11 @@ module _ {S : Type 0} (size : S → ℕ) (told : S → Option (ℕ → List ℕ)
         let end : first + count ≤ (old_device.port p.0).disk.size = let is = size_is in omega (arith, on_disk, is) in
         let limit = span_most most (taken_of r) in
         let did : DoesClear p.0 slot.0 most old_device (device_at size told then_model) = record {
-          t = taken_of r;
+          fetched_command = taken_of r;
           first = first;
           count = count;
-          some = some;
-          few = omega (arith, few, limit);
+          count_is_positive = some;
+          count_is_allowed = omega (arith, few, limit);
           can = may_clear old_device p.0 slot.0 most first count (taken_of r) has start few end;
           effect = clear_effect;
         } in
@@ -167,7 +167,7 @@ module _ {S : Type 0} (size : S → ℕ) (told : S → Option (ℕ → List ℕ)
           all = λ _ is. all_cleared old_device _ p.0 slot.0 most first count (taken_of r) has clear_effect is;
           more = λ fewer. more_clear old_device _ p.0 slot.0 most first count (taken_of r) has clear_effect fewer;
           disk_size = cleared_size old_device _ p.0 slot.0 most first count (taken_of r) has clear_effect;
-          pages = gains_one size m then_model (clear_entry p.0 slot.0 first count) (ap (λ (d : Device). d.tape) clear_effect) (λ x e. absurd (cc e));
+          gains_own_pages = gains_one size m then_model (clear_entry p.0 slot.0 first count) (ap (λ (d : Device). d.tape) clear_effect) (λ x e. absurd (cc e));
         }
 
   -- none is
@@ -179,8 +179,8 @@ module _ {S : Type 0} (size : S → ℕ) (told : S → Option (ℕ → List ℕ)
       let t : FetchedCommand = taken_of r in
       let here : t ≡ record t { cleared = t.cleared + count } =
       let number : t.cleared ≡ t.cleared + count = omega (arith, none) in ap (λ (n : ℕ). record t { cleared = n }) number in
-      let some = has.some in
-      let enough = has.enough in
+      let some = has.count_is_positive in
+      let enough = has.enough_are_left in
       let P : Device → Type 0 = λ d. HasClear d p.0 slot.0 1 t in
       record {
         before = λ _. inl kept;
@@ -189,16 +189,16 @@ module _ {S : Type 0} (size : S → ℕ) (told : S → Option (ℕ → List ℕ)
         more = λ fewer.
             subst (λ (x : FetchedCommand). HasClear (device_at size told then_model) p.0 slot.0 1 x) here
             (subst P (sym kept)
-            (record { has_disks = has.has_disks; works = has.works; trim = has.trim; moved = has.moved; some = omega arith; enough = omega (arith, some, enough) }));
+            (record { has_disks = has.has_disks; works = has.works; trim = has.trim; block_is_moved = has.block_is_moved; count_is_positive = omega arith; enough_are_left = omega (arith, some, enough) }));
         disk_size = ap (λ (d : Device). (d.port p.0).disk.size) kept;
-        pages = gains_none size m then_model (ap (λ (d : Device). d.tape) kept);
+        gains_own_pages = gains_none size m then_model (ap (λ (d : Device). d.tape) kept);
       }
 
   -- as many as the store has cleared
   pub is_part : HasClear old_device p.0 slot.0 most (taken_of r) → first ≡ next_uncleared (taken_of r) → count ≤ next_run_length most (taken_of r) →
       (1 ≤ count → first + count ≤ size a.disk.store) → (count ≡ 0 → then_model.hardware ≡ h) → (count ≡ 0 → told b.disk.store ≡ told a.disk.store) →
       size b.disk.store ≡ size a.disk.store →
-      (1 ≤ count → (o : AllMedia) → device_of then_model.hardware (all_media_cleared o p.0 first count) ≡ device_after (Clear p.0 slot.0 (taken_of r) first count) (device_of h o)) →
+      (1 ≤ count → (o : AllMedia) → device_of then_model.hardware (all_media_after_clear o p.0 first count) ≡ device_after (Clear p.0 slot.0 (taken_of r) first count) (device_of h o)) →
       (1 ≤ count → new_disk ≡ disk_cleared old_disk first count) → IsPart size told p slot most first count (taken_of r) m then_model
   is_part has start few on_disk left tells sizes cleared zeros =
       elim (cases_lt 0 count) [
@@ -211,7 +211,7 @@ module _ {S : Type 0} (size : S → ℕ) (told : S → Option (ℕ → List ℕ)
       on.count ≡ min run.count (sectors - run.first) → (1 ≤ on.count → on.first ≡ run.first) → count ≤ on.count →
       new_disk ≡ disk_cleared old_disk on.first count → (count ≡ 0 → told b.disk.store ≡ told a.disk.store) → size b.disk.store ≡ size a.disk.store →
       (count ≡ 0 → then_model.hardware ≡ h) →
-      (1 ≤ count → (o : AllMedia) → device_of then_model.hardware (all_media_cleared o p.0 first count) ≡ device_after (Clear p.0 slot.0 (taken_of r) first count) (device_of h o)) →
+      (1 ≤ count → (o : AllMedia) → device_of then_model.hardware (all_media_after_clear o p.0 first count) ≡ device_after (Clear p.0 slot.0 (taken_of r) first count) (device_of h o)) →
       IsPart size told p slot most first count (taken_of r) m then_model
   cut_part run on sectors at is listed inside cut begins few zeros tells sizes left cleared =
       let whole : run.count ≡ next_run_length most (taken_of r) = is.count_is in
@@ -230,7 +230,7 @@ module _ {S : Type 0} (size : S → ℕ) (told : S → Option (ℕ → List ℕ)
   part_fails small has part fewer error last fine cause start failed =
       let t : FetchedCommand = record (taken_of r) { cleared = r.cleared + count } in
       let more = part.more fewer in
-      let next : next_uncleared t ≡ next_uncleared (taken_of r) + count = (next_on most count (taken_of r) fewer has.enough).1 in
+      let next : next_uncleared t ≡ next_uncleared (taken_of r) + count = (next_on most count (taken_of r) fewer has.enough_are_left).1 in
       let sector : first + count ≡ next_uncleared t = (let same : first + count ≡ next_uncleared (taken_of r) + count = ap (λ (k : ℕ). k + count) start in same) ∙ sym next in
       let sizes : size a.disk.store ≡ ((device_at size told then_model).port p.0).disk.size = sym size_is ∙ sym part.disk_size in
       let then_size : ℕ = ((device_at size told then_model).port p.0).disk.size in
@@ -240,19 +240,19 @@ module _ {S : Type 0} (size : S → ℕ) (told : S → Option (ℕ → List ℕ)
       let O : Bool → Type 0 = λ on. IsSectorFault on true (first + count) (size a.disk.store) error (failures a.disk.store) (failures b.disk.store) in
       let before : failures a.disk.store ≡ disk_failures failures m p.0 = sym (ap (bay_failures failures) was) in
       let plain : is_queued t.meaning.operation ≡ false = ap is_queued has.trim in
-      let one : failed.fails.fault.t ≡ t = failed.same in
+      let one : failed.fails.fault.fetched_command ≡ t = failed.same in
       let T : FetchedCommand → Device → Type 0 = λ x d. SendsFault (is_queued x.meaning.operation) p.0 d (device_at size told last) in (
         device_at size told then_model,
         part.before fewer,
         record {
-          t = t;
-          clear = more;
+          fetched_command = t;
+          has_clear = more;
           error = error;
           cause = subst (λ x. P x (disk_failures failures last p.0)) before (subst (P (failures a.disk.store)) (sym fine) (subst Q sizes (subst R sector (subst O (sym (ap has_cache was)) cause))));
           can = subst (λ (x : FetchedCommand). Can (Fault p.0 slot.0 error 0 x) (device_at size told then_model)) one failed.fails.fault.can;
           sends = subst (T t) (failed.fails.fault.effect ∙ ap (λ (x : FetchedCommand). device_after (Fault p.0 slot.0 error 0 x) (device_at size told then_model)) one)
               (subst (λ (x : FetchedCommand). T x failed.fails.mid) one failed.fails.posts);
-          log = failed.says
+          page_source_after_is = failed.says
               ∙ (ap (λ (x : Bool). if x then option_map (with_logged_error (record { tag = slot.0; error = error })) (page_source_of then_model p.0) else page_source_of then_model p.0) plain
               ∙ store_says m then_model p.0 a b was items rest p.0);
         },

@@ -4,7 +4,7 @@ use Rattle.std.proofs.lemmas.List.{length-set, get_or_past}
 use Rattle.std.specs.Prelude.{slice_set, slice_index_or}
 use Rattle.std.proofs.lemmas.Bool.{cases_lt}
 use Rattle.adapter.specs.Device.{DevicePort}
-use Rattle.device_model.specs.View.{Media, port_of, blank_port}
+use Rattle.device_model.specs.PortView.{Media, port_of, blank_port}
 use Rattle.device_model.specs.declared.port.PortModel.{PortModel}
 
 -- what becomes of a port, by its number

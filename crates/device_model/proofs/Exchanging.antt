@@ -10,18 +10,18 @@ use Rattle.adapter.specs.Commands.{direction_of, is_ranged, reads_memory}
 use Rattle.adapter.specs.Device.{Device}
 use Rattle.adapter.specs.Memory.{patched}
 use Rattle.adapter.specs.Decoding.{pieces}
-use Rattle.adapter.specs.Steps.{IsWorking, device_after, next_sector, with_move}
+use Rattle.adapter.specs.Steps.{IsWorking, device_after, next_sector, port_after_move}
 use Rattle.adapter.specs.Steps.DeviceTransition.{Move}
 use Rattle.adapter.specs.declared.command.Direction.{Direction}
 use Rattle.adapter.specs.declared.command.Operation.{Operation}
 use Rattle.adapter.specs.declared.tape.Entry.{Entry}
 use Rattle.adapter.specs.declared.tape.Entry.TheVariants as entry
-use Rattle.device_model.specs.Exchanged.{IsTransferred, piece_of}
-use Rattle.device_model.specs.Fetched.{bytes_of}
+use Rattle.device_model.specs.PieceTransfers.{IsTransferred, piece_of}
+use Rattle.device_model.specs.FetchedBytes.{bytes_of}
 use Rattle.device_model.specs.Finishing.{TapeHasRoom}
 use Rattle.device_model.specs.Slots.{WorksOnIn, IsNextMove}
-use Rattle.device_model.specs.View.{blank_port, taken_in, media_after, operation_of_kind, port_of, taken_of}
-use Rattle.device_model.specs.WholeAdapter.{AllMedia, device_of, all_media_after}
+use Rattle.device_model.specs.PortView.{blank_port, taken_in, media_after_move, operation_of_kind, port_of, taken_of}
+use Rattle.device_model.specs.WholeAdapter.{AllMedia, device_of, all_media_after_move}
 use Rattle.device_model.specs.declared.hardware.Hardware.{Hardware}
 use Rattle.device_model.specs.declared.port.PortModel.{PortModel}
 use Rattle.device_model.specs.declared.port.TakenCommand.{TakenCommand}
@@ -90,9 +90,9 @@ pub exchanged : (h : Hardware) (next : NextMove) (k : ℕ) (d b : List ℕ) → 
     IsTransferred h (with_piece h next.address k d b) next
 exchanged h next k d b is whole small size takes =
     record {
-      rest = λ _. with_piece h next.address k d b;
-      size = ap length items ∙ (long ∙ all);
-      put = by (reads_memory (operation_of_kind next.command_kind)) takes;
+      rest_is_kept = λ _. with_piece h next.address k d b;
+      memory_size_is_kept = ap length items ∙ (long ∙ all);
+      memory_is = by (reads_memory (operation_of_kind next.command_kind)) takes;
     }
   where
     all : length d ≡ length h.memory.items
@@ -139,48 +139,48 @@ piece_stays h o next k d b is whole small same =
 pub port_moves_over : (old h : Hardware) (o : AllMedia) (p port slot : ℕ) (next : NextMove) (new : PortModel)
     (t : TakenCommand) (tape : Vec Entry) (operation : Operation) (direction : Direction) →
     IsTransferred old h next → p ≡ port → p < length h.ports → IsNextMove old port slot next t →
-    port_of new (media_after (o.media p) (taken_of t) (piece_of h next))
-    ≡ with_move (port_of (slice_index_or h.ports p blank_port) (o.media p)) slot (taken_of t) (piece_of h next) →
+    port_of new (media_after_move (o.media p) (taken_of t) (piece_of h next))
+    ≡ port_after_move (port_of (slice_index_or h.ports p blank_port) (o.media p)) slot (taken_of t) (piece_of h next) →
     operation ≡ operation_of_kind next.command_kind → direction ≡ direction_of (operation_of_kind next.command_kind) →
     tape.items
     ≡ h.tape.items
     ++ entry.Move (moved_by port slot operation next.sector next.address direction (piece_of h next)) ∷ [] →
     device_of (record h { ports = slice_set h.ports p new; tape = tape })
-    (all_media_after o port (taken_of t) (piece_of h next))
+    (all_media_after_move o port (taken_of t) (piece_of h next))
     ≡ device_after (Move port slot (taken_of t) (piece_of h next)) (device_of old o)
 port_moves_over old h o p port slot next new t tape operation direction is e small at moves named way more =
     let noted : Vec Entry = tape in
     let bytes : List ℕ = piece_of h next in
     let effect : Device = device_after (Move port slot (taken_of t) bytes) (device_of old o) in
     let moved = port_moves old o p port slot next new t tape h.memory bytes operation direction e
-    (subst (λ (x : Hardware). p < length x.ports) is.rest small) at
-    (subst (λ (x : Hardware). port_of new (media_after (o.media p) (taken_of t) bytes)
-    ≡ with_move (port_of (slice_index_or x.ports p blank_port) (o.media p)) slot (taken_of t) bytes) is.rest moves)
+    (subst (λ (x : Hardware). p < length x.ports) is.rest_is_kept small) at
+    (subst (λ (x : Hardware). port_of new (media_after_move (o.media p) (taken_of t) bytes)
+    ≡ port_after_move (port_of (slice_index_or x.ports p blank_port) (o.media p)) slot (taken_of t) bytes) is.rest_is_kept moves)
     named way
     (subst (λ (x : Hardware). noted.items ≡ x.tape.items ++ entry.Move
-    (moved_by port slot operation next.sector next.address direction bytes) ∷ []) is.rest more)
-    is.size is.put in
+    (moved_by port slot operation next.sector next.address direction bytes) ∷ []) is.rest_is_kept more)
+    is.memory_size_is_kept is.memory_is in
     subst (λ (x : Hardware). device_of (record x { ports = slice_set x.ports p new; tape = noted })
-    (all_media_after o port (taken_of t) bytes) ≡ effect) (sym is.rest) moved
+    (all_media_after_move o port (taken_of t) bytes) ≡ effect) (sym is.rest_is_kept) moved
 
 -- it is the next one still
 pub next_over : {old h : Hardware} {next : NextMove} {t : TakenCommand} → (port slot : ℕ) → IsTransferred old h next →
     IsNextMove old port slot next t → IsNextMove h port slot next t
 next_over {old} {h} {next} {t} port slot is at = record {
-  holds = subst (λ (x : Hardware). WorksOnIn (slice_index_or x.ports port blank_port) slot t) (sym is.rest) at.holds;
-  left = at.left;
-  room = at.room;
+  works_on = subst (λ (x : Hardware). WorksOnIn (slice_index_or x.ports port blank_port) slot t) (sym is.rest_is_kept) at.works_on;
+  piece_is_left = at.piece_is_left;
+  moved_fits = at.moved_fits;
   kind_is = at.kind_is;
   sector_is = at.sector_is;
   address_is = at.address_is;
-  inside = let size = is.size in let inside = at.inside in omega (arith, size, inside);
-  behind = record {
-    places = at.behind.places;
-    room = at.behind.room;
-    inside = let size = is.size in let inside = at.behind.inside in omega (arith, size, inside);
-    low = at.behind.low;
-    numbered = at.behind.numbered;
-    ranged = at.behind.ranged;
+  inside = let size = is.memory_size_is_kept in let inside = at.inside in omega (arith, size, inside);
+  pieces_follow = record {
+    pieces_are = at.pieces_follow.pieces_are;
+    moved_fits = at.pieces_follow.moved_fits;
+    inside = let size = is.memory_size_is_kept in let inside = at.pieces_follow.inside in omega (arith, size, inside);
+    addresses_fit = at.pieces_follow.addresses_fit;
+    sectors_fit = at.pieces_follow.sectors_fit;
+    is_ranged_if_any = at.pieces_follow.is_ranged_if_any;
   };
 }
 
@@ -190,20 +190,20 @@ pub next_grown : {old h : Hardware} {next : NextMove} {t : TakenCommand} → (po
 next_grown {old} {h} {next} {t} port slot is at =
     let size : length h.memory.items ≡ length old.memory.items = ap (λ (x : Hardware). length x.memory.items) is in
     record {
-      holds = subst (λ (x : Hardware). WorksOnIn (slice_index_or x.ports port blank_port) slot t) (sym is) at.holds;
-      left = at.left;
-      room = at.room;
+      works_on = subst (λ (x : Hardware). WorksOnIn (slice_index_or x.ports port blank_port) slot t) (sym is) at.works_on;
+      piece_is_left = at.piece_is_left;
+      moved_fits = at.moved_fits;
       kind_is = at.kind_is;
       sector_is = at.sector_is;
       address_is = at.address_is;
       inside = let inside = at.inside in omega (arith, size, inside);
-      behind = record {
-        places = at.behind.places;
-        room = at.behind.room;
-        inside = let inside = at.behind.inside in omega (arith, size, inside);
-        low = at.behind.low;
-        numbered = at.behind.numbered;
-        ranged = at.behind.ranged;
+      pieces_follow = record {
+        pieces_are = at.pieces_follow.pieces_are;
+        moved_fits = at.pieces_follow.moved_fits;
+        inside = let inside = at.pieces_follow.inside in omega (arith, size, inside);
+        addresses_fit = at.pieces_follow.addresses_fit;
+        sectors_fit = at.pieces_follow.sectors_fit;
+        is_ranged_if_any = at.pieces_follow.is_ranged_if_any;
       };
     }
 
@@ -228,14 +228,14 @@ next_after old p port slot next t new tape starved at some e small same held =
     let u : TakenCommand = record t { moved = t.moved + 1 } in
     let there : slice_index_or (slice_set old.ports p new) port blank_port ≡ new =
     ap (λ k. slice_index_or (slice_set old.ports p new) k blank_port) (sym e) ∙ get_or-set_same old.ports p new blank_port small in
-    let inside = at.behind.inside in
-    let one = at.behind.places 1 some in
+    let inside = at.pieces_follow.inside in
+    let one = at.pieces_follow.pieces_are 1 some in
     record {
-      holds = subst (λ (x : PortModel). WorksOnIn x slot u) (sym there)
+      works_on = subst (λ (x : PortModel). WorksOnIn x slot u) (sym there)
           (record {
-            held = held;
+            is_taken = held;
             works = λ m.
-                let was = (at.holds.works m).working in
+                let was = (at.works_on.works m).working in
                 let P : PortModel → Type 0 = λ x. IsWorking (port_of x m) (operation_of_kind t.command_kind) in
                 let here : PortModel = slice_index_or old.ports port blank_port in
                 let is : new ≡ record here { taken = new.taken } =
@@ -246,29 +246,29 @@ next_after old p port slot next t new tape starved at some e small same held =
                       (record { running = was.running; present = was.present; fresh = was.fresh; admitted = was.admitted; whole = was.whole });
                 };
           });
-      left = one.0;
-      room = let room = at.behind.room in omega (arith, room, some);
+      piece_is_left = one.0;
+      moved_fits = let room = at.pieces_follow.moved_fits in omega (arith, room, some);
       kind_is = at.kind_is;
-      sector_is = one_further t next.sector (at.behind.ranged some) at.sector_is;
+      sector_is = one_further t next.sector (at.pieces_follow.is_ranged_if_any some) at.sector_is;
       address_is = sym one.1;
       inside = omega (arith, inside, some);
-      behind = record {
-        places = λ k few.
-            let on = at.behind.places (k + 1) (omega (arith, few, some)) in
+      pieces_follow = record {
+        pieces_are = λ k few.
+            let on = at.pieces_follow.pieces_are (k + 1) (omega (arith, few, some)) in
             let place : t.moved + 1 + k ≡ t.moved + (k + 1) = omega arith in
             let far : next.address + 512 * (k + 1) ≡ next.address + 512 + 512 * k = omega arith in
             (let lt = on.0 in omega (arith, lt), ap (λ j. slice_index (pieces t.prds) j) place ∙ (on.1 ∙ far));
-        room = let room = at.behind.room in omega (arith, room, some);
+        moved_fits = let room = at.pieces_follow.moved_fits in omega (arith, room, some);
         inside = omega (arith, inside, some);
-        low = let low = at.behind.low in omega (arith, low, some);
-        numbered = let numbered = at.behind.numbered in omega (arith, numbered, some);
-        ranged = λ _. at.behind.ranged some;
+        addresses_fit = let low = at.pieces_follow.addresses_fit in omega (arith, low, some);
+        sectors_fit = let numbered = at.pieces_follow.sectors_fit in omega (arith, numbered, some);
+        is_ranged_if_any = λ _. at.pieces_follow.is_ranged_if_any some;
       };
     }
 
 -- the tape has the memory that it had
 pub room_over : {old h : Hardware} {next : NextMove} → (n : ℕ) → IsTransferred old h next → TapeHasRoom old n → TapeHasRoom h n
-room_over {old} {h} {next} n is room = subst (λ (x : Hardware). TapeHasRoom x n) (sym is.rest) room
+room_over {old} {h} {next} n is room = subst (λ (x : Hardware). TapeHasRoom x n) (sym is.rest_is_kept) room
 
 pub starved_over : {old h : Hardware} {next : NextMove} → IsTransferred old h next → h.starved ≡ old.starved
-starved_over is = ap (λ (x : Hardware). x.starved) is.rest
+starved_over is = ap (λ (x : Hardware). x.starved) is.rest_is_kept

@@ -11,12 +11,12 @@ use Rattle.ata_types.specs.declared.Port.{Port}
 use Rattle.ata_types.specs.declared.Slot.{Slot}
 use Rattle.sector_store.specs.declared.store.Failures.{Failures}
 use Rattle.device_model.specs.Disks.{bay_of, port_has_cache, disk_failures, page_source_of, disk_index_of}
-use Rattle.device_model.specs.Does.{AsksStore, DidStep, CommandFails, IsSectorFault, StepKeeps, asked_port, page_source_after_failure, disk_index_after}
+use Rattle.device_model.specs.StepEffects.{AsksStore, DidStep, CommandFails, IsSectorFault, StepKeeps, asked_port, page_source_after_failure, disk_index_after}
 use Rattle.device_model.specs.Finishing.{HasMove}
-use Rattle.device_model.specs.Held.{held_after}
-use Rattle.device_model.specs.Modelled.{device_at}
-use Rattle.device_model.specs.Paged.{GainsOwnPages}
-use Rattle.device_model.specs.Sent.{SendsFault}
+use Rattle.device_model.specs.HeldPorts.{held_after}
+use Rattle.device_model.specs.ModelState.{device_at}
+use Rattle.device_model.specs.DiskPages.{GainsOwnPages}
+use Rattle.device_model.specs.SentFises.{SendsFault}
 use Rattle.device_model.specs.declared.disks.ModelDisk.{ModelDisk}
 use Rattle.device_model.specs.declared.model.Model.{Model}
 use Rattle.device_model.proofs.Doing.{IsFailed, keeps_on, pages_on, whichs}
@@ -41,15 +41,15 @@ module _ {S : Type 0} (size : S → ℕ) (told : S → Option (ℕ → List ℕ)
       let Q : FetchedCommand → Device → Type 0 = λ x d. Can (Fault p.0 slot.0 error 0 x) d in
       let R : FetchedCommand → Device → Type 0 = λ x d. SendsFault (is_queued x.meaning.operation) p.0 d (device_at size told last) in
       record {
-        t = t;
-        move = move;
+        fetched_command = t;
+        has_move = move;
         ranged = ranged;
         error = error;
         cause = subst P (sym (fine_on size told failures p slot error t mid last failed)) cause;
         can = subst (λ (d : Device). Q t d) same (subst (λ (x : FetchedCommand). Q x (device_at size told mid)) failed.same failed.fails.fault.can);
         sends = subst (R t) (failed.fails.fault.effect ∙ (λ i. device_after (Fault p.0 slot.0 error 0 (failed.same i)) (same i)))
             (subst (λ (x : FetchedCommand). R x failed.fails.mid) failed.same failed.fails.posts);
-        log = failed.says ∙ ap (λ says. page_source_after_failure (Some t) slot.0 error says) says;
+        page_source_after_is = failed.says ∙ ap (λ says. page_source_after_failure (Some t) slot.0 error says) says;
       }
 
   -- the step is done, as far as that
@@ -58,12 +58,12 @@ module _ {S : Type 0} (size : S → ℕ) (told : S → Option (ℕ → List ℕ)
       ((q : ℕ) → q ≢ p.0 → bay_of mid q ≡ bay_of m q) → GainsOwnPages size m mid → StepKeeps size m mid → mid.hardware.starved ≡ m.hardware.starved →
       AsksStore s (device_at size told m) → DidStep size told failures s m last
   did_fail s at fails held_on which_on held says which others pages keeps starved asks = record {
-    came = inr fails;
-    held = failed.held ∙ (held ∙ sym held_on);
-    which = subst (λ q. disk_index_of last q ≡ disk_index_of m q) (sym at) (failed.which ∙ which) ∙ sym which_on;
-    others = λ q ne. let apart : q ≢ p.0 = λ is. ne (is ∙ sym at) in failed.others q apart ∙ others q apart;
-    pages = pages_on size told failures p.0 m mid last says which others keeps pages failed.pages;
-    disks = λ never. absurd (never asks);
-    keeps = keeps_on size told failures m mid last (whichs size told failures p.0 m mid which others) keeps failed.keeps;
+    completes_or_fails = inr fails;
+    held_ports_are = failed.held ∙ (held ∙ sym held_on);
+    disk_index_is = subst (λ q. disk_index_of last q ≡ disk_index_of m q) (sym at) (failed.which ∙ which) ∙ sym which_on;
+    other_bays_are_kept = λ q ne. let apart : q ≢ p.0 = λ is. ne (is ∙ sym at) in failed.others q apart ∙ others q apart;
+    gains_own_pages = pages_on size told failures p.0 m mid last says which others keeps pages failed.pages;
+    disks_are_kept = λ never. absurd (never asks);
+    step_keeps = keeps_on size told failures m mid last (whichs size told failures p.0 m mid which others) keeps failed.keeps;
     starved = failed.starved ∙ starved;
   }

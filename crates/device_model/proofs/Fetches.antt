@@ -8,8 +8,8 @@ use Rattle.adapter.specs.Decoding.{HasPrds, IsWholePieces, DecodesTo, pieces, pi
 use Rattle.adapter.specs.declared.command.Operation.{Operation}
 use Rattle.adapter.specs.declared.command.Prd.{Prd}
 use Rattle.adapter.proofs.SaysLemmas.{cut_length, cut_index}
-use Rattle.device_model.specs.Fetched.{no_prd}
-use Rattle.device_model.specs.View.{operation_of_kind}
+use Rattle.device_model.specs.FetchedBytes.{no_prd}
+use Rattle.device_model.specs.PortView.{operation_of_kind}
 use Rattle.device_model.specs.declared.port.CommandKind.{CommandKind}
 
 abbrev Here : (ℕ → ℕ) → ℕ → Prd → Type 0
@@ -35,7 +35,7 @@ abbrev prd : ℕ → ℕ → Prd
 prd a b = record { address = a; bytes = b }
 
 prd_once : (bytes : List ℕ) (e f : Prd) → EncodesPrd bytes e → EncodesPrd bytes f → e ≡ f
-prd_once bytes e f x y = ap (λ a. prd a e.bytes) (sym x.address ∙ y.address) ∙ ap (prd f.address) (sym x.count ∙ y.count)
+prd_once bytes e f x y = ap (λ a. prd a e.bytes) (sym x.address ∙ y.address) ∙ ap (prd f.address) (sym x.byte_count_is ∙ y.byte_count_is)
 
 -- so many stand there in one way alone
 pub has_once : (memory : ℕ → ℕ) (at : ℕ) (xs ys : List Prd) → length xs ≡ length ys → HasPrds memory at xs → HasPrds memory at ys → xs ≡ ys
@@ -141,4 +141,4 @@ module _ (k : CommandKind) (memory : ℕ → ℕ) (list slot : ℕ) (m : Meaning
   said_meaning = subst (λ (o : Operation). IsMeaning (record { operation = o; first = m.first; count = m.count })) is s.meaning
 
   pub said_count : length (pieces s.prds) ≡ piece_count (operation_of_kind k) m.count
-  said_count = ap length (sym s.in_order) ∙ (s.as_many ∙ ap (λ (o : Operation). piece_count o m.count) is)
+  said_count = ap length (sym s.places_are) ∙ (s.place_count_is ∙ ap (λ (o : Operation). piece_count o m.count) is)

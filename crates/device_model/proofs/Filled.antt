@@ -3,9 +3,9 @@ use Rattle.std.proofs.Common.{ℕ, Option, None, Some, ◌≡◌, ◌≤◌, ◌
 use Rattle.std.specs.Prelude.{if◌then◌else◌, is_some, nat_le, option_map}
 use Rattle.std.proofs.lemmas.Bool.Decides.{leb_tells}
 use Rattle.adapter.specs.Memory.{patched}
-use Rattle.device_model.specs.View.{taken_of}
+use Rattle.device_model.specs.PortView.{taken_of}
 use Rattle.device_model.specs.declared.port.TakenCommand.{TakenCommand}
-use Rattle.device_model.specs.Fetched.{bytes_of}
+use Rattle.device_model.specs.FetchedBytes.{bytes_of}
 use Rattle.device_model.proofs.Absurd.{fun_ext}
 use Rattle.device_model.proofs.Bytes.{put_reads}
 

@@ -1,25 +1,25 @@
 -- A command that may be done is taken, goes on piece by piece and clear by clear, and ends.
 use Rattle.std.proofs.Common.{[], ◌∷◌, ℕ, Bool, true, false, zero, suc, ◌≡◌, ◌<◌, ◌≤◌, ◌+◌, ◌⊎◌, List, length, slice_index, slice_index_or, Option, None, Some, refl, sym, ◌∙◌, ap, subst, inl, inr, arith}
 use Rattle.std.specs.Prelude.{if◌then◌else◌}
-use Rattle.adapter.specs.Asked.{DoesClear, DoesFetch, DoesMove, DoesDone, DoesSlotStep, DoesSlotSteps, EndsAndPosts, SlotGoesOn}
+use Rattle.adapter.specs.ToldSteps.{DoesClear, DoesFetch, DoesMove, DoesDone, DoesSlotStep, DoesSlotSteps, EndsAndPosts, SlotGoesOn}
 use Rattle.adapter.specs.Commands.{Meaning, is_queued, is_ranged}
 use Rattle.adapter.specs.Device.{Disk, FetchedCommand, Halt, DevicePort, Device}
 use Rattle.adapter.specs.Memory.{changed}
 use Rattle.adapter.specs.OneCommand.{IsFreeSlot}
 use Rattle.adapter.specs.Decoding.{pieces}
-use Rattle.adapter.specs.Steps.{Can, IsWorking, WorksOn, admits, begun, Brings, next_place, next_sector, with_fetch, with_move, with_clear, with_done, with_flush, block_after}
+use Rattle.adapter.specs.Steps.{Can, IsWorking, WorksOn, admits, begun, MayBring, next_place, next_sector, port_after_fetch, port_after_move, port_after_clear, port_after_done, port_after_flush, block_after}
 use Rattle.adapter.specs.Steps.DeviceTransition.{Fetch, Move, Done}
 use Rattle.adapter.specs.declared.command.Operation.{Operation}
 use Rattle.adapter.specs.declared.command.Operation.TheVariants.{Trim}
 use Rattle.device_model.proofs.Absurd.{some-none, some_one, true-false}
 use Rattle.device_model.proofs.Places.{changed_same}
 use Rattle.adapter.proofs.SaysLemmas.{says_meaning, says_places}
-use Rattle.device_model.specs.Does.{HasCleared, HasEndedSlot}
+use Rattle.device_model.specs.StepEffects.{HasCleared, HasEndedSlot}
 use Rattle.device_model.specs.Finishing.{HasDisk, HasMove, IsCovered, IsInProgress, MayFinish}
-use Rattle.device_model.specs.Sent.{SendsEnd}
+use Rattle.device_model.specs.SentFises.{SendsEnd}
 use Rattle.device_model.specs.Slots.{CanClear, WorksOnIn, IsNextMove}
 use Rattle.device_model.specs.Trims.{HasClear, HasClearsLeft, next_run_length, uncleared}
-use Rattle.device_model.specs.View.{halt_of, taken_in, operation_of_kind, taken_of, blank_port}
+use Rattle.device_model.specs.PortView.{halt_of, taken_in, operation_of_kind, taken_of, blank_port}
 use Rattle.device_model.specs.WholeAdapter.{HasDisks, AllMedia, device_of}
 use Rattle.device_model.specs.declared.port.PortModel.{PortModel}
 use Rattle.device_model.specs.declared.hardware.Hardware.{Hardware}
@@ -64,7 +64,7 @@ module _ (port slot : ℕ) where
       IsInProgress new port slot left clears
   just_fetched left clears old new m places covered clearing can f =
       let p : DevicePort = old.port port in
-      let state : DevicePort = with_fetch p slot f.meaning f.places in
+      let state : DevicePort = port_after_fetch p slot f.meaning f.places in
       let meaning : f.meaning ≡ m = says_meaning old.memory p.bases.clb slot f.meaning m f.places places f.can.says can.says in
       let same : f.places ≡ places = says_places old.memory p.bases.clb slot f.meaning m f.places places f.can.says can.says in
       let there : new.port port ≡ state = ap (λ (d : Device). d.port port) f.effect ∙ changed_same old.port port state in
@@ -73,9 +73,9 @@ module _ (port slot : ℕ) where
       let P : DevicePort → Type 0 = λ x. WorksOn x slot (begun m places) m.operation in
       let Q : ℕ → Type 0 = λ size. IsCovered (begun m places) size left in
       record {
-        t = begun m places;
-        covered = subst Q (sym (ap (λ (d : Device). d.size) f.effect)) covered;
-        clearing = subst (λ (memory : ℕ → ℕ). HasClearsLeft m.operation memory (begun m places) clears) (sym (ap (λ (d : Device). d.memory) f.effect)) clearing;
+        fetched_command = begun m places;
+        is_covered = subst Q (sym (ap (λ (d : Device). d.size) f.effect)) covered;
+        has_clears_left = subst (λ (memory : ℕ → ℕ). HasClearsLeft m.operation memory (begun m places) clears) (sym (ap (λ (d : Device). d.memory) f.effect)) clearing;
         works = subst P (sym there)
             (record { taken = taken; working = still_works p state m.operation can.working refl refl refl refl refl });
       }
@@ -85,72 +85,72 @@ module _ (port slot : ℕ) where
       (did ≡ false → new ≡ old) →
       (did ≡ false → (m : Meaning) (places : List ℕ) → Can (Fetch port slot m places) old → ⊥) → IsInProgress new port slot left clears
   fetched_goes left clears did old new ready fetched same only =
-      by did refl ready.begins
+      by did refl ready.is_begun_or_fetchable
     where
-      by : (b : Bool) → did ≡ b → WorksOn (old.port port) slot ready.t ready.t.meaning.operation
-          ⊎ (Can (Fetch port slot ready.t.meaning ready.t.places) old × (ready.t ≡ begun ready.t.meaning ready.t.places)) → IsInProgress new port slot left clears
+      by : (b : Bool) → did ≡ b → WorksOn (old.port port) slot ready.fetched_command ready.fetched_command.meaning.operation
+          ⊎ (Can (Fetch port slot ready.fetched_command.meaning ready.fetched_command.places) old × (ready.fetched_command ≡ begun ready.fetched_command.meaning ready.fetched_command.places)) → IsInProgress new port slot left clears
       by true e (inl works) = some-none works.taken (fetched e).can.fetchable.free
       by true e (inr (can, is)) =
           let P : FetchedCommand → Type 0 = λ t. IsCovered t old.size left in
           let Q : FetchedCommand → Type 0 = λ t. HasClearsLeft t.meaning.operation old.memory t clears in
-          just_fetched left clears old new ready.t.meaning ready.t.places (subst P is ready.covered) (subst Q is ready.clearing) can (fetched e)
+          just_fetched left clears old new ready.fetched_command.meaning ready.fetched_command.places (subst P is ready.is_covered) (subst Q is ready.has_clears_left) can (fetched e)
       by false e (inl works) =
           let P : Device → Type 0 = λ d. IsInProgress d port slot left clears in
-          subst P (sym (same e)) (record { t = ready.t; covered = ready.covered; clearing = ready.clearing; works = works })
-      by false e (inr (can, is)) = absurd (only e ready.t.meaning ready.t.places can)
+          subst P (sym (same e)) (record { fetched_command = ready.fetched_command; is_covered = ready.is_covered; has_clears_left = ready.has_clears_left; works = works })
+      by false e (inr (can, is)) = absurd (only e ready.fetched_command.meaning ready.fetched_command.places can)
 
   -- a piece of it is moved
   pub moved_goes : (left clears : ℕ) (old new : Device) → IsInProgress old port slot (suc left) clears → DoesMove port slot old new →
       IsInProgress new port slot left clears
   moved_goes left clears old new going m =
       let p : DevicePort = old.port port in
-      let t : FetchedCommand = going.t in
-      let u : FetchedCommand = record m.t { moved = m.t.moved + 1; block = block_after m.t.meaning.operation m.bytes m.t.block } in
-      let state : DevicePort = with_move p slot m.t m.bytes in
-      let same : m.t ≡ t = some_one (sym m.can.works.taken ∙ going.works.taken) in
+      let t : FetchedCommand = going.fetched_command in
+      let u : FetchedCommand = record m.fetched_command { moved = m.fetched_command.moved + 1; block = block_after m.fetched_command.meaning.operation m.bytes m.fetched_command.block } in
+      let state : DevicePort = port_after_move p slot m.fetched_command m.bytes in
+      let same : m.fetched_command ≡ t = some_one (sym m.can.works.taken ∙ going.works.taken) in
       let there : new.port port ≡ state = ap (λ (d : Device). d.port port) m.effect ∙ changed_same old.port port state in
       let size : new.size ≡ old.size = ap (λ (d : Device). d.size) m.effect in
-      let P : DevicePort → Type 0 = λ x. WorksOn x slot u m.t.meaning.operation in
+      let P : DevicePort → Type 0 = λ x. WorksOn x slot u m.fetched_command.meaning.operation in
       let Q : FetchedCommand → Type 0 = λ x. IsCovered x old.size (suc left) in
-      let covered : IsCovered m.t old.size (suc left) = subst Q (sym same) going.covered in
+      let covered : IsCovered m.fetched_command old.size (suc left) = subst Q (sym same) going.is_covered in
       record {
-        t = u;
-        clearing = subst (λ (memory : ℕ → ℕ). HasClearsLeft m.t.meaning.operation memory u clears) (sym (ap (λ (d : Device). d.memory) m.effect))
-            (moved_clears m.t.meaning.operation p.disk old.memory m.t m.bytes clears m.can.left m.can.brings
-            (subst (λ (x : FetchedCommand). HasClearsLeft x.meaning.operation old.memory x clears) (sym same) going.clearing));
-        covered = record {
-          left_is = omega (arith, covered.left_is);
-          inside = λ k small. omega (arith, size, covered.inside k small);
+        fetched_command = u;
+        has_clears_left = subst (λ (memory : ℕ → ℕ). HasClearsLeft m.fetched_command.meaning.operation memory u clears) (sym (ap (λ (d : Device). d.memory) m.effect))
+            (moved_clears m.fetched_command.meaning.operation p.disk old.memory m.fetched_command m.bytes clears m.can.piece_is_left m.can.brings
+            (subst (λ (x : FetchedCommand). HasClearsLeft x.meaning.operation old.memory x clears) (sym same) going.has_clears_left));
+        is_covered = record {
+          moves_left_are = omega (arith, covered.moves_left_are);
+          pieces_are_inside = λ k small. omega (arith, size, covered.pieces_are_inside k small);
         };
         works = subst P (sym there)
             (record {
               taken = changed_same p.taken slot (Some u);
-              working = still_works p state m.t.meaning.operation m.can.works.working refl refl refl refl refl;
+              working = still_works p state m.fetched_command.meaning.operation m.can.works.working refl refl refl refl refl;
             });
       }
 
   -- a run of its sectors is cleared
   pub cleared_goes : (clears : ℕ) (old new : Device) → (going : IsInProgress old port slot 0 (suc clears)) → (most : ℕ) →
-      most ≡ length (uncleared going.t) → (c : DoesClear port slot most old new) → HasCleared old new port slot most → IsInProgress new port slot 0 clears
+      most ≡ length (uncleared going.fetched_command) → (c : DoesClear port slot most old new) → HasCleared old new port slot most → IsInProgress new port slot 0 clears
   cleared_goes clears old new going most whole c has =
       let p : DevicePort = old.port port in
-      let t : FetchedCommand = going.t in
+      let t : FetchedCommand = going.fetched_command in
       let u : FetchedCommand = record t { cleared = t.cleared + next_run_length (length (uncleared t)) t } in
-      let state : DevicePort = with_clear p slot c.t c.first c.count in
+      let state : DevicePort = port_after_clear p slot c.fetched_command c.first c.count in
       let there : new.port port ≡ state = ap (λ (d : Device). d.port port) c.effect ∙ changed_same old.port port state in
-      let same : has.t ≡ t = some_one (sym has.was ∙ going.works.taken) in
+      let same : has.fetched_command ≡ t = some_one (sym has.command_before ∙ going.works.taken) in
       let taken : (new.port port).taken slot ≡ Some u =
-      has.is ∙ (λ i. Some (record (same i) { cleared = (same i).cleared + next_run_length (whole i) (same i) })) in
+      has.command_after ∙ (λ i. Some (record (same i) { cleared = (same i).cleared + next_run_length (whole i) (same i) })) in
       let size : new.size ≡ old.size = ap (λ (d : Device). d.size) c.effect in
-      let all : t.moved ≡ length t.places = omega (arith, going.covered.left_is) in
+      let all : t.moved ≡ length t.places = omega (arith, going.is_covered.moves_left_are) in
       record {
-        t = u;
-        covered = record {
-          left_is = going.covered.left_is;
-          inside = λ k small. omega (arith, size, going.covered.inside k small);
+        fetched_command = u;
+        is_covered = record {
+          moves_left_are = going.is_covered.moves_left_are;
+          pieces_are_inside = λ k small. omega (arith, size, going.is_covered.pieces_are_inside k small);
         };
-        clearing = subst (λ (memory : ℕ → ℕ). HasClearsLeft t.meaning.operation memory u clears) (sym (ap (λ (d : Device). d.memory) c.effect))
-            (span_less old.memory t clears all going.clearing);
+        has_clears_left = subst (λ (memory : ℕ → ℕ). HasClearsLeft t.meaning.operation memory u clears) (sym (ap (λ (d : Device). d.memory) c.effect))
+            (span_less old.memory t clears all going.has_clears_left);
         works = record {
           taken = taken;
           working =
@@ -160,11 +160,11 @@ module _ (port slot : ℕ) where
       }
 
   -- and it has ended
-  pub done_port : (old new : Device) (e : EndsAndPosts (SendsEnd slot) port slot old new) → new.port port ≡ with_flush (with_done (old.port port) slot e.done.flag e.done.t.meaning.operation) e.done.t.meaning.operation (length old.tape)
+  pub done_port : (old new : Device) (e : EndsAndPosts (SendsEnd slot) port slot old new) → new.port port ≡ port_after_flush (port_after_done (old.port port) slot e.done.flag e.done.fetched_command.meaning.operation) e.done.fetched_command.meaning.operation (length old.tape)
   done_port old new e =
       let f : DoesDone port slot old e.mid = e.done in
-      ap (λ (d : Device). d.port port) (end_rest port slot f.flag f.t.meaning.operation e.mid new e.posts)
-      ∙ (ap (λ (d : Device). d.port port) f.effect ∙ changed_same old.port port (with_flush (with_done (old.port port) slot f.flag f.t.meaning.operation) f.t.meaning.operation (length old.tape)))
+      ap (λ (d : Device). d.port port) (end_rest port slot f.flag f.fetched_command.meaning.operation e.mid new e.posts)
+      ∙ (ap (λ (d : Device). d.port port) f.effect ∙ changed_same old.port port (port_after_flush (port_after_done (old.port port) slot f.flag f.fetched_command.meaning.operation) f.fetched_command.meaning.operation (length old.tape)))
 
   done_gone : (old new : Device) → EndsAndPosts (SendsEnd slot) port slot old new → (new.port port).taken slot ≡ None
   done_gone old new e = ap (λ (p : DevicePort). p.taken slot) (done_port old new e) ∙ changed_same (old.port port).taken slot None
@@ -182,7 +182,7 @@ module _ (port slot : ℕ) where
   no_more_on : (since mid new : Device) → IsIssuedNoMore since mid → DoesSlotStep (SendsEnd slot) port slot mid new → IsIssuedNoMore since new
   no_more_on since mid new was (inl f) t taken queued before =
       let p : DevicePort = mid.port port in
-      let state : DevicePort = with_fetch p slot f.meaning f.places in
+      let state : DevicePort = port_after_fetch p slot f.meaning f.places in
       let there : new.port port ≡ state = ap (λ (d : Device). d.port port) f.effect ∙ changed_same mid.port port state in
       let same : begun f.meaning f.places ≡ t =
       some_one (sym (changed_same p.taken slot (Some (begun f.meaning f.places))) ∙ (sym (ap (λ (x : DevicePort). x.taken slot) there) ∙ taken)) in
@@ -191,21 +191,21 @@ module _ (port slot : ℕ) where
       ∙ (ap (λ (b : Bool). (if b then changed p.ci slot false else p.ci) slot) kind ∙ changed_same p.ci slot false)
   no_more_on since mid new was (inr (inl m)) t taken queued before =
       let p : DevicePort = mid.port port in
-      let u : FetchedCommand = record m.t { moved = m.t.moved + 1; block = block_after m.t.meaning.operation m.bytes m.t.block } in
-      let state : DevicePort = with_move p slot m.t m.bytes in
+      let u : FetchedCommand = record m.fetched_command { moved = m.fetched_command.moved + 1; block = block_after m.fetched_command.meaning.operation m.bytes m.fetched_command.block } in
+      let state : DevicePort = port_after_move p slot m.fetched_command m.bytes in
       let there : new.port port ≡ state = ap (λ (d : Device). d.port port) m.effect ∙ changed_same mid.port port state in
       let same : u ≡ t = some_one (sym (changed_same p.taken slot (Some u)) ∙ (sym (ap (λ (x : DevicePort). x.taken slot) there) ∙ taken)) in
-      let kind : is_queued m.t.meaning.operation ≡ true = ap (λ (x : FetchedCommand). is_queued x.meaning.operation) same ∙ queued in
-      ap (λ (x : DevicePort). x.ci slot) there ∙ was m.t m.can.works.taken kind before
+      let kind : is_queued m.fetched_command.meaning.operation ≡ true = ap (λ (x : FetchedCommand). is_queued x.meaning.operation) same ∙ queued in
+      ap (λ (x : DevicePort). x.ci slot) there ∙ was m.fetched_command m.can.works.taken kind before
   no_more_on since mid new was (inr (inr (inl e))) t taken queued before = some-none taken (done_gone mid new e)
   no_more_on since mid new was (inr (inr (inr (most, c)))) t taken queued before =
       let p : DevicePort = mid.port port in
-      let u : FetchedCommand = record c.t { cleared = c.t.cleared + c.count } in
-      let state : DevicePort = with_clear p slot c.t c.first c.count in
+      let u : FetchedCommand = record c.fetched_command { cleared = c.fetched_command.cleared + c.count } in
+      let state : DevicePort = port_after_clear p slot c.fetched_command c.first c.count in
       let there : new.port port ≡ state = ap (λ (d : Device). d.port port) c.effect ∙ changed_same mid.port port state in
       let same : u ≡ t = some_one (sym (changed_same p.taken slot (Some u)) ∙ (sym (ap (λ (x : DevicePort). x.taken slot) there) ∙ taken)) in
-      let kind : is_queued c.t.meaning.operation ≡ true = ap (λ (x : FetchedCommand). is_queued x.meaning.operation) same ∙ queued in
-      ap (λ (x : DevicePort). x.ci slot) there ∙ was c.t c.can.works.taken kind before
+      let kind : is_queued c.fetched_command.meaning.operation ≡ true = ap (λ (x : FetchedCommand). is_queued x.meaning.operation) same ∙ queued in
+      ap (λ (x : DevicePort). x.ci slot) there ∙ was c.fetched_command c.can.works.taken kind before
 
   no_more_after : (n : ℕ) (since new : Device) → DoesSlotSteps (SendsEnd slot) n port slot since new → IsIssuedNoMore since new
   no_more_after zero since new same = subst (IsIssuedNoMore since) (sym same) (no_more_yet since)
@@ -219,27 +219,27 @@ module _ (port slot : ℕ) where
   pub done_ended : (since old new : Device) → IsIssuedNoMore since old → EndsAndPosts (SendsEnd slot) port slot old new → HasEndedSlot since new port slot
   done_ended since old new was e =
       let f : DoesDone port slot old e.mid = e.done in
-      let o : Operation = f.t.meaning.operation in
+      let o : Operation = f.fetched_command.meaning.operation in
       let p : DevicePort = old.port port in
       record {
         operation = o;
         before = old.tape;
-        last = ap (λ (d : Device). d.tape) (end_rest port slot f.flag o e.mid new e.posts) ∙ ap (λ (d : Device). d.tape) f.effect;
-        taken = done_gone old new e;
-        clear = ap (λ (p : DevicePort). if is_queued o then p.sact slot else p.ci slot) (done_port old new e) ∙ cleared (is_queued o) (old.port port) slot;
-        issued_no_more = λ queued before.
+        done_is_last = ap (λ (d : Device). d.tape) (end_rest port slot f.flag o e.mid new e.posts) ∙ ap (λ (d : Device). d.tape) f.effect;
+        is_not_taken = done_gone old new e;
+        bit_is_clear = ap (λ (p : DevicePort). if is_queued o then p.sact slot else p.ci slot) (done_port old new e) ∙ cleared (is_queued o) (old.port port) slot;
+        ci_is_clear = λ queued before.
             ap (λ (x : DevicePort). x.ci slot) (done_port old new e)
-            ∙ (ap (λ (b : Bool). (if b then p.ci else changed p.ci slot false) slot) queued ∙ was f.t f.can.works.taken queued before);
+            ∙ (ap (λ (b : Bool). (if b then p.ci else changed p.ci slot false) slot) queued ∙ was f.fetched_command f.can.works.taken queued before);
       }
 
   -- a plain one is issued no more
-  pub done_frees : (old new : Device) (going : IsInProgress old port slot 0 0) → is_queued going.t.meaning.operation ≡ false → EndsAndPosts (SendsEnd slot) port slot old new →
+  pub done_frees : (old new : Device) (going : IsInProgress old port slot 0 0) → is_queued going.fetched_command.meaning.operation ≡ false → EndsAndPosts (SendsEnd slot) port slot old new →
       IsFreeSlot (new.port port) slot
   done_frees old new going plain e =
       let f : DoesDone port slot old e.mid = e.done in
       let p : DevicePort = old.port port in
-      let state : DevicePort = with_flush (with_done p slot f.flag f.t.meaning.operation) f.t.meaning.operation (length old.tape) in
-      let same : f.t ≡ going.t = some_one (sym f.can.works.taken ∙ going.works.taken) in
+      let state : DevicePort = port_after_flush (port_after_done p slot f.flag f.fetched_command.meaning.operation) f.fetched_command.meaning.operation (length old.tape) in
+      let same : f.fetched_command ≡ going.fetched_command = some_one (sym f.can.works.taken ∙ going.works.taken) in
       let issued : state.ci ≡ changed p.ci slot false =
       ap (λ b. if b then p.ci else changed p.ci slot false) (ap (λ (x : FetchedCommand). is_queued x.meaning.operation) same ∙ plain) in
       record {
@@ -248,14 +248,14 @@ module _ (port slot : ℕ) where
       }
 
   -- when nothing is left, it may end
-  pub going_may_end : (d : Device) (going : IsInProgress d port slot 0 0) → Can (Done port slot 0 going.t) d
+  pub going_may_end : (d : Device) (going : IsInProgress d port slot 0 0) → Can (Done port slot 0 going.fetched_command) d
   going_may_end d going = record {
     works = going.works;
     finished = record {
-      moved = omega (arith, going.covered.left_is);
-      cleared = none_left going.t.meaning.operation d.memory going.t (omega (arith, going.covered.left_is)) going.clearing;
+      all_is_moved = omega (arith, going.is_covered.moves_left_are);
+      all_is_cleared = none_left going.fetched_command.meaning.operation d.memory going.fetched_command (omega (arith, going.is_covered.moves_left_are)) going.has_clears_left;
     };
-    shown = inl refl;
+    cause_is_allowed = inl refl;
   }
 
 -- ---- what a move and an end find
@@ -268,7 +268,7 @@ holds h o port slot t works =
     let w = taken_slot (taken_in p.taken) slot t works.taken in (
       w.0,
       record {
-        held = w.1;
+        is_taken = w.1;
         works = λ m. record {
           taken = slot_taken (taken_in p.taken) w.0 slot w.1;
           working = record {
@@ -297,7 +297,7 @@ move_fits h o d port slot t same move =
     let w = holds h o port slot t on_port.works in
     let Q : FetchedCommand → Type 0 = λ x. HasMove (device_of h o) port slot x in
     let here : HasMove (device_of h o) port slot (taken_of w.0) = subst Q w.2 on_port in
-    record { r = w.0; holds = w.1; left = here.left; inside = here.inside }
+    record { r = w.0; holds = w.1; left = here.piece_is_left; inside = here.piece_is_inside }
 
 -- what the hardware finds to move next is possible on a port that has disks
 pub next_has_move : (h : Hardware) (o : AllMedia) (d : Device) (port slot : ℕ) (next : NextMove) (r : TakenCommand) → HasDisks d port → device_of h o ≡ d →
@@ -307,11 +307,11 @@ next_has_move h o d port slot next r has same is =
     let place : next.address ≡ slice_index (pieces r.prds) r.moved = is.address_is in
     let there = is.inside in
     let Q : Device → Type 0 = λ x. HasDisks x port in
-    subst P same (record { works = is.holds.works (o.media port); left = is.left; inside = omega (arith, place, there); has_disks = subst Q (sym same) has })
+    subst P same (record { works = is.works_on.works (o.media port); piece_is_left = is.piece_is_left; piece_is_inside = omega (arith, place, there); has_disks = subst Q (sym same) has })
 
 -- a move of a device is of a sector on its disk, if it is of one
 brings_on_disk : (disk : Disk) (memory : ℕ → ℕ) (t : FetchedCommand) (k : CommandKind) (bytes : List ℕ) → is_ranged (operation_of_kind k) ≡ true →
-    Brings disk memory t (operation_of_kind k) bytes → next_sector t < disk.size
+    MayBring disk memory t (operation_of_kind k) bytes → next_sector t < disk.size
 brings_on_disk disk memory t command_kind.Read bytes ranged brings = brings.0
 brings_on_disk disk memory t command_kind.Write bytes ranged brings = brings.0
 brings_on_disk disk memory t command_kind.ReadQueued bytes ranged brings = brings.0
@@ -325,39 +325,39 @@ brings_on_disk disk memory t command_kind.ReadLog bytes ranged brings = absurd (
 pub has_move : (d : Device) (port slot : ℕ) (t : FetchedCommand) (bytes : List ℕ) → ((sector : ℕ) → sector < (d.port port).disk.size → HasDisks d port) →
     HasDisk d port t.meaning.operation → next_place t + 512 ≤ d.size → Can (Move port slot t bytes) d → HasMove d port slot t
 has_move d port slot t bytes sized has inside can =
-    record { works = can.works; left = can.left; inside = inside; has_disks = elim has [ inl here ↦ here | inr ranged ↦ on ranged ] }
+    record { works = can.works; piece_is_left = can.piece_is_left; piece_is_inside = inside; has_disks = elim has [ inl here ↦ here | inr ranged ↦ on ranged ] }
   where
     on : is_ranged t.meaning.operation ≡ true → HasDisks d port
     on ranged =
         let kind = kind_of_operation t.meaning.operation in
-        let P : Operation → Type 0 = λ o. Brings (d.port port).disk d.memory t o bytes in
+        let P : Operation → Type 0 = λ o. MayBring (d.port port).disk d.memory t o bytes in
         sized (next_sector t) (brings_on_disk (d.port port).disk d.memory t kind.0 bytes (ap is_ranged (sym kind.1) ∙ ranged) (subst P kind.1 can.brings))
 
 -- where a move is left, one is possible
-pub going_has_move : (d : Device) (port slot left clears : ℕ) → HasDisks d port → (going : IsInProgress d port slot (suc left) clears) → HasMove d port slot going.t
+pub going_has_move : (d : Device) (port slot left clears : ℕ) → HasDisks d port → (going : IsInProgress d port slot (suc left) clears) → HasMove d port slot going.fetched_command
 going_has_move d port slot left clears has going =
-    let t : FetchedCommand = going.t in
+    let t : FetchedCommand = going.fetched_command in
     record {
       works = going.works;
-      left = omega (arith, going.covered.left_is);
-      inside = going.covered.inside t.moved (omega (arith, going.covered.left_is));
+      piece_is_left = omega (arith, going.is_covered.moves_left_are);
+      piece_is_inside = going.is_covered.pieces_are_inside t.moved (omega (arith, going.is_covered.moves_left_are));
       has_disks = has;
     }
 
 -- where a clear is left, one is possible
 pub going_has_clear : (d : Device) (port slot clears : ℕ) → HasDisks d port → (going : IsInProgress d port slot 0 (suc clears)) →
-    HasClear d port slot (length (uncleared going.t)) going.t
+    HasClear d port slot (length (uncleared going.fetched_command)) going.fetched_command
 going_has_clear d port slot clears has going =
-    let t : FetchedCommand = going.t in
-    let all : t.moved ≡ length t.places = omega (arith, going.covered.left_is) in
-    let trim = is_a_trim d.memory t clears all going.clearing in
+    let t : FetchedCommand = going.fetched_command in
+    let all : t.moved ≡ length t.places = omega (arith, going.is_covered.moves_left_are) in
+    let trim = is_a_trim d.memory t clears all going.has_clears_left in
     record {
       has_disks = has;
       works = subst (λ (o : Operation). WorksOn (d.port port) slot t o) trim going.works;
       trim = trim;
-      moved = all;
-      some = some_uncleared d.memory t clears all going.clearing;
-      enough = omega arith;
+      block_is_moved = all;
+      count_is_positive = some_uncleared d.memory t clears all going.has_clears_left;
+      enough_are_left = omega arith;
     }
 
 -- what a clear that is possible says of the command
@@ -369,7 +369,7 @@ clear_fits h o d port slot most t same clear =
     let w = holds h o port slot t (subst (λ (x : Operation). WorksOn ((device_of h o).port port) slot t x) (sym on_port.trim) on_port.works) in
     let Q : FetchedCommand → Type 0 = λ x. HasClear (device_of h o) port slot most x in
     let here : HasClear (device_of h o) port slot most (taken_of w.0) = subst Q w.2 on_port in
-    (w.0, w.1, record { trim = is_trim w.0.command_kind here.trim; moved = here.moved; some = here.some; enough = here.enough }, w.2)
+    (w.0, w.1, record { trim = is_trim w.0.command_kind here.trim; block_is_moved = here.block_is_moved; count_is_positive = here.count_is_positive; enough_are_left = here.enough_are_left }, w.2)
 
 -- and where the hardware finds one, it is possible on a port that has disks
 pub next_has_clear : (h : Hardware) (o : AllMedia) (d : Device) (port slot most : ℕ) (r : TakenCommand) → HasDisks d port → device_of h o ≡ d →
@@ -381,9 +381,9 @@ next_has_clear h o d port slot most r has same holds can =
       has_disks = subst (λ (x : Device). HasDisks x port) (sym same) has;
       works = subst (λ (x : Operation). WorksOn ((device_of h o).port port) slot (taken_of r) x) trim (holds.works (o.media port));
       trim = trim;
-      moved = can.moved;
-      some = can.some;
-      enough = can.enough;
+      block_is_moved = can.block_is_moved;
+      count_is_positive = can.count_is_positive;
+      enough_are_left = can.enough_are_left;
     })
 
 -- ---- memory stays as large
@@ -401,7 +401,7 @@ past_last (x ∷ xs) (suc k) d past = past_last xs k d (omega (arith, past))
 
 -- nothing can be done on it
 pub never_past : (h : Hardware) (o : AllMedia) (port slot left clears : ℕ) → length h.ports ≤ port → MayFinish (device_of h o) port slot left clears → ⊥
-never_past h o port slot left clears past may = by may.begins
+never_past h o port slot left clears past may = by may.is_begun_or_fetchable
   where
     d : Device
     d = device_of h o
@@ -409,6 +409,6 @@ never_past h o port slot left clears past may = by may.begins
     stopped : ((device_of h o).port port).cr ≡ true → ⊥
     stopped runs = let off : (slice_index_or h.ports port blank_port).cr ≡ false = ap (λ (p : PortModel). p.cr) (past_last h.ports port blank_port past) in true-false runs off
 
-    by : WorksOn (d.port port) slot may.t may.t.meaning.operation ⊎ (Can (Fetch port slot may.t.meaning may.t.places) d × (may.t ≡ begun may.t.meaning may.t.places)) → ⊥
+    by : WorksOn (d.port port) slot may.fetched_command may.fetched_command.meaning.operation ⊎ (Can (Fetch port slot may.fetched_command.meaning may.fetched_command.places) d × (may.fetched_command ≡ begun may.fetched_command.meaning may.fetched_command.places)) → ⊥
     by (inl works) = stopped works.working.running
     by (inr begins) = stopped begins.0.working.running

@@ -3,17 +3,17 @@ use Rattle.std.proofs.Common.{ℕ, length, Bool, zero, suc, true, false, ◌≡�
 use Rattle.std.proofs.lemmas.Bool.Decides.{eqb_tells}
 use Rattle.adapter.specs.Device.{DevicePort, Device}
 use Rattle.adapter.specs.Memory.{changed}
-use Rattle.adapter.specs.Asked.{DoesSlotStep, DoesSlotSteps, SlotGoesOn}
-use Rattle.adapter.specs.Steps.{MayLinkUp, with_clear, with_done, with_flush, with_fetch, with_link, with_move, with_port, with_reset}
+use Rattle.adapter.specs.ToldSteps.{DoesSlotStep, DoesSlotSteps, SlotGoesOn}
+use Rattle.adapter.specs.Steps.{MayLinkUp, port_after_clear, port_after_done, port_after_flush, port_after_fetch, port_after_link_up, port_after_move, with_port, port_after_reset}
 use Rattle.adapter.specs.Steps.DeviceTransition.{Fall, FrFall, LinkUp}
 use Rattle.device_model.proofs.Places.{fun_ext, changed_same, changed_other, changed_each}
 use Rattle.device_model.proofs.Own.{own_none, own_on, own_one}
-use Rattle.device_model.specs.Bits.{word_bits}
-use Rattle.device_model.specs.Held.{IsPortHeld, IsPortLoose}
-use Rattle.device_model.specs.Sent.{SendsEnd, SendsRegisters, signature_fis}
+use Rattle.device_model.specs.WordBits.{word_bits}
+use Rattle.device_model.specs.HeldPorts.{IsPortHeld, IsPortReleased}
+use Rattle.device_model.specs.SentFises.{SendsEnd, SendsRegisters, signature_fis}
 use Rattle.device_model.proofs.Posting.{end_rest}
-use Rattle.device_model.specs.Settled.{LeadsOwn, Settles, SettlesPort, IsSettled, IsSettledPort}
-use Rattle.device_model.specs.View.{Media, port_of, blank_port}
+use Rattle.device_model.specs.ModelOwnSteps.{LeadsOwn, Settles, SettlesPort, IsSettled, IsSettledPort}
+use Rattle.device_model.specs.PortView.{Media, port_of, blank_port}
 use Rattle.device_model.specs.declared.port.PortModel.{PortModel}
 use Rattle.device_model.proofs.NewModel.{zero_bit}
 
@@ -61,11 +61,11 @@ goes_area_fallen old new fre cr fr is held d port loose here =
     (ap (λ (p : DevicePort). with_port d port p) (is ∙ ap area_fallen (sym here)))
 
 -- the link of a port in this state comes up, and the disk's first FIS is sent
-pub own_linked : (held : List Bool) (d linked new : Device) (port : ℕ) (p : DevicePort) → IsPortLoose held port → d.port port ≡ p → MayLinkUp p 0x101 →
-    linked ≡ with_port d port (with_link p 0x101 true) → SendsRegisters port (signature_fis (linked.port port)) linked new → LeadsOwn (Settles held) d new
+pub own_linked : (held : List Bool) (d linked new : Device) (port : ℕ) (p : DevicePort) → IsPortReleased held port → d.port port ≡ p → MayLinkUp p 0x101 →
+    linked ≡ with_port d port (port_after_link_up p 0x101 true) → SendsRegisters port (signature_fis (linked.port port)) linked new → LeadsOwn (Settles held) d new
 own_linked held d linked new port p loose here may is sends =
     let P : Device → Type 0 = λ x. SendsRegisters port (signature_fis (x.port port)) x new in
-    let same : linked ≡ with_port d port (with_link (d.port port) 0x101 true) = is ∙ ap (λ (x : DevicePort). with_port d port (with_link x 0x101 true)) (sym here) in
+    let same : linked ≡ with_port d port (port_after_link_up (d.port port) 0x101 true) = is ∙ ap (λ (x : DevicePort). with_port d port (port_after_link_up x 0x101 true)) (sym here) in
     own_one (Settles held) (LinkUp port 0x101 true) d new ((loose, refl, refl), tt) (subst (λ (x : DevicePort). MayLinkUp x 0x101) (sym here) may) (subst P same sends)
 
 -- a port is settled after its link may have come up, where CR and FR had fallen before
@@ -79,19 +79,19 @@ linked_settled settled was linked m same fallen area due engine received =
     let fre : linked.fre ≡ settled.fre = received.0 ∙ ap (λ (x : PortModel). x.fre) same in
     let fr : linked.fr ≡ settled.fr = received.1 ∙ ap (λ (x : PortModel). x.fr) same in
     record {
-      engine = λ off on. let e : false ≡ true = fallen (sym st ∙ off) (sym cr ∙ on) in cc;
-      area = λ off stopped on. let e : false ≡ true = area (sym fre ∙ off) (sym cr ∙ stopped) (sym fr ∙ on) in cc;
-      link = λ sig may. let e : false ≡ true = due may.present may.det may.due in cc;
+      cr_has_fallen = λ off on. let e : false ≡ true = fallen (sym st ∙ off) (sym cr ∙ on) in cc;
+      fr_has_fallen = λ off stopped on. let e : false ≡ true = area (sym fre ∙ off) (sym cr ∙ stopped) (sym fr ∙ on) in cc;
+      no_link_may_come = λ sig may. let e : false ≡ true = due may.present may.no_comreset may.link_is_due in cc;
     }
 
 pub no_bits : word_bits 0 ≡ (λ _. false)
 no_bits = fun_ext zero_bit
 
-pub blank_reset : (m : Media) → with_reset (port_of blank_port m) ≡ port_of blank_port m
+pub blank_reset : (m : Media) → port_after_reset (port_of blank_port m) ≡ port_of blank_port m
 blank_reset m = λ i. record (port_of blank_port m) { ci = sym no_bits i; sact = sym no_bits i; is = sym no_bits i }
 
 pub blank_settled : (m : Media) → IsSettledPort (port_of blank_port m)
-blank_settled m = record { engine = λ _ cr. cc; area = λ _ _ fr. cc; link = λ sig may. let e : false ≡ true = may.present in cc }
+blank_settled m = record { cr_has_fallen = λ _ cr. cc; fr_has_fallen = λ _ _ fr. cc; no_link_may_come = λ sig may. let e : false ≡ true = may.present in cc }
 
 -- ---- a command goes on, and what the model does by itself stays done
 
@@ -111,20 +111,20 @@ settled_with old new port p hr is same held settled =
     λ (P : ℕ → DevicePort → Type 0) (here : P port p) (others : (k : ℕ) → P k (old.port k)) (k : ℕ).
     subst (λ (f : ℕ → DevicePort). P k (f k)) (sym is) (changed_each old.port port p P here others k) in
     record {
-      reset = λ on. settled.reset (sym hr ∙ on);
-      engines = ports (λ k x. (x.st ≡ false) × (x.cr ≡ true) → IsPortHeld held k) (λ may. settled.engines port (sym same.st ∙ may.0, sym same.cr ∙ may.1)) settled.engines;
-      areas = ports (λ k x. (x.fre ≡ false) × (x.cr ≡ false) × (x.fr ≡ true) → IsPortHeld held k)
-          (λ may. settled.areas port (sym same.fre ∙ may.0, sym same.cr ∙ may.1, sym same.fr ∙ may.2)) settled.areas;
-      links = λ k sig n.
+      reset_has_ended = λ on. settled.reset_has_ended (sym hr ∙ on);
+      crs_have_fallen = ports (λ k x. (x.st ≡ false) × (x.cr ≡ true) → IsPortHeld held k) (λ may. settled.crs_have_fallen port (sym same.st ∙ may.0, sym same.cr ∙ may.1)) settled.crs_have_fallen;
+      frs_have_fallen = ports (λ k x. (x.fre ≡ false) × (x.cr ≡ false) × (x.fr ≡ true) → IsPortHeld held k)
+          (λ may. settled.frs_have_fallen port (sym same.fre ∙ may.0, sym same.cr ∙ may.1, sym same.fr ∙ may.2)) settled.frs_have_fallen;
+      no_links_may_come = λ k sig n.
           ports (λ q x. MayLinkUp x sig → IsPortHeld held q)
-          (λ may. settled.links port sig n
+          (λ may. settled.no_links_may_come port sig n
           (record {
             present = sym same.present ∙ may.present;
-            det = sym same.det ∙ may.det;
-            due = sym same.due ∙ may.due;
-            fits = may.fits;
+            no_comreset = sym same.det ∙ may.no_comreset;
+            link_is_due = sym same.due ∙ may.link_is_due;
+            sig_fits = may.sig_fits;
           }))
-          (λ q may. settled.links q sig n may) k;
+          (λ q may. settled.no_links_may_come q sig n may) k;
     }
 
 -- what a step of a command changes is none of these
@@ -134,17 +134,17 @@ same p new st cr fre fr present det due = record { st = st; cr = cr; fre = fre; 
 
 one_settled : (port slot : ℕ) (old new : Device) → DoesSlotStep (SendsEnd slot) port slot old new → (held : List Bool) → IsSettled held old → IsSettled held new
 one_settled port slot old new (inl f) =
-    settled_with old new port (with_fetch (old.port port) slot f.meaning f.places) (ap (λ (d : Device). d.hr) f.effect) (ap (λ (d : Device). d.port) f.effect)
+    settled_with old new port (port_after_fetch (old.port port) slot f.meaning f.places) (ap (λ (d : Device). d.hr) f.effect) (ap (λ (d : Device). d.port) f.effect)
     (same _ _ refl refl refl refl refl refl refl)
 one_settled port slot old new (inr (inl m)) =
-    settled_with old new port (with_move (old.port port) slot m.t m.bytes) (ap (λ (d : Device). d.hr) m.effect) (ap (λ (d : Device). d.port) m.effect)
+    settled_with old new port (port_after_move (old.port port) slot m.fetched_command m.bytes) (ap (λ (d : Device). d.hr) m.effect) (ap (λ (d : Device). d.port) m.effect)
     (same _ _ refl refl refl refl refl refl refl)
 one_settled port slot old new (inr (inr (inr (most, c)))) =
-    settled_with old new port (with_clear (old.port port) slot c.t c.first c.count) (ap (λ (d : Device). d.hr) c.effect) (ap (λ (d : Device). d.port) c.effect)
+    settled_with old new port (port_after_clear (old.port port) slot c.fetched_command c.first c.count) (ap (λ (d : Device). d.hr) c.effect) (ap (λ (d : Device). d.port) c.effect)
     (same _ _ refl refl refl refl refl refl refl)
 one_settled port slot old new (inr (inr (inl e))) =
-    let rest = end_rest port slot e.done.flag e.done.t.meaning.operation e.mid new e.posts in
-    settled_with old new port (with_flush (with_done (old.port port) slot e.done.flag e.done.t.meaning.operation) e.done.t.meaning.operation (length old.tape))
+    let rest = end_rest port slot e.done.flag e.done.fetched_command.meaning.operation e.mid new e.posts in
+    settled_with old new port (port_after_flush (port_after_done (old.port port) slot e.done.flag e.done.fetched_command.meaning.operation) e.done.fetched_command.meaning.operation (length old.tape))
     (ap (λ (d : Device). d.hr) rest ∙ ap (λ (d : Device). d.hr) e.done.effect)
     (ap (λ (d : Device). d.port) rest ∙ ap (λ (d : Device). d.port) e.done.effect) (same _ _ refl refl refl refl refl refl refl)
 

@@ -1,18 +1,18 @@
 -- The cache of a port's disks has grown: nothing else is another, and what is lasting stays so.
 use Rattle.std.proofs.Common.{ℕ, suc, true, ◌≡◌, ◌≤◌, ◌+◌, ◌-◌, min, arith, slice_index_or, ◌⊎◌, ◌∙◌, List, length, Option, None, Some, refl, sym, ap, subst}
 use Rattle.std.specs.Prelude.{if◌then◌else◌, option_map, slice_set}
-use Rattle.adapter.specs.Asked.{DoesClear, DoesMove}
+use Rattle.adapter.specs.ToldSteps.{DoesClear, DoesMove}
 use Rattle.adapter.specs.Device.{Device, DevicePort, FetchedCommand}
-use Rattle.adapter.specs.Steps.{WorksOn, block_after, with_move}
+use Rattle.adapter.specs.Steps.{WorksOn, block_after, port_after_move}
 use Rattle.adapter.specs.declared.command.Operation.{Operation}
 use Rattle.adapter.specs.declared.command.Operation.TheVariants.{Trim}
 use Rattle.adapter.specs.declared.command.Operation.TheVariants as operation
 use Rattle.adapter.specs.declared.access.DeviceStep.{DeviceStep}
 use Rattle.sector_store.specs.declared.store.Failures.{Failures}
-use Rattle.device_model.specs.Cached.{HasRoomForOld, KeepsSameOldSectors}
+use Rattle.device_model.specs.WriteCaches.{HasRoomForOld, KeepsSameOldSectors}
 use Rattle.device_model.specs.Disks.{HasRoomForOldAt, HasRoomForOldIn, HasRoomForOldOf, bay_of, disk_in_bay, numbered_disk, lasting_of}
-use Rattle.device_model.specs.Does.{HasCleared, IsLeftOut, LacksMemory, IsAddressable, Possible, StepKeeps, asked_port, cleared_on_disk}
-use Rattle.device_model.specs.Modelled.{device_at, all_media_at}
+use Rattle.device_model.specs.StepEffects.{HasCleared, IsLeftOut, LacksMemory, IsAddressable, IsPossible, StepKeeps, asked_port, cleared_count_on_disk}
+use Rattle.device_model.specs.ModelState.{device_at, all_media_at}
 use Rattle.device_model.specs.OldSectors.{with_old_bytes}
 use Rattle.device_model.specs.Trims.{HasClear, changes_ahead, next_uncleared, next_run_length, written_ahead}
 use Rattle.device_model.specs.WholeAdapter.{AllMedia, device_of}
@@ -29,7 +29,7 @@ use Rattle.device_model.proofs.TwoDisks.{outside_kept, seated_here, seated_other
 -- what is lasting of a disk, where the same is kept
 pub grown_lasts : {S : Type 0} (told : S → Option (ℕ → List ℕ)) (a : Bay S) (cache : Cache) → KeepsSameOldSectors a.cache cache → lasting_of told (record a { cache = cache }) ≡ lasting_of told a
 grown_lasts told a cache same =
-    λ i. if same.is_on i then option_map (with_old_bytes (same.items i)) (told a.disk.store) else told a.lasting.value
+    λ i. if same.is_on i then option_map (with_old_bytes (same.old_sectors_are i)) (told a.disk.store) else told a.lasting.value
 
 -- there is room in the cache of a port
 pub room_here : {S : Type 0} (m : Model S) (port more : ℕ) (b : Bay S) → bay_of m port ≡ Some b → HasRoomForOldAt m port more → HasRoomForOld b.cache more
@@ -57,21 +57,21 @@ module _ {S : Type 0} (size : S → ℕ) (told : S → Option (ℕ → List ℕ)
   -- a step is left
   pub grown_left : (s : DeviceStep) → asked_port s ≡ port → device_of new.hardware (all_media_at size told m) ≡ device_at size told m → new.held ≡ m.held → new.queue ≡ m.queue →
       new.accesses ≡ m.accesses →
-      (IsAddressable s (device_at size told m) → Possible s (device_at size told m) → LacksMemory s (device_at size told m) m.hardware m.bays.items × (new.hardware.starved ≡ true)) →
+      (IsAddressable s (device_at size told m) → IsPossible s (device_at size told m) → LacksMemory s (device_at size told m) m.hardware m.bays.items × (new.hardware.starved ≡ true)) →
       (m.hardware.starved ≡ true → new.hardware.starved ≡ true) →
-      (new.hardware.starved ≡ true → (m.hardware.starved ≡ true) ⊎ (Possible s (device_at size told m) × LacksMemory s (device_at size told m) m.hardware m.bays.items)) →
+      (new.hardware.starved ≡ true → (m.hardware.starved ≡ true) ⊎ (IsPossible s (device_at size told m) × LacksMemory s (device_at size told m) m.hardware m.bays.items)) →
       IsLeftOut size told failures s m new
   grown_left s at hardware held queue accesses why on since = record {
-    device = ap (λ (o : AllMedia). device_of new.hardware o) grown_outside ∙ hardware;
-    held = held;
-    says = store_says m new port a grown was items refl (asked_port s);
-    which = store_whichs m new port a grown was items refl (asked_port s);
-    others = λ q ne. seated_others m new port a grown was items q (λ here. ne (here ∙ sym at));
-    disks = λ w. grown_disks (asked_port s) w at;
-    why = why;
-    keeps = grown_keeps queue accesses;
-    starved_on = on;
-    starved_since = since;
+    device_is_kept = ap (λ (o : AllMedia). device_of new.hardware o) grown_outside ∙ hardware;
+    held_ports_are = held;
+    page_source_is = store_says m new port a grown was items refl (asked_port s);
+    disk_index_is = store_whichs m new port a grown was items refl (asked_port s);
+    other_bays_are_kept = λ q ne. seated_others m new port a grown was items q (λ here. ne (here ∙ sym at));
+    disks_are_kept = λ w. grown_disks (asked_port s) w at;
+    lacks_memory = why;
+    step_keeps = grown_keeps queue accesses;
+    stays_starved = on;
+    starves_for_want = since;
   }
 
 -- where there is room for some, there is for fewer
@@ -95,15 +95,15 @@ module _ {S : Type 0} (size : S → ℕ) (told : S → Option (ℕ → List ℕ)
   moved_room left m ahead takes t taken =
       let d : Device = device_at size told old in
       let p : DevicePort = d.port port in
-      let u : FetchedCommand = record m.t { moved = m.t.moved + 1; block = block_after m.t.meaning.operation m.bytes m.t.block } in
-      let state : DevicePort = with_move p slot m.t m.bytes in
+      let u : FetchedCommand = record m.fetched_command { moved = m.fetched_command.moved + 1; block = block_after m.fetched_command.meaning.operation m.bytes m.fetched_command.block } in
+      let state : DevicePort = port_after_move p slot m.fetched_command m.bytes in
       let there : (device_at size told new).port port ≡ state = ap (λ (x : Device). x.port port) m.effect ∙ here_after d port state in
       let same : u ≡ t = some_one (sym (ap (λ (x : DevicePort). x.taken slot) there ∙ taken_after p slot (Some u)) ∙ taken) in
       let memory = ap (λ (x : Device). x.memory) m.effect in
-      let is = moved_changes m.t.meaning.operation p.disk d.memory m.t m.bytes left m.can.left m.can.brings in
+      let is = moved_changes m.fetched_command.meaning.operation p.disk d.memory m.fetched_command m.bytes left m.can.piece_is_left m.can.brings in
       let P : ℕ → Type 0 = λ n. HasRoomForOldAt old port n in
       let Q : (ℕ → ℕ) → FetchedCommand → Type 0 = λ f x. HasRoomForOldAt new port (changes_ahead x.meaning.operation f x left) in
-      let now = takes m.t m.can.works.taken _ (subst P is (ahead m.t m.can.works.taken)) in
+      let now = takes m.fetched_command m.can.works.taken _ (subst P is (ahead m.fetched_command m.can.works.taken)) in
       subst (Q (device_at size told new).memory) same (subst (λ f. Q f u) (sym memory) now)
 
   -- a run was cleared
@@ -113,13 +113,13 @@ module _ {S : Type 0} (size : S → ℕ) (told : S → Option (ℕ → List ℕ)
       RoomAhead size told new port slot 0
   cleared_room most c has ahead takes t taken =
       let d : Device = device_at size told old in
-      let u : FetchedCommand = record has.t { cleared = has.t.cleared + next_run_length most has.t } in
-      let same : u ≡ t = some_one (sym has.is ∙ taken) in
-      let one : c.t ≡ has.t = some_one (sym c.can.works.taken ∙ has.was) in
+      let u : FetchedCommand = record has.fetched_command { cleared = has.fetched_command.cleared + next_run_length most has.fetched_command } in
+      let same : u ≡ t = some_one (sym has.command_after ∙ taken) in
+      let one : c.fetched_command ≡ has.fetched_command = some_one (sym c.can.works.taken ∙ has.command_before) in
       let memory = ap (λ (x : Device). x.memory) c.effect in
-      let less = cleared_changes d.memory has.t most (subst (λ (x : FetchedCommand). x.moved ≡ length x.places) one c.can.moved) (subst (λ (x : FetchedCommand). x.meaning.operation ≡ Trim) one c.can.trim) in
+      let less = cleared_changes d.memory has.fetched_command most (subst (λ (x : FetchedCommand). x.moved ≡ length x.places) one c.can.block_is_moved) (subst (λ (x : FetchedCommand). x.meaning.operation ≡ Trim) one c.can.trim) in
       let Q : (ℕ → ℕ) → FetchedCommand → Type 0 = λ f x. HasRoomForOldAt new port (changes_ahead x.meaning.operation f x 0) in
-      let now = takes has.t has.was (changes_ahead u.meaning.operation d.memory u 0) (less_room_at old port _ _ less (ahead has.t has.was)) in
+      let now = takes has.fetched_command has.command_before (changes_ahead u.meaning.operation d.memory u 0) (less_room_at old port _ _ less (ahead has.fetched_command has.command_before)) in
       subst (Q (device_at size told new).memory) same (subst (λ f. Q f u) (sym memory) now)
 
 -- there is room for the next piece
@@ -143,11 +143,11 @@ one_room {S} bays port t memory left = by (slice_index_or bays port None)
 
 -- and for the next run
 pub run_room : {S : Type 0} (size : S → ℕ) (told : S → Option (ℕ → List ℕ)) (m : Model S) (port slot most : ℕ) (t : FetchedCommand) → HasClear (device_at size told m) port slot most t →
-    RoomAhead size told m port slot 0 → HasRoomForOldAt m port (cleared_on_disk ((device_at size told m).port port).disk.size most t)
+    RoomAhead size told m port slot 0 → HasRoomForOldAt m port (cleared_count_on_disk ((device_at size told m).port port).disk.size most t)
 run_room size told m port slot most t has ahead =
     let d : Device = device_at size told m in
     let disk = (d.port port).disk.size in
-    let less = cleared_changes d.memory t most has.moved has.trim in
+    let less = cleared_changes d.memory t most has.block_is_moved has.trim in
     let on : min (next_run_length most t) (disk - next_uncleared t) ≤ next_run_length most t = omega arith in
     let taken = subst (λ (o : Operation). WorksOn (d.port port) slot t o) (sym has.trim) has.works in
     less_room_at m port _ _ (omega (arith, less, on)) (ahead t taken.taken)

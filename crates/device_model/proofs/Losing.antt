@@ -1,7 +1,7 @@
 -- The disk that was last in is put in again, and what was in its cache is lost.
 use Rattle.std.proofs.Common.{ℕ, Bool, true, false, Option, Some, List, [], ◌∷◌, ◌++◌, ◌≡◌, ◌≢◌, ◌<◌, ◌≤◌, ◌+◌, ◌%◌, ◌^◌, ◌⊎◌, ◌&&◌, ◌∙◌, length, refl, ap, sym, subst, inl, inr, arith}
 use Rattle.std.specs.Prelude.{Contains, if◌then◌else◌, is_some, nat_eq, option_map, slice_set}
-use Rattle.adapter.specs.Asked.{DoesPlug}
+use Rattle.adapter.specs.ToldSteps.{DoesPlug}
 use Rattle.adapter.specs.Device.{Device, Disk}
 use Rattle.adapter.specs.Steps.{device_after}
 use Rattle.adapter.specs.Steps.DeviceTransition.{Plug}
@@ -10,12 +10,12 @@ use Rattle.ata_types.specs.declared.Port.{Port}
 use Rattle.sector_store.specs.Stores.{AreSectors}
 use Rattle.sector_store.specs.declared.store.Failures.{Failures}
 use Rattle.std.proofs.lemmas.Option.{same_Some}
-use Rattle.device_model.specs.Cached.{RollsBack, WritesFail, lasting_in, sector_told}
+use Rattle.device_model.specs.WriteCaches.{RollsBack, WritesFail, lasting_in, sector_told}
 use Rattle.device_model.specs.Disks.{LosesCache, bay_of, disk_in_bay, disk_number, identity, is_same, lasting_of, plugged_as}
-use Rattle.device_model.specs.Does.{LosesCacheIn, DidStep, IsLeftOut, LacksMemory, Possible}
-use Rattle.device_model.specs.Modelled.{device_at, media_of, all_media_at, tells}
+use Rattle.device_model.specs.StepEffects.{LosesCacheIn, DidStep, IsLeftOut, LacksMemory, IsPossible}
+use Rattle.device_model.specs.ModelState.{device_at, media_of, all_media_at, tells}
 use Rattle.device_model.specs.OldSectors.{with_old_bytes}
-use Rattle.device_model.specs.WholeAdapter.{AllMedia, device_of, all_media_plugged}
+use Rattle.device_model.specs.WholeAdapter.{AllMedia, device_of, all_media_after_plug}
 use Rattle.device_model.specs.declared.bay.Bay.{Bay}
 use Rattle.device_model.specs.declared.disks.ModelDisk.{ModelDisk}
 use Rattle.device_model.specs.declared.disks.DiskIndex.{DiskIndex}
@@ -43,22 +43,22 @@ module _ {S : Type 0} (size : S → ℕ) (told : S → Option (ℕ → List ℕ)
   tells_back : a.cache.is_on ≡ true → TellsBack olds (told a.disk.store) (told b.disk.store)
   tells_back e =
       let P : Option (ℕ → List ℕ) → Type 0 = λ into. RollsBack size told failures into a.disk.store b.disk.store in
-      turned_tells size told failures olds a.disk.store b.disk.store (subst P (with_cache e) (lost.back e))
+      turned_tells size told failures olds a.disk.store b.disk.store (subst P (with_cache e) (lost.is_rolled_back e))
 
   lost_size : (on : Bool) → a.cache.is_on ≡ on → size b.disk.store ≡ size a.disk.store
-  lost_size true e = (lost.back e).sized
-  lost_size false e = ap size (lost.as_it_was e)
+  lost_size true e = (lost.is_rolled_back e).size_is_kept
+  lost_size false e = ap size (lost.store_is_kept e)
 
   lost_tells : (on : Bool) → a.cache.is_on ≡ on → is_some (told b.disk.store) ≡ is_some (told a.disk.store)
   lost_tells true e = back_some olds (told a.disk.store) (told b.disk.store) (tells_back e)
-  lost_tells false e = ap (λ (s : S). is_some (told s)) (lost.as_it_was e)
+  lost_tells false e = ap (λ (s : S). is_some (told s)) (lost.store_is_kept e)
 
   lost_lasts : (on : Bool) → a.cache.is_on ≡ on → lasting_in a.cache (told b.disk.store) (told a.lasting.value) ≡ lasting_of told a
   lost_lasts true e =
       let Q : Option (ℕ → List ℕ) → Bool → Option (ℕ → List ℕ) = λ x on. if on then option_map (with_old_bytes olds) x else told a.lasting.value in
       ap (Q (told b.disk.store)) e
       ∙ (back_lasts olds (told a.disk.store) (told b.disk.store) (tells_back e) ∙ sym (ap (Q (told a.disk.store)) e))
-  lost_lasts false e = ap (λ (s : S). lasting_in a.cache (told s) (told a.lasting.value)) (lost.as_it_was e)
+  lost_lasts false e = ap (λ (s : S). lasting_in a.cache (told s) (told a.lasting.value)) (lost.store_is_kept e)
 
   lost_holds : (on : Bool) → a.cache.is_on ≡ on → (last comes : ℕ → List ℕ) → told a.disk.store ≡ Some last → told b.disk.store ≡ Some comes → (k : ℕ) →
       (comes k ≡ last k) ⊎ (option_map (λ (f : ℕ → List ℕ). f k) (lasting_of told a) ≡ Some (comes k))
@@ -69,7 +69,7 @@ module _ {S : Type 0} (size : S → ℕ) (told : S → Option (ℕ → List ℕ)
             inr (ap (option_map (λ (f : ℕ → List ℕ). f k)) (with_cache e) ∙ held)
       ]
   lost_holds false e last comes is at k =
-      inl (ap (λ (f : ℕ → List ℕ). f k) (same_Some comes last (sym at ∙ (ap told (lost.as_it_was e) ∙ is))))
+      inl (ap (λ (f : ℕ → List ℕ). f k) (same_Some comes last (sym at ∙ (ap told (lost.store_is_kept e) ∙ is))))
 
 -- ---- where no call has failed
 
@@ -100,15 +100,15 @@ none_failed l was now fail few same k at =
 module _ {S : Type 0} (size : S → ℕ) (told : S → Option (ℕ → List ℕ)) (failures : S → Option Failures) (into : Option (ℕ → List ℕ)) (was now : S) (t : RollsBack size told failures into was now)
     (fits : size was < 2 ^ 64) where
   pub all_back : failures now ≡ failures was → (k : ℕ) → k < size was → sector_told (told now) k ≡ sector_told into k
-  all_back same k lt = t.back k lt (none_failed t.failed (failures was) (failures now) t.fails (let few = t.few in omega (arith, few, fits)) same k)
+  all_back same k lt = t.sectors_are_rolled_back k lt (none_failed t.failed (failures was) (failures now) t.writes_fail (let few = t.failed_count_is_allowed in omega (arith, few, fits)) same k)
 
   -- one that isn't was not written back, since a call has failed
   pub each_back_or : (k : ℕ) → k < size was →
       (sector_told (told now) k ≡ sector_told into k) ⊎ ((sector_told (told now) k ≡ sector_told (told was) k) × (failures now ≢ failures was))
   each_back_or k lt =
       elim (is_there t.failed k) [
-        | inl at ↦ inr (t.left k (inr at), λ same. none_failed t.failed (failures was) (failures now) t.fails (let few = t.few in omega (arith, few, fits)) same k at)
-        | inr never ↦ inl (t.back k lt never)
+        | inl at ↦ inr (t.failed_are_kept k (inr at), λ same. none_failed t.failed (failures was) (failures now) t.writes_fail (let few = t.failed_count_is_allowed in omega (arith, few, fits)) same k at)
+        | inr never ↦ inl (t.sectors_are_rolled_back k lt never)
       ]
 
 -- a LosePlug that was done
@@ -116,8 +116,8 @@ pub lost_of : {S : Type 0} (size : S → ℕ) (told : S → Option (ℕ → List
     bay_of old p.0 ≡ Some a → bay_of new p.0 ≡ Some b → DidStep size told failures (asked.LosePlug p) old new → LosesCache size told failures a b
 lost_of {S} size told failures old new p a b was is did =
     let both : Option (Bay S) → Option (Bay S) → Type 0 = λ x y. LosesCacheIn size told failures x y in
-    elim did.came [
-      | inl whole ↦ subst (both (Some a)) is (subst (λ x. both x (bay_of new p.0)) was (whole.loses refl))
+    elim did.completes_or_fails [
+      | inl whole ↦ subst (both (Some a)) is (subst (λ x. both x (bay_of new p.0)) was (whole.loses_cache refl))
       | inr never ↦ absurd never
     ]
 
@@ -125,23 +125,23 @@ module _ {S : Type 0} (size : S → ℕ) (told : S → Option (ℕ → List ℕ)
     (held : new.held ≡ m.held) (queue : new.queue ≡ m.queue) (accesses : new.accesses ≡ m.accesses) (a b : Bay S) (was : bay_of m p.0 ≡ Some a)
     (items : new.bays.items ≡ slice_set m.bays.items p.0 (Some b)) where
   -- the tape had no room, and no disk is put in
-  pub lose_left : b ≡ a → ((o : AllMedia) → device_of new.hardware o ≡ device_of m.hardware o) → Possible (asked.LosePlug p) (device_at size told m) →
+  pub lose_left : b ≡ a → ((o : AllMedia) → device_of new.hardware o ≡ device_of m.hardware o) → IsPossible (asked.LosePlug p) (device_at size told m) →
       LacksMemory (asked.LosePlug p) (device_at size told m) m.hardware m.bays.items → new.hardware.starved ≡ true → IsLeftOut size told failures (asked.LosePlug p) m new
   lose_left rest same may lacks starved =
       let kept : (w : DiskIndex) → disk_in_bay b w ≡ disk_in_bay a w = λ (w : DiskIndex). ap (λ (x : Bay S). disk_in_bay x w) rest in
       record {
-        device = ap (λ (o : AllMedia). device_of new.hardware o) (seated_behind m new p.0 a b was items size told (ap (λ (x : Bay S). media_of size told (Some x)) rest)
+        device_is_kept = ap (λ (o : AllMedia). device_of new.hardware o) (seated_behind m new p.0 a b was items size told (ap (λ (x : Bay S). media_of size told (Some x)) rest)
             (ap (λ (x : Bay S). tells told (Some x)) rest))
             ∙ same (all_media_at size told m);
-        held = held;
-        says = seated_same m new p.0 a b was items (option_map (λ (x : Bay S). x.says)) (ap (λ (x : Bay S). Some x.says) rest) p.0;
-        which = seated_same m new p.0 a b was items (option_map (λ (x : Bay S). x.which)) (ap (λ (x : Bay S). Some x.which) rest) p.0;
-        others = seated_others m new p.0 a b was items;
-        disks = λ w. seated_same m new p.0 a b was items (option_map (λ (x : Bay S). disk_in_bay x w)) (ap Some (kept w)) p.0;
-        why = λ _ _. (lacks, starved);
-        keeps = seated_keeps m new p.0 a b was items size (λ w _. kept w) (λ w. ap (identity size) (kept w)) (ap (λ (x : Bay S). x.cache.is_on) rest) queue accesses;
-        starved_on = λ _. starved;
-        starved_since = λ _. inr (may, lacks);
+        held_ports_are = held;
+        page_source_is = seated_same m new p.0 a b was items (option_map (λ (x : Bay S). x.says)) (ap (λ (x : Bay S). Some x.says) rest) p.0;
+        disk_index_is = seated_same m new p.0 a b was items (option_map (λ (x : Bay S). x.which)) (ap (λ (x : Bay S). Some x.which) rest) p.0;
+        other_bays_are_kept = seated_others m new p.0 a b was items;
+        disks_are_kept = λ w. seated_same m new p.0 a b was items (option_map (λ (x : Bay S). disk_in_bay x w)) (ap Some (kept w)) p.0;
+        lacks_memory = λ _ _. (lacks, starved);
+        step_keeps = seated_keeps m new p.0 a b was items size (λ w _. kept w) (λ w. ap (identity size) (kept w)) (ap (λ (x : Bay S). x.cache.is_on) rest) queue accesses;
+        stays_starved = λ _. starved;
+        starves_for_want = λ _. inr (may, lacks);
       }
 
   module _ (lost : LosesCache size told failures a b) (rest : b ≡ record (with_back a b.disk.store) { later = b.later })
@@ -176,33 +176,33 @@ module _ {S : Type 0} (size : S → ℕ) (told : S → Option (ℕ → List ℕ)
     lost_kept f same w = ap (λ (x : Bay S). f (disk_in_bay x w)) rest ∙ kept_in f (is_same w a.which) (record a.disk { store = b.disk.store }) a.disk a.other same
 
     pub did_lose : p.0 < 4 → ((d : Device) → d ≡ device_at size told m → ((d.port p.0).present ≡ false)) → ((s : S) → AreSectors (size s) (told s)) →
-        ((o : AllMedia) (disk : Disk) → disk.name ≡ disk_number a.which → true ≡ nat_eq disk.name (o.media p.0).disk.name → device_of new.hardware (all_media_plugged o p.0 disk) ≡ device_after (Plug p.0 disk) (device_of m.hardware o)) →
+        ((o : AllMedia) (disk : Disk) → disk.name ≡ disk_number a.which → true ≡ nat_eq disk.name (o.media p.0).disk.name → device_of new.hardware (all_media_after_plug o p.0 disk) ≡ device_after (Plug p.0 disk) (device_of m.hardware o)) →
         new.hardware.starved ≡ m.hardware.starved →
-        Possible (asked.LosePlug p) (device_at size told m) × DidStep size told failures (asked.LosePlug p) m new
+        IsPossible (asked.LosePlug p) (device_at size told m) × DidStep size told failures (asked.LosePlug p) m new
     did_lose small free are did starved =
-        let may : Possible (asked.LosePlug p) (device_at size told m) = (small, has_disks size told m p.0 a was, free _ refl) in
+        let may : IsPossible (asked.LosePlug p) (device_at size told m) = (small, has_disks size told m p.0 a was, free _ refl) in
         let name : disk_number a.which ≡ ((device_at size told m).port p.0).disk.name = sym (ap (λ x. (media_of size told x).disk.name) was) in
         let so : (o : AllMedia) (disk : Disk) → disk.name ≡ disk_number a.which → is_same b.which a.which ≡ nat_eq disk.name (o.media p.0).disk.name →
-        device_of new.hardware (all_media_plugged o p.0 disk) ≡ device_after (Plug p.0 disk) (device_of m.hardware o) =
+        device_of new.hardware (all_media_after_plug o p.0 disk) ≡ device_after (Plug p.0 disk) (device_of m.hardware o) =
         λ o disk named same. did o disk named (sym (ap (λ (w : DiskIndex). is_same w a.which) which_is ∙ same_self a.which) ∙ same) in
         let P : ℕ → Type 0 = λ n. DoesPlug p.0 n (device_at size told m) (device_at size told new) in
         let both : Option (Bay S) → Option (Bay S) → Type 0 = λ x y. LosesCacheIn size told failures x y in (
           may,
           record {
-            came = inl (record {
-              asked = subst P name
+            completes_or_fails = inl (record {
+              does_told_step = subst P name
                   (plugged_so size told failures m new p held queue accesses a b was items tells_so first later_so lasts that (disk_number a.which) (ap disk_number which_is) free are so);
-              fine = λ no. true-false refl no;
-              says = seated_same m new p.0 a b was items (option_map (λ (x : Bay S). x.says)) (ap (λ (x : Bay S). Some x.says) rest) p.0;
-              ends = λ _. tt;
-              loses = λ _. subst (λ x. both x (bay_of new p.0)) (sym was) (subst (both (Some a)) (sym (seated_here m new p.0 a b was items)) lost);
+              no_call_failed = λ no. true-false refl no;
+              page_source_is = seated_same m new p.0 a b was items (option_map (λ (x : Bay S). x.says)) (ap (λ (x : Bay S). Some x.says) rest) p.0;
+              does_all_it_asks = λ _. tt;
+              loses_cache = λ _. subst (λ x. both x (bay_of new p.0)) (sym was) (subst (both (Some a)) (sym (seated_here m new p.0 a b was items)) lost);
             });
-            held = held;
-            which = seated_same m new p.0 a b was items (option_map (λ (x : Bay S). x.which)) (ap Some which_is) p.0;
-            others = seated_others m new p.0 a b was items;
-            pages = plug_noted size told failures m new p held queue accesses a b was items tells_so first later_so lasts that (disk_number a.which) (ap disk_number which_is) so;
-            disks = λ never. absurd (never may);
-            keeps = seated_keeps m new p.0 a b was items size lost_out
+            held_ports_are = held;
+            disk_index_is = seated_same m new p.0 a b was items (option_map (λ (x : Bay S). x.which)) (ap Some which_is) p.0;
+            other_bays_are_kept = seated_others m new p.0 a b was items;
+            gains_own_pages = plug_noted size told failures m new p held queue accesses a b was items tells_so first later_so lasts that (disk_number a.which) (ap disk_number which_is) so;
+            disks_are_kept = λ never. absurd (never may);
+            step_keeps = seated_keeps m new p.0 a b was items size lost_out
                 (lost_kept (identity size) (ap (λ (n : ℕ). record { serial = a.disk.serial; size = n }) (lost_size size told failures a b lost a.cache.is_on refl)))
                 (ap (λ (x : Bay S). x.cache.is_on) rest) queue accesses;
             starved = starved;

@@ -6,11 +6,11 @@ use Rattle.hba_regs.specs.Bits.{bit}
 use Rattle.adapter.specs.Device.{IsDisk}
 use Rattle.adapter.specs.Idle.{IsIdlePort}
 use Rattle.device_model.specs.Disks.{disks_given_for}
-use Rattle.device_model.specs.Modelled.{IsNewMedia, IsNewPort, HasResetValues, all_tell, media_of}
+use Rattle.device_model.specs.ModelState.{IsNewMedia, IsNewPort, HasResetValues, all_tell, media_of}
 use Rattle.device_model.specs.declared.disks.Disks.{Disks}
 use Rattle.device_model.specs.declared.disks.PortDisks.{PortDisks}
 use Rattle.sector_store.specs.Stores.{AreSectors}
-use Rattle.device_model.specs.View.{Media, port_of, blank_port}
+use Rattle.device_model.specs.PortView.{Media, port_of, blank_port}
 use Rattle.device_model.specs.declared.bay.Bay.{Bay}
 use Rattle.device_model.specs.declared.port.PortModel.{PortModel}
 
@@ -75,7 +75,7 @@ all_told told all (Some b ∷ bays) =
 pub new_port : {S : Type 0} (size : S → ℕ) (told : S → Option (ℕ → List ℕ)) (given : Option (PortDisks S)) (p : PortModel) (m : Media) → p.present ≡ is_some given → p.lasting_at ≡ 0 →
     IsNewMedia size told given m → IsNewPort size told given (port_of p m)
 new_port size told None p m present since is = (present, ap (λ (x : Media). x.plugged) is)
-new_port size told (Some disks) p m present since is = (present, is.0, is.1, λ i. record { sectors = is.2 i; since = since i })
+new_port size told (Some disks) p m present since is = (present, is.0, is.1, λ i. record { sectors = is.2 i; tape_length = since i })
 
 -- for a port past the last one none is given
 pub past_given : {S : Type 0} (d : Disks S) (k : ℕ) → 4 ≤ k → disks_given_for d k ≡ None

@@ -19,7 +19,7 @@ none_after_first : (o : OldSector) (olds : List OldSector) (sector place : ℕ) 
 none_after_first o olds sector place none k lt = none (suc k) (omega arith)
 
 at_after_first : (o : OldSector) (olds : List OldSector) (sector place : ℕ) → IsOldAt (o ∷ olds) sector (suc place) → IsOldAt olds sector place
-at_after_first o olds sector place is = record { inside = omega (arith, is.inside); number = is.number }
+at_after_first o olds sector place is = record { is_inside = omega (arith, is.is_inside); number = is.number }
 
 -- one that isn't there has no old bytes
 absent_none : (olds : List OldSector) (sector : ℕ) → NoneBefore olds sector (length olds) → old_bytes_of olds sector ≡ None
@@ -29,7 +29,7 @@ absent_none (o ∷ olds) sector none = grind (arith, nat_tests, none 0 (omega ar
 -- the first one with this number gives its bytes
 present_some : (olds : List OldSector) (sector place : ℕ) → IsOldAt olds sector place → NoneBefore olds sector place →
     old_bytes_of olds sector ≡ Some (slice_index_or olds place no_old_sector).bytes
-present_some [] sector place is none = absurd (omega (arith, is.inside))
+present_some [] sector place is none = absurd (omega (arith, is.is_inside))
 present_some (o ∷ olds) sector zero is none = grind (arith, nat_tests, is.number)
 present_some (o ∷ olds) sector (suc place) is none =
     grind (arith, nat_tests, none 0 (omega arith), present_some olds sector place (at_after_first o olds sector place is) (none_after_first o olds sector place none))
@@ -45,7 +45,7 @@ module _ (olds : List OldSector) (rising : AreRising olds) where
   -- each stands there once
   pub once : (place : ℕ) → place < length olds → old_bytes_of olds (old_number_at olds place) ≡ Some (slice_index_or olds place no_old_sector).bytes
   once place inside =
-      present_some olds (old_number_at olds place) place (record { inside = inside; number = refl })
+      present_some olds (old_number_at olds place) place (record { is_inside = inside; number = refl })
       (λ k lt same. let up = rising k place lt inside in omega (arith, up, same))
 
   module _ (sector : ℕ) where
@@ -58,11 +58,11 @@ module _ (olds : List OldSector) (rising : AreRising olds) where
     -- a binary search ends at the sector, or at the gap for it
     pub searched : (r : Result ℕ ℕ) → IsSearchInRange r (length olds) → IsBinarySearchResult (λ (o : OldSector). nat_cmp o.sector sector) olds r →
         record { found : IfOk r (IsOldAt olds sector); absent : IfErr r (IsGapFor olds sector) }
-    searched (Ok at) inside equal = record { found = record { inside = inside; number = ranked _ sector _ (sym (equal no_old_sector)) }; absent = tt }
+    searched (Ok at) inside equal = record { found = record { is_inside = inside; number = ranked _ sector _ (sym (equal no_old_sector)) }; absent = tt }
     searched (Err at) inside parted = record {
       found = tt;
       absent = record {
-        inside = inside;
+        is_inside = inside;
         lower = λ k lt. ranked _ sector _ (sym ((parted comparisons_rise).0 k no_old_sector (omega arith) lt));
         higher = λ k le lt. ranked _ sector _ (sym ((parted comparisons_rise).1 k no_old_sector le lt));
       };
@@ -70,7 +70,7 @@ module _ (olds : List OldSector) (rising : AreRising olds) where
 
     pub found_some : (place : ℕ) → IsOldAt olds sector place → is_some (old_bytes_of olds sector) ≡ true
     found_some place is =
-        ap is_some (present_some olds sector place is (λ k lt same. let up = rising k place lt is.inside in let at = is.number in omega (arith, up, at, same)))
+        ap is_some (present_some olds sector place is (λ k lt same. let up = rising k place lt is.is_inside in let at = is.number in omega (arith, up, at, same)))
 
 module _ (olds : List OldSector) (sector place : ℕ) (gap : IsGapFor olds sector place) where
   pub gap_none : old_bytes_of olds sector ≡ None
@@ -88,9 +88,9 @@ module _ (olds : List OldSector) (sector place : ℕ) (gap : IsGapFor olds secto
     still_rising rising i j lt inside =
         let now = insert olds place new in
         let number : OldSector → ℕ = λ (o : OldSector). o.sector in
-        let long = length-insert olds place new gap.inside in
-        let below : (i : ℕ) → i < place → old_number_at now i ≡ old_number_at olds i = λ i below. ap number (get_or-insert_below olds place new no_old_sector i below gap.inside) in
-        let here : (i : ℕ) → i ≡ place → old_number_at now i ≡ sector = λ i here. rw here (ap number (get_or-insert_at olds place new no_old_sector gap.inside)) in
+        let long = length-insert olds place new gap.is_inside in
+        let below : (i : ℕ) → i < place → old_number_at now i ≡ old_number_at olds i = λ i below. ap number (get_or-insert_below olds place new no_old_sector i below gap.is_inside) in
+        let here : (i : ℕ) → i ≡ place → old_number_at now i ≡ sector = λ i here. rw here (ap number (get_or-insert_at olds place new no_old_sector gap.is_inside)) in
         let above : (i : ℕ) → place < i → old_number_at now i ≡ old_number_at olds (i - 1) = λ i above.
-        subst (λ q. old_number_at now q ≡ old_number_at olds (i - 1)) {x = i - 1 + 1} (omega arith) (ap number (get_or-insert_above olds place new no_old_sector (i - 1) (omega arith) gap.inside)) in
+        subst (λ q. old_number_at now q ≡ old_number_at olds (i - 1)) {x = i - 1 + 1} (omega arith) (ap number (get_or-insert_above olds place new no_old_sector (i - 1) (omega arith) gap.is_inside)) in
         grind (arith, below i, here i, above i, below j, here j, above j, rising i j, rising i (j - 1), rising (i - 1) (j - 1), gap.lower i, gap.higher (j - 1))

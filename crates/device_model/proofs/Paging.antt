@@ -3,13 +3,13 @@ use Rattle.std.proofs.Common.{ℕ, length, Bool, zero, suc, true, false, ◌≡�
 use Rattle.std.specs.Prelude.{◌&&◌, not, if◌then◌else◌, is_some, option_map}
 use Rattle.std.proofs.lemmas.Bool.Decides.{eqb_tells}
 use Rattle.adapter.specs.Access.{note, noted}
-use Rattle.adapter.specs.Asked.{DoesFetch, DoesSlotStep, DoesSlotSteps, SlotGoesOn}
+use Rattle.adapter.specs.ToldSteps.{DoesFetch, DoesSlotStep, DoesSlotSteps, SlotGoesOn}
 use Rattle.adapter.specs.Commands.{Meaning, is_queued, is_ranged}
 use Rattle.adapter.specs.Device.{Notes, DevicePort, Device, FetchedCommand}
 use Rattle.adapter.specs.Memory.{changed}
 use Rattle.adapter.specs.OneCommand.{IsFreeSlot}
 use Rattle.adapter.specs.Decoding.{DecodesTo}
-use Rattle.adapter.specs.Steps.{Can, IsFetchable, IsWorking, IsUnmixed, WorksOn, begun, with_clear, with_done, with_flush, with_fetch, with_move}
+use Rattle.adapter.specs.Steps.{Can, IsFetchable, IsWorking, IsUnmixed, WorksOn, begun, port_after_clear, port_after_done, port_after_flush, port_after_fetch, port_after_move}
 use Rattle.adapter.specs.Steps.DeviceTransition.{Fetch}
 use Rattle.adapter.specs.declared.command.Operation.{Operation}
 use Rattle.device_model.proofs.Absurd.{some-none, some_one, true-false}
@@ -21,12 +21,12 @@ use Rattle.ata_types.specs.declared.Port.{Port}
 use Rattle.ata_types.specs.declared.Slot.{Slot}
 use Rattle.adapter.specs.declared.access.DeviceStep.TheVariants as asked
 use Rattle.sector_store.specs.declared.store.Failures.{Failures}
-use Rattle.device_model.specs.Does.{AnswersStep, LeavesMoves, AsksStore, Completes, DidStep, StepFails, FailsToClear, FailsToMove}
-use Rattle.device_model.specs.Finishing.{AreInside, HasPageCommand, LooksForPage, HasTakenCommand, IsCovered, MayFinish, MayTakePage, sends_page}
-use Rattle.device_model.specs.Modelled.{device_at}
-use Rattle.device_model.specs.Sent.{SendsEnd}
+use Rattle.device_model.specs.StepEffects.{AnswersStep, LeavesMoves, AsksStore, Completes, DidStep, StepFails, FailsToClear, FailsToMove}
+use Rattle.device_model.specs.Finishing.{AreInside, HasPageCommand, FindsPageCommand, HasTakenCommand, IsCovered, MayFinish, MayTakePage, sends_page}
+use Rattle.device_model.specs.ModelState.{device_at}
+use Rattle.device_model.specs.SentFises.{SendsEnd}
 use Rattle.device_model.specs.Slots.{IsNextMove}
-use Rattle.device_model.specs.View.{operation_of_kind, taken_of}
+use Rattle.device_model.specs.PortView.{operation_of_kind, taken_of}
 use Rattle.device_model.specs.Disks.{disk_in_bay, numbered_disk}
 use Rattle.device_model.specs.WholeAdapter.{HasDisks, AllMedia, device_of}
 use Rattle.device_model.specs.declared.bay.Bay.{Bay}
@@ -54,11 +54,11 @@ is_page o places page = page.0
 
 -- whatever may be done to its end in a slot, no other command is taken there, or may be
 pub only_of : (P : Operation → List ℕ → Type 0) (d : Device) (port slot left clears : ℕ) (may : MayFinish d port slot left clears) →
-    P may.t.meaning.operation may.t.places → IsOnly P d port slot
-only_of P d port slot left clears may holds = by may.begins
+    P may.fetched_command.meaning.operation may.fetched_command.places → IsOnly P d port slot
+only_of P d port slot left clears may holds = by may.is_begun_or_fetchable
   where
     t : FetchedCommand
-    t = may.t
+    t = may.fetched_command
 
     by : WorksOn (d.port port) slot t t.meaning.operation ⊎ (Can (Fetch port slot t.meaning t.places) d × (t ≡ begun t.meaning t.places)) → IsOnly P d port slot
     by (inl works) = record {
@@ -77,7 +77,7 @@ only_of P d port slot left clears may holds = by may.begins
     }
 
 pub has_only : (d : Device) (port slot : ℕ) → HasPageCommand d port slot → IsOnly IsPage d port slot
-has_only d port slot has = only_of IsPage d port slot has.left 0 has.ready (has.sends, has.low)
+has_only d port slot has = only_of IsPage d port slot has.left 0 has.may_finish (has.sends_page, has.addresses_are_low)
 
 -- nor afterwards
 pub page_taken : (port slot : ℕ) (did : Bool) (old new : Device) → (did ≡ true → SlotGoesOn (SendsEnd slot) port slot old new) → (did ≡ false → new ≡ old) →
@@ -96,11 +96,11 @@ IsUnranged operation places = is_ranged operation ≡ false
 
 -- a Finish of it asks for none
 pub page_asks_none : (d : Device) (port slot left clears : ℕ) → HasPageCommand d port slot → (may : MayFinish d port slot left clears) →
-    LeavesMoves may.t.meaning.operation left clears → ⊥
+    LeavesMoves may.fetched_command.meaning.operation left clears → ⊥
 page_asks_none d port slot left clears has may asks = by asks
   where
     t : FetchedCommand
-    t = may.t
+    t = may.fetched_command
 
     kind : WorksOn (d.port port) slot t t.meaning.operation ⊎ (Can (Fetch port slot t.meaning t.places) d × (t ≡ begun t.meaning t.places)) →
         sends_page t.meaning.operation ≡ true
@@ -108,9 +108,9 @@ page_asks_none d port slot left clears has may asks = by asks
     kind (inr begins) = ((has_only d port slot has).fetched t.meaning t.places begins.0).0
 
     by : LeavesMoves t.meaning.operation left clears → ⊥
-    by (inl moves) = true-false moves.0 (page_unranged _ (kind may.begins))
+    by (inl moves) = true-false moves.0 (page_unranged _ (kind may.is_begun_or_fetchable))
     by (inr some) =
-        let none = page_cleared t.meaning.operation d.memory t clears (kind may.begins) may.clearing in absurd (omega (arith, some, none))
+        let none = page_cleared t.meaning.operation d.memory t clears (kind may.is_begun_or_fetchable) may.has_clears_left in absurd (omega (arith, some, none))
 
 -- so it comes to no sector on which it fails
 page_whole : (p : Port) (s : Slot) (cached : Bool) (was now : Option Failures) (says later : Option PageSource) (old new : Device) → HasPageCommand old p.0 s.0 →
@@ -123,13 +123,13 @@ page_whole p s cached was now says later old new has (mid, before, fails) = by b
 
     by : (mid ≡ old) ⊎ SlotGoesOn (SendsEnd s.0) p.0 s.0 old mid →
         FailsToMove cached p.0 s.0 was now says later mid new ⊎ FailsToClear cached p.0 s.0 was now says later mid new → ⊥
-    by gone (inl moves) = true-false moves.ranged (page_unranged _ (page gone moves.t moves.move.works.taken).0)
-    by gone (inr clears) = true-false (page gone clears.t clears.clear.works.taken).0 (ap sends_page clears.clear.trim)
+    by gone (inl moves) = true-false moves.ranged (page_unranged _ (page gone moves.fetched_command moves.has_move.works.taken).0)
+    by gone (inr clears) = true-false (page gone clears.fetched_command clears.has_clear.works.taken).0 (ap sends_page clears.has_clear.trim)
 
 pub page_completes : {S : Type 0} (size : S → ℕ) (told : S → Option (ℕ → List ℕ)) (failures : S → Option Failures) (old new : Model S) (p : Port) (s : Slot) →
     DidStep size told failures (asked.Finish p s) old new → HasPageCommand (device_at size told old) p.0 s.0 → Completes size told failures (asked.Finish p s) old new
 page_completes size told failures old new p s did has =
-    elim did.came [
+    elim did.completes_or_fails [
       | inl whole ↦ whole
       | inr failed ↦ absurd (page_whole p s _ _ _ _ _ _ _ has failed)
     ]
@@ -140,16 +140,16 @@ pub finish_keeps : {S : Type 0} (size : S → ℕ) (told : S → Option (ℕ →
     numbered_disk new q w ≡ numbered_disk old q w
 finish_keeps {S} size told failures old new p s true a has q w =
     each_port (option_map (λ (b : Bay S). disk_in_bay b w)) old new p.0
-    (a.1.disks (λ asks. page_asks_none (device_at size told old) p.0 s.0 _ _ has asks.4 asks.5) w) a.1.others q
-finish_keeps {S} size told failures old new p s false a has q w = each_port (option_map (λ (b : Bay S). disk_in_bay b w)) old new p.0 (a.disks w) a.others q
+    (a.1.disks_are_kept (λ asks. page_asks_none (device_at size told old) p.0 s.0 _ _ has asks.4 asks.5) w) a.1.other_bays_are_kept q
+finish_keeps {S} size told failures old new p s false a has q w = each_port (option_map (λ (b : Bay S). disk_in_bay b w)) old new p.0 (a.disks_are_kept w) a.other_bays_are_kept q
 
 -- a Move of what a Finish has begun asks for one only where the Finish does
 pub finish_moves : (p : Port) (s : Slot) (did : Bool) (old new : Device) (left clears : ℕ) → HasDisks old p.0 → 1 ≤ left →
     (did ≡ true → SlotGoesOn (SendsEnd s.0) p.0 s.0 old new) → (did ≡ false → new ≡ old) → MayFinish old p.0 s.0 left clears →
     AsksStore (asked.Move p s) new → AsksStore (asked.Finish p s) old
-finish_moves p s did old new left clears here some went stayed may moves = by (is_ranged may.t.meaning.operation) refl
+finish_moves p s did old new left clears here some went stayed may moves = by (is_ranged may.fetched_command.meaning.operation) refl
   where
-    by : (b : Bool) → is_ranged may.t.meaning.operation ≡ b → AsksStore (asked.Finish p s) old
+    by : (b : Bool) → is_ranged may.fetched_command.meaning.operation ≡ b → AsksStore (asked.Finish p s) old
     by true e = (here, moves.0, left, clears, may, inl (e, some))
     by false e =
         let only = only_of IsUnranged old p.0 s.0 left clears may e in
@@ -192,29 +192,29 @@ may_only d port slot may = record {
   taken = λ u is. some-none is may.can.fetchable.free;
   fetched = λ m places can.
       let meaning = says_meaning d.memory (d.port port).bases.clb slot may.meaning m may.places places may.can.says can.says in
-      ap (λ (x : Meaning). sends_page x.operation) (sym meaning) ∙ may.sends;
+      ap (λ (x : Meaning). sends_page x.operation) (sym meaning) ∙ may.sends_page;
 }
 
 pub found_only : (d : Device) (port slot : ℕ) → MayTakePage d port slot ⊎ HasPageCommand d port slot → IsOnly BringsPage d port slot
 found_only d port slot (inl may) = may_only d port slot may
-found_only d port slot (inr has) = only_of BringsPage d port slot has.left 0 has.ready has.sends
+found_only d port slot (inr has) = only_of BringsPage d port slot has.left 0 has.may_finish has.sends_page
 
 -- what a look at a slot has found
-pub found_ends : (d : Device) (port slot : ℕ) (ends : Bool) → not ends ≡ false → LooksForPage d port slot (Some ends) → HasPageCommand d port slot
+pub found_ends : (d : Device) (port slot : ℕ) (ends : Bool) → not ends ≡ false → FindsPageCommand d port slot (Some ends) → HasPageCommand d port slot
 found_ends d port slot true e found = found
 found_ends d port slot false e found = absurd (let no : true ≡ false = e in cc)
 
-pub found_stuck : (d : Device) (port slot : ℕ) (ends : Bool) → not ends ≡ true → LooksForPage d port slot (Some ends) → MayTakePage d port slot × (HasPageCommand d port slot → ⊥)
+pub found_stuck : (d : Device) (port slot : ℕ) (ends : Bool) → not ends ≡ true → FindsPageCommand d port slot (Some ends) → MayTakePage d port slot × (HasPageCommand d port slot → ⊥)
 found_stuck d port slot true e found = absurd (let no : false ≡ true = e in cc)
 found_stuck d port slot false e found = found
 
 -- where a command is taken, none that sends a page may be
 pub taken_bars : (d : Device) (port slot k : ℕ) (t : FetchedCommand) → (d.port port).taken slot ≡ Some t → MayTakePage d port k → ⊥
-taken_bars d port slot k t is may = some-none is (alone_none (d.port port) may.meaning.operation (page_plain _ may.sends) may.can.alone slot)
+taken_bars d port slot k t is may = some-none is (alone_none (d.port port) may.meaning.operation (page_plain _ may.sends_page) may.can.is_unmixed slot)
 
 fetched_is : (port slot : ℕ) (old new : Device) (f : DoesFetch port slot old new) → (new.port port).taken ≡ changed (old.port port).taken slot (Some (begun f.meaning f.places))
 fetched_is port slot old new f =
-    ap (λ (d : Device). (d.port port).taken) f.effect ∙ ap (λ (p : DevicePort). p.taken) (changed_same old.port port (with_fetch (old.port port) slot f.meaning f.places))
+    ap (λ (d : Device). (d.port port).taken) f.effect ∙ ap (λ (p : DevicePort). p.taken) (changed_same old.port port (port_after_fetch (old.port port) slot f.meaning f.places))
 
 fetched_taken : (port slot : ℕ) (old new : Device) (f : DoesFetch port slot old new) → (new.port port).taken slot ≡ Some (begun f.meaning f.places)
 fetched_taken port slot old new f =
@@ -230,10 +230,10 @@ pub fetched_busy : (port slot : ℕ) (did : Bool) (old new : Device) → (did �
     MayTakePage old port slot ⊎ HasPageCommand old port slot → HasTakenCommand new port
 fetched_busy port slot true old new went never same there = let f = went refl in (slot, begun f.meaning f.places, fetched_taken port slot old new f)
 fetched_busy port slot false old new went never same (inl may) = absurd (never refl may.meaning may.places may.can)
-fetched_busy port slot false old new went never same (inr has) = by has.ready.begins
+fetched_busy port slot false old new went never same (inr has) = by has.may_finish.is_begun_or_fetchable
   where
     t : FetchedCommand
-    t = has.ready.t
+    t = has.may_finish.fetched_command
 
     by : WorksOn (old.port port) slot t t.meaning.operation ⊎ (Can (Fetch port slot t.meaning t.places) old × (t ≡ begun t.meaning t.places)) → HasTakenCommand new port
     by (inl works) = (slot, t, ap (λ (d : Device). (d.port port).taken slot) (same refl) ∙ works.taken)
@@ -241,10 +241,10 @@ fetched_busy port slot false old new went never same (inr has) = by has.ready.be
 
 -- and what can be done to its end then, could before
 taken_has : (port slot k : ℕ) (old new : Device) → DoesFetch port slot old new → HasPageCommand new port k → HasPageCommand old port slot
-taken_has port slot k old new f has = by has.ready.begins
+taken_has port slot k old new f has = by has.may_finish.is_begun_or_fetchable
   where
     t : FetchedCommand
-    t = has.ready.t
+    t = has.may_finish.fetched_command
 
     size : new.size ≡ old.size
     size = ap (λ (d : Device). d.size) f.effect
@@ -252,7 +252,7 @@ taken_has port slot k old new f has = by has.ready.begins
     by : WorksOn (new.port port) k t t.meaning.operation ⊎ (Can (Fetch port k t.meaning t.places) new × (t ≡ begun t.meaning t.places)) → HasPageCommand old port slot
     by (inr may) =
         absurd (taken_bars new port slot k (begun f.meaning f.places) (fetched_taken port slot old new f)
-        (record { meaning = t.meaning; places = t.places; sends = has.sends; can = may.0 }))
+        (record { meaning = t.meaning; places = t.places; sends_page = has.sends_page; can = may.0 }))
     by (inl works) =
         elim (eqb_tells k slot) [
           | inl here ↦
@@ -262,23 +262,23 @@ taken_has port slot k old new f has = by has.ready.begins
               let R : FetchedCommand → Type 0 = λ x. IsCovered x old.size has.left in
               record {
                 left = has.left;
-                ready = record {
-                  t = begun f.meaning f.places;
-                  covered = subst R one (subst Q size has.ready.covered);
-                  clearing = page_clears f.meaning.operation old.memory (begun f.meaning f.places)
-                      (ap (λ (x : FetchedCommand). sends_page x.meaning.operation) (sym one) ∙ has.sends);
-                  begins = inr (f.can, refl);
+                may_finish = record {
+                  fetched_command = begun f.meaning f.places;
+                  is_covered = subst R one (subst Q size has.may_finish.is_covered);
+                  has_clears_left = page_clears f.meaning.operation old.memory (begun f.meaning f.places)
+                      (ap (λ (x : FetchedCommand). sends_page x.meaning.operation) (sym one) ∙ has.sends_page);
+                  is_begun_or_fetchable = inr (f.can, refl);
                 };
-                sends = ap (λ (x : FetchedCommand). sends_page x.meaning.operation) (sym one) ∙ has.sends;
-                low = subst (λ (x : FetchedCommand). AreInside (2 ^ 32) x.places) one has.low;
+                sends_page = ap (λ (x : FetchedCommand). sends_page x.meaning.operation) (sym one) ∙ has.sends_page;
+                addresses_are_low = subst (λ (x : FetchedCommand). AreInside (2 ^ 32) x.places) one has.addresses_are_low;
               }
           | inr there ↦
               let was : (old.port port).taken k ≡ Some t =
               sym (changed_other (old.port port).taken slot (Some (begun f.meaning f.places)) k there.1)
               ∙ (ap (λ (g : ℕ → Option FetchedCommand). g k) (sym (fetched_is port slot old new f)) ∙ works.taken) in
               let no : (is_queued f.meaning.operation && is_queued t.meaning.operation) ≡ false =
-              plain_right (is_queued f.meaning.operation) (is_queued t.meaning.operation) (page_plain _ has.sends) in
-              true-false (f.can.alone k t was) no
+              plain_right (is_queued f.meaning.operation) (is_queued t.meaning.operation) (page_plain _ has.sends_page) in
+              true-false (f.can.is_unmixed k t was) no
         ]
 
 pub fetched_has : (port slot k : ℕ) (did : Bool) (old new : Device) → (did ≡ true → DoesFetch port slot old new) →
@@ -292,13 +292,13 @@ pub fetched_left : (port slot : ℕ) (did : Bool) (old new : Device) (has : HasP
     (did ≡ false → new ≡ old) → (did ≡ false → (m : Meaning) (places : List ℕ) → Can (Fetch port slot m places) old → ⊥) →
     (now : HasPageCommand new port slot) × (now.left ≡ has.left)
 fetched_left port slot did old new has went same never =
-    let going = fetched_goes port slot has.left 0 did old new has.ready went same never in
-    let page = page_taken port slot did old new (λ e. goes_one (SendsEnd slot) port slot old new (inl (went e))) same has going.t going.works.taken in (
+    let going = fetched_goes port slot has.left 0 did old new has.may_finish went same never in
+    let page = page_taken port slot did old new (λ e. goes_one (SendsEnd slot) port slot old new (inl (went e))) same has going.fetched_command going.works.taken in (
       record {
         left = has.left;
-        ready = record { t = going.t; covered = going.covered; clearing = going.clearing; begins = inl going.works };
-        sends = page.0;
-        low = page.1;
+        may_finish = record { fetched_command = going.fetched_command; is_covered = going.is_covered; has_clears_left = going.has_clears_left; is_begun_or_fetchable = inl going.works };
+        sends_page = page.0;
+        addresses_are_low = page.1;
       },
       refl,
     )
@@ -354,21 +354,21 @@ kept_other false f slot k ne = changed_other f slot false k ne
 
 one_elsewhere : (port slot : ℕ) (old new : Device) → DoesSlotStep (SendsEnd slot) port slot old new → (k : ℕ) → k ≢ slot → weight new port k ≡ weight old port k
 one_elsewhere port slot old new (inl f) k ne =
-    let p : DevicePort = with_fetch (old.port port) slot f.meaning f.places in
+    let p : DevicePort = port_after_fetch (old.port port) slot f.meaning f.places in
     weight_with old new port p k (ap (λ (d : Device). d.port port) f.effect ∙ changed_same old.port port p)
     (cleared_other (is_queued f.meaning.operation) (old.port port).ci slot k ne) (changed_other (old.port port).taken slot _ k ne)
 one_elsewhere port slot old new (inr (inl m)) k ne =
-    let p : DevicePort = with_move (old.port port) slot m.t m.bytes in
+    let p : DevicePort = port_after_move (old.port port) slot m.fetched_command m.bytes in
     weight_with old new port p k (ap (λ (d : Device). d.port port) m.effect ∙ changed_same old.port port p) refl (changed_other (old.port port).taken slot _ k ne)
 one_elsewhere port slot old new (inr (inr (inr (most, c)))) k ne =
-    let p : DevicePort = with_clear (old.port port) slot c.t c.first c.count in
+    let p : DevicePort = port_after_clear (old.port port) slot c.fetched_command c.first c.count in
     weight_with old new port p k (ap (λ (d : Device). d.port port) c.effect ∙ changed_same old.port port p) refl (changed_other (old.port port).taken slot _ k ne)
 one_elsewhere port slot old new (inr (inr (inl e))) k ne =
-    let p : DevicePort = with_flush (with_done (old.port port) slot e.done.flag e.done.t.meaning.operation) e.done.t.meaning.operation (length old.tape) in
+    let p : DevicePort = port_after_flush (port_after_done (old.port port) slot e.done.flag e.done.fetched_command.meaning.operation) e.done.fetched_command.meaning.operation (length old.tape) in
     weight_with old new port p k
-    (ap (λ (d : Device). d.port port) (end_rest port slot e.done.flag e.done.t.meaning.operation e.mid new e.posts)
+    (ap (λ (d : Device). d.port port) (end_rest port slot e.done.flag e.done.fetched_command.meaning.operation e.mid new e.posts)
     ∙ (ap (λ (d : Device). d.port port) e.done.effect ∙ changed_same old.port port p))
-    (kept_other (is_queued e.done.t.meaning.operation) (old.port port).ci slot k ne) (changed_other (old.port port).taken slot None k ne)
+    (kept_other (is_queued e.done.fetched_command.meaning.operation) (old.port port).ci slot k ne) (changed_other (old.port port).taken slot None k ne)
 
 some_elsewhere : (n port slot : ℕ) (old new : Device) → DoesSlotSteps (SendsEnd slot) n port slot old new → (k : ℕ) → k ≢ slot → weight new port k ≡ weight old port k
 some_elsewhere zero port slot old new e k ne = ap (λ (d : Device). weight d port k) e
@@ -378,13 +378,13 @@ some_elsewhere (suc n) port slot old new s k ne = one_elsewhere port slot s.0 ne
 pub fewer_left : (port slot : ℕ) (old new : Device) → slot < 32 → HasPageCommand old port slot → SlotGoesOn (SendsEnd slot) port slot old new → IsFreeSlot (new.port port) slot →
     total (weight new port) 32 < total (weight old port) 32
 fewer_left port slot old new small has went free =
-    total_less (weight new port) (weight old port) slot 32 small (some_elsewhere (suc went.0) port slot old new went.1) (less has.ready.begins)
+    total_less (weight new port) (weight old port) slot 32 small (some_elsewhere (suc went.0) port slot old new went.1) (less has.may_finish.is_begun_or_fetchable)
   where
     none : weight new port slot ≡ 0
     none = λ i. (if free.ci i then 1 else 0) + (if is_some (free.taken i) then 1 else 0)
 
-    less : WorksOn (old.port port) slot has.ready.t has.ready.t.meaning.operation
-        ⊎ (Can (Fetch port slot has.ready.t.meaning has.ready.t.places) old × (has.ready.t ≡ begun has.ready.t.meaning has.ready.t.places)) →
+    less : WorksOn (old.port port) slot has.may_finish.fetched_command has.may_finish.fetched_command.meaning.operation
+        ⊎ (Can (Fetch port slot has.may_finish.fetched_command.meaning has.may_finish.fetched_command.places) old × (has.may_finish.fetched_command ≡ begun has.may_finish.fetched_command.meaning has.may_finish.fetched_command.places)) →
         weight new port slot < weight old port slot
     less (inl works) =
         let one : weight old port slot ≡ (if (old.port port).ci slot then 1 else 0) + 1 =
@@ -400,23 +400,23 @@ fewer_left port slot old new small has went free =
 one_apart : (port slot : ℕ) (old new : Device) → DoesSlotStep (SendsEnd slot) port slot old new → (new.size ≡ old.size) × ((q : ℕ) → q ≢ port → new.port q ≡ old.port q)
 one_apart port slot old new (inl f) = (
   ap (λ (d : Device). d.size) f.effect,
-  λ q ne. ap (λ (d : Device). d.port q) f.effect ∙ changed_other old.port port (with_fetch (old.port port) slot f.meaning f.places) q ne,
+  λ q ne. ap (λ (d : Device). d.port q) f.effect ∙ changed_other old.port port (port_after_fetch (old.port port) slot f.meaning f.places) q ne,
 )
 one_apart port slot old new (inr (inl m)) = (
   ap (λ (d : Device). d.size) m.effect,
-  λ q ne. ap (λ (d : Device). d.port q) m.effect ∙ changed_other old.port port (with_move (old.port port) slot m.t m.bytes) q ne,
+  λ q ne. ap (λ (d : Device). d.port q) m.effect ∙ changed_other old.port port (port_after_move (old.port port) slot m.fetched_command m.bytes) q ne,
 )
 one_apart port slot old new (inr (inr (inr (most, c)))) = (
   ap (λ (d : Device). d.size) c.effect,
-  λ q ne. ap (λ (d : Device). d.port q) c.effect ∙ changed_other old.port port (with_clear (old.port port) slot c.t c.first c.count) q ne,
+  λ q ne. ap (λ (d : Device). d.port q) c.effect ∙ changed_other old.port port (port_after_clear (old.port port) slot c.fetched_command c.first c.count) q ne,
 )
 one_apart port slot old new (inr (inr (inl e))) =
-    let rest = end_rest port slot e.done.flag e.done.t.meaning.operation e.mid new e.posts in (
+    let rest = end_rest port slot e.done.flag e.done.fetched_command.meaning.operation e.mid new e.posts in (
       ap (λ (d : Device). d.size) rest ∙ ap (λ (d : Device). d.size) e.done.effect,
       λ q ne.
           ap (λ (d : Device). d.port q) rest
           ∙ (ap (λ (d : Device). d.port q) e.done.effect
-          ∙ changed_other old.port port (with_flush (with_done (old.port port) slot e.done.flag e.done.t.meaning.operation) e.done.t.meaning.operation (length old.tape)) q ne),
+          ∙ changed_other old.port port (port_after_flush (port_after_done (old.port port) slot e.done.flag e.done.fetched_command.meaning.operation) e.done.fetched_command.meaning.operation (length old.tape)) q ne),
     )
 
 some_apart : (n port slot : ℕ) (old new : Device) → DoesSlotSteps (SendsEnd slot) n port slot old new → (new.size ≡ old.size) × ((q : ℕ) → q ≢ port → new.port q ≡ old.port q)
@@ -437,27 +437,27 @@ fetched_apart port slot false old new went same = (ap (λ (d : Device). d.size) 
 -- so what such a port has taken, and can be done to its end, still can be, and could before
 pub page_stays : (old new : Device) (port k : ℕ) → new.port port ≡ old.port port → new.size ≡ old.size → HasTakenCommand old port → (has : HasPageCommand old port k) →
     (now : HasPageCommand new port k) × (now.left ≡ has.left)
-page_stays old new port k same size busy has = by has.ready.begins
+page_stays old new port k same size busy has = by has.may_finish.is_begun_or_fetchable
   where
     t : FetchedCommand
-    t = has.ready.t
+    t = has.may_finish.fetched_command
 
     by : WorksOn (old.port port) k t t.meaning.operation ⊎ (Can (Fetch port k t.meaning t.places) old × (t ≡ begun t.meaning t.places)) →
         (now : HasPageCommand new port k) × (now.left ≡ has.left)
-    by (inr may) = absurd (busy_bars old port k busy (record { meaning = t.meaning; places = t.places; sends = has.sends; can = may.0 }))
+    by (inr may) = absurd (busy_bars old port k busy (record { meaning = t.meaning; places = t.places; sends_page = has.sends_page; can = may.0 }))
     by (inl works) =
         let P : DevicePort → Type 0 = λ p. WorksOn p k t t.meaning.operation in
         let Q : ℕ → Type 0 = λ n. IsCovered t n has.left in (
           record {
             left = has.left;
-            ready = record {
-              t = t;
-              covered = subst Q (sym size) has.ready.covered;
-              clearing = page_clears t.meaning.operation new.memory t has.sends;
-              begins = inl (subst P (sym same) works);
+            may_finish = record {
+              fetched_command = t;
+              is_covered = subst Q (sym size) has.may_finish.is_covered;
+              has_clears_left = page_clears t.meaning.operation new.memory t has.sends_page;
+              is_begun_or_fetchable = inl (subst P (sym same) works);
             };
-            sends = has.sends;
-            low = has.low;
+            sends_page = has.sends_page;
+            addresses_are_low = has.addresses_are_low;
           },
           refl,
         )
@@ -476,18 +476,18 @@ works_noted p n slot t operation w = record { taken = w.taken; working = working
 has_noted : (d : Device) (f : ℕ → DevicePort) (n : Notes) (port slot : ℕ) → f port ≡ record (d.port port) { notes = n } → HasPageCommand (record d { port = f }) port slot → HasPageCommand d port slot
 has_noted d f n port slot is has = record {
   left = has.left;
-  ready = record {
-    t = has.ready.t;
-    covered = has.ready.covered;
-    clearing = has.ready.clearing;
-    begins = by has.ready.begins;
+  may_finish = record {
+    fetched_command = has.may_finish.fetched_command;
+    is_covered = has.may_finish.is_covered;
+    has_clears_left = has.may_finish.has_clears_left;
+    is_begun_or_fetchable = by has.may_finish.is_begun_or_fetchable;
   };
-  sends = has.sends;
-  low = has.low;
+  sends_page = has.sends_page;
+  addresses_are_low = has.addresses_are_low;
 }
   where
     t : FetchedCommand
-    t = has.ready.t
+    t = has.may_finish.fetched_command
 
     by : WorksOn (f port) slot t t.meaning.operation ⊎ (Can (Fetch port slot t.meaning t.places) (record d { port = f }) × (t ≡ begun t.meaning t.places)) →
         WorksOn (d.port port) slot t t.meaning.operation ⊎ (Can (Fetch port slot t.meaning t.places) d × (t ≡ begun t.meaning t.places))
@@ -499,7 +499,7 @@ has_noted d f n port slot is has = record {
           record {
             fetchable = record { st = fetchable.st; issued = fetchable.issued; free = fetchable.free };
             working = working_noted (d.port port) n t.meaning.operation working;
-            alone = subst (λ (p : DevicePort). IsUnmixed p t.meaning.operation) is may.0.alone;
+            is_unmixed = subst (λ (p : DevicePort). IsUnmixed p t.meaning.operation) is may.0.is_unmixed;
             says = subst (λ (p : DevicePort). DecodesTo d.memory p.bases.clb slot t.meaning t.places) is may.0.says;
           },
           may.1,
@@ -512,11 +512,11 @@ may_noted d f n port slot is may =
     record {
       meaning = may.meaning;
       places = may.places;
-      sends = may.sends;
+      sends_page = may.sends_page;
       can = record {
         fetchable = record { st = fetchable.st; issued = fetchable.issued; free = fetchable.free };
         working = working_noted (d.port port) n may.meaning.operation working;
-        alone = subst (λ (p : DevicePort). IsUnmixed p may.meaning.operation) is may.can.alone;
+        is_unmixed = subst (λ (p : DevicePort). IsUnmixed p may.meaning.operation) is may.can.is_unmixed;
         says = subst (λ (p : DevicePort). DecodesTo d.memory p.bases.clb slot may.meaning may.places) is may.can.says;
       };
     }

@@ -1,7 +1,7 @@
 -- A disk is put into a port, or isn't.
 use Rattle.std.proofs.Common.{ℕ, true, false, ◌⊎◌, ◌≡◌, ◌<◌, ◌∙◌, ◌++◌, ◌∷◌, [], List, Option, Some, refl, sym, ap, inl, inr, arith}
 use Rattle.std.specs.Prelude.{if◌then◌else◌, is_some, nat_eq, option_map, slice_set}
-use Rattle.adapter.specs.Asked.{DoesPlug}
+use Rattle.adapter.specs.ToldSteps.{DoesPlug}
 use Rattle.adapter.specs.Device.{Device, Disk}
 use Rattle.std.proofs.lemmas.Option.{same_Some}
 use Rattle.adapter.specs.Steps.{device_after}
@@ -13,16 +13,16 @@ use Rattle.ata_types.specs.declared.Port.{Port}
 use Rattle.sector_store.specs.Stores.{AreSectors}
 use Rattle.sector_store.specs.declared.store.Failures.{Failures}
 use Rattle.device_model.specs.Disks.{bay_of, disk_in_bay, disk_number, disk_over, identity, is_same, lasting_of, plugged_as}
-use Rattle.device_model.specs.Does.{DidStep, IsLeftOut, LacksMemory, Possible}
-use Rattle.device_model.specs.Modelled.{device_at, media_of, all_media_at, tells}
-use Rattle.device_model.specs.Tells.{bay_told, each_tells}
-use Rattle.device_model.specs.WholeAdapter.{AllMedia, device_of, media_plugged, all_media_plugged}
+use Rattle.device_model.specs.StepEffects.{DidStep, IsLeftOut, LacksMemory, IsPossible}
+use Rattle.device_model.specs.ModelState.{device_at, media_of, all_media_at, tells}
+use Rattle.device_model.specs.ToldDisks.{bay_told, each_tells}
+use Rattle.device_model.specs.WholeAdapter.{AllMedia, device_of, media_after_plug, all_media_after_plug}
 use Rattle.device_model.specs.declared.bay.Bay.{Bay}
 use Rattle.device_model.specs.declared.disks.ModelDisk.{ModelDisk}
 use Rattle.device_model.specs.declared.disks.DiskIndex.{DiskIndex}
 use Rattle.device_model.specs.declared.disks.DiskIndex.TheVariants.{Disk0, Disk1}
 use Rattle.device_model.specs.declared.model.Model.{Model}
-use Rattle.device_model.specs.Paged.{GainsOwnPages}
+use Rattle.device_model.specs.DiskPages.{GainsOwnPages}
 use Rattle.device_model.proofs.Absurd.{true-false}
 use Rattle.device_model.proofs.NewModel.{disks_are}
 use Rattle.device_model.proofs.Telling.{gains_one}
@@ -43,23 +43,23 @@ module _ {S : Type 0} (size : S → ℕ) (told : S → Option (ℕ → List ℕ)
     (items : new.bays.items ≡ slice_set m.bays.items p.0 (Some b)) where
   -- the tape had no room, and no disk is put in
   pub plug_left : (number : DiskNumber) → b ≡ a → ((o : AllMedia) → device_of new.hardware o ≡ device_of m.hardware o) →
-      Possible (asked.Plug p number) (device_at size told m) → LacksMemory (asked.Plug p number) (device_at size told m) m.hardware m.bays.items →
+      IsPossible (asked.Plug p number) (device_at size told m) → LacksMemory (asked.Plug p number) (device_at size told m) m.hardware m.bays.items →
       new.hardware.starved ≡ true → IsLeftOut size told failures (asked.Plug p number) m new
   plug_left number rest same may lacks starved =
       let kept : (w : DiskIndex) → disk_in_bay b w ≡ disk_in_bay a w = λ (w : DiskIndex). ap (λ (x : Bay S). disk_in_bay x w) rest in
       record {
-        device = ap (λ (o : AllMedia). device_of new.hardware o) (seated_behind m new p.0 a b was items size told (ap (λ (x : Bay S). media_of size told (Some x)) rest)
+        device_is_kept = ap (λ (o : AllMedia). device_of new.hardware o) (seated_behind m new p.0 a b was items size told (ap (λ (x : Bay S). media_of size told (Some x)) rest)
             (ap (λ (x : Bay S). tells told (Some x)) rest))
             ∙ same (all_media_at size told m);
-        held = held;
-        says = seated_same m new p.0 a b was items (option_map (λ (x : Bay S). x.says)) (ap (λ (x : Bay S). Some x.says) rest) p.0;
-        which = seated_same m new p.0 a b was items (option_map (λ (x : Bay S). x.which)) (ap (λ (x : Bay S). Some x.which) rest) p.0;
-        others = seated_others m new p.0 a b was items;
-        disks = λ w. seated_same m new p.0 a b was items (option_map (λ (x : Bay S). disk_in_bay x w)) (ap Some (kept w)) p.0;
-        why = λ _ _. (lacks, starved);
-        keeps = seated_keeps m new p.0 a b was items size (λ w _. kept w) (λ w. ap (identity size) (kept w)) (ap (λ (x : Bay S). x.cache.is_on) rest) queue accesses;
-        starved_on = λ _. starved;
-        starved_since = λ _. inr (may, lacks);
+        held_ports_are = held;
+        page_source_is = seated_same m new p.0 a b was items (option_map (λ (x : Bay S). x.says)) (ap (λ (x : Bay S). Some x.says) rest) p.0;
+        disk_index_is = seated_same m new p.0 a b was items (option_map (λ (x : Bay S). x.which)) (ap (λ (x : Bay S). Some x.which) rest) p.0;
+        other_bays_are_kept = seated_others m new p.0 a b was items;
+        disks_are_kept = λ w. seated_same m new p.0 a b was items (option_map (λ (x : Bay S). disk_in_bay x w)) (ap Some (kept w)) p.0;
+        lacks_memory = λ _ _. (lacks, starved);
+        step_keeps = seated_keeps m new p.0 a b was items size (λ w _. kept w) (λ w. ap (identity size) (kept w)) (ap (λ (x : Bay S). x.cache.is_on) rest) queue accesses;
+        stays_starved = λ _. starved;
+        starves_for_want = λ _. inr (may, lacks);
       }
 
   -- a disk is put in, as it is then
@@ -72,12 +72,12 @@ module _ {S : Type 0} (size : S → ℕ) (told : S → Option (ℕ → List ℕ)
     abbrev put_disk : Disk
     put_disk = disk_over b.which (size b.disk.store) (told b.disk.store)
 
-    media : media_of size told (Some b) ≡ media_plugged (media_of size told (bay_of m p.0)) put_disk
+    media : media_of size told (Some b) ≡ media_after_plug (media_of size told (bay_of m p.0)) put_disk
     media =
         let more = later (λ w s. disk_over w (size s) (told s)) in
         let named = lasts ∙ by_name b.which a.which (lasting_of told a) (told b.disk.store) in
         (λ i. record { disk = put_disk; plugged = disk_over Disk0 (size (first i).value) (told (first i).value) ∷ more i; lasting = named i })
-        ∙ ap (λ x. media_plugged (media_of size told x) put_disk) (sym was)
+        ∙ ap (λ x. media_after_plug (media_of size told x) put_disk) (sym was)
 
     disk_is : (media_of size told (bay_of m p.0)).disk ≡ disk_over a.which (size a.disk.store) (told a.disk.store)
     disk_is = ap (λ x. (media_of size told x).disk) was
@@ -87,7 +87,7 @@ module _ {S : Type 0} (size : S → ℕ) (told : S → Option (ℕ → List ℕ)
     same_named = same_number b.which a.which ∙ ap (λ (d : Disk). nat_eq (disk_number b.which) d.name) (sym disk_is)
 
     pub plugged_so : (number : ℕ) → disk_number b.which ≡ number → ((d : Device) → d ≡ device_at size told m → ((d.port p.0).present ≡ false)) → ((s : S) → AreSectors (size s) (told s)) →
-        ((o : AllMedia) (disk : Disk) → disk.name ≡ number → is_same b.which a.which ≡ nat_eq disk.name (o.media p.0).disk.name → device_of new.hardware (all_media_plugged o p.0 disk) ≡ device_after (Plug p.0 disk) (device_of m.hardware o)) →
+        ((o : AllMedia) (disk : Disk) → disk.name ≡ number → is_same b.which a.which ≡ nat_eq disk.name (o.media p.0).disk.name → device_of new.hardware (all_media_after_plug o p.0 disk) ≡ device_after (Plug p.0 disk) (device_of m.hardware o)) →
         DoesPlug p.0 number (device_at size told m) (device_at size told new)
     plugged_so number name free are did =
         let o : AllMedia = all_media_at size told m in
@@ -114,7 +114,7 @@ module _ {S : Type 0} (size : S → ℕ) (told : S → Option (ℕ → List ℕ)
         }
 
     pub plug_noted : (number : ℕ) → disk_number b.which ≡ number →
-        ((o : AllMedia) (disk : Disk) → disk.name ≡ number → is_same b.which a.which ≡ nat_eq disk.name (o.media p.0).disk.name → device_of new.hardware (all_media_plugged o p.0 disk) ≡ device_after (Plug p.0 disk) (device_of m.hardware o)) →
+        ((o : AllMedia) (disk : Disk) → disk.name ≡ number → is_same b.which a.which ≡ nat_eq disk.name (o.media p.0).disk.name → device_of new.hardware (all_media_after_plug o p.0 disk) ≡ device_after (Plug p.0 disk) (device_of m.hardware o)) →
         GainsOwnPages size m new
     plug_noted number name did =
         gains_one size m new (entry.Plug p (disk_number b.which)) (ap (λ (d : Device). d.tape) (did (all_media_at size told m) put_disk name same_named)) (λ x e. absurd (cc e))
@@ -144,32 +144,32 @@ module _ {S : Type 0} (size : S → ℕ) (told : S → Option (ℕ → List ℕ)
     )
 
     pub did_plug : p.0 < 4 → ((d : Device) → d ≡ device_at size told m → ((d.port p.0).present ≡ false)) → ((s : S) → AreSectors (size s) (told s)) →
-        ((o : AllMedia) (disk : Disk) → disk.name ≡ number.0 → is_same which a.which ≡ nat_eq disk.name (o.media p.0).disk.name → device_of new.hardware (all_media_plugged o p.0 disk) ≡ device_after (Plug p.0 disk) (device_of m.hardware o)) →
+        ((o : AllMedia) (disk : Disk) → disk.name ≡ number.0 → is_same which a.which ≡ nat_eq disk.name (o.media p.0).disk.name → device_of new.hardware (all_media_after_plug o p.0 disk) ≡ device_after (Plug p.0 disk) (device_of m.hardware o)) →
         new.hardware.starved ≡ m.hardware.starved →
-        Possible (asked.Plug p number) (device_at size told m) × DidStep size told failures (asked.Plug p number) m new
+        IsPossible (asked.Plug p number) (device_at size told m) × DidStep size told failures (asked.Plug p number) m new
     did_plug small free are did starved =
         let few = number_small which in
         let name : disk_number b.which ≡ number.0 = ap disk_number which_is ∙ found in
-        let so : (o : AllMedia) (disk : Disk) → disk.name ≡ number.0 → is_same b.which a.which ≡ nat_eq disk.name (o.media p.0).disk.name → device_of new.hardware (all_media_plugged o p.0 disk) ≡ device_after (Plug p.0 disk) (device_of m.hardware o) =
+        let so : (o : AllMedia) (disk : Disk) → disk.name ≡ number.0 → is_same b.which a.which ≡ nat_eq disk.name (o.media p.0).disk.name → device_of new.hardware (all_media_after_plug o p.0 disk) ≡ device_after (Plug p.0 disk) (device_of m.hardware o) =
         λ o disk named same. did o disk named (ap (λ (w : DiskIndex). is_same w a.which) (sym which_is) ∙ same) in (
           (small, has_disks size told m p.0 a was, omega (arith, few, found), free _ refl),
           record {
-            came = inl (record {
-              asked = plugged_so tells_so first later_so lasts_so that_so number.0 name free are so;
-              fine = λ _ q w. seated_same m new p.0 a b was items (λ x. option_map (λ (y : ModelDisk S). failures y.store) (option_map (λ (y : Bay S). disk_in_bay y w) x))
+            completes_or_fails = inl (record {
+              does_told_step = plugged_so tells_so first later_so lasts_so that_so number.0 name free are so;
+              no_call_failed = λ _ q w. seated_same m new p.0 a b was items (λ x. option_map (λ (y : ModelDisk S). failures y.store) (option_map (λ (y : Bay S). disk_in_bay y w) x))
                   (ap (λ (y : ModelDisk S). Some (failures y.store)) (kept w)) q;
-              says = seated_same m new p.0 a b was items (option_map (λ (x : Bay S). x.says)) (ap Some says) p.0;
-              ends = λ _. tt;
-              loses = λ yes. true-false yes refl;
+              page_source_is = seated_same m new p.0 a b was items (option_map (λ (x : Bay S). x.says)) (ap Some says) p.0;
+              does_all_it_asks = λ _. tt;
+              loses_cache = λ yes. true-false yes refl;
             });
-            held = held;
-            which = ap (option_map (λ (x : Bay S). x.which)) (seated_here m new p.0 a b was items)
+            held_ports_are = held;
+            disk_index_is = ap (option_map (λ (x : Bay S). x.which)) (seated_here m new p.0 a b was items)
                 ∙ (ap Some (which_is ∙ of_number which number.0 found)
                 ∙ sym (ap (λ x. option_map (λ (_ : DiskIndex). if nat_eq number.0 0 then Disk0 else Disk1) (option_map (λ (y : Bay S). y.which) x)) was));
-            others = seated_others m new p.0 a b was items;
-            pages = plug_noted tells_so first later_so lasts_so that_so number.0 name so;
-            disks = λ _ w. seated_same m new p.0 a b was items (option_map (λ (x : Bay S). disk_in_bay x w)) (ap Some (kept w)) p.0;
-            keeps = seated_keeps m new p.0 a b was items size (λ w _. kept w) (λ w. ap (identity size) (kept w)) cached queue accesses;
+            other_bays_are_kept = seated_others m new p.0 a b was items;
+            gains_own_pages = plug_noted tells_so first later_so lasts_so that_so number.0 name so;
+            disks_are_kept = λ _ w. seated_same m new p.0 a b was items (option_map (λ (x : Bay S). disk_in_bay x w)) (ap Some (kept w)) p.0;
+            step_keeps = seated_keeps m new p.0 a b was items size (λ w _. kept w) (λ w. ap (identity size) (kept w)) cached queue accesses;
             starved = starved;
           },
         )

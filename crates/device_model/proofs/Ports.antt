@@ -5,18 +5,18 @@ use Rattle.std.specs.Global.{Vec}
 use Rattle.std.proofs.lemmas.Bool.Decides.{eqb_tells}
 use Rattle.adapter.specs.Memory.{changed}
 use Rattle.adapter.specs.Device.{DevicePort, Device}
-use Rattle.adapter.specs.Steps.{MayLinkUp, with_link, with_port, with_port_and_entry}
+use Rattle.adapter.specs.Steps.{MayLinkUp, port_after_link_up, with_port, with_port_and_entry}
 use Rattle.adapter.specs.Access.{note, noted}
 use Rattle.adapter.specs.Rules.{MayRead, MayWrite}
 use Rattle.adapter.specs.declared.tape.Entry.{Entry}
 use Rattle.device_model.proofs.Places.{fun_ext, changed_same, changed_other, changed_each}
 use Rattle.hba_regs.specs.declared.reg.Reg.{Reg}
 use Rattle.hba_regs.specs.declared.reg.Reg.TheVariants.{Cap, Ghc, Is, Pi, Vs, Cap2, Bohc, Px}
-use Rattle.device_model.specs.Fetched.{bytes_of}
-use Rattle.device_model.specs.Held.{IsPortHeld, IsPortLoose}
-use Rattle.device_model.specs.Sent.{SendsRegisters, signature_fis}
-use Rattle.device_model.specs.Settled.{LeadsOwn, Settles, SettlesPort, IsSettled}
-use Rattle.device_model.specs.View.{Media, port_of, blank_port}
+use Rattle.device_model.specs.FetchedBytes.{bytes_of}
+use Rattle.device_model.specs.HeldPorts.{IsPortHeld, IsPortReleased}
+use Rattle.device_model.specs.SentFises.{SendsRegisters, signature_fis}
+use Rattle.device_model.specs.ModelOwnSteps.{LeadsOwn, Settles, SettlesPort, IsSettled}
+use Rattle.device_model.specs.PortView.{Media, port_of, blank_port}
 use Rattle.device_model.specs.WholeAdapter.{AllMedia, device_of, HasRegister}
 use Rattle.device_model.specs.declared.port.PortModel.{PortModel}
 use Rattle.device_model.specs.declared.hardware.Hardware.{Hardware}
@@ -78,7 +78,7 @@ has_port_write Cap2 v d may = tt
 has_port_write Bohc v d may = tt
 
 -- one port that isn't held did what it does by itself
-pub port_settles : (h : Hardware) (o : AllMedia) (p : ℕ) (new : PortModel) (held : List Bool) → p < length h.ports → IsPortLoose held p →
+pub port_settles : (h : Hardware) (o : AllMedia) (p : ℕ) (new : PortModel) (held : List Bool) → p < length h.ports → IsPortReleased held p →
     SettlesPort (port_of (slice_index_or h.ports p blank_port) (o.media p)) (port_of new (o.media p)) →
     LeadsOwn (Settles held) (device_of h o) (device_of (record h { ports = slice_set h.ports p new }) o)
 port_settles h o p new held small loose goes =
@@ -86,9 +86,9 @@ port_settles h o p new held small loose goes =
     subst P (sym (set_port h o p new _ small refl)) (goes held (device_of h o) p loose refl)
 
 -- its link came up, and the disk's first FIS was sent
-pub port_links : (h : Hardware) (o : AllMedia) (p : ℕ) (linked : PortModel) (held : List Bool) (new : Device) → p < length h.ports → IsPortLoose held p →
+pub port_links : (h : Hardware) (o : AllMedia) (p : ℕ) (linked : PortModel) (held : List Bool) (new : Device) → p < length h.ports → IsPortReleased held p →
     MayLinkUp (port_of (slice_index_or h.ports p blank_port) (o.media p)) 0x101 →
-    port_of linked (o.media p) ≡ with_link (port_of (slice_index_or h.ports p blank_port) (o.media p)) 0x101 true →
+    port_of linked (o.media p) ≡ port_after_link_up (port_of (slice_index_or h.ports p blank_port) (o.media p)) 0x101 true →
     SendsRegisters p (signature_fis ((device_of (record h { ports = slice_set h.ports p linked }) o).port p)) (device_of (record h { ports = slice_set h.ports p linked }) o) new →
     LeadsOwn (Settles held) (device_of h o) new
 port_links h o p linked held new small loose may is sends =
@@ -134,12 +134,12 @@ pub noted_settled : (r : Reg) (v : ℕ) (d : Device) (held : List Bool) → IsSe
 noted_settled (Px q r) v d held s =
     let new : DevicePort = record (d.port q.0) { notes = note r v (d.port q.0) } in
     record {
-      reset = s.reset;
-      engines = changed_each d.port q.0 new (λ k p. (p.st ≡ false) × (p.cr ≡ true) → IsPortHeld held k) (s.engines q.0) s.engines;
-      areas = changed_each d.port q.0 new (λ k p. (p.fre ≡ false) × (p.cr ≡ false) × (p.fr ≡ true) → IsPortHeld held k) (s.areas q.0) s.areas;
-      links = λ port sig n may.
+      reset_has_ended = s.reset_has_ended;
+      crs_have_fallen = changed_each d.port q.0 new (λ k p. (p.st ≡ false) × (p.cr ≡ true) → IsPortHeld held k) (s.crs_have_fallen q.0) s.crs_have_fallen;
+      frs_have_fallen = changed_each d.port q.0 new (λ k p. (p.fre ≡ false) × (p.cr ≡ false) × (p.fr ≡ true) → IsPortHeld held k) (s.frs_have_fallen q.0) s.frs_have_fallen;
+      no_links_may_come = λ port sig n may.
           changed_each d.port q.0 new (λ k p. MayLinkUp p sig → IsPortHeld held k)
-          (λ m. s.links q.0 sig n (record { present = m.present; det = m.det; due = m.due; fits = m.fits })) (λ k m. s.links k sig n m) port may;
+          (λ m. s.no_links_may_come q.0 sig n (record { present = m.present; no_comreset = m.no_comreset; link_is_due = m.link_is_due; sig_fits = m.sig_fits })) (λ k m. s.no_links_may_come k sig n m) port may;
     }
 noted_settled Cap v d held s = s
 noted_settled Ghc v d held s = s

@@ -9,8 +9,8 @@ use Rattle.adapter.specs.Steps.{Steps}
 use Rattle.adapter.specs.declared.access.DeviceStep.{DeviceStep}
 use Rattle.adapter.proofs.Runs.{Steps-refl, Steps-trans}
 use Rattle.sector_store.specs.declared.store.Failures.{Failures}
-use Rattle.device_model.specs.Does.{AnswersStep}
-use Rattle.device_model.specs.Modelled.{device_at}
+use Rattle.device_model.specs.StepEffects.{AnswersStep}
+use Rattle.device_model.specs.ModelState.{device_at}
 use Rattle.device_model.specs.Queue.{BeginsAccess, due_steps, later_steps, DoesEach}
 use Rattle.device_model.specs.declared.model.Model.{Model}
 use Rattle.device_model.specs.declared.model.QueuedStep.{QueuedStep}
@@ -34,7 +34,7 @@ module _ {S : Type 0} (size : S → ℕ) (told : S → Option (ℕ → List ℕ)
       Steps-trans (answers_steps size told failures s old d.1 d.0 d.2) (each_steps done d.1 new d.3)
 
   pub begins_steps : (old new : Model S) → BeginsAccess size told failures old new → Steps (device_at size told old) (device_at size told new)
-  begins_steps old new b = each_steps (due_steps new.accesses.shown old.queue.items) (record old { accesses = new.accesses; queue = new.queue }) new b.does
+  begins_steps old new b = each_steps (due_steps new.accesses.shown old.queue.items) (record old { accesses = new.accesses; queue = new.queue }) new b.does_due_steps
 
 -- these steps lead from the one model to the other, whatever is queued in both
 abbrev pub DoneSo : {S : Type 0} → (S → ℕ) → (S → Option (ℕ → List ℕ)) → (S → Option Failures) → Model S → Model S → List DeviceStep → Type 0

@@ -5,23 +5,23 @@ use Rattle.std.proofs.lemmas.List.{get_or_append_left, get_or-append_right}
 use Rattle.std.specs.Prelude.{IfSome}
 use Rattle.std.specs.Option.{SomeIff}
 use Rattle.std.specs.Vec.{vec_len}
-use Rattle.adapter.specs.Asked.{DoesFetch}
+use Rattle.adapter.specs.ToldSteps.{DoesFetch}
 use Rattle.adapter.specs.Commands.{Meaning}
 use Rattle.adapter.specs.Device.{Device, DevicePort, FetchedCommand}
 use Rattle.adapter.specs.Decoding.{DecodesTo, pieces, piece_addresses}
-use Rattle.adapter.specs.Steps.{Can, IsUnmixed, WorksOn, admits, begun, with_fetch}
+use Rattle.adapter.specs.Steps.{Can, IsUnmixed, WorksOn, admits, begun, port_after_fetch}
 use Rattle.adapter.specs.Steps.DeviceTransition.{Fetch}
 use Rattle.adapter.specs.declared.command.Operation.{Operation}
 use Rattle.adapter.specs.declared.command.Prd.{Prd}
 use Rattle.device_model.proofs.Absurd.{some-none, some_one, true-false}
 use Rattle.adapter.proofs.SaysLemmas.{says_meaning, says_places, cut_length, cut_index}
-use Rattle.device_model.specs.Finishing.{HasPageCommand, LooksForPage, IsInside, AreInside, IsCovered, IsRemaining, MayFinish, MayTakePage, sends_page}
-use Rattle.device_model.specs.Fetched.{IsUntouched, bytes_of}
-use Rattle.device_model.specs.Cached.{HasRoomForOld}
+use Rattle.device_model.specs.Finishing.{HasPageCommand, FindsPageCommand, IsInside, AreInside, IsCovered, IsRemaining, MayFinish, MayTakePage, sends_page}
+use Rattle.device_model.specs.FetchedBytes.{IsUntouched, bytes_of}
+use Rattle.device_model.specs.WriteCaches.{HasRoomForOld}
 use Rattle.device_model.specs.Trims.{HasClearsLeft, changes_ahead}
 use Rattle.device_model.specs.Slots.{IsOpenTo, MayTake, HasUntaken, WorksOnIn}
-use Rattle.device_model.specs.Bits.{word_bits}
-use Rattle.device_model.specs.View.{Media, halt_of, taken_in, operation_of_kind, port_of, taken_of, blank_port}
+use Rattle.device_model.specs.WordBits.{word_bits}
+use Rattle.device_model.specs.PortView.{Media, halt_of, taken_in, operation_of_kind, port_of, taken_of, blank_port}
 use Rattle.device_model.specs.WholeAdapter.{AllMedia, device_of}
 use Rattle.device_model.specs.declared.port.PortModel.{PortModel}
 use Rattle.device_model.specs.declared.port.TakenCommand.{TakenCommand}
@@ -94,7 +94,7 @@ inside_all size (x ∷ xs) all (suc k) d small = inside_all size xs (inside_rest
 pub left_covered : (r : TakenCommand) (size n : ℕ) (o : Option ℕ) → n ≡ length (pieces r.prds) → AreInside size (pieces r.prds) →
     SomeIff o (r.moved ≤ n) (n - r.moved) → IfSome o (λ left. IsCovered (taken_of r) size left)
 left_covered r size n None many all none = tt
-left_covered r size n (Some left) many all fits = record { left_is = omega (arith, fits.0, fits.1, many); inside = all }
+left_covered r size n (Some left) many all fits = record { moves_left_are = omega (arith, fits.0, fits.1, many); pieces_are_inside = all }
 
 pub left_is : (moved n left : ℕ) (o : Option ℕ) → moved + left ≡ n → SomeIff o (moved ≤ n) (n - moved) → o ≡ Some left
 left_is moved n left None is none = absurd (none (omega (arith, is)))
@@ -113,35 +113,35 @@ IsBeside p r = IsOpenTo p (operation_of_kind r.command_kind)
 pub may_be_taken : (p : PortModel) (slot : ℕ) (r : TakenCommand) → HasUntaken p slot → IsBeside p r → (m : Media) →
     MayTake (port_of p m) slot (operation_of_kind r.command_kind)
 may_be_taken p slot r may beside m =
-    let w = may m (operation_of_kind r.command_kind) beside.0 in record { fetchable = w.0; working = w.1; alone = beside.1 m }
+    let w = may m (operation_of_kind r.command_kind) beside.0 in record { fetchable = w.0; working = w.1; is_unmixed = beside.1 m }
 
 module _ (h : Hardware) (o : AllMedia) (p port slot left clears : ℕ) (e : p ≡ port) (ready : MayFinish (device_of h o) port slot left clears) where
   abbrev state : PortModel
   state = slice_index_or h.ports p blank_port
 
   pub ready_fetch : HasUntaken state slot →
-      Can (Fetch port slot ready.t.meaning ready.t.places) (device_of h o) × (ready.t ≡ begun ready.t.meaning ready.t.places)
-  ready_fetch may = by ready.begins
+      Can (Fetch port slot ready.fetched_command.meaning ready.fetched_command.places) (device_of h o) × (ready.fetched_command ≡ begun ready.fetched_command.meaning ready.fetched_command.places)
+  ready_fetch may = by ready.is_begun_or_fetchable
     where
-      by : WorksOn ((device_of h o).port port) slot ready.t ready.t.meaning.operation
-          ⊎ (Can (Fetch port slot ready.t.meaning ready.t.places) (device_of h o) × (ready.t ≡ begun ready.t.meaning ready.t.places)) →
-          Can (Fetch port slot ready.t.meaning ready.t.places) (device_of h o) × (ready.t ≡ begun ready.t.meaning ready.t.places)
-      by (inl works) = some-none (ap (λ (q : ℕ). ((device_of h o).port q).taken slot) e ∙ works.taken) (may (o.media p) ready.t.meaning.operation (ap (λ (q : ℕ). admits ((device_of h o).port q).halt ready.t.meaning.operation) e ∙ works.working.admitted)).0.free
+      by : WorksOn ((device_of h o).port port) slot ready.fetched_command ready.fetched_command.meaning.operation
+          ⊎ (Can (Fetch port slot ready.fetched_command.meaning ready.fetched_command.places) (device_of h o) × (ready.fetched_command ≡ begun ready.fetched_command.meaning ready.fetched_command.places)) →
+          Can (Fetch port slot ready.fetched_command.meaning ready.fetched_command.places) (device_of h o) × (ready.fetched_command ≡ begun ready.fetched_command.meaning ready.fetched_command.places)
+      by (inl works) = some-none (ap (λ (q : ℕ). ((device_of h o).port q).taken slot) e ∙ works.taken) (may (o.media p) ready.fetched_command.meaning.operation (ap (λ (q : ℕ). admits ((device_of h o).port q).halt ready.fetched_command.meaning.operation) e ∙ works.working.admitted)).0.free
       by (inr begins) = begins
 
-  pub ready_said : HasUntaken state slot → DecodesTo (bytes_of h.memory.items) state.addresses.clb slot ready.t.meaning ready.t.places
-  ready_said may = fetch_says h o p port slot ready.t.meaning ready.t.places e (ready_fetch may).0
+  pub ready_said : HasUntaken state slot → DecodesTo (bytes_of h.memory.items) state.addresses.clb slot ready.fetched_command.meaning ready.fetched_command.places
+  ready_said may = fetch_says h o p port slot ready.fetched_command.meaning ready.fetched_command.places e (ready_fetch may).0
 
-  pub ready_held : MayTakeNone state slot → (r : TakenCommand) × WorksOnIn state slot r × (ready.t ≡ taken_of r)
-  ready_held never = by ready.begins
+  pub ready_held : MayTakeNone state slot → (r : TakenCommand) × WorksOnIn state slot r × (ready.fetched_command ≡ taken_of r)
+  ready_held never = by ready.is_begun_or_fetchable
     where
-      by : WorksOn ((device_of h o).port port) slot ready.t ready.t.meaning.operation
-          ⊎ (Can (Fetch port slot ready.t.meaning ready.t.places) (device_of h o) × (ready.t ≡ begun ready.t.meaning ready.t.places)) →
-          (r : TakenCommand) × WorksOnIn state slot r × (ready.t ≡ taken_of r)
+      by : WorksOn ((device_of h o).port port) slot ready.fetched_command ready.fetched_command.meaning.operation
+          ⊎ (Can (Fetch port slot ready.fetched_command.meaning ready.fetched_command.places) (device_of h o) × (ready.fetched_command ≡ begun ready.fetched_command.meaning ready.fetched_command.places)) →
+          (r : TakenCommand) × WorksOnIn state slot r × (ready.fetched_command ≡ taken_of r)
       by (inl works) =
-          let P : ℕ → Type 0 = λ q. (r : TakenCommand) × WorksOnIn (slice_index_or h.ports q blank_port) slot r × (ready.t ≡ taken_of r) in
-          subst P (sym e) (holds h o port slot ready.t works)
-      by (inr begins) = absurd (never (o.media p) ready.t.meaning.operation (fetch_takes h o p port slot ready.t.meaning ready.t.places e begins.0))
+          let P : ℕ → Type 0 = λ q. (r : TakenCommand) × WorksOnIn (slice_index_or h.ports q blank_port) slot r × (ready.fetched_command ≡ taken_of r) in
+          subst P (sym e) (holds h o port slot ready.fetched_command works)
+      by (inr begins) = absurd (never (o.media p) ready.fetched_command.meaning.operation (fetch_takes h o p port slot ready.fetched_command.meaning ready.fetched_command.places e begins.0))
 
 module _ (h : Hardware) (p port slot : ℕ) (r : TakenCommand) (e : p ≡ port) where
   -- a command that may be taken is ready
@@ -154,10 +154,10 @@ module _ (h : Hardware) (p port slot : ℕ) (r : TakenCommand) (e : p ≡ port) 
       let m = may (o.media p) (operation_of_kind r.command_kind) beside.0 in
       subst P e
       (record {
-        t = taken_of r;
-        covered = rest.0;
-        clearing = rest.1;
-        begins = inr (record { fetchable = m.0; working = m.1; alone = beside.1 (o.media p); says = says }, new_begun r new);
+        fetched_command = taken_of r;
+        is_covered = rest.0;
+        has_clears_left = rest.1;
+        is_begun_or_fetchable = inr (record { fetchable = m.0; working = m.1; is_unmixed = beside.1 (o.media p); says = says }, new_begun r new);
       })
 
   -- and so is one that is taken
@@ -165,22 +165,22 @@ module _ (h : Hardware) (p port slot : ℕ) (r : TakenCommand) (e : p ≡ port) 
       (o : AllMedia) → MayFinish (device_of h o) port slot left clears
   ready_to_go left clears rest here o =
       let P : ℕ → Type 0 = λ q. MayFinish (device_of h o) q slot left clears in
-      subst P e (record { t = taken_of r; covered = rest.0; clearing = rest.1; begins = inl (here.works (o.media p)) })
+      subst P e (record { fetched_command = taken_of r; is_covered = rest.0; has_clears_left = rest.1; is_begun_or_fetchable = inl (here.works (o.media p)) })
 
   -- a command that is ready, as far as these are its moves and clears
-  rest_back : (left clears : ℕ) (o : AllMedia) (ready : MayFinish (device_of h o) port slot left clears) → ready.t ≡ taken_of r →
+  rest_back : (left clears : ℕ) (o : AllMedia) (ready : MayFinish (device_of h o) port slot left clears) → ready.fetched_command ≡ taken_of r →
       IsRemaining r h.memory.items left clears
   rest_back left clears o ready same =
       let Q : FetchedCommand → Type 0 = λ t. IsCovered t (length h.memory.items) left in
       let R : FetchedCommand → Type 0 = λ t. HasClearsLeft t.meaning.operation (bytes_of h.memory.items) t clears in
-      (subst Q same ready.covered, subst R same ready.clearing)
+      (subst Q same ready.is_covered, subst R same ready.has_clears_left)
 
   -- where a command may be taken, one that is ready is the one that its slot's bytes say
   pub ready_is_one : HasUntaken (slice_index_or h.ports p blank_port) slot → IsUntouched r →
       DecodesTo (bytes_of h.memory.items) (slice_index_or h.ports p blank_port).addresses.clb slot (taken_of r).meaning (taken_of r).places →
-      (o : AllMedia) (left clears : ℕ) (ready : MayFinish (device_of h o) port slot left clears) → ready.t ≡ taken_of r
+      (o : AllMedia) (left clears : ℕ) (ready : MayFinish (device_of h o) port slot left clears) → ready.fetched_command ≡ taken_of r
   ready_is_one may new says o left clears ready =
-      let t : FetchedCommand = ready.t in
+      let t : FetchedCommand = ready.fetched_command in
       let memory = bytes_of h.memory.items in
       let list = (slice_index_or h.ports p blank_port).addresses.clb in
       let there = ready_said h o p port slot left clears e ready may in
@@ -202,9 +202,9 @@ module _ (h : Hardware) (p port slot : ℕ) (r : TakenCommand) (e : p ≡ port) 
       × IsUnmixed (port_of (slice_index_or h.ports p blank_port) (o.media p)) (operation_of_kind r.command_kind)
   ready_beside may new says o left clears ready =
       let same = ready_is_one may new says o left clears ready in
-      let P : ℕ → Type 0 = λ q. (admits ((device_of h o).port q).halt ready.t.meaning.operation ≡ true) × IsUnmixed ((device_of h o).port q) ready.t.meaning.operation in
+      let P : ℕ → Type 0 = λ q. (admits ((device_of h o).port q).halt ready.fetched_command.meaning.operation ≡ true) × IsUnmixed ((device_of h o).port q) ready.fetched_command.meaning.operation in
       let can = (ready_fetch h o p port slot left clears e ready may).0 in
-      let both = subst P (sym e) (can.working.admitted, can.alone) in
+      let both = subst P (sym e) (can.working.admitted, can.is_unmixed) in
       subst (λ (t : FetchedCommand). (admits (halt_of (slice_index_or h.ports p blank_port).halting) t.meaning.operation ≡ true)
       × IsUnmixed (port_of (slice_index_or h.ports p blank_port) (o.media p)) t.meaning.operation) same both
 
@@ -213,16 +213,16 @@ module _ (h : Hardware) (p port slot : ℕ) (r : TakenCommand) (e : p ≡ port) 
       (o : AllMedia) (left clears : ℕ) → MayFinish (device_of h o) port slot left clears → IsRemaining r h.memory.items left clears
   ready_is_held here never o left clears ready =
       let w = ready_held h o p port slot left clears e ready never in
-      let same : r ≡ w.0 = some_one (sym here.held ∙ w.1.held) in
+      let same : r ≡ w.0 = some_one (sym here.is_taken ∙ w.1.is_taken) in
       rest_back left clears o ready (w.2 ∙ ap taken_of (sym same))
 
 -- what a command is going to change is what is left of the one that is ready
-pub ahead_is : (h : Hardware) (o : AllMedia) (cache : Cache) (port slot left changes n m : ℕ) (r : TakenCommand) (may : MayFinish (device_of h o) port slot n m) → may.t ≡ taken_of r →
+pub ahead_is : (h : Hardware) (o : AllMedia) (cache : Cache) (port slot left changes n m : ℕ) (r : TakenCommand) (may : MayFinish (device_of h o) port slot n m) → may.fetched_command ≡ taken_of r →
     left ≡ n → changes ≡ changes_ahead (operation_of_kind r.command_kind) (bytes_of h.memory.items) (taken_of r) left →
-    HasRoomForOld cache (changes_ahead may.t.meaning.operation (bytes_of h.memory.items) may.t n) → HasRoomForOld cache changes
+    HasRoomForOld cache (changes_ahead may.fetched_command.meaning.operation (bytes_of h.memory.items) may.fetched_command n) → HasRoomForOld cache changes
 ahead_is h o cache port slot left changes n m r may same number is =
     let memory = bytes_of h.memory.items in
-    let here : changes_ahead may.t.meaning.operation memory may.t n ≡ changes = (λ i. changes_ahead (same i).meaning.operation memory (same i) (sym number i)) ∙ sym is in
+    let here : changes_ahead may.fetched_command.meaning.operation memory may.fetched_command n ≡ changes = (λ i. changes_ahead (same i).meaning.operation memory (same i) (sym number i)) ∙ sym is in
     subst (HasRoomForOld cache) here
 
 -- and of the one that is taken
@@ -237,7 +237,7 @@ pub fetched_is : (port slot : ℕ) (old new : Device) (r : TakenCommand) (f : Do
     DecodesTo old.memory (old.port port).bases.clb slot (taken_of r).meaning (taken_of r).places → (t : FetchedCommand) → (new.port port).taken slot ≡ Some t → taken_of r ≡ t
 fetched_is port slot old new r f fresh says t taken =
     let p : DevicePort = old.port port in
-    let state : DevicePort = with_fetch p slot f.meaning f.places in
+    let state : DevicePort = port_after_fetch p slot f.meaning f.places in
     let meaning : f.meaning ≡ (taken_of r).meaning = says_meaning old.memory p.bases.clb slot f.meaning (taken_of r).meaning f.places (taken_of r).places f.can.says says in
     let places : f.places ≡ (taken_of r).places = says_places old.memory p.bases.clb slot f.meaning (taken_of r).meaning f.places (taken_of r).places f.can.says says in
     let there : new.port port ≡ state = ap (λ (d : Device). d.port port) f.effect ∙ here_after old port state in
@@ -275,55 +275,55 @@ module _ (h : Hardware) (port slot size : ℕ) (sized : size ≡ vec_len h.memor
       let m = may (o.media port) (operation_of_kind r.command_kind) beside.0 in
       record {
         left = ends.0;
-        ready = record {
-          t = taken_of r;
-          covered = covers r ends.0 ends.1;
-          clearing = clears r kind;
-          begins = inr (record { fetchable = m.0; working = m.1; alone = beside.1 (o.media port); says = says }, new_begun r new);
+        may_finish = record {
+          fetched_command = taken_of r;
+          is_covered = covers r ends.0 ends.1;
+          has_clears_left = clears r kind;
+          is_begun_or_fetchable = inr (record { fetchable = m.0; working = m.1; is_unmixed = beside.1 (o.media port); says = says }, new_begun r new);
         };
-        sends = kind;
-        low = ends.2;
+        sends_page = kind;
+        addresses_are_low = ends.2;
       }
 
   -- no other one may be
   pub page_unsaid : ((m : Meaning) (places : List ℕ) → sends_page m.operation ≡ true → DecodesTo (bytes_of h.memory.items) here.addresses.clb slot m places → ⊥) →
       HasUntaken here slot → (o : AllMedia) → HasPageCommand (device_of h o) port slot → ⊥
   page_unsaid none may o has =
-      none has.ready.t.meaning has.ready.t.places has.sends (ready_said h o port port slot has.left 0 refl has.ready may)
+      none has.may_finish.fetched_command.meaning has.may_finish.fetched_command.places has.sends_page (ready_said h o port port slot has.left 0 refl has.may_finish may)
 
   -- and where one may be taken, it is the one that is ready
   pub page_endless : (r : TakenCommand) → IsUntouched r → DecodesTo (bytes_of h.memory.items) here.addresses.clb slot (taken_of r).meaning (taken_of r).places →
       HasUntaken here slot → ((left : ℕ) → IsCovered (taken_of r) size left → AreInside (2 ^ 32) (pieces r.prds) → ⊥) → (o : AllMedia) →
       HasPageCommand (device_of h o) port slot → ⊥
   page_endless r new says may never o has =
-      let same = ready_is_one h port port slot r refl may new says o has.left 0 has.ready in
-      never has.left (covers_back r has.left (ready_is_said h port port slot r refl may new says o has.left 0 has.ready).0)
-      (subst (λ (t : FetchedCommand). AreInside (2 ^ 32) t.places) same has.low)
+      let same = ready_is_one h port port slot r refl may new says o has.left 0 has.may_finish in
+      never has.left (covers_back r has.left (ready_is_said h port port slot r refl may new says o has.left 0 has.may_finish).0)
+      (subst (λ (t : FetchedCommand). AreInside (2 ^ 32) t.places) same has.addresses_are_low)
 
   -- one that is taken
   pub page_held : (r : TakenCommand) → WorksOnIn here slot r → sends_page (operation_of_kind r.command_kind) ≡ true → Ends r → (o : AllMedia) → HasPageCommand (device_of h o) port slot
   page_held r held kind ends o = record {
     left = ends.0;
-    ready = record {
-      t = taken_of r;
-      covered = covers r ends.0 ends.1;
-      clearing = clears r kind;
-      begins = inl (held.works (o.media port));
+    may_finish = record {
+      fetched_command = taken_of r;
+      is_covered = covers r ends.0 ends.1;
+      has_clears_left = clears r kind;
+      is_begun_or_fetchable = inl (held.works (o.media port));
     };
-    sends = kind;
-    low = ends.2;
+    sends_page = kind;
+    addresses_are_low = ends.2;
   }
 
   pub page_unheld : ((r : TakenCommand) → WorksOnIn here slot r → sends_page (operation_of_kind r.command_kind) ≡ true → Ends r → ⊥) → MayTakeNone here slot → (o : AllMedia) →
       HasPageCommand (device_of h o) port slot → ⊥
   page_unheld none never o has =
-      let w = ready_held h o port port slot has.left 0 refl has.ready never in
-      none w.0 w.1 (sym (ap (λ (t : FetchedCommand). sends_page t.meaning.operation) w.2) ∙ has.sends)
-      (has.left, covers_back w.0 has.left (rest_back h port port slot w.0 refl has.left 0 o has.ready w.2).0, subst (λ (t : FetchedCommand). AreInside (2 ^ 32) t.places) w.2 has.low)
+      let w = ready_held h o port port slot has.left 0 refl has.may_finish never in
+      none w.0 w.1 (sym (ap (λ (t : FetchedCommand). sends_page t.meaning.operation) w.2) ∙ has.sends_page)
+      (has.left, covers_back w.0 has.left (rest_back h port port slot w.0 refl has.left 0 o has.may_finish w.2).0, subst (λ (t : FetchedCommand). AreInside (2 ^ 32) t.places) w.2 has.addresses_are_low)
 
 -- what a look at a slot finds, by whether it can be done to its end
 pub finds : (d : Device) (port slot : ℕ) (ends : Bool) → (ends ≡ true → HasPageCommand d port slot) → (ends ≡ false → MayTakePage d port slot × (HasPageCommand d port slot → ⊥)) →
-    LooksForPage d port slot (Some ends)
+    FindsPageCommand d port slot (Some ends)
 finds d port slot true has may = has refl
 finds d port slot false has may = may refl
 
@@ -339,17 +339,17 @@ module _ (h : Hardware) (port slot : ℕ) where
       record {
         meaning = (taken_of r).meaning;
         places = (taken_of r).places;
-        sends = kind;
-        can = record { fetchable = m.0; working = m.1; alone = beside.1 (o.media port); says = says };
+        sends_page = kind;
+        can = record { fetchable = m.0; working = m.1; is_unmixed = beside.1 (o.media port); says = says };
       }
 
   -- and so may one that can be done to its end, where one may be
   pub ready_may : HasUntaken first slot → (o : AllMedia) → HasPageCommand (device_of h o) port slot → MayTakePage (device_of h o) port slot
   ready_may may o has = record {
-    meaning = has.ready.t.meaning;
-    places = has.ready.t.places;
-    sends = has.sends;
-    can = (ready_fetch h o port port slot has.left 0 refl has.ready may).0;
+    meaning = has.may_finish.fetched_command.meaning;
+    places = has.may_finish.fetched_command.places;
+    sends_page = has.sends_page;
+    can = (ready_fetch h o port port slot has.left 0 refl has.may_finish may).0;
   }
 
   -- none may be beside others that are taken
@@ -362,12 +362,12 @@ module _ (h : Hardware) (port slot : ℕ) where
       let meaning = says_meaning memory first.addresses.clb slot may.meaning (taken_of r).meaning may.places (taken_of r).places there says in
       let same : may.meaning.operation ≡ operation_of_kind r.command_kind = ap (λ (x : Meaning). x.operation) meaning in
       crowded (o.media port) (subst (λ (x : Operation). admits (halt_of first.halting) x ≡ true) same may.can.working.admitted)
-      (subst (λ (x : Operation). IsUnmixed (port_of first (o.media port)) x) same may.can.alone)
+      (subst (λ (x : Operation). IsUnmixed (port_of first (o.media port)) x) same may.can.is_unmixed)
 
   -- none is said
   pub page_unmeant : ((m : Meaning) (places : List ℕ) → sends_page m.operation ≡ true → DecodesTo (bytes_of h.memory.items) first.addresses.clb slot m places → ⊥) →
       (o : AllMedia) → MayTakePage (device_of h o) port slot → ⊥
-  page_unmeant none o may = none may.meaning may.places may.sends (fetch_says h o port port slot may.meaning may.places refl may.can)
+  page_unmeant none o may = none may.meaning may.places may.sends_page (fetch_says h o port port slot may.meaning may.places refl may.can)
 
   -- none may be taken
   pub page_barred : MayTakeNone first slot → (o : AllMedia) → MayTakePage (device_of h o) port slot → ⊥
@@ -376,7 +376,7 @@ module _ (h : Hardware) (port slot : ℕ) where
 
 -- nothing is issued or taken there
 pub page_unused : (h : Hardware) (port slot : ℕ) → word_bits (slice_index_or h.ports port blank_port).ci slot ≡ false → taken_in (slice_index_or h.ports port blank_port).taken slot ≡ None →
-    (o : AllMedia) → LooksForPage (device_of h o) port slot None
+    (o : AllMedia) → FindsPageCommand (device_of h o) port slot None
 page_unused h port slot unissued untaken o =
     let never : MayTakeNone (slice_index_or h.ports port blank_port) slot = λ m operation may. true-false may.fetchable.issued unissued in
-    (page_barred h port slot never o, page_unheld h port slot _ refl (λ r held kind ends. some-none held.held untaken) never o)
+    (page_barred h port slot never o, page_unheld h port slot _ refl (λ r held kind ends. some-none held.is_taken untaken) never o)

@@ -7,8 +7,8 @@ use Rattle.hba_regs.specs.Bits.{bit}
 use Rattle.device_model.proofs.Absurd.{some_one}
 use Rattle.device_model.proofs.Blocks.{block_moved, block_on}
 use Rattle.device_model.proofs.SlotLemmas.{held_list, held_on, held_room, held_set, is_held}
-use Rattle.device_model.specs.View.{taken_in}
-use Rattle.device_model.specs.Block.{HasBlock, taken_in_slot, taken_list_from}
+use Rattle.device_model.specs.PortView.{taken_in}
+use Rattle.device_model.specs.TakenBlocks.{HasBlock, taken_in_slot, taken_list_from}
 use Rattle.device_model.specs.declared.port.TakenCommand.{TakenCommand}
 use Rattle.device_model.specs.declared.port.CommandKind.TheVariants.{Trim}
 

@@ -6,7 +6,7 @@ use Rattle.std.proofs.lemmas.Bool.Decides.{eqb_tells}
 use Rattle.std.proofs.lemmas.List.{drop_all, take_all}
 use Rattle.byteorder.specs.Endian.{little_from}
 use Rattle.adapter.specs.Trim.{consecutive, trim_sectors}
-use Rattle.device_model.specs.Trims.{run_from, trim_extent, runs_from, runs_of}
+use Rattle.device_model.specs.Trims.{run_length_from, first_run_length, run_count_from, run_count_of}
 
 -- ---- sectors that follow one another
 
@@ -142,21 +142,21 @@ same_number a = elim (eqb_tells a a) [ inl here ↦ here.0 | inr there ↦ absur
 other_number : (a b : ℕ) → a ≢ b → nat_eq a b ≡ false
 other_number a b ne = elim (eqb_tells a b) [ inl here ↦ absurd (ne here.1) | inr there ↦ there.0 ]
 
-run_on : (a m : ℕ) (rest : List ℕ) → run_from a (consecutive a m ++ rest) ≡ m + run_from (a + m) rest
+run_on : (a m : ℕ) (rest : List ℕ) → run_length_from a (consecutive a m ++ rest) ≡ m + run_length_from (a + m) rest
 run_on a zero rest =
     let same : a ≡ a + zero = omega arith in
-    ap (λ (k : ℕ). run_from k rest) same ∙ omega arith
+    ap (λ (k : ℕ). run_length_from k rest) same ∙ omega arith
 run_on a (suc m) rest =
     let next : suc a + m ≡ a + suc m = omega arith in
-    let more : suc (m + run_from (a + suc m) rest) ≡ suc m + run_from (a + suc m) rest = omega arith in
-    rw (same_number a) (ap suc (run_on (suc a) m rest ∙ ap (λ (k : ℕ). m + run_from k rest) next) ∙ more)
+    let more : suc (m + run_length_from (a + suc m) rest) ≡ suc m + run_length_from (a + suc m) rest = omega arith in
+    rw (same_number a) (ap suc (run_on (suc a) m rest ∙ ap (λ (k : ℕ). m + run_length_from k rest) next) ∙ more)
 
-run_is : (a m : ℕ) (rest : List ℕ) → 1 ≤ m → run_from (a + m) rest ≡ 0 → trim_extent (consecutive a m ++ rest) ≡ m
+run_is : (a m : ℕ) (rest : List ℕ) → 1 ≤ m → run_length_from (a + m) rest ≡ 0 → first_run_length (consecutive a m ++ rest) ≡ m
 run_is a zero rest some stops = absurd (omega (arith, some))
 run_is a (suc m) rest some stops =
     let next : suc a + m ≡ a + suc m = omega arith in
-    let on = run_on (suc a) m rest ∙ ap (λ (k : ℕ). m + run_from k rest) next in
-    let whole : m + run_from (a + suc m) rest ≡ m = omega (arith, stops) in
+    let on = run_on (suc a) m rest ∙ ap (λ (k : ℕ). m + run_length_from k rest) next in
+    let whole : m + run_length_from (a + suc m) rest ≡ m = omega (arith, stops) in
     ap suc (on ∙ whole)
 
 first_of : (xs rest : List ℕ) (most a m : ℕ) → take most xs ≡ consecutive a m ++ rest → 1 ≤ m → m ≤ most → a ≡ slice_index xs 0
@@ -227,29 +227,29 @@ module _ (sectors : List ℕ) (cleared most : ℕ) (here rest : List ℕ) (skip 
       }
 
   -- the next entry doesn't go on
-  pub along_stops : skip < n → 1 ≤ count → first + count ≢ f → trim_extent (take most (drop cleared sectors)) ≡ count
+  pub along_stops : skip < n → 1 ≤ count → first + count ≢ f → first_run_length (take most (drop cleared sectors)) ≡ count
   along_stops inside some other =
-      ap trim_extent (parts_on some)
+      ap first_run_length (parts_on some)
       ∙ run_is first count (consecutive f (min n (most - count)) ++ take (most - count - min n (most - count)) rest) some (stop (most - count))
     where
-      stop : (k : ℕ) → run_from (first + count) (consecutive f (min n k) ++ take (k - min n k) rest) ≡ 0
+      stop : (k : ℕ) → run_length_from (first + count) (consecutive f (min n k) ++ take (k - min n k) rest) ≡ 0
       stop zero =
           let few : min n 0 ≡ 0 = omega arith in
           let left : 0 - min n 0 ≡ 0 = omega arith in
-          λ i. run_from (first + count) (consecutive f (few i) ++ take (left i) rest)
+          λ i. run_length_from (first + count) (consecutive f (few i) ++ take (left i) rest)
       stop (suc k) =
           let m : ℕ = min n (suc k) - 1 in
           let some_more : min n (suc k) ≡ suc m = omega (arith, inside) in
           let ne : f ≢ first + count = λ same. other (sym same) in
-          ap (λ (j : ℕ). run_from (first + count) (consecutive f j ++ take (suc k - min n (suc k)) rest)) some_more
-          ∙ ap (λ (b : Bool). if b then suc (run_from (suc (first + count)) (consecutive (suc f) m ++ take (suc k - min n (suc k)) rest)) else 0)
+          ap (λ (j : ℕ). run_length_from (first + count) (consecutive f j ++ take (suc k - min n (suc k)) rest)) some_more
+          ∙ ap (λ (b : Bool). if b then suc (run_length_from (suc (first + count)) (consecutive (suc f) m ++ take (suc k - min n (suc k)) rest)) else 0)
           (other_number f (first + count) ne)
 
 -- what is found once no entry is left
 pub along_count : (sectors : List ℕ) (cleared most : ℕ) (rest : List ℕ) (skip first count : ℕ) → rest ≡ [] → IsAlong sectors cleared most rest skip first count →
-    trim_extent (take most (drop cleared sectors)) ≡ count
+    first_run_length (take most (drop cleared sectors)) ≡ count
 along_count sectors cleared most rest skip first zero none along =
-    ap trim_extent
+    ap first_run_length
     (along.parts
     ∙ (ap (λ (l : List ℕ). take (most - zero) (drop skip l)) none
     ∙ (ap (λ (l : List ℕ). take (most - zero) l) (drop_all skip [] (omega arith)) ∙ take_all (most - zero) [] (omega arith))))
@@ -257,8 +257,8 @@ along_count sectors cleared most rest skip first (suc count) none along =
     let nothing : take (most - suc count) (drop skip rest) ≡ [] =
     ap (λ (l : List ℕ). take (most - suc count) (drop skip l)) none
     ∙ (ap (λ (l : List ℕ). take (most - suc count) l) (drop_all skip [] (omega arith)) ∙ take_all (most - suc count) [] (omega arith)) in
-    ap trim_extent along.parts
-    ∙ run_is first (suc count) (take (most - suc count) (drop skip rest)) (omega arith) (ap (λ (l : List ℕ). run_from (first + suc count) l) nothing)
+    ap first_run_length along.parts
+    ∙ run_is first (suc count) (take (most - suc count) (drop skip rest)) (omega arith) (ap (λ (l : List ℕ). run_length_from (first + suc count) l) nothing)
 
 pub along_head : (sectors : List ℕ) (cleared most : ℕ) (rest : List ℕ) (skip first count : ℕ) → IsAlong sectors cleared most rest skip first count →
     1 ≤ count → first ≡ slice_index (drop cleared sectors) 0
@@ -267,25 +267,25 @@ along_head sectors cleared most rest skip first count along some =
 
 -- ---- what a run leaves
 
-take_run_from : (next j : ℕ) (xs : List ℕ) → j ≤ run_from next xs → take j xs ≡ consecutive next j
+take_run_from : (next j : ℕ) (xs : List ℕ) → j ≤ run_length_from next xs → take j xs ≡ consecutive next j
 take_run_from next zero xs few = refl
 take_run_from next (suc j) [] few = absurd (omega (arith, few))
 take_run_from next (suc j) (x ∷ xs) few =
     elim (eqb_tells x next) [
       | inl here ↦
-          let on : j ≤ run_from (suc next) xs = let more = rw here.0 at few in omega (arith, more) in
+          let on : j ≤ run_length_from (suc next) xs = let more = rw here.0 at few in omega (arith, more) in
           let same : x ≡ next = here.1 in
           (λ i. same i ∷ take_run_from (suc next) j xs on i)
       | inr there ↦ let none = rw there.0 at few in absurd (omega (arith, none))
     ]
 
 -- of a run each number of sectors follow one another
-pub take_run : (xs : List ℕ) (j : ℕ) → j ≤ trim_extent xs → take j xs ≡ consecutive (slice_index xs 0) j
+pub take_run : (xs : List ℕ) (j : ℕ) → j ≤ first_run_length xs → take j xs ≡ consecutive (slice_index xs 0) j
 take_run xs zero few = refl
 take_run [] (suc j) few = absurd (omega (arith, few))
 take_run (x ∷ xs) (suc j) few = ap (λ (l : List ℕ). x ∷ l) (take_run_from (suc x) j xs (omega (arith, few)))
 
-run_from_long : (next : ℕ) (xs : List ℕ) → run_from next xs ≤ length xs
+run_from_long : (next : ℕ) (xs : List ℕ) → run_length_from next xs ≤ length xs
 run_from_long next [] = omega arith
 run_from_long next (x ∷ xs) =
     elim (eqb_tells x next) [
@@ -293,60 +293,60 @@ run_from_long next (x ∷ xs) =
       | inr there ↦ rw there.0 (omega arith)
     ]
 
-pub run_long : (xs : List ℕ) → trim_extent xs ≤ length xs
+pub run_long : (xs : List ℕ) → first_run_length xs ≤ length xs
 run_long [] = omega arith
 run_long (x ∷ xs) = let rest = run_from_long (suc x) xs in omega (arith, rest)
 
-run_from_runs : (next : ℕ) (xs : List ℕ) → runs_from next xs ≡ runs_of (drop (run_from next xs) xs)
+run_from_runs : (next : ℕ) (xs : List ℕ) → run_count_from next xs ≡ run_count_of (drop (run_length_from next xs) xs)
 run_from_runs next [] = refl
 run_from_runs next (x ∷ xs) =
     elim (eqb_tells x next) [
       | inl here ↦
           let on = run_from_runs (suc next) xs in
           let same : suc x ≡ suc next = ap suc here.1 in
-          rw here.0 (ap (λ (k : ℕ). runs_from k xs) same ∙ on)
+          rw here.0 (ap (λ (k : ℕ). run_count_from k xs) same ∙ on)
       | inr there ↦ rw there.0 refl
     ]
 
 -- one run less is left once the first one is taken away
-pub one_less : (xs : List ℕ) (n : ℕ) → runs_of xs ≡ suc n → runs_of (drop (trim_extent xs) xs) ≡ n
+pub one_less : (xs : List ℕ) (n : ℕ) → run_count_of xs ≡ suc n → run_count_of (drop (first_run_length xs) xs) ≡ n
 one_less [] n e = absurd (omega (arith, e))
-one_less (x ∷ xs) n e = sym (run_from_runs (suc x) xs) ∙ (let less : runs_from (suc x) xs ≡ n = omega (arith, e) in less)
+one_less (x ∷ xs) n e = sym (run_from_runs (suc x) xs) ∙ (let less : run_count_from (suc x) xs ≡ n = omega (arith, e) in less)
 
-pub no_runs : (xs : List ℕ) → runs_of xs ≡ 0 → xs ≡ []
+pub no_runs : (xs : List ℕ) → run_count_of xs ≡ 0 → xs ≡ []
 no_runs [] e = refl
 no_runs (x ∷ xs) e = absurd (omega (arith, e))
 
-pub some_runs : (xs : List ℕ) (n : ℕ) → runs_of xs ≡ suc n → 1 ≤ length xs
+pub some_runs : (xs : List ℕ) (n : ℕ) → run_count_of xs ≡ suc n → 1 ≤ length xs
 some_runs [] n e = absurd (omega (arith, e))
 some_runs (x ∷ xs) n e = omega arith
 
 -- ---- runs, entry by entry
 
-runs_on : (a m : ℕ) (rest : List ℕ) → runs_from a (consecutive a m ++ rest) ≡ runs_from (a + m) rest
-runs_on a zero rest = let same : a ≡ a + zero = omega arith in ap (λ (k : ℕ). runs_from k rest) same
+runs_on : (a m : ℕ) (rest : List ℕ) → run_count_from a (consecutive a m ++ rest) ≡ run_count_from (a + m) rest
+runs_on a zero rest = let same : a ≡ a + zero = omega arith in ap (λ (k : ℕ). run_count_from k rest) same
 runs_on a (suc m) rest =
     let next : suc a + m ≡ a + suc m = omega arith in
-    rw (same_number a) (runs_on (suc a) m rest ∙ ap (λ (k : ℕ). runs_from k rest) next)
+    rw (same_number a) (runs_on (suc a) m rest ∙ ap (λ (k : ℕ). run_count_from k rest) next)
 
-runs_begin : (a m : ℕ) (rest : List ℕ) → 1 ≤ m → runs_of (consecutive a m ++ rest) ≡ suc (runs_from (a + m) rest)
+runs_begin : (a m : ℕ) (rest : List ℕ) → 1 ≤ m → run_count_of (consecutive a m ++ rest) ≡ suc (run_count_from (a + m) rest)
 runs_begin a zero rest some = absurd (omega (arith, some))
 runs_begin a (suc m) rest some =
-    let next : suc a + m ≡ a + suc m = omega arith in ap suc (runs_on (suc a) m rest ∙ ap (λ (k : ℕ). runs_from k rest) next)
+    let next : suc a + m ≡ a + suc m = omega arith in ap suc (runs_on (suc a) m rest ∙ ap (λ (k : ℕ). run_count_from k rest) next)
 
-runs_anew : (next a m : ℕ) (rest : List ℕ) → a ≢ next → 1 ≤ m → runs_from next (consecutive a m ++ rest) ≡ suc (runs_from (a + m) rest)
+runs_anew : (next a m : ℕ) (rest : List ℕ) → a ≢ next → 1 ≤ m → run_count_from next (consecutive a m ++ rest) ≡ suc (run_count_from (a + m) rest)
 runs_anew next a zero rest other some = absurd (omega (arith, some))
 runs_anew next a (suc m) rest other some =
     let on : suc a + m ≡ a + suc m = omega arith in
-    rw (other_number a next other) (ap suc (runs_on (suc a) m rest ∙ ap (λ (k : ℕ). runs_from k rest) on))
+    rw (other_number a next other) (ap suc (runs_on (suc a) m rest ∙ ap (λ (k : ℕ). run_count_from k rest) on))
 
 -- the runs that are left behind so many, the last of which ends at this sector
 abbrev pub runs_more : ℕ → ℕ → List ℕ → ℕ
-runs_more runs next xs = if nat_eq runs 0 then runs_of xs else runs_from next xs
+runs_more runs next xs = if nat_eq runs 0 then run_count_of xs else run_count_from next xs
 
 -- Of these sectors so many runs were counted, and the others are behind, but for some.
 pub record IsCounted (all rest : List ℕ) (skip runs next : ℕ) : Type 0 where
-  pub total : runs_of all ≡ runs + runs_more runs next (drop skip rest)
+  pub total : run_count_of all ≡ runs + runs_more runs next (drop skip rest)
   pub started : 1 ≤ runs → skip ≡ 0
 
 pub counted_none : (xs : List ℕ) (cleared : ℕ) → IsCounted (drop cleared xs) xs cleared 0 0
@@ -365,7 +365,7 @@ module _ (all here rest : List ℕ) (skip runs next f n : ℕ) (is : here ≡ co
   left_here : skip < n → drop skip here ≡ consecutive (f + skip) (n - skip) ++ rest
   left_here inside = ap (λ (l : List ℕ). drop skip l) is ∙ drop_front f n skip rest (omega (arith, inside))
 
-  counted_to : (more : ℕ) → runs_of all ≡ more + runs_more more (f + n) rest → IsCounted all rest 0 more (f + n)
+  counted_to : (more : ℕ) → run_count_of all ≡ more + runs_more more (f + n) rest → IsCounted all rest 0 more (f + n)
   counted_to more total = record { total = total; started = λ _. refl }
 
   end_is : skip < n → f + skip + (n - skip) ≡ f + n
@@ -378,23 +378,23 @@ module _ (all here rest : List ℕ) (skip runs next f n : ℕ) (is : here ≡ co
   pub counted_more : skip < n → (runs ≡ 0) ⊎ ((runs ≢ 0) × (f ≢ next)) → IsCounted all rest 0 (runs + 1) (f + n)
   counted_more inside (inl none) = counted_to (runs + 1)
       (counted.total
-      ∙ (ap (λ (b : Bool). runs + (if b then runs_of (drop skip here) else runs_from next (drop skip here))) (ap (λ (k : ℕ). nat_eq k 0) none)
-      ∙ (ap (λ (l : List ℕ). runs + runs_of l) (left_here inside)
+      ∙ (ap (λ (b : Bool). runs + (if b then run_count_of (drop skip here) else run_count_from next (drop skip here))) (ap (λ (k : ℕ). nat_eq k 0) none)
+      ∙ (ap (λ (l : List ℕ). runs + run_count_of l) (left_here inside)
       ∙ (ap (λ (k : ℕ). runs + k) (runs_begin (f + skip) (n - skip) rest (omega (arith, inside)))
-      ∙ (ap (λ (k : ℕ). runs + suc (runs_from k rest)) (end_is inside)
-      ∙ (one (runs_from (f + n) rest)
-      ∙ ap (λ (b : Bool). runs + 1 + (if b then runs_of rest else runs_from (f + n) rest)) (sym (some_left (runs + 1) (omega arith)))))))))
+      ∙ (ap (λ (k : ℕ). runs + suc (run_count_from k rest)) (end_is inside)
+      ∙ (one (run_count_from (f + n) rest)
+      ∙ ap (λ (b : Bool). runs + 1 + (if b then run_count_of rest else run_count_from (f + n) rest)) (sym (some_left (runs + 1) (omega arith)))))))))
     where
       one : (k : ℕ) → runs + suc k ≡ runs + 1 + k
       one k = omega arith
   counted_more inside (inr more) = counted_to (runs + 1)
       (counted.total
-      ∙ (ap (λ (b : Bool). runs + (if b then runs_of (drop skip here) else runs_from next (drop skip here))) (other_number runs 0 more.0)
-      ∙ (ap (λ (l : List ℕ). runs + runs_from next l) (left_here inside)
+      ∙ (ap (λ (b : Bool). runs + (if b then run_count_of (drop skip here) else run_count_from next (drop skip here))) (other_number runs 0 more.0)
+      ∙ (ap (λ (l : List ℕ). runs + run_count_from next l) (left_here inside)
       ∙ (ap (λ (k : ℕ). runs + k) (runs_anew next (f + skip) (n - skip) rest other (omega (arith, inside)))
-      ∙ (ap (λ (k : ℕ). runs + suc (runs_from k rest)) (end_is inside)
-      ∙ (one (runs_from (f + n) rest)
-      ∙ ap (λ (b : Bool). runs + 1 + (if b then runs_of rest else runs_from (f + n) rest)) (sym (some_left (runs + 1) (omega arith)))))))))
+      ∙ (ap (λ (k : ℕ). runs + suc (run_count_from k rest)) (end_is inside)
+      ∙ (one (run_count_from (f + n) rest)
+      ∙ ap (λ (b : Bool). runs + 1 + (if b then run_count_of rest else run_count_from (f + n) rest)) (sym (some_left (runs + 1) (omega arith)))))))))
     where
       one : (k : ℕ) → runs + suc k ≡ runs + 1 + k
       one k = omega arith
@@ -409,12 +409,12 @@ module _ (all here rest : List ℕ) (skip runs next f n : ℕ) (is : here ≡ co
   pub counted_on : skip < n → runs ≢ 0 → f ≡ next → IsCounted all rest 0 runs (f + n)
   counted_on inside some same = counted_to runs
       (counted.total
-      ∙ (ap (λ (b : Bool). runs + (if b then runs_of (drop skip here) else runs_from next (drop skip here))) (other_number runs 0 some)
-      ∙ (ap (λ (l : List ℕ). runs + runs_from next l) (left_here inside)
-      ∙ (ap (λ (k : ℕ). runs + runs_from k (consecutive (f + skip) (n - skip) ++ rest)) start
+      ∙ (ap (λ (b : Bool). runs + (if b then run_count_of (drop skip here) else run_count_from next (drop skip here))) (other_number runs 0 some)
+      ∙ (ap (λ (l : List ℕ). runs + run_count_from next l) (left_here inside)
+      ∙ (ap (λ (k : ℕ). runs + run_count_from k (consecutive (f + skip) (n - skip) ++ rest)) start
       ∙ (ap (λ (k : ℕ). runs + k) (runs_on (f + skip) (n - skip) rest)
-      ∙ (ap (λ (k : ℕ). runs + runs_from k rest) (end_is inside)
-      ∙ ap (λ (b : Bool). runs + (if b then runs_of rest else runs_from (f + n) rest)) (sym (other_number runs 0 some))))))))
+      ∙ (ap (λ (k : ℕ). runs + run_count_from k rest) (end_is inside)
+      ∙ ap (λ (b : Bool). runs + (if b then run_count_of rest else run_count_from (f + n) rest)) (sym (other_number runs 0 some))))))))
     where
       at_start : skip ≡ 0
       at_start = counted.started (omega (arith, some))
@@ -443,11 +443,11 @@ module _ (all here rest : List ℕ) (skip runs next f n : ℕ) (is : here ≡ co
           (subst (λ (k : ℕ). IsCounted all rest 0 k (f + n)) (sym is) (counted_more inside why), omega (arith, is))
 
 -- what is counted once no entry is left
-pub counted_all : (all rest : List ℕ) (skip runs next : ℕ) → rest ≡ [] → IsCounted all rest skip runs next → runs ≡ runs_of all
+pub counted_all : (all rest : List ℕ) (skip runs next : ℕ) → rest ≡ [] → IsCounted all rest skip runs next → runs ≡ run_count_of all
 counted_all all rest skip runs next none counted =
     let nothing : drop skip rest ≡ [] = ap (λ (l : List ℕ). drop skip l) none ∙ drop_all skip [] (omega arith) in
     sym (counted.total ∙ (ap (λ (l : List ℕ). runs + runs_more runs next l) nothing ∙ no_more (nat_eq runs 0)))
   where
-    no_more : (b : Bool) → runs + (if b then runs_of [] else runs_from next []) ≡ runs
+    no_more : (b : Bool) → runs + (if b then run_count_of [] else run_count_from next []) ≡ runs
     no_more true = omega arith
     no_more false = omega arith

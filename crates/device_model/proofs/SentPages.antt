@@ -3,7 +3,7 @@ use Rattle.std.proofs.Common.{ℕ, Bool, true, false, ◌≡◌, ◌≢◌, ◌<
 use Rattle.std.specs.Prelude.{if◌then◌else◌, is_some}
 use Rattle.std.proofs.lemmas.List.{length-set}
 use Rattle.std.proofs.lemmas.Bool.Decides.{eqb_tells}
-use Rattle.adapter.specs.Asked.{SlotGoesOn}
+use Rattle.adapter.specs.ToldSteps.{SlotGoesOn}
 use Rattle.adapter.specs.Device.{Device, DevicePort}
 use Rattle.adapter.specs.OneCommand.{IsFreeSlot}
 use Rattle.adapter.specs.declared.access.DeviceStep.TheVariants as asked
@@ -11,13 +11,13 @@ use Rattle.ata_types.specs.declared.Port.{Port}
 use Rattle.ata_types.specs.declared.Slot.{Slot}
 use Rattle.sector_store.specs.declared.store.Failures.{Failures}
 use Rattle.device_model.specs.Disks.{numbered_disk, disk_index_of}
-use Rattle.device_model.specs.Does.{AnswersStep, Completes, OwnStepsKeep}
-use Rattle.device_model.specs.Finishing.{LooksForPage, HasPageCommand, TapeHasRoom, HasTakenCommand, MayTakePage}
-use Rattle.device_model.specs.Held.{IsPortHeld, IsPortLoose}
-use Rattle.device_model.specs.Modelled.{device_at}
-use Rattle.device_model.specs.Pending.{TakesPage}
-use Rattle.device_model.specs.Sent.{SendsEnd}
-use Rattle.device_model.specs.Settled.{IsSettled, LeadsOwn, LeavesPageWithoutMemory, NoPageIsLeft, SendsPages}
+use Rattle.device_model.specs.StepEffects.{AnswersStep, Completes, OwnStepsKeep}
+use Rattle.device_model.specs.Finishing.{FindsPageCommand, HasPageCommand, TapeHasRoom, HasTakenCommand, MayTakePage}
+use Rattle.device_model.specs.HeldPorts.{IsPortHeld, IsPortReleased}
+use Rattle.device_model.specs.ModelState.{device_at}
+use Rattle.device_model.specs.PageTaking.{TakesPage}
+use Rattle.device_model.specs.SentFises.{SendsEnd}
+use Rattle.device_model.specs.ModelOwnSteps.{IsSettled, LeadsOwn, LeavesPageWithoutMemory, NoPageIsLeft, SendsPages}
 use Rattle.device_model.specs.WholeAdapter.{HasDisks}
 use Rattle.device_model.specs.declared.disks.DiskIndex.{DiskIndex}
 use Rattle.device_model.specs.declared.model.Model.{Model}
@@ -60,7 +60,7 @@ module _ {S : Type 0} (size : S → ℕ) (told : S → Option (ℕ → List ℕ)
     pub disks : (q : ℕ) (w : DiskIndex) → numbered_disk m q w ≡ numbered_disk first q w
     pub long : length left_out ≡ 4
     pub out : (q : ℕ) → IsPortHeld left_out q → IsPortHeld first.held q ⊎ Waits m q
-    pub loose : (q : ℕ) → IsPortLoose left_out q → IsPortLoose first.held q
+    pub loose : (q : ℕ) → IsPortReleased left_out q → IsPortReleased first.held q
     pub fed : lacks ≡ false → m.hardware.starved ≡ first.hardware.starved
     pub lacking : lacks ≡ true → (m.hardware.starved ≡ true) × Lacks left_out m
 
@@ -74,11 +74,11 @@ module _ {S : Type 0} (size : S → ℕ) (told : S → Option (ℕ → List ℕ)
       )
 
   -- and one that lacks memory lacking it, where no more is found
-  lacks_on : (old new : Model S) (left_out out_then : List Bool) (p : ℕ) → IsPortLoose left_out p → ((q : ℕ) → q ≢ p → IsPortHeld left_out q → IsPortHeld out_then q) →
+  lacks_on : (old new : Model S) (left_out out_then : List Bool) (p : ℕ) → IsPortReleased left_out p → ((q : ℕ) → q ≢ p → IsPortHeld left_out q → IsPortHeld out_then q) →
       ((q : ℕ) → q ≢ p → (device_at size told new).port q ≡ (device_at size told old).port q) → (device_at size told new).size ≡ (device_at size told old).size →
       ((q : ℕ) → disk_index_of new q ≡ disk_index_of old q) → ((n : ℕ) → TapeHasRoom new.hardware n → TapeHasRoom old.hardware n) → Lacks left_out old → Lacks out_then new
   lacks_on old new left_out out_then p loose on others large which room one =
-      let apart : one.port ≢ p = λ (same : one.port ≡ p). true-false one.out (subst (IsPortLoose left_out) (sym same) loose) in
+      let apart : one.port ≢ p = λ (same : one.port ≡ p). true-false one.out (subst (IsPortReleased left_out) (sym same) loose) in
       let same = others one.port apart in
       let now = page_stays (device_at size told old) (device_at size told new) one.port one.slot same large one.busy one.has in
       record {
@@ -94,12 +94,12 @@ module _ {S : Type 0} (size : S → ℕ) (told : S → Option (ℕ → List ℕ)
       }
 
   module _ (first m : Model S) (left_out : List Bool) (lacks : Bool) (is : IsSoFar first m left_out lacks) (p : Port) (s : Slot) (small : p.0 < 4) (low : s.0 < 32)
-      (loose : IsPortLoose left_out p.0) (disks : HasDisks (device_at size told m) p.0) where
+      (loose : IsPortReleased left_out p.0) (disks : HasDisks (device_at size told m) p.0) where
     abbrev old_device : Device
     old_device = device_at size told m
 
     apart_of : (q : ℕ) → IsPortHeld left_out q → q ≢ p.0
-    apart_of q held = λ same. true-false held (subst (IsPortLoose left_out) (sym same) loose)
+    apart_of q held = λ same. true-false held (subst (IsPortReleased left_out) (sym same) loose)
 
     -- the port is left out from then on, and waits
     out_then : (new : Model S) → HasTakenCommand (device_at size told new) p.0 → ((k : ℕ) → HasPageCommand (device_at size told new) p.0 k → new.hardware.starved ≡ true) →
@@ -115,7 +115,7 @@ module _ {S : Type 0} (size : S → ℕ) (told : S → Option (ℕ → List ℕ)
               ]
         ]
 
-    loose_then : p.0 < length left_out → (q : ℕ) → IsPortLoose (slice_set left_out p.0 true) q → IsPortLoose first.held q
+    loose_then : p.0 < length left_out → (q : ℕ) → IsPortReleased (slice_set left_out p.0 true) q → IsPortReleased first.held q
     loose_then long q is_loose =
         elim (eqb_tells q p.0) [
           | inl here ↦
@@ -132,13 +132,13 @@ module _ {S : Type 0} (size : S → ℕ) (told : S → Option (ℕ → List ℕ)
       completes e = page_completes size told failures m new p s (did_it size told failures (asked.Finish p s) m new answer answers e) has
 
       went : answer ≡ true → SlotGoesOn (SendsEnd s.0) p.0 s.0 old_device (device_at size told new)
-      went e = (completes e).asked
+      went e = (completes e).does_told_step
 
       same : answer ≡ false → device_at size told new ≡ old_device
-      same e = (left_it size told failures (asked.Finish p s) m new answer answers e).device
+      same e = (left_it size told failures (asked.Finish p s) m new answer answers e).device_is_kept
 
       goes : OwnStepsKeep size m new
-      goes = finish_goes_so size told failures p s answer m new answers (λ e. (completes e).says)
+      goes = finish_goes_so size told failures p s answer m new answers (λ e. (completes e).page_source_is)
 
       leads : LeadsOwn (SendsPages first.held) (device_at size told first) (device_at size told new)
       leads = own_on (SendsPages first.held) _ old_device (device_at size told new) is.own
@@ -160,7 +160,7 @@ module _ {S : Type 0} (size : S → ℕ) (told : S → Option (ℕ → List ℕ)
             out = λ q held.
                 elim (is.out q held) [
                   | inl before ↦ inl before
-                  | inr waits ↦ inr (waits_on m new q (far.1 q (apart_of q held)) far.0 goes.starved_on waits)
+                  | inr waits ↦ inr (waits_on m new q (far.1 q (apart_of q held)) far.0 goes.stays_starved waits)
                 ];
             loose = is.loose;
             fed = λ e. did.starved ∙ is.fed e;
@@ -184,20 +184,20 @@ module _ {S : Type 0} (size : S → ℕ) (told : S → Option (ℕ → List ℕ)
       so_far_lacking last fed left missed t =
           let P : Device → Type 0 = λ d. (there : HasPageCommand d p.0 s.0) × (TapeHasRoom new.hardware (there.left + 1) → ⊥) in
           let one = subst P (sym (same left)) (has, missed.1) in
-          let now = t.left one.0 in
+          let now = t.as_much_is_left one.0 in
           let long : p.0 < length left_out = subst (λ (n : ℕ). p.0 < n) (sym is.long) small in
-          let rest = goes_so_on size told failures m new last goes t.rest in
+          let rest = goes_so_on size told failures m new last goes t.own_steps_keep in
           let ports : (q : ℕ) → q ≢ p.0 → (device_at size told last).port q ≡ old_device.port q =
-          λ (q : ℕ) (ne : q ≢ p.0). t.others q ne ∙ ap (λ (d : Device). d.port q) (same left) in
-          let large : (device_at size told last).size ≡ old_device.size = t.as_large ∙ ap (λ (d : Device). d.size) (same left) in
+          λ (q : ℕ) (ne : q ≢ p.0). t.other_ports_are_kept q ne ∙ ap (λ (d : Device). d.port q) (same left) in
+          let large : (device_at size told last).size ≡ old_device.size = t.size_is_kept ∙ ap (λ (d : Device). d.size) (same left) in
           let told_so : last.hardware.starved ≡ true = t.starved ∙ missed.0 in
           record {
-            own = own_on (SendsPages first.held) _ (device_at size told new) (device_at size told last) leads (t.own first.held (is.loose p.0 loose));
-            settled = λ held x. t.settled held (settles held x);
+            own = own_on (SendsPages first.held) _ (device_at size told new) (device_at size told last) leads (t.by_own_steps first.held (is.loose p.0 loose));
+            settled = λ held x. t.stays_settled held (settles held x);
             rest = goes_so_on size told failures first m last is.rest rest;
-            disks = λ q w. t.disks q w ∙ (finish_keeps size told failures m new p s answer answers has q w ∙ is.disks q w);
+            disks = λ q w. t.disks_are_kept q w ∙ (finish_keeps size told failures m new p s answer answers has q w ∙ is.disks q w);
             long = still_long left_out p.0 is.long;
-            out = out_then last t.taken (λ k there. told_so) ports large rest.starved_on;
+            out = out_then last t.has_taken_command (λ k there. told_so) ports large rest.stays_starved;
             loose = loose_then long;
             fed = λ never. absurd (let e : true ≡ false = never in cc);
             lacking = λ _. (
@@ -208,10 +208,10 @@ module _ {S : Type 0} (size : S → ℕ) (told : S → Option (ℕ → List ℕ)
                 small = small;
                 low = low;
                 out = get_or-set_same left_out p.0 true false long;
-                disks = disks_kept size told m last p.0 (rest.which p.0) disks;
-                busy = t.taken;
+                disks = disks_kept size told m last p.0 (rest.disk_index_is p.0) disks;
+                busy = t.has_taken_command;
                 has = now.0;
-                lacks = λ some. one.1 (t.room _ (let R : ℕ → Type 0 = λ n. TapeHasRoom last.hardware (n + 1) in subst R now.1 some));
+                lacks = λ some. one.1 (t.tape_had_room _ (let R : ℕ → Type 0 = λ n. TapeHasRoom last.hardware (n + 1) in subst R now.1 some));
               },
             );
           }
@@ -223,49 +223,49 @@ module _ {S : Type 0} (size : S → ℕ) (told : S → Option (ℕ → List ℕ)
     so_far_taken new t stuck =
         let long : p.0 < length left_out = subst (λ (n : ℕ). p.0 < n) (sym is.long) small in
         record {
-          own = own_on (SendsPages first.held) _ old_device (device_at size told new) is.own (t.own first.held (is.loose p.0 loose));
-          settled = λ held x. t.settled held (is.settled held x);
-          rest = goes_so_on size told failures first m new is.rest t.rest;
-          disks = λ q w. t.disks q w ∙ is.disks q w;
+          own = own_on (SendsPages first.held) _ old_device (device_at size told new) is.own (t.by_own_steps first.held (is.loose p.0 loose));
+          settled = λ held x. t.stays_settled held (is.settled held x);
+          rest = goes_so_on size told failures first m new is.rest t.own_steps_keep;
+          disks = λ q w. t.disks_are_kept q w ∙ is.disks q w;
           long = still_long left_out p.0 is.long;
-          out = out_then new t.taken (λ k has. starves lacks refl k has) t.others t.as_large t.rest.starved_on;
+          out = out_then new t.has_taken_command (λ k has. starves lacks refl k has) t.other_ports_are_kept t.size_is_kept t.own_steps_keep.stays_starved;
           loose = loose_then long;
           fed = λ e. t.starved ∙ is.fed e;
           lacking = λ e.
               let before = is.lacking e in (
                 t.starved ∙ before.0,
-                lacks_on m new left_out (slice_set left_out p.0 true) p.0 loose (λ q ne held. get_or-set_other left_out p.0 q true false ne ∙ held) t.others t.as_large
-                    t.rest.which t.room before.1,
+                lacks_on m new left_out (slice_set left_out p.0 true) p.0 loose (λ q ne held. get_or-set_other left_out p.0 q true false ne ∙ held) t.other_ports_are_kept t.size_is_kept
+                    t.own_steps_keep.disk_index_is t.tape_had_room before.1,
               );
         }
       where
         starves : (b : Bool) → lacks ≡ b → (k : ℕ) → HasPageCommand (device_at size told new) p.0 k → new.hardware.starved ≡ true
         starves true e k has = t.starved ∙ (is.lacking e).0
-        starves false e k has = let one = stuck e in absurd (one.1 (t.stuck one.0 k has))
+        starves false e k has = let one = stuck e in absurd (one.1 (t.page_is_stuck_before one.0 k has))
 
   -- ---- none is left, on the ports that aren't left out
 
   module _ (first m : Model S) (left_out : List Bool) (lacks : Bool) (is : IsSoFar first m left_out lacks)
-      (none : (port slot : ℕ) → port < 4 → IsPortLoose left_out port → HasDisks (device_at size told m) port → slot < 32 → LooksForPage (device_at size told m) port slot None) where
-    by_port : (port : ℕ) → (IsPortLoose left_out port) ⊎ (IsPortHeld first.held port) ⊎ Waits m port
+      (none : (port slot : ℕ) → port < 4 → IsPortReleased left_out port → HasDisks (device_at size told m) port → slot < 32 → FindsPageCommand (device_at size told m) port slot None) where
+    by_port : (port : ℕ) → (IsPortReleased left_out port) ⊎ (IsPortHeld first.held port) ⊎ Waits m port
     by_port port = by (slice_index_or left_out port false) refl
       where
-        by : (b : Bool) → slice_index_or left_out port false ≡ b → (IsPortLoose left_out port) ⊎ (IsPortHeld first.held port) ⊎ Waits m port
+        by : (b : Bool) → slice_index_or left_out port false ≡ b → (IsPortReleased left_out port) ⊎ (IsPortHeld first.held port) ⊎ Waits m port
         by false e = inl e
         by true e = inr (is.out port e)
 
     held_still : (port : ℕ) → IsPortHeld first.held port → IsPortHeld m.held port
-    held_still port held = ap (λ (l : List Bool). slice_index_or l port false) is.rest.held ∙ held
+    held_still port held = ap (λ (l : List Bool). slice_index_or l port false) is.rest.held_ports_are ∙ held
 
     pub none_left : NoPageIsLeft m.held m.hardware.starved (device_at size told m)
     none_left = record {
-      taken = λ port slot small low disks may.
+      none_may_be_taken = λ port slot small low disks may.
           elim (by_port port) [
             | inl loose ↦ absurd ((none port slot small loose disks low).0 may)
             | inr (inl held) ↦ held_still port held
             | inr (inr waits) ↦ absurd (busy_bars (device_at size told m) port slot waits.0 may)
           ];
-      done = λ port slot small low disks has.
+      none_may_be_finished = λ port slot small low disks has.
           elim (by_port port) [
             | inl loose ↦ absurd ((none port slot small loose disks low).1 has)
             | inr (inl held) ↦ inl (held_still port held)
@@ -290,7 +290,7 @@ abbrev pub left_in_all : Device → List Bool → ℕ
 left_in_all d left_out = total (left_on d left_out) 4
 
 -- one more is left out
-pub less_taken : (old new : Device) (left_out : List Bool) (p place : ℕ) → place ≡ p → p < 4 → length left_out ≡ 4 → IsPortLoose left_out p →
+pub less_taken : (old new : Device) (left_out : List Bool) (p place : ℕ) → place ≡ p → p < 4 → length left_out ≡ 4 → IsPortReleased left_out p →
     ((q : ℕ) → q ≢ p → new.port q ≡ old.port q) → left_in_all new (slice_set left_out place true) < left_in_all old left_out
 less_taken old new left_out p place at small long loose ports =
     let P : ℕ → Type 0 = λ k. left_in_all new (slice_set left_out k true) < left_in_all old left_out in
@@ -308,7 +308,7 @@ less_taken old new left_out p place at small long loose ports =
         omega (arith, now, was)
 
 -- or less is left on one
-pub less_done : (old new : Device) (left_out : List Bool) (p : ℕ) → p < 4 → IsPortLoose left_out p → total (weight new p) 32 < total (weight old p) 32 →
+pub less_done : (old new : Device) (left_out : List Bool) (p : ℕ) → p < 4 → IsPortReleased left_out p → total (weight new p) 32 < total (weight old p) 32 →
     ((q : ℕ) → q ≢ p → total (weight new q) 32 ≡ total (weight old q) 32) → left_in_all new left_out < left_in_all old left_out
 less_done old new left_out p small loose less same =
     total_less (left_on new left_out) (left_on old left_out) p 4 small

@@ -1,16 +1,16 @@
 -- Queued commands go on side by side: one that is taken, or that ends, leaves the others as they were.
 use Rattle.std.proofs.Common.{ℕ, Bool, true, ◌≡◌, ◌≢◌, ◌∙◌, ◌&&◌, List, None, Some, refl, sym, ap, subst}
-use Rattle.adapter.specs.Asked.{DoesFetch, EndsAndPosts}
+use Rattle.adapter.specs.ToldSteps.{DoesFetch, EndsAndPosts}
 use Rattle.adapter.specs.Commands.{Meaning, is_queued}
 use Rattle.adapter.specs.Device.{FetchedCommand, DevicePort, Device}
-use Rattle.adapter.specs.Steps.{Can, IsUnmixed, IsFetchable, IsWorking, WorksOn, begun, with_fetch}
+use Rattle.adapter.specs.Steps.{Can, IsUnmixed, IsFetchable, IsWorking, WorksOn, begun, port_after_fetch}
 use Rattle.adapter.specs.Steps.DeviceTransition.{Fetch}
 use Rattle.adapter.specs.Decoding.{DecodesTo}
 use Rattle.adapter.specs.declared.command.Operation.{Operation}
 use Rattle.device_model.proofs.Absurd.{some_one}
 use Rattle.device_model.proofs.Places.{changed_same, changed_other, changed_each}
 use Rattle.adapter.proofs.SaysLemmas.{says_meaning}
-use Rattle.device_model.specs.Sent.{SendsEnd}
+use Rattle.device_model.specs.SentFises.{SendsEnd}
 use Rattle.device_model.proofs.Finishing.{done_port}
 use Rattle.device_model.proofs.Paging.{cleared_other}
 
@@ -20,7 +20,7 @@ module _ (port slot other : ℕ) (apart : other ≢ slot) (old new : Device) whe
 
   -- what is taken is as it was, but for a queued command that is taken now, beside which a queued one may be taken, too
   beside : (m : Meaning) (places : List ℕ) (o : Operation) → is_queued o && is_queued m.operation ≡ true → IsUnmixed was o →
-      IsUnmixed (with_fetch was slot m places) o
+      IsUnmixed (port_after_fetch was slot m places) o
   beside m places o both alone =
       changed_each was.taken slot (Some (begun m places)) (λ k x. (t : FetchedCommand) → x ≡ Some t → is_queued o && is_queued t.meaning.operation ≡ true)
       (λ t is. subst (λ (x : FetchedCommand). is_queued o && is_queued x.meaning.operation ≡ true) (some_one is) both) alone
@@ -29,7 +29,7 @@ module _ (port slot other : ℕ) (apart : other ≢ slot) (old new : Device) whe
   pub fetched_leaves : (m n : Meaning) (xs ys : List ℕ) → is_queued m.operation ≡ true → is_queued n.operation ≡ true → Can (Fetch port slot m xs) old →
       Can (Fetch port other n ys) old → DoesFetch port slot old new → Can (Fetch port other n ys) new
   fetched_leaves m n xs ys first second here there f =
-      let p : DevicePort = with_fetch was slot f.meaning f.places in
+      let p : DevicePort = port_after_fetch was slot f.meaning f.places in
       let now : p ≡ new.port port = sym (ap (λ (d : Device). d.port port) f.effect ∙ changed_same old.port port p) in
       let memory : old.memory ≡ new.memory = sym (ap (λ (d : Device). d.memory) f.effect) in
       let meant : m ≡ f.meaning = says_meaning old.memory was.bases.clb slot m f.meaning xs f.places here.says f.can.says in
@@ -50,7 +50,7 @@ module _ (port slot other : ℕ) (apart : other ≢ slot) (old new : Device) whe
               admitted = there.working.admitted;
               whole = there.working.whole;
             });
-        alone = subst (λ (x : DevicePort). IsUnmixed x n.operation) now (beside f.meaning f.places n.operation both there.alone);
+        is_unmixed = subst (λ (x : DevicePort). IsUnmixed x n.operation) now (beside f.meaning f.places n.operation both there.is_unmixed);
         says = subst (λ (x : DevicePort). DecodesTo new.memory x.bases.clb other n ys) now
             (subst (λ (bytes : ℕ → ℕ). DecodesTo bytes was.bases.clb other n ys) memory there.says);
       }

@@ -13,10 +13,10 @@ use Rattle.adapter.specs.Steps.{begun}
 use Rattle.hba_regs.specs.Bits.{bit}
 use Rattle.device_model.proofs.Absurd.{some-none, true-false}
 use Rattle.device_model.proofs.Places.{fun_ext, changed_same, changed_other}
-use Rattle.device_model.specs.Bits.{word_bits}
-use Rattle.device_model.specs.Block.{brought, taken_in_slot, taken_list_from}
-use Rattle.device_model.specs.Fetched.{IsUntouched}
-use Rattle.device_model.specs.View.{taken_in, taken_slots, taken_of, blank_port}
+use Rattle.device_model.specs.WordBits.{word_bits}
+use Rattle.device_model.specs.TakenBlocks.{brought, taken_in_slot, taken_list_from}
+use Rattle.device_model.specs.FetchedBytes.{IsUntouched}
+use Rattle.device_model.specs.PortView.{taken_in, taken_slots, taken_of, blank_port}
 use Rattle.device_model.specs.declared.port.PortModel.{PortModel}
 use Rattle.device_model.specs.declared.port.TakenCommand.{TakenCommand}
 
@@ -181,7 +181,7 @@ none_filled (Some r) e = absurd (cc e)
 
 -- a command of which nothing was moved or cleared yet has just begun
 pub new_begun : (r : TakenCommand) → IsUntouched r → taken_of r ≡ begun (taken_of r).meaning (taken_of r).places
-new_begun r new = λ i. record (taken_of r) { moved = new.moved i; block = brought (new.block i); cleared = new.cleared i }
+new_begun r new = λ i. record (taken_of r) { moved = new.nothing_is_moved i; block = brought (new.has_no_block i); cleared = new.nothing_is_cleared i }
 
 -- what is taken in such a slot
 pub slots_begun : (taken : ℕ → Option TakenCommand) (slot : ℕ) (r : TakenCommand) → IsUntouched r →

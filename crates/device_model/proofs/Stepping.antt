@@ -6,7 +6,7 @@ use Rattle.adapter.specs.Commands.{Meaning, direction_of, is_queued, is_ranged, 
 use Rattle.adapter.specs.Device.{Disk, Lasting, DevicePort, Device, IsSector}
 use Rattle.adapter.specs.Memory.{changed, patched, bytes_at}
 use Rattle.adapter.specs.Decoding.{DecodesTo}
-use Rattle.adapter.specs.Steps.{AreBsyDrqBits, admits, device_after, IsFinished, MayBeDone, MayFault, MayFetch, MayFetchFault, MayMove, Brings, with_port_and_entry, with_clear, with_fault, with_fetch, with_move, with_done, with_flush, clear_entry, done_entry, fault_entry, move_of, snapshot_of_bytes, device_memory_after, next_place, next_sector}
+use Rattle.adapter.specs.Steps.{AreBsyDrqBits, admits, device_after, IsFinished, MayBeDone, MayFault, MayFetch, MayFetchFault, MayMove, MayBring, with_port_and_entry, port_after_clear, port_after_fault, port_after_fetch, port_after_move, port_after_done, port_after_flush, clear_entry, done_entry, fault_entry, move_of, snapshot_of_bytes, memory_after_move, next_place, next_sector}
 use Rattle.adapter.specs.Steps.DeviceTransition.{Clear, FetchFault, Move, Unplug, Plug}
 use Rattle.adapter.specs.declared.access.FatalError.{FatalError}
 use Rattle.adapter.specs.declared.access.FatalError.TheVariants.{Interface, HostBus}
@@ -16,12 +16,12 @@ use Rattle.adapter.specs.declared.command.Operation.TheVariants.{Identify}
 use Rattle.adapter.specs.declared.tape.Entry.{Entry}
 use Rattle.adapter.specs.declared.tape.Entry.TheVariants as entry
 use Rattle.adapter.specs.declared.tape.Move as tape_move
-use Rattle.adapter.specs.Asked.{DoesFatal, DoesFault, DoesFetch, EndsAndPosts, fatal_bit}
-use Rattle.device_model.specs.Fetched.{bytes_of}
-use Rattle.device_model.specs.Sent.{SendsEnd}
+use Rattle.adapter.specs.ToldSteps.{DoesFatal, DoesFault, DoesFetch, EndsAndPosts, fatal_bit}
+use Rattle.device_model.specs.FetchedBytes.{bytes_of}
+use Rattle.device_model.specs.SentFises.{SendsEnd}
 use Rattle.device_model.specs.Slots.{HasUntaken, MayTake, WorksOnIn, IsNextMove}
-use Rattle.device_model.specs.View.{Media, cause_of, halt_of, taken_in, busy_if_left, media_after, media_cleared, media_ended, operation_of_kind, port_of, taken_of, blank_port}
-use Rattle.device_model.specs.WholeAdapter.{AllMedia, device_of, media_plugged, all_media_after, all_media_cleared, all_media_ended, all_media_plugged}
+use Rattle.device_model.specs.PortView.{Media, cause_of, halt_of, taken_in, busy_if_left, media_after_move, media_after_clear, media_after_end, operation_of_kind, port_of, taken_of, blank_port}
+use Rattle.device_model.specs.WholeAdapter.{AllMedia, device_of, media_after_plug, all_media_after_move, all_media_after_clear, all_media_after_end, all_media_after_plug}
 use Rattle.device_model.specs.declared.port.TakenCommand.{TakenCommand}
 use Rattle.device_model.specs.declared.port.CommandKind.{CommandKind}
 use Rattle.device_model.specs.declared.port.CommandKind.TheVariants as command_kind
@@ -47,14 +47,14 @@ moved_by port slot operation sector address direction bytes = record {
 pub port_takes : (h : Hardware) (o : AllMedia) (p port slot : ℕ) (new : PortModel) (t : TakenCommand) → p ≡ port → p < length h.ports →
     MayTake (port_of (slice_index_or h.ports p blank_port) (o.media p)) slot (operation_of_kind t.command_kind) →
     DecodesTo (device_of h o).memory ((device_of h o).port p).bases.clb slot (taken_of t).meaning (taken_of t).places →
-    port_of new (o.media p) ≡ with_fetch (port_of (slice_index_or h.ports p blank_port) (o.media p)) slot (taken_of t).meaning (taken_of t).places →
+    port_of new (o.media p) ≡ port_after_fetch (port_of (slice_index_or h.ports p blank_port) (o.media p)) slot (taken_of t).meaning (taken_of t).places →
     DoesFetch port slot (device_of h o) (device_of (record h { ports = slice_set h.ports p new }) o)
 port_takes h o p port slot new t e small may says is =
     subst (λ q. DoesFetch q slot (device_of h o) (device_of (record h { ports = slice_set h.ports p new }) o)) e
     (record {
       meaning = (taken_of t).meaning;
       places = (taken_of t).places;
-      can = record { fetchable = may.fetchable; working = may.working; alone = may.alone; says = says };
+      can = record { fetchable = may.fetchable; working = may.working; is_unmixed = may.is_unmixed; says = says };
       effect = set_port h o p new _ small is;
     })
 
@@ -62,7 +62,7 @@ port_takes h o p port slot new t e small may says is =
 pub fetch_takes : (h : Hardware) (o : AllMedia) (p port slot : ℕ) (m : Meaning) (places : List ℕ) → p ≡ port →
     MayFetch (device_of h o) port slot m places → MayTake (port_of (slice_index_or h.ports p blank_port) (o.media p)) slot m.operation
 fetch_takes h o p port slot m places e may =
-    rw e (record { fetchable = may.fetchable; working = may.working; alone = may.alone })
+    rw e (record { fetchable = may.fetchable; working = may.working; is_unmixed = may.is_unmixed })
 
 -- and its bytes say it
 pub fetch_says : (h : Hardware) (o : AllMedia) (p port slot : ℕ) (m : Meaning) (places : List ℕ) → p ≡ port →
@@ -80,22 +80,22 @@ unplugged h o p port new tape e small is more =
 
 -- what of another disk is lasting, or of the same
 lasting_put : (same : Bool) (was comes : Option (ℕ → List ℕ)) (at here since : ℕ) → since ≡ (if same then at else here) →
-    ◌≡◌ {A = Lasting} (record { sectors = if same then was else comes; since = since }) (if same then record { sectors = was; since = at } else record { sectors = comes; since = here })
-lasting_put true was comes at here since e = λ i. record { sectors = was; since = e i }
-lasting_put false was comes at here since e = λ i. record { sectors = comes; since = e i }
+    ◌≡◌ {A = Lasting} (record { sectors = if same then was else comes; tape_length = since }) (if same then record { sectors = was; tape_length = at } else record { sectors = comes; tape_length = here })
+lasting_put true was comes at here since e = λ i. record { sectors = was; tape_length = e i }
+lasting_put false was comes at here since e = λ i. record { sectors = comes; tape_length = e i }
 
 -- a disk is put in
 pub plugged_in : (h : Hardware) (o : AllMedia) (p port : ℕ) (new : PortModel) (tape : Vec Entry) (disk : Disk) (number since : ℕ) → disk.name ≡ number → p ≡ port → p < length h.ports →
     since ≡ (if nat_eq disk.name (o.media p).disk.name then (slice_index_or h.ports p blank_port).lasting_at else length h.tape.items) →
-    ((m : Media) → port_of new m ≡ record (port_of (slice_index_or h.ports p blank_port) m) { ssts_det = 3; present = true; fresh = false; serr_n = true; serr_x = true; lasting = record { sectors = m.lasting; since = since } }) →
+    ((m : Media) → port_of new m ≡ record (port_of (slice_index_or h.ports p blank_port) m) { ssts_det = 3; present = true; fresh = false; serr_n = true; serr_x = true; lasting = record { sectors = m.lasting; tape_length = since } }) →
     tape.items ≡ h.tape.items ++ entry.Plug (record { 0 = port }) number ∷ [] →
-    device_of (record h { ports = slice_set h.ports p new; tape = tape }) (all_media_plugged o port disk) ≡ device_after (Plug port disk) (device_of h o)
+    device_of (record h { ports = slice_set h.ports p new; tape = tape }) (all_media_after_plug o port disk) ≡ device_after (Plug port disk) (device_of h o)
 plugged_in h o p port new tape disk number since name e some lasts is more =
-    let media : Media = media_plugged (o.media p) disk in
+    let media : Media = media_after_plug (o.media p) disk in
     let state : DevicePort = port_of (slice_index_or h.ports p blank_port) media in
     let lasting = lasting_put (nat_eq disk.name (o.media p).disk.name) (o.media p).lasting disk.sectors (slice_index_or h.ports p blank_port).lasting_at (length h.tape.items) since lasts in
     let named : entry.Plug (record { 0 = p }) number ≡ entry.Plug (record { 0 = p }) disk.name = ap (entry.Plug (record { 0 = p })) (sym name) in
-    let P : ℕ → Type 0 = λ q. device_of (record h { ports = slice_set h.ports p new; tape = tape }) (all_media_plugged o q disk) ≡ device_after (Plug q disk) (device_of h o) in
+    let P : ℕ → Type 0 = λ q. device_of (record h { ports = slice_set h.ports p new; tape = tape }) (all_media_after_plug o q disk) ≡ device_after (Plug q disk) (device_of h o) in
     subst P e
     (set_port_plugged h o p new media _ tape (entry.Plug (record { 0 = p }) disk.name) some
     (is media ∙ ap (λ (l : Lasting). record state { ssts_det = 3; present = true; fresh = false; serr_n = true; serr_x = true; lasting = l }) lasting)
@@ -117,25 +117,25 @@ pub may_end : (h : Hardware) (o : AllMedia) (port slot : ℕ) (t : TakenCommand)
 may_end h o port slot t holds all = record {
   works = holds.works (o.media port);
   finished = all;
-  shown = is_cause t.command_kind;
+  cause_is_allowed = is_cause t.command_kind;
 }
 
 -- a command is at its end, and its FIS is sent
 pub port_ends : (h : Hardware) (o : AllMedia) (p port slot : ℕ) (new : PortModel) (t : TakenCommand) (tape : Vec Entry) (last : Device) → p ≡ port →
     p < length h.ports → WorksOnIn (slice_index_or h.ports p blank_port) slot t → IsFinished (taken_of t) →
-    port_of new (media_ended (o.media p) (operation_of_kind t.command_kind)) ≡ with_flush (with_done (port_of (slice_index_or h.ports p blank_port) (o.media p)) slot (cause_of t.command_kind) (operation_of_kind t.command_kind)) (operation_of_kind t.command_kind) (length h.tape.items) →
+    port_of new (media_after_end (o.media p) (operation_of_kind t.command_kind)) ≡ port_after_flush (port_after_done (port_of (slice_index_or h.ports p blank_port) (o.media p)) slot (cause_of t.command_kind) (operation_of_kind t.command_kind)) (operation_of_kind t.command_kind) (length h.tape.items) →
     tape.items ≡ h.tape.items ++ done_entry port slot (operation_of_kind t.command_kind) ∷ [] →
-    SendsEnd slot p (cause_of t.command_kind) (operation_of_kind t.command_kind) (device_of (record h { ports = slice_set h.ports p new; tape = tape }) (all_media_ended o p (operation_of_kind t.command_kind))) last →
+    SendsEnd slot p (cause_of t.command_kind) (operation_of_kind t.command_kind) (device_of (record h { ports = slice_set h.ports p new; tape = tape }) (all_media_after_end o p (operation_of_kind t.command_kind))) last →
     EndsAndPosts (SendsEnd slot) port slot (device_of h o) last
 port_ends h o p port slot new t tape last e small holds all is more sends =
     subst (λ q. EndsAndPosts (SendsEnd slot) q slot (device_of h o) last) e
     (record {
-      mid = device_of (record h { ports = slice_set h.ports p new; tape = tape }) (all_media_ended o p (operation_of_kind t.command_kind));
+      mid = device_of (record h { ports = slice_set h.ports p new; tape = tape }) (all_media_after_end o p (operation_of_kind t.command_kind));
       done = record {
         flag = cause_of t.command_kind;
-        t = taken_of t;
+        fetched_command = taken_of t;
         can = may_end h o p slot t holds all;
-        effect = set_port_plugged h o p new (media_ended (o.media p) (operation_of_kind t.command_kind)) _ tape (done_entry p slot (operation_of_kind t.command_kind)) small is (rw e more);
+        effect = set_port_plugged h o p new (media_after_end (o.media p) (operation_of_kind t.command_kind)) _ tape (done_entry p slot (operation_of_kind t.command_kind)) small is (rw e more);
       };
       posts = sends;
     })
@@ -148,11 +148,11 @@ pub may_fail_senseless : (h : Hardware) (o : AllMedia) (p port slot : ℕ) → p
 may_fail_senseless h o p port slot e may admitted none =
     let w = may (o.media p) Identify admitted in
     let P : ℕ → Type 0 = λ q. MayFetchFault (device_of h o) q slot 0 in
-    subst P e (record { fetchable = w.0; working = w.1; says_nothing = none; kept = refl })
+    subst P e (record { fetchable = w.0; working = w.1; says_nothing = none; kept_bits_are_allowed = refl })
 
 -- and it does
 pub port_fails_senseless : (h : Hardware) (o : AllMedia) (p port slot : ℕ) (new : PortModel) (tape : Vec Entry) → p ≡ port → p < length h.ports →
-    port_of new (o.media p) ≡ with_fault (port_of (slice_index_or h.ports p blank_port) (o.media p)) false 4 0 →
+    port_of new (o.media p) ≡ port_after_fault (port_of (slice_index_or h.ports p blank_port) (o.media p)) false 4 0 →
     tape.items ≡ h.tape.items ++ fault_entry port slot 4 0 ∷ [] →
     device_of (record h { ports = slice_set h.ports p new; tape = tape }) o ≡ device_after (FetchFault port slot false 0) (device_of h o)
 port_fails_senseless h o p port slot new tape e small is more =
@@ -171,25 +171,25 @@ may_fail h o port slot error busy t byte held cr = record {
   taken = slot_taken (taken_in (slice_index_or h.ports port blank_port).taken) t slot held;
   running = cr;
   is_byte = byte;
-  kept = kept_well busy;
+  kept_bits_are_allowed = kept_well busy;
 }
 
 -- and it does
 pub port_fails : (h : Hardware) (o : AllMedia) (p port slot error : ℕ) (busy : Bool) (new : PortModel) (t : TakenCommand) (queued : Bool) (tape : Vec Entry) → p ≡ port →
     p < length h.ports → error < 256 → taken_in (slice_index_or h.ports port blank_port).taken slot ≡ Some t → (slice_index_or h.ports port blank_port).cr ≡ true →
-    queued ≡ is_queued (operation_of_kind t.command_kind) → port_of new (o.media p) ≡ with_fault (port_of (slice_index_or h.ports p blank_port) (o.media p)) queued error (busy_if_left busy) →
+    queued ≡ is_queued (operation_of_kind t.command_kind) → port_of new (o.media p) ≡ port_after_fault (port_of (slice_index_or h.ports p blank_port) (o.media p)) queued error (busy_if_left busy) →
     tape.items ≡ h.tape.items ++ fault_entry port slot error (busy_if_left busy) ∷ [] →
-    (f : DoesFault port slot error (busy_if_left busy) (device_of h o) (device_of (record h { ports = slice_set h.ports p new; tape = tape }) o)) × (queued ≡ is_queued f.t.meaning.operation)
+    (f : DoesFault port slot error (busy_if_left busy) (device_of h o) (device_of (record h { ports = slice_set h.ports p new; tape = tape }) o)) × (queued ≡ is_queued f.fetched_command.meaning.operation)
 port_fails h o p port slot error busy new t queued tape e small byte held cr kind is more = (
   record {
-    t = taken_of t;
+    fetched_command = taken_of t;
     can = may_fail h o port slot error busy t byte held cr;
     effect =
         let P : ℕ → Type 0 = λ q. device_of (record h { ports = slice_set h.ports p new; tape = tape }) o
-        ≡ with_port_and_entry (device_of h o) q (with_fault ((device_of h o).port q) (is_queued (operation_of_kind t.command_kind)) error (busy_if_left busy)) (fault_entry q slot error (busy_if_left busy)) in
+        ≡ with_port_and_entry (device_of h o) q (port_after_fault ((device_of h o).port q) (is_queued (operation_of_kind t.command_kind)) error (busy_if_left busy)) (fault_entry q slot error (busy_if_left busy)) in
         subst P e
         (set_port_recorded h o p new _ tape (fault_entry p slot error (busy_if_left busy)) small
-        (is ∙ ap (λ (b : Bool). with_fault (port_of (slice_index_or h.ports p blank_port) (o.media p)) b error (busy_if_left busy)) kind) (rw (← e) at more));
+        (is ∙ ap (λ (b : Bool). port_after_fault (port_of (slice_index_or h.ports p blank_port) (o.media p)) b error (busy_if_left busy)) kind) (rw (← e) at more));
   },
   kind,
 )
@@ -216,13 +216,13 @@ port_breaks h o p port error new tape e small runs is more =
 -- the next piece of a command is moved
 pub port_moves : (h : Hardware) (o : AllMedia) (p port slot : ℕ) (next : NextMove) (new : PortModel) (t : TakenCommand) (tape : Vec Entry) (memory : Vec ℕ)
     (bytes : List ℕ) (operation : Operation) (direction : Direction) → p ≡ port → p < length h.ports → IsNextMove h port slot next t →
-    port_of new (media_after (o.media p) (taken_of t) bytes) ≡ with_move (port_of (slice_index_or h.ports p blank_port) (o.media p)) slot (taken_of t) bytes →
+    port_of new (media_after_move (o.media p) (taken_of t) bytes) ≡ port_after_move (port_of (slice_index_or h.ports p blank_port) (o.media p)) slot (taken_of t) bytes →
     operation ≡ operation_of_kind next.command_kind → direction ≡ direction_of (operation_of_kind next.command_kind) →
     tape.items ≡ h.tape.items ++ entry.Move (moved_by port slot operation next.sector next.address direction bytes) ∷ [] →
     length memory.items ≡ length h.memory.items →
     bytes_of memory.items
     ≡ (if reads_memory (operation_of_kind next.command_kind) then bytes_of h.memory.items else patched (bytes_of h.memory.items) next.address bytes) →
-    device_of (record h { memory = memory; ports = slice_set h.ports p new; tape = tape }) (all_media_after o port (taken_of t) bytes)
+    device_of (record h { memory = memory; ports = slice_set h.ports p new; tape = tape }) (all_media_after_move o port (taken_of t) bytes)
     ≡ device_after (Move port slot (taken_of t) bytes) (device_of h o)
 port_moves h o p port slot next new t tape memory bytes operation direction e small is moves named way more size put =
     let kind : next.command_kind ≡ t.command_kind = is.kind_is in
@@ -233,13 +233,13 @@ port_moves h o p port slot next new t tape memory bytes operation direction e sm
     let back : port ≡ p = sym e in
     let entries : tape.items ≡ h.tape.items ++ entry.Move (move_of p slot (taken_of t) bytes) ∷ [] =
     more ∙ (λ i. h.tape.items ++ entry.Move (moved_by (back i) slot (asks i) (sector i) (place i) (goes i) bytes) ∷ []) in
-    let kept : bytes_of memory.items ≡ device_memory_after (bytes_of h.memory.items) (taken_of t) bytes =
+    let kept : bytes_of memory.items ≡ memory_after_move (bytes_of h.memory.items) (taken_of t) bytes =
     put ∙ (λ i. if reads_memory (operation_of_kind (kind i)) then bytes_of h.memory.items else patched (bytes_of h.memory.items) (place i) bytes) in
     let new_memory : Vec ℕ = memory in
-    subst (λ q. device_of (record h { memory = new_memory; ports = slice_set h.ports p new; tape = tape }) (all_media_after o q (taken_of t) bytes)
+    subst (λ q. device_of (record h { memory = new_memory; ports = slice_set h.ports p new; tape = tape }) (all_media_after_move o q (taken_of t) bytes)
     ≡ device_after (Move q slot (taken_of t) bytes) (device_of h o)) e
-    (set_port_moved h o p new (media_after (o.media p) (taken_of t) bytes) (with_move ((device_of h o).port p) slot (taken_of t) bytes) tape
-    (entry.Move (move_of p slot (taken_of t) bytes)) new_memory (device_memory_after (bytes_of h.memory.items) (taken_of t) bytes) small moves entries size kept)
+    (set_port_moved h o p new (media_after_move (o.media p) (taken_of t) bytes) (port_after_move ((device_of h o).port p) slot (taken_of t) bytes) tape
+    (entry.Move (move_of p slot (taken_of t) bytes)) new_memory (memory_after_move (bytes_of h.memory.items) (taken_of t) bytes) small moves entries size kept)
 
 -- what the disk gave or took may be moved
 pub may_move : (h : Hardware) (o : AllMedia) (port slot : ℕ) (next : NextMove) (t : TakenCommand) (bytes : List ℕ) → IsNextMove h port slot next t →
@@ -248,10 +248,10 @@ pub may_move : (h : Hardware) (o : AllMedia) (port slot : ℕ) (next : NextMove)
     (reads_memory (operation_of_kind next.command_kind) ≡ true → bytes ≡ bytes_at (bytes_of h.memory.items) next.address 512) → MayMove (device_of h o) port slot (taken_of t) bytes
 may_move h o port slot next t bytes is sized small gives takes =
     record {
-      works = is.holds.works (o.media port);
-      left = is.left;
-      sector = sized;
-      brings = subst (λ (k : CommandKind). Brings (o.media port).disk (bytes_of h.memory.items) (taken_of t) (operation_of_kind k) bytes) is.kind_is
+      works = is.works_on.works (o.media port);
+      piece_is_left = is.piece_is_left;
+      bytes_are_sector = sized;
+      brings = subst (λ (k : CommandKind). MayBring (o.media port).disk (bytes_of h.memory.items) (taken_of t) (operation_of_kind k) bytes) is.kind_is
           (by next.command_kind refl);
     }
   where
@@ -268,7 +268,7 @@ may_move h o port slot next t bytes is sized small gives takes =
         let place : next.address ≡ next_place (taken_of t) = is.address_is in
         (rw sector at (small ranged), rw place at (takes reads))
 
-    by : (k : CommandKind) → next.command_kind ≡ k → Brings (o.media port).disk (bytes_of h.memory.items) (taken_of t) (operation_of_kind k) bytes
+    by : (k : CommandKind) → next.command_kind ≡ k → MayBring (o.media port).disk (bytes_of h.memory.items) (taken_of t) (operation_of_kind k) bytes
     by command_kind.Read e = given (ap (λ (k : CommandKind). is_ranged (operation_of_kind k)) e) (ap (λ (k : CommandKind). reads_memory (operation_of_kind k)) e)
     by command_kind.Write e = taken (ap (λ (k : CommandKind). is_ranged (operation_of_kind k)) e) (ap (λ (k : CommandKind). reads_memory (operation_of_kind k)) e)
     by command_kind.ReadQueued e = given (ap (λ (k : CommandKind). is_ranged (operation_of_kind k)) e) (ap (λ (k : CommandKind). reads_memory (operation_of_kind k)) e)
@@ -282,13 +282,13 @@ may_move h o port slot next t bytes is sized small gives takes =
 -- sectors of a trim are cleared
 pub port_clears : (h : Hardware) (o : AllMedia) (p port slot first count : ℕ) (new : PortModel) (t : TakenCommand) (tape : Vec Entry) → p ≡ port →
     p < length h.ports →
-    port_of new (media_cleared (o.media p) first count) ≡ with_clear (port_of (slice_index_or h.ports p blank_port) (o.media p)) slot (taken_of t) first count →
+    port_of new (media_after_clear (o.media p) first count) ≡ port_after_clear (port_of (slice_index_or h.ports p blank_port) (o.media p)) slot (taken_of t) first count →
     tape.items ≡ h.tape.items ++ clear_entry port slot first count ∷ [] →
-    device_of (record h { ports = slice_set h.ports p new; tape = tape }) (all_media_cleared o port first count) ≡ device_after (Clear port slot (taken_of t) first count) (device_of h o)
+    device_of (record h { ports = slice_set h.ports p new; tape = tape }) (all_media_after_clear o port first count) ≡ device_after (Clear port slot (taken_of t) first count) (device_of h o)
 port_clears h o p port slot first count new t tape e small is more =
     let new_tape : Vec Entry = tape in
     let back : port ≡ p = sym e in
     let entries : tape.items ≡ h.tape.items ++ clear_entry p slot first count ∷ [] = more ∙ (λ i. h.tape.items ++ clear_entry (back i) slot first count ∷ []) in
-    subst (λ q. device_of (record h { ports = slice_set h.ports p new; tape = new_tape }) (all_media_cleared o q first count)
+    subst (λ q. device_of (record h { ports = slice_set h.ports p new; tape = new_tape }) (all_media_after_clear o q first count)
     ≡ device_after (Clear q slot (taken_of t) first count) (device_of h o)) e
-    (set_port_plugged h o p new (media_cleared (o.media p) first count) _ tape (clear_entry p slot first count) small is entries)
+    (set_port_plugged h o p new (media_after_clear (o.media p) first count) _ tape (clear_entry p slot first count) small is entries)

@@ -3,7 +3,7 @@ use Rattle.std.proofs.Common.{ℕ, zero, suc, ◌≡◌, [], ◌∷◌, ◌++◌
 use Rattle.std.proofs.lemmas.List.Elements.{All-append, All-nil}
 use Rattle.std.specs.Prelude.{option_map}
 use Rattle.adapter.specs.Access.{noted}
-use Rattle.adapter.specs.Asked.{EndsAndPosts}
+use Rattle.adapter.specs.ToldSteps.{EndsAndPosts}
 use Rattle.adapter.specs.Device.{Device}
 use Rattle.adapter.specs.Steps.{done_entry}
 use Rattle.adapter.specs.declared.tape.Entry.{Entry}
@@ -12,9 +12,9 @@ use Rattle.adapter.specs.declared.tape.Move.{Move}
 use Rattle.hba_regs.specs.declared.reg.Reg.{Reg}
 use Rattle.hba_regs.specs.declared.reg.Reg.TheVariants.{Cap, Ghc, Is, Pi, Vs, Cap2, Bohc, Px}
 use Rattle.device_model.specs.Disks.{bay_of, identity, identity_of, page_source_of}
-use Rattle.device_model.specs.Paged.{BringsPageOfPort, GainsOwnPages, IsSentLog, IsSentIdentify}
-use Rattle.device_model.specs.Sent.{SendsEnd}
-use Rattle.device_model.specs.View.{operation_of_kind}
+use Rattle.device_model.specs.DiskPages.{BringsPageOfPort, GainsOwnPages, IsSentLog, IsSentIdentify}
+use Rattle.device_model.specs.SentFises.{SendsEnd}
+use Rattle.device_model.specs.PortView.{operation_of_kind}
 use Rattle.device_model.specs.WholeAdapter.{AllMedia, device_of}
 use Rattle.device_model.specs.declared.bay.Bay.{Bay}
 use Rattle.device_model.specs.declared.model.Model.{Model}
@@ -45,29 +45,29 @@ module _ {S : Type 0} (size : S → ℕ) where
 
   pub gains_none : (old new : Model S) → new.hardware.tape.items ≡ old.hardware.tape.items → GainsOwnPages size old new
   gains_none old new same = record {
-    gained = [];
-    tape = same ∙ sym (append-nil old.hardware.tape.items);
-    pages = All-nil (Tells old);
+    new_entries = [];
+    tape_grows = same ∙ sym (append-nil old.hardware.tape.items);
+    pages_are_own = All-nil (Tells old);
   }
 
   -- one more entry, which is no page or the disk's
   pub gains_one : (old new : Model S) (e : Entry) → new.hardware.tape.items ≡ old.hardware.tape.items ++ e ∷ [] →
       ((m : Move) → e ≡ entry.Move m → BringsPageOfPort (identity_of size old m.port.0) (page_source_of old m.port.0) m) → GainsOwnPages size old new
   gains_one old new e more here = record {
-    gained = e ∷ [];
-    tape = more;
-    pages = all_one (Tells old) e here;
+    new_entries = e ∷ [];
+    tape_grows = more;
+    pages_are_own = all_one (Tells old) e here;
   }
 
   pub gains_on : (a b c : Model S) → ((q : ℕ) → page_source_of b q ≡ page_source_of a q) → ((q : ℕ) → identity_of size b q ≡ identity_of size a q) → GainsOwnPages size a b →
       GainsOwnPages size b c → GainsOwnPages size a c
   gains_on a b c says disks first then = record {
-    gained = first.gained ++ then.gained;
-    tape = then.tape ∙ (ap (λ (t : List Entry). t ++ then.gained) first.tape ∙ append_assoc a.hardware.tape.items first.gained then.gained);
-    pages = All-append (Tells a) first.gained then.gained first.pages
+    new_entries = first.new_entries ++ then.new_entries;
+    tape_grows = then.tape_grows ∙ (ap (λ (t : List Entry). t ++ then.new_entries) first.tape_grows ∙ append_assoc a.hardware.tape.items first.new_entries then.new_entries);
+    pages_are_own = All-append (Tells a) first.new_entries then.new_entries first.pages_are_own
         (λ k d small m e.
         subst (λ x. BringsPageOfPort x (page_source_of a m.port.0) m) (disks m.port.0)
-        (subst (λ x. BringsPageOfPort (identity_of size b m.port.0) x m) (says m.port.0) (then.pages k d small m e)));
+        (subst (λ x. BringsPageOfPort (identity_of size b m.port.0) x m) (says m.port.0) (then.pages_are_own k d small m e)));
   }
 
   -- a move was noted, of a port that has these disks
@@ -80,7 +80,7 @@ module _ {S : Type 0} (size : S → ℕ) where
       (λ x e.
       let same : m ≡ x = cc in
       let its : BringsPageOfPort (Some (identity size bay.disk)) (Some bay.says) m =
-      record { identity = λ is. page (is_identify k (sym named ∙ is)); log = λ is. log (is_log k (sym named ∙ is)) } in
+      record { identify_page_is_sent = λ is. page (is_identify k (sym named ∙ is)); log_page_is_sent = λ is. log (is_log k (sym named ∙ is)) } in
       let here : BringsPageOfPort (identity_of size old m.port.0) (page_source_of old m.port.0) m =
       subst (λ b. BringsPageOfPort (option_map (λ (y : Bay S). identity size y.disk) b) (option_map (λ (y : Bay S). y.says) b) m) (sym was) its in
       subst (λ (y : Move). BringsPageOfPort (identity_of size old y.port.0) (page_source_of old y.port.0) y) same here)
@@ -89,6 +89,6 @@ module _ {S : Type 0} (size : S → ℕ) where
   pub gains_done : (o later : AllMedia) (port slot : ℕ) (old new : Model S) → EndsAndPosts (SendsEnd slot) port slot (device_of old.hardware o) (device_of new.hardware later) →
       GainsOwnPages size old new
   gains_done o later port slot old new e =
-      let rest = end_rest port slot e.done.flag e.done.t.meaning.operation e.mid (device_of new.hardware later) e.posts in
-      gains_one old new (done_entry port slot e.done.t.meaning.operation) (ap (λ (x : Device). x.tape) rest ∙ ap (λ (x : Device). x.tape) e.done.effect)
+      let rest = end_rest port slot e.done.flag e.done.fetched_command.meaning.operation e.mid (device_of new.hardware later) e.posts in
+      gains_one old new (done_entry port slot e.done.fetched_command.meaning.operation) (ap (λ (x : Device). x.tape) rest ∙ ap (λ (x : Device). x.tape) e.done.effect)
       (λ x is. absurd (cc is))

@@ -2,8 +2,8 @@
 use Rattle.std.proofs.Common.{ℕ, Bool, true, false, ◌≡◌, ◌<◌, ◌∙◌, List, [], ◌∷◌, ◌++◌, Option, None, Some, refl, sym, ap, subst, inl, inr}
 use Rattle.std.specs.Global.{Vec}
 use Rattle.std.specs.Prelude.{if◌then◌else◌, option_map, slice_set}
-use Rattle.adapter.specs.Asked.{DoesFatal, DoesFault, DoesFetch, DoesScribble, DoesToldStep, EndsAndPosts, Fails, fatal_bit}
-use Rattle.adapter.specs.Asked.{busy as busy_bit}
+use Rattle.adapter.specs.ToldSteps.{DoesFatal, DoesFault, DoesFetch, DoesScribble, DoesToldStep, EndsAndPosts, Fails, fatal_bit}
+use Rattle.adapter.specs.ToldSteps.{busy as busy_bit}
 use Rattle.adapter.specs.Commands.{Meaning, is_queued}
 use Rattle.adapter.specs.Device.{Device, FetchedCommand}
 use Rattle.adapter.specs.Steps.{Can, device_after, fault_entry}
@@ -20,15 +20,15 @@ use Rattle.ata_types.specs.declared.Port.{Port}
 use Rattle.ata_types.specs.declared.Slot.{Slot}
 use Rattle.sector_store.specs.declared.store.Failures.{Failures}
 use Rattle.device_model.specs.Disks.{EndsCommandIn, OnlyEndsCommand, EndsCommand, OnlyChangesPageSource, bay_of, disk_in_bay, lasting_of, page_source_of, disk_index_of}
-use Rattle.device_model.specs.Does.{AnswersStep, DoesAllItAsks, IsLeftOut, is_losing, MayBeFetched, StepKeeps, LacksMemory, Possible, asked_fault, asked_port, page_source_after, page_source_after_failure, disk_index_after}
+use Rattle.device_model.specs.StepEffects.{AnswersStep, DoesAllItAsks, IsLeftOut, is_losing, MayBeFetched, StepKeeps, LacksMemory, IsPossible, asked_fault, asked_port, page_source_after, page_source_after_failure, disk_index_after}
 use Rattle.device_model.specs.Finishing.{TapeHasRoom, IsStepSkipped}
-use Rattle.device_model.specs.Held.{held_after}
-use Rattle.device_model.specs.Modelled.{device_at, media_of, all_media_at, tells}
-use Rattle.device_model.specs.Sent.{Sends, SendsEnd, SendsFailed, SendsFault}
-use Rattle.device_model.specs.View.{busy_if_left, media_ended}
-use Rattle.device_model.specs.WholeAdapter.{AllMedia, device_of, all_media_ended}
+use Rattle.device_model.specs.HeldPorts.{held_after}
+use Rattle.device_model.specs.ModelState.{device_at, media_of, all_media_at, tells}
+use Rattle.device_model.specs.SentFises.{Sends, SendsEnd, SendsFailed, SendsFault}
+use Rattle.device_model.specs.PortView.{busy_if_left, media_after_end}
+use Rattle.device_model.specs.WholeAdapter.{AllMedia, device_of, all_media_after_end}
 use Rattle.device_model.specs.declared.hardware.Hardware.{Hardware}
-use Rattle.device_model.specs.Cached.{lasting_in}
+use Rattle.device_model.specs.WriteCaches.{lasting_in}
 use Rattle.device_model.specs.OldSectors.{with_old_bytes}
 use Rattle.device_model.specs.declared.old_sectors.OldSector.{OldSector}
 use Rattle.device_model.specs.declared.bay.Bay.{Bay}
@@ -40,10 +40,10 @@ use Rattle.device_model.proofs.Doing.{left_same}
 use Rattle.device_model.proofs.Posting.{fault_rest}
 use Rattle.device_model.proofs.Telling.{gains_none, gains_one, gains_done}
 use Rattle.device_model.proofs.TwoDisks.{put_keeps, put_others, put_outside, put_same, saying_here, saying_keeps, saying_others, saying_outside, saying_same}
-use Rattle.device_model.specs.Paged.{with_logged_error}
+use Rattle.device_model.specs.DiskPages.{with_logged_error}
 
 -- a command failed, and then its FIS was sent
-abbrev pub fault_sent : (port at slot error kept : ℕ) (queued : Bool) (old mid new : Device) (f : DoesFault port slot error kept old mid) → queued ≡ is_queued f.t.meaning.operation →
+abbrev pub fault_sent : (port at slot error kept : ℕ) (queued : Bool) (old mid new : Device) (f : DoesFault port slot error kept old mid) → queued ≡ is_queued f.fetched_command.meaning.operation →
     at ≡ port → SendsFault queued at mid new → Fails SendsFailed port slot error kept old new
 fault_sent port at slot error kept queued old mid new f kind here sent = record {
   mid = mid;
@@ -77,10 +77,10 @@ module _ {S : Type 0} (size : S → ℕ) (told : S → Option (ℕ → List ℕ)
   none_older true items (Some f) none = ap (λ (l : List OldSector). Some (with_old_bytes l f)) none
 
   -- what is behind a port once a command has ended
-  ended_some : (o : Operation) (a b : Bay S) → EndsCommand o a b → media_of size told (Some b) ≡ media_ended (media_of size told (Some a)) o
+  ended_some : (o : Operation) (a b : Bay S) → EndsCommand o a b → media_of size told (Some b) ≡ media_after_end (media_of size told (Some a)) o
   ended_some operation.Flush a b is =
       let lasts : lasting_of told b ≡ told a.disk.store =
-      ap (λ (x : Bay S). lasting_in b.cache (told x.disk.store) (told x.lasting.value)) is.1 ∙ none_older b.cache.is_on b.cache.kept.sectors.items (told a.disk.store) is.0.items in
+      ap (λ (x : Bay S). lasting_in b.cache (told x.disk.store) (told x.lasting.value)) is.1 ∙ none_older b.cache.is_on b.cache.kept.sectors.items (told a.disk.store) is.0.old_sectors_are in
       λ i. record {
         disk = (media_of size told (Some (is.1 i))).disk;
         plugged = (media_of size told (Some (is.1 i))).plugged;
@@ -94,10 +94,10 @@ module _ {S : Type 0} (size : S → ℕ) (told : S → Option (ℕ → List ℕ)
   ended_some operation.WriteQueued a b is = ap (λ (x : Bay S). media_of size told (Some x)) is
   ended_some operation.Trim a b is = ap (λ (x : Bay S). media_of size told (Some x)) is
 
-  ended_media : (o : Operation) (x bay : Option (Bay S)) → EndsCommandIn o x bay → media_of size told bay ≡ media_ended (media_of size told x) o
+  ended_media : (o : Operation) (x bay : Option (Bay S)) → EndsCommandIn o x bay → media_of size told bay ≡ media_after_end (media_of size told x) o
   ended_media o None bay is = ap (media_of size told) is ∙ ended_none o
     where
-      ended_none : (o : Operation) → media_of size told None ≡ media_ended (media_of size told None) o
+      ended_none : (o : Operation) → media_of size told None ≡ media_after_end (media_of size told None) o
       ended_none operation.Flush = refl
       ended_none operation.Identify = refl
       ended_none operation.ReadLog = refl
@@ -117,35 +117,35 @@ module _ {S : Type 0} (size : S → ℕ) (told : S → Option (ℕ → List ℕ)
   behind = all_media_at size told m
 
   pub on_hardware : StepKeeps size m new
-  on_hardware = record { identities = λ _ _. refl; out = λ _ _ _. refl; port_has_cache = λ _. refl; queue = refl; accesses = refl }
+  on_hardware = record { identities_are_kept = λ _ _. refl; absent_disks_are_kept = λ _ _ _. refl; caches_are_kept = λ _. refl; queue_is_kept = refl; access_count_is_kept = refl }
 
   -- a step that notes one entry wasn't done
-  passed_left : (s : DeviceStep) (possible : Type 0) → (Possible s (device_at size told m) → possible) → (possible → Possible s (device_at size told m)) →
+  passed_left : (s : DeviceStep) (possible : Type 0) → (IsPossible s (device_at size told m) → possible) → (possible → IsPossible s (device_at size told m)) →
       ((TapeHasRoom m.hardware 1 → ⊥) → LacksMemory s (device_at size told m) m.hardware m.bays.items) → device_of h behind ≡ device_of m.hardware behind →
       IsStepSkipped m.hardware h possible → IsLeftOut size told failures s m new
   passed_left s possible forth back lacks same (inl never) = record {
-    device = same;
-    held = refl;
-    says = refl;
-    which = refl;
-    others = λ _ _. refl;
-    disks = λ _. refl;
-    why = λ _ may. absurd (never.0 (forth may));
-    keeps = on_hardware;
-    starved_on = λ yes. ap (λ (x : Hardware). x.starved) never.1 ∙ yes;
-    starved_since = λ yes. inl (sym (ap (λ (x : Hardware). x.starved) never.1) ∙ yes);
+    device_is_kept = same;
+    held_ports_are = refl;
+    page_source_is = refl;
+    disk_index_is = refl;
+    other_bays_are_kept = λ _ _. refl;
+    disks_are_kept = λ _. refl;
+    lacks_memory = λ _ may. absurd (never.0 (forth may));
+    step_keeps = on_hardware;
+    stays_starved = λ yes. ap (λ (x : Hardware). x.starved) never.1 ∙ yes;
+    starves_for_want = λ yes. inl (sym (ap (λ (x : Hardware). x.starved) never.1) ∙ yes);
   }
   passed_left s possible forth back lacks same (inr missed) = record {
-    device = same;
-    held = refl;
-    says = refl;
-    which = refl;
-    others = λ _ _. refl;
-    disks = λ _. refl;
-    why = λ _ may. (lacks missed.1, missed.2);
-    keeps = on_hardware;
-    starved_on = λ _. missed.2;
-    starved_since = λ _. inr (back missed.0, lacks missed.1);
+    device_is_kept = same;
+    held_ports_are = refl;
+    page_source_is = refl;
+    disk_index_is = refl;
+    other_bays_are_kept = λ _ _. refl;
+    disks_are_kept = λ _. refl;
+    lacks_memory = λ _ may. (lacks missed.1, missed.2);
+    step_keeps = on_hardware;
+    stays_starved = λ _. missed.2;
+    starves_for_want = λ _. inr (back missed.0, lacks missed.1);
   }
 
   -- nothing was taken, and nothing failed
@@ -153,32 +153,32 @@ module _ {S : Type 0} (size : S → ℕ) (told : S → Option (ℕ → List ℕ)
       device_of h behind ≡ device_of m.hardware behind → IsStepSkipped m.hardware h (Can (FetchFault p.0 s.0 false 0) (device_of m.hardware behind)) →
       IsLeftOut size told failures (asked.Fetch p s) m new
   fetch_left p s port slot only same (inl never) = record {
-    device = same;
-    held = refl;
-    says = refl;
-    which = refl;
-    others = λ _ _. refl;
-    disks = λ _. refl;
-    why = λ _ may. absurd (none may.2);
-    keeps = on_hardware;
-    starved_on = λ yes. ap (λ (x : Hardware). x.starved) never.1 ∙ yes;
-    starved_since = λ yes. inl (sym (ap (λ (x : Hardware). x.starved) never.1) ∙ yes);
+    device_is_kept = same;
+    held_ports_are = refl;
+    page_source_is = refl;
+    disk_index_is = refl;
+    other_bays_are_kept = λ _ _. refl;
+    disks_are_kept = λ _. refl;
+    lacks_memory = λ _ may. absurd (none may.2);
+    step_keeps = on_hardware;
+    stays_starved = λ yes. ap (λ (x : Hardware). x.starved) never.1 ∙ yes;
+    starves_for_want = λ yes. inl (sym (ap (λ (x : Hardware). x.starved) never.1) ∙ yes);
   }
     where
       none : MayBeFetched (device_of m.hardware behind) p.0 s.0 → ⊥
       none (inl may) = only may.0 may.1 may.2
       none (inr may) = never.0 may
   fetch_left p s port slot only same (inr missed) = record {
-    device = same;
-    held = refl;
-    says = refl;
-    which = refl;
-    others = λ _ _. refl;
-    disks = λ _. refl;
-    why = λ _ _. ((missed.0, missed.1), missed.2);
-    keeps = on_hardware;
-    starved_on = λ _. missed.2;
-    starved_since = λ _. inr ((port, slot, inr missed.0), (missed.0, missed.1));
+    device_is_kept = same;
+    held_ports_are = refl;
+    page_source_is = refl;
+    disk_index_is = refl;
+    other_bays_are_kept = λ _ _. refl;
+    disks_are_kept = λ _. refl;
+    lacks_memory = λ _ _. ((missed.0, missed.1), missed.2);
+    step_keeps = on_hardware;
+    stays_starved = λ _. missed.2;
+    starves_for_want = λ _. inr ((port, slot, inr missed.0), (missed.0, missed.1));
   }
 
   -- a command was taken
@@ -187,13 +187,13 @@ module _ {S : Type 0} (size : S → ℕ) (told : S → Option (ℕ → List ℕ)
   fetch_answers p s port slot f tape starved = (
     (port, slot, inl (f.meaning, f.places, f.can)),
     record {
-      came = inl (record { asked = f; fine = λ _ _ _. refl; says = refl; ends = λ _. tt; loses = λ yes. true-false yes refl });
-      held = refl;
-      which = refl;
-      others = λ _ _. refl;
-      pages = gains_none size m new (ap (λ (v : Vec Entry). v.items) tape);
-      disks = λ _ _. refl;
-      keeps = on_hardware;
+      completes_or_fails = inl (record { does_told_step = f; no_call_failed = λ _ _ _. refl; page_source_is = refl; does_all_it_asks = λ _. tt; loses_cache = λ yes. true-false yes refl });
+      held_ports_are = refl;
+      disk_index_is = refl;
+      other_bays_are_kept = λ _ _. refl;
+      gains_own_pages = gains_none size m new (ap (λ (v : Vec Entry). v.items) tape);
+      disks_are_kept = λ _ _. refl;
+      step_keeps = on_hardware;
       starved = starved;
     },
   )
@@ -208,13 +208,13 @@ module _ {S : Type 0} (size : S → ℕ) (told : S → Option (ℕ → List ℕ)
       let d = done refl in (
         (port, slot, inr d.0),
         record {
-          came = inr (record { can = d.0; sends = d.1; stores = refl; log = refl });
-          held = refl;
-          which = refl;
-          others = λ _ _. refl;
-          pages = gains_one size m new (fault_entry p.0 s.0 4 0) (ap (λ (x : Device). x.tape) (fault_rest false p.0 (device_after (FetchFault p.0 s.0 false 0) (device_of m.hardware behind)) (device_of h behind) d.1)) (λ x e. absurd (cc e));
-          disks = λ _ _. refl;
-          keeps = on_hardware;
+          completes_or_fails = inr (record { can = d.0; sends = d.1; failures_are_kept = refl; page_source_after_is = refl });
+          held_ports_are = refl;
+          disk_index_is = refl;
+          other_bays_are_kept = λ _ _. refl;
+          gains_own_pages = gains_one size m new (fault_entry p.0 s.0 4 0) (ap (λ (x : Device). x.tape) (fault_rest false p.0 (device_after (FetchFault p.0 s.0 false 0) (device_of m.hardware behind)) (device_of h behind) d.1)) (λ x e. absurd (cc e));
+          disks_are_kept = λ _ _. refl;
+          step_keeps = on_hardware;
           starved = starved refl;
         },
       )
@@ -223,7 +223,7 @@ module _ {S : Type 0} (size : S → ℕ) (told : S → Option (ℕ → List ℕ)
 
   -- a command ended
   pub done_answers : (p : Port) (s : Slot) (o : Operation) (bays : Vec (Option (Bay S))) → p.0 < 4 → s.0 < 32 →
-      EndsAndPosts (SendsEnd s.0) p.0 s.0 (device_of m.hardware behind) (device_of h (all_media_ended behind p.0 o)) →
+      EndsAndPosts (SendsEnd s.0) p.0 s.0 (device_of m.hardware behind) (device_of h (all_media_after_end behind p.0 o)) →
       h.starved ≡ m.hardware.starved → OnlyEndsCommand o p.0 m.bays.items bays.items → AnswersStep size told failures (asked.Done p s) true m (record new { bays = bays })
   done_answers p s o bays port slot d starved (bay, is, only) =
       let last : Model S = record new { bays = bays } in
@@ -232,26 +232,26 @@ module _ {S : Type 0} (size : S → ℕ) (told : S → Option (ℕ → List ℕ)
       let items : bays.items ≡ slice_set m.bays.items p.0 (option_map put (bay_of m p.0)) = only ∙ ap (λ x. slice_set m.bays.items p.0 x) ended.1 in
       let rest : (b : Bay S) → bay_of m p.0 ≡ Some b → (put b ≡ record b { lasting = (put b).lasting; cache = (put b).cache }) × ((put b).cache.is_on ≡ b.cache.is_on) =
       λ b e. ended_rest size told o b (put b) (ended.2 b e) in
-      let behind_then : all_media_at size told last ≡ all_media_ended behind p.0 o =
-      put_outside put m last p.0 items size told (λ x. media_ended x o) (λ b e. ap (λ (x : Bay S). tells told (Some x)) (rest b e).0)
+      let behind_then : all_media_at size told last ≡ all_media_after_end behind p.0 o =
+      put_outside put m last p.0 items size told (λ x. media_after_end x o) (λ b e. ap (λ (x : Bay S). tells told (Some x)) (rest b e).0)
       (ap (media_of size told) (sym ended.1) ∙ ended_media size told o (bay_of m p.0) bay is) in
       let P : AllMedia → Type 0 = λ x. EndsAndPosts (SendsEnd s.0) p.0 s.0 (device_of m.hardware behind) (device_of h x) in (
-        (port, slot, d.done.flag, d.done.t, d.done.can),
+        (port, slot, d.done.flag, d.done.fetched_command, d.done.can),
         record {
-          came = inl (record {
-            asked = subst P (sym behind_then) d;
-            fine = λ _ q w. put_same put m last p.0 items (λ x. option_map (λ (y : ModelDisk S). failures y.store) (option_map (λ (y : Bay S). disk_in_bay y w) x))
+          completes_or_fails = inl (record {
+            does_told_step = subst P (sym behind_then) d;
+            no_call_failed = λ _ q w. put_same put m last p.0 items (λ x. option_map (λ (y : ModelDisk S). failures y.store) (option_map (λ (y : Bay S). disk_in_bay y w) x))
                 (λ b e. ap (λ (x : Bay S). Some (failures (disk_in_bay x w).store)) (rest b e).0) q;
-            says = put_same put m last p.0 items (option_map (λ (y : Bay S). y.says)) (λ b e. ap (λ (x : Bay S). Some x.says) (rest b e).0) p.0;
-            ends = λ _. tt;
-            loses = λ yes. true-false yes refl;
+            page_source_is = put_same put m last p.0 items (option_map (λ (y : Bay S). y.says)) (λ b e. ap (λ (x : Bay S). Some x.says) (rest b e).0) p.0;
+            does_all_it_asks = λ _. tt;
+            loses_cache = λ yes. true-false yes refl;
           });
-          held = refl;
-          which = put_same put m last p.0 items (option_map (λ (y : Bay S). y.which)) (λ b e. ap (λ (x : Bay S). Some x.which) (rest b e).0) p.0;
-          others = put_others put m last p.0 items;
-          pages = gains_done size behind (all_media_ended behind p.0 o) p.0 s.0 m last d;
-          disks = λ _ w. put_same put m last p.0 items (option_map (λ (y : Bay S). disk_in_bay y w)) (λ b e. ap (λ (x : Bay S). Some (disk_in_bay x w)) (rest b e).0) p.0;
-          keeps = put_keeps put m last p.0 items size (λ b e w. ap (λ (x : Bay S). disk_in_bay x w) (rest b e).0) (λ b e. (rest b e).1) refl refl;
+          held_ports_are = refl;
+          disk_index_is = put_same put m last p.0 items (option_map (λ (y : Bay S). y.which)) (λ b e. ap (λ (x : Bay S). Some x.which) (rest b e).0) p.0;
+          other_bays_are_kept = put_others put m last p.0 items;
+          gains_own_pages = gains_done size behind (all_media_after_end behind p.0 o) p.0 s.0 m last d;
+          disks_are_kept = λ _ w. put_same put m last p.0 items (option_map (λ (y : Bay S). disk_in_bay y w)) (λ b e. ap (λ (x : Bay S). Some (disk_in_bay x w)) (rest b e).0) p.0;
+          step_keeps = put_keeps put m last p.0 items size (λ b e w. ap (λ (x : Bay S). disk_in_bay x w) (rest b e).0) (λ b e. (rest b e).1) refl refl;
           starved = starved;
         },
       )
@@ -264,7 +264,7 @@ module _ {S : Type 0} (size : S → ℕ) (told : S → Option (ℕ → List ℕ)
       (λ may. (port, slot, may.0, may.1, may.2)) (λ none. none) same passed
 
   -- a command that is taken fails: in the model the log names it, if it is queued
-  module _ (step : DeviceStep) (s : Slot) (error kept : ℕ) (may : Possible step (device_at size told m))
+  module _ (step : DeviceStep) (s : Slot) (error kept : ℕ) (may : IsPossible step (device_at size told m))
       (f : Fails SendsFailed (asked_port step) s.0 error kept (device_of m.hardware behind) (device_of h behind)) (starved : h.starved ≡ m.hardware.starved)
       (done : (old last : Device) → Fails SendsFailed (asked_port step) s.0 error kept old last → DoesToldStep (Sends step) step old last)
       (ends : (old last : Device) → DoesAllItAsks step old last)
@@ -278,49 +278,49 @@ module _ {S : Type 0} (size : S → ℕ) (told : S → Option (ℕ → List ℕ)
     name = with_logged_error (record { tag = s.0; error = error })
 
     noted : h.tape.items ≡ m.hardware.tape.items ++ fault_entry at s.0 error kept ∷ []
-    noted = ap (λ (x : Device). x.tape) (fault_rest (is_queued f.fault.t.meaning.operation) at f.mid (device_of h behind) f.posts) ∙ ap (λ (x : Device). x.tape) f.fault.effect
+    noted = ap (λ (x : Device). x.tape) (fault_rest (is_queued f.fault.fetched_command.meaning.operation) at f.mid (device_of h behind) f.posts) ∙ ap (λ (x : Device). x.tape) f.fault.effect
 
-    said : (queued : Bool) → is_queued f.fault.t.meaning.operation ≡ queued →
+    said : (queued : Bool) → is_queued f.fault.fetched_command.meaning.operation ≡ queued →
         (if queued then option_map name (page_source_of m at) else page_source_of m at) ≡ page_source_after step (device_at size told m) (page_source_of m at)
     said queued e =
         ap (λ (b : Bool). if b then option_map name (page_source_of m at) else page_source_of m at) (sym e)
         ∙ (ap (λ (t : Option FetchedCommand). page_source_after_failure t s.0 error (page_source_of m at)) (sym f.fault.can.taken) ∙ sym (tells (page_source_of m at)))
 
-    plain_fails : is_queued f.fault.t.meaning.operation ≡ false → AnswersStep size told failures step true m new
+    plain_fails : is_queued f.fault.fetched_command.meaning.operation ≡ false → AnswersStep size told failures step true m new
     plain_fails plain = (
       may,
       record {
-        came = inl (record { asked = done _ _ f; fine = λ _ _ _. refl; says = said false plain; ends = λ _. ends _ _; loses = λ yes. true-false yes safe });
-        held = held;
-        which = which;
-        others = λ _ _. refl;
-        pages = gains_one size m new (fault_entry at s.0 error kept) noted (λ x e. absurd (cc e));
-        disks = λ _ _. refl;
-        keeps = on_hardware;
+        completes_or_fails = inl (record { does_told_step = done _ _ f; no_call_failed = λ _ _ _. refl; page_source_is = said false plain; does_all_it_asks = λ _. ends _ _; loses_cache = λ yes. true-false yes safe });
+        held_ports_are = held;
+        disk_index_is = which;
+        other_bays_are_kept = λ _ _. refl;
+        gains_own_pages = gains_one size m new (fault_entry at s.0 error kept) noted (λ x e. absurd (cc e));
+        disks_are_kept = λ _ _. refl;
+        step_keeps = on_hardware;
         starved = starved;
       },
     )
 
-    queued_fails : (bays : Vec (Option (Bay S))) → OnlyChangesPageSource name at m.bays.items bays.items → is_queued f.fault.t.meaning.operation ≡ true →
+    queued_fails : (bays : Vec (Option (Bay S))) → OnlyChangesPageSource name at m.bays.items bays.items → is_queued f.fault.fetched_command.meaning.operation ≡ true →
         AnswersStep size told failures step true m (record new { bays = bays })
     queued_fails bays only queued =
         let last : Model S = record new { bays = bays } in
         let P : AllMedia → Type 0 = λ o. Fails SendsFailed at s.0 error kept (device_of m.hardware behind) (device_of h o) in (
           may,
           record {
-            came = inl (record {
-              asked = done _ _ (subst P (sym (saying_outside name m last at only size told)) f);
-              fine = λ _ q w. saying_same name m last at only (λ x. option_map (λ (y : ModelDisk S). failures y.store) (option_map (λ (y : Bay S). disk_in_bay y w) x)) (λ b. refl) q;
-              says = saying_here name m last at only ∙ said true queued;
-              ends = λ _. ends _ _;
-              loses = λ yes. true-false yes safe;
+            completes_or_fails = inl (record {
+              does_told_step = done _ _ (subst P (sym (saying_outside name m last at only size told)) f);
+              no_call_failed = λ _ q w. saying_same name m last at only (λ x. option_map (λ (y : ModelDisk S). failures y.store) (option_map (λ (y : Bay S). disk_in_bay y w) x)) (λ b. refl) q;
+              page_source_is = saying_here name m last at only ∙ said true queued;
+              does_all_it_asks = λ _. ends _ _;
+              loses_cache = λ yes. true-false yes safe;
             });
-            held = held;
-            which = saying_same name m last at only (option_map (λ (y : Bay S). y.which)) (λ b. refl) at ∙ which;
-            others = saying_others name m last at only;
-            pages = gains_one size m last (fault_entry at s.0 error kept) noted (λ x e. absurd (cc e));
-            disks = λ _ w. saying_same name m last at only (option_map (λ (y : Bay S). disk_in_bay y w)) (λ b. refl) at;
-            keeps = saying_keeps name m last at only size refl refl;
+            held_ports_are = held;
+            disk_index_is = saying_same name m last at only (option_map (λ (y : Bay S). y.which)) (λ b. refl) at ∙ which;
+            other_bays_are_kept = saying_others name m last at only;
+            gains_own_pages = gains_one size m last (fault_entry at s.0 error kept) noted (λ x e. absurd (cc e));
+            disks_are_kept = λ _ w. saying_same name m last at only (option_map (λ (y : Bay S). disk_in_bay y w)) (λ b. refl) at;
+            step_keeps = saying_keeps name m last at only size refl refl;
             starved = starved;
           },
         )
@@ -328,20 +328,20 @@ module _ {S : Type 0} (size : S → ℕ) (told : S → Option (ℕ → List ℕ)
   -- the one or the other: its disk is left busy, or not
   pub plain_answers : (busy : Bool) (p : Port) (s : Slot) (error : ℕ) → p.0 < 4 → s.0 < 32 →
       (f : Fails SendsFailed p.0 s.0 error (busy_if_left busy) (device_of m.hardware behind) (device_of h behind)) → h.starved ≡ m.hardware.starved →
-      is_queued f.fault.t.meaning.operation ≡ false → AnswersStep size told failures (asked_fault busy p s error) true m new
+      is_queued f.fault.fetched_command.meaning.operation ≡ false → AnswersStep size told failures (asked_fault busy p s error) true m new
   plain_answers false p s error port slot f starved plain =
-      plain_fails (asked.Fault p s error) s error 0 (port, slot, f.fault.t, f.fault.can) f starved (λ _ _ g. g) (λ _ _. tt) refl (λ _. refl) refl refl plain
+      plain_fails (asked.Fault p s error) s error 0 (port, slot, f.fault.fetched_command, f.fault.can) f starved (λ _ _ g. g) (λ _ _. tt) refl (λ _. refl) refl refl plain
   plain_answers true p s error port slot f starved plain =
-      plain_fails (asked.FaultBusy p s error) s error busy_bit (port, slot, f.fault.t, f.fault.can) f starved (λ _ _ g. g) (λ _ _. tt) refl (λ _. refl) refl refl plain
+      plain_fails (asked.FaultBusy p s error) s error busy_bit (port, slot, f.fault.fetched_command, f.fault.can) f starved (λ _ _ g. g) (λ _ _. tt) refl (λ _. refl) refl refl plain
 
   pub queued_answers : (busy : Bool) (p : Port) (s : Slot) (error : ℕ) → p.0 < 4 → s.0 < 32 →
       (f : Fails SendsFailed p.0 s.0 error (busy_if_left busy) (device_of m.hardware behind) (device_of h behind)) → h.starved ≡ m.hardware.starved →
       (bays : Vec (Option (Bay S))) → OnlyChangesPageSource (with_logged_error (record { tag = s.0; error = error })) p.0 m.bays.items bays.items →
-      is_queued f.fault.t.meaning.operation ≡ true → AnswersStep size told failures (asked_fault busy p s error) true m (record new { bays = bays })
+      is_queued f.fault.fetched_command.meaning.operation ≡ true → AnswersStep size told failures (asked_fault busy p s error) true m (record new { bays = bays })
   queued_answers false p s error port slot f starved bays only queued =
-      queued_fails (asked.Fault p s error) s error 0 (port, slot, f.fault.t, f.fault.can) f starved (λ _ _ g. g) (λ _ _. tt) refl (λ _. refl) refl refl bays only queued
+      queued_fails (asked.Fault p s error) s error 0 (port, slot, f.fault.fetched_command, f.fault.can) f starved (λ _ _ g. g) (λ _ _. tt) refl (λ _. refl) refl refl bays only queued
   queued_answers true p s error port slot f starved bays only queued =
-      queued_fails (asked.FaultBusy p s error) s error busy_bit (port, slot, f.fault.t, f.fault.can) f starved (λ _ _ g. g) (λ _ _. tt) refl (λ _. refl) refl refl bays only queued
+      queued_fails (asked.FaultBusy p s error) s error busy_bit (port, slot, f.fault.fetched_command, f.fault.can) f starved (λ _ _ g. g) (λ _ _. tt) refl (λ _. refl) refl refl bays only queued
 
   -- none did
   pub fail_left : (busy : Bool) (p : Port) (s : Slot) (error : ℕ) → p.0 < 4 → s.0 < 32 → device_of h behind ≡ device_of m.hardware behind →
@@ -362,13 +362,13 @@ module _ {S : Type 0} (size : S → ℕ) (told : S → Option (ℕ → List ℕ)
       let d = done refl in (
         (port, d.receives),
         record {
-          came = inl (record { asked = d; fine = λ _ _ _. refl; says = refl; ends = λ _. tt; loses = λ yes. true-false yes refl });
-          held = refl;
-          which = refl;
-          others = λ _ _. refl;
-          pages = gains_none size m new (ap (λ (x : Hardware). x.tape.items) rest);
-          disks = λ _ _. refl;
-          keeps = on_hardware;
+          completes_or_fails = inl (record { does_told_step = d; no_call_failed = λ _ _ _. refl; page_source_is = refl; does_all_it_asks = λ _. tt; loses_cache = λ yes. true-false yes refl });
+          held_ports_are = refl;
+          disk_index_is = refl;
+          other_bays_are_kept = λ _ _. refl;
+          gains_own_pages = gains_none size m new (ap (λ (x : Hardware). x.tape.items) rest);
+          disks_are_kept = λ _ _. refl;
+          step_keeps = on_hardware;
           starved = ap (λ (x : Hardware). x.starved) rest;
         },
       )
@@ -378,7 +378,7 @@ module _ {S : Type 0} (size : S → ℕ) (told : S → Option (ℕ → List ℕ)
 
   -- a step that notes one entry, which is no move, and changes nothing of the model but the device, was done, or wasn't
   noted_answers : (s : DeviceStep) (did : Bool) (possible : Type 0) (note : Entry) → ((x : Move) → note ≡ entry.Move x → ⊥) →
-      (Possible s (device_at size told m) → possible) → (possible → Possible s (device_at size told m)) →
+      (IsPossible s (device_at size told m) → possible) → (possible → IsPossible s (device_at size told m)) →
       ((TapeHasRoom m.hardware 1 → ⊥) → LacksMemory s (device_at size told m) m.hardware m.bays.items) → page_source_of m (asked_port s) ≡ page_source_after s (device_at size told m) (page_source_of m (asked_port s)) →
       m.held ≡ held_after s m.held → disk_index_of m (asked_port s) ≡ disk_index_after s (disk_index_of m (asked_port s)) → DoesAllItAsks s (device_of m.hardware behind) (device_of h behind) →
       is_losing s ≡ false →
@@ -389,13 +389,13 @@ module _ {S : Type 0} (size : S → ℕ) (told : S → Option (ℕ → List ℕ)
       let d = done refl in (
         back d.0,
         record {
-          came = inl (record { asked = d.1; fine = λ _ _ _. refl; says = says; ends = λ _. ends; loses = λ yes. true-false yes safe });
-          held = held;
-          which = which;
-          others = λ _ _. refl;
-          pages = gains_one size m new note d.2 (λ x e. absurd (no_move x e));
-          disks = λ _ _. refl;
-          keeps = on_hardware;
+          completes_or_fails = inl (record { does_told_step = d.1; no_call_failed = λ _ _ _. refl; page_source_is = says; does_all_it_asks = λ _. ends; loses_cache = λ yes. true-false yes safe });
+          held_ports_are = held;
+          disk_index_is = which;
+          other_bays_are_kept = λ _ _. refl;
+          gains_own_pages = gains_one size m new note d.2 (λ x e. absurd (no_move x e));
+          disks_are_kept = λ _ _. refl;
+          step_keeps = on_hardware;
           starved = starved refl;
         },
       )
@@ -428,7 +428,7 @@ module _ {S : Type 0} (size : S → ℕ) (told : S → Option (ℕ → List ℕ)
   lied = record m { bays = bays }
 
   -- a step that asks for nothing else is done
-  pub lie_answers : Possible s (device_at size told m) → ((old new : Device) → new ≡ old → DoesToldStep (Sends s) s old new) → ((old new : Device) → DoesAllItAsks s old new) →
+  pub lie_answers : IsPossible s (device_at size told m) → ((old new : Device) → new ≡ old → DoesToldStep (Sends s) s old new) → ((old new : Device) → DoesAllItAsks s old new) →
       is_losing s ≡ false →
       option_map name (page_source_of m (asked_port s)) ≡ page_source_after s (device_at size told m) (page_source_of m (asked_port s)) → m.held ≡ held_after s m.held →
       disk_index_of m (asked_port s) ≡ disk_index_after s (disk_index_of m (asked_port s)) → AnswersStep size told failures s true m lied
@@ -436,19 +436,19 @@ module _ {S : Type 0} (size : S → ℕ) (told : S → Option (ℕ → List ℕ)
       let port : ℕ = asked_port s in (
         may,
         record {
-          came = inl (record {
-            asked = done _ _ (ap (λ (o : AllMedia). device_of m.hardware o) (saying_outside name m lied port only size told));
-            fine = λ _ q w. saying_same name m lied port only (λ x. option_map (λ (y : ModelDisk S). failures y.store) (option_map (λ (y : Bay S). disk_in_bay y w) x)) (λ b. refl) q;
-            says = saying_here name m lied port only ∙ says;
-            ends = λ _. ends _ _;
-            loses = λ yes. true-false yes safe;
+          completes_or_fails = inl (record {
+            does_told_step = done _ _ (ap (λ (o : AllMedia). device_of m.hardware o) (saying_outside name m lied port only size told));
+            no_call_failed = λ _ q w. saying_same name m lied port only (λ x. option_map (λ (y : ModelDisk S). failures y.store) (option_map (λ (y : Bay S). disk_in_bay y w) x)) (λ b. refl) q;
+            page_source_is = saying_here name m lied port only ∙ says;
+            does_all_it_asks = λ _. ends _ _;
+            loses_cache = λ yes. true-false yes safe;
           });
-          held = held;
-          which = saying_same name m lied port only (option_map (λ (y : Bay S). y.which)) (λ b. refl) port ∙ which;
-          others = saying_others name m lied port only;
-          pages = gains_none size m lied refl;
-          disks = λ _ w. saying_same name m lied port only (option_map (λ (y : Bay S). disk_in_bay y w)) (λ b. refl) port;
-          keeps = saying_keeps name m lied port only size refl refl;
+          held_ports_are = held;
+          disk_index_is = saying_same name m lied port only (option_map (λ (y : Bay S). y.which)) (λ b. refl) port ∙ which;
+          other_bays_are_kept = saying_others name m lied port only;
+          gains_own_pages = gains_none size m lied refl;
+          disks_are_kept = λ _ w. saying_same name m lied port only (option_map (λ (y : Bay S). disk_in_bay y w)) (λ b. refl) port;
+          step_keeps = saying_keeps name m lied port only size refl refl;
           starved = refl;
         },
       )

@@ -12,7 +12,7 @@ use Rattle.adapter.specs.declared.command.Operation.TheVariants.{Identify, Read,
 use Rattle.device_model.proofs.Absurd.{true-false}
 use Rattle.device_model.specs.Finishing.{sends_page}
 use Rattle.device_model.specs.Trims.{changes_ahead, written_ahead}
-use Rattle.device_model.specs.View.{operation_of_kind}
+use Rattle.device_model.specs.PortView.{operation_of_kind}
 use Rattle.device_model.specs.declared.port.CommandKind.{CommandKind}
 use Rattle.device_model.specs.declared.port.CommandKind.TheVariants as command_kind
 

@@ -6,12 +6,12 @@ use Rattle.std.proofs.lemmas.List.{take_all}
 use Rattle.adapter.specs.Device.{Disk, FetchedCommand}
 use Rattle.adapter.specs.Memory.{bytes_at, patched}
 use Rattle.adapter.specs.Commands.{reads_memory}
-use Rattle.adapter.specs.Steps.{Brings, block_after, next_place}
+use Rattle.adapter.specs.Steps.{MayBring, block_after, next_place}
 use Rattle.adapter.specs.Trim.{consecutive, trim_sectors}
 use Rattle.adapter.specs.declared.command.Operation.{Operation}
 use Rattle.adapter.specs.declared.command.Operation.TheVariants.{Identify, Read, ReadQueued, Write, WriteQueued, Flush, Trim, ReadLog}
 use Rattle.device_model.specs.Finishing.{sends_page}
-use Rattle.device_model.specs.Trims.{HasRunsLeft, HasClearsLeft, block_ahead, changes_ahead, cleared_ahead, written_ahead, next_uncleared, trim_extent, runs_of, next_run_length, uncleared}
+use Rattle.device_model.specs.Trims.{HasRunsLeft, HasClearsLeft, block_ahead, changes_ahead, cleared_ahead, written_ahead, next_uncleared, first_run_length, run_count_of, next_run_length, uncleared}
 use Rattle.device_model.proofs.Runs.{drop_twice, no_runs, one_less, run_long, some_runs, take_run}
 
 -- ---- the block that a trim is going to have
@@ -64,7 +64,7 @@ page_cleared Trim memory t clears is will = absurd (cc is)
 
 -- a move changes none of that
 pub moved_clears : (o : Operation) (disk : Disk) (memory : ℕ → ℕ) (t : FetchedCommand) (bytes : List ℕ) (clears : ℕ) → t.moved < length t.places →
-    Brings disk memory t o bytes → HasClearsLeft o memory t clears →
+    MayBring disk memory t o bytes → HasClearsLeft o memory t clears →
     HasClearsLeft o (if reads_memory o then memory else patched memory (next_place t) bytes) (record t { moved = t.moved + 1; block = block_after o bytes t.block }) clears
 moved_clears Trim disk memory t bytes clears left brings will =
     subst (λ (b : List ℕ). HasRunsLeft b t.cleared clears) (sym (moved_ahead memory t bytes left brings)) will
@@ -77,7 +77,7 @@ moved_clears Flush disk memory t bytes clears left brings will = will
 moved_clears ReadLog disk memory t bytes clears left brings will = will
 
 -- and so is what it is going to change, but for what this piece has written
-pub moved_changes : (o : Operation) (disk : Disk) (memory : ℕ → ℕ) (t : FetchedCommand) (bytes : List ℕ) (left : ℕ) → t.moved < length t.places → Brings disk memory t o bytes →
+pub moved_changes : (o : Operation) (disk : Disk) (memory : ℕ → ℕ) (t : FetchedCommand) (bytes : List ℕ) (left : ℕ) → t.moved < length t.places → MayBring disk memory t o bytes →
     changes_ahead o memory t (suc left)
     ≡ written_ahead o 1
     + changes_ahead o (if reads_memory o then memory else patched memory (next_place t) bytes) (record t { moved = t.moved + 1; block = block_after o bytes t.block }) left
@@ -128,9 +128,9 @@ pub none_left : (o : Operation) (memory : ℕ → ℕ) (t : FetchedCommand) → 
 none_left o memory t all will trim =
     let there : HasClearsLeft Trim memory t 0 = subst (λ (x : Operation). HasClearsLeft x memory t 0) trim will in
     let is : HasRunsLeft t.block t.cleared 0 = subst (λ (b : List ℕ). HasRunsLeft b t.cleared 0) (ahead_moved memory t all) there in
-    let none = ap length (no_runs (uncleared t) (sym is.runs)) in
+    let none = ap length (no_runs (uncleared t) (sym is.clears_are_runs)) in
     let size = length-drop t.cleared (trim_sectors t.block) in
-    let within = is.within in
+    let within = is.cleared_is_within in
     omega (arith, none, size, within)
 
 module _ (memory : ℕ → ℕ) (t : FetchedCommand) (clears : ℕ) (all : t.moved ≡ length t.places) (will : HasClearsLeft t.meaning.operation memory t (suc clears)) where
@@ -143,16 +143,16 @@ module _ (memory : ℕ → ℕ) (t : FetchedCommand) (clears : ℕ) (all : t.mov
       subst (λ (b : List ℕ). HasRunsLeft b t.cleared (suc clears)) (ahead_moved memory t all) there
 
   pub some_uncleared : 1 ≤ length (uncleared t)
-  some_uncleared = some_runs (uncleared t) clears (sym is_cleared.runs)
+  some_uncleared = some_runs (uncleared t) clears (sym is_cleared.clears_are_runs)
 
   -- the whole run is cleared at once
-  span_whole : next_run_length (length (uncleared t)) t ≡ trim_extent (uncleared t)
-  span_whole = ap trim_extent (take_all (length (uncleared t)) (uncleared t) (omega arith))
+  span_whole : next_run_length (length (uncleared t)) t ≡ first_run_length (uncleared t)
+  span_whole = ap first_run_length (take_all (length (uncleared t)) (uncleared t) (omega arith))
 
   -- and one run less is left
   pub span_less : HasClearsLeft t.meaning.operation memory (record t { cleared = t.cleared + next_run_length (length (uncleared t)) t }) clears
   span_less =
-      let n : ℕ = trim_extent (uncleared t) in
+      let n : ℕ = first_run_length (uncleared t) in
       let u : FetchedCommand = record t { cleared = t.cleared + next_run_length (length (uncleared t)) t } in
       let xs : List ℕ = trim_sectors t.block in
       let same : t.cleared + next_run_length (length (uncleared t)) t ≡ t.cleared + n = ap (λ (k : ℕ). t.cleared + k) span_whole in
@@ -162,8 +162,8 @@ module _ (memory : ℕ → ℕ) (t : FetchedCommand) (clears : ℕ) (all : t.mov
       let some = some_uncleared in
       let done : HasRunsLeft t.block (t.cleared + n) clears =
       record {
-        within = omega (arith, size, long, some);
-        runs = sym (ap runs_of (sym rest) ∙ one_less (uncleared t) clears (sym is_cleared.runs));
+        cleared_is_within = omega (arith, size, long, some);
+        clears_are_runs = sym (ap run_count_of (sym rest) ∙ one_less (uncleared t) clears (sym is_cleared.clears_are_runs));
       } in
       let there : HasClearsLeft Trim memory u clears =
       subst (λ (b : List ℕ). HasRunsLeft b u.cleared clears) (sym (ahead_moved memory u all))
@@ -177,7 +177,7 @@ pub span_sectors : (most count : ℕ) (t : FetchedCommand) → count ≤ next_ru
     take count (uncleared t) ≡ consecutive (next_uncleared t) count
 span_sectors most count t few enough =
     let run = run_long (take most (uncleared t)) in
-    let fits : count ≤ trim_extent (take most (uncleared t)) = few in
+    let fits : count ≤ first_run_length (take most (uncleared t)) = few in
     let size_is = take_length most (uncleared t) enough in
     let part : take count (take most (uncleared t)) ≡ take count (uncleared t) = take_twice count most (uncleared t) (omega (arith, fits, run, size_is)) in
     let all = take_run (take most (uncleared t)) count fits in
@@ -209,7 +209,7 @@ next_one t some = by (uncleared t) some
     by (x ∷ xs) some = refl
 
 -- of some sectors, and some of them, one at least is in the first run
-pub run_one : (n : ℕ) (xs : List ℕ) → 1 ≤ n → n ≤ length xs → 1 ≤ trim_extent (take n xs)
+pub run_one : (n : ℕ) (xs : List ℕ) → 1 ≤ n → n ≤ length xs → 1 ≤ first_run_length (take n xs)
 run_one zero xs some small = absurd (omega (arith, some))
 run_one (suc n) [] some small = absurd (omega (arith, small))
 run_one (suc n) (x ∷ xs) some small = omega arith

@@ -9,10 +9,10 @@ use Rattle.adapter.specs.Steps.{disk_after, disk_cleared, next_sector}
 use Rattle.device_model.proofs.Places.{fun_ext, changed_same, changed_other}
 use Rattle.sector_store.specs.declared.store.Failures.{Failures}
 use Rattle.device_model.specs.Disks.{bay_of, disk_in_bay, disk_number, numbered_disk, disk_over, bay_failures, disk_failures, has_cache, identity, identity_of, is_same, lasting_of, page_source_of, disk_index_of}
-use Rattle.device_model.specs.Does.{NoCallFailed, StepKeeps}
-use Rattle.device_model.specs.Modelled.{all_tell, device_at, media_of, all_media_at, tells}
-use Rattle.device_model.specs.View.{Media, media_after, media_cleared, operation_of_kind, taken_of}
-use Rattle.device_model.specs.WholeAdapter.{HasDisks, all_media_after, all_media_cleared}
+use Rattle.device_model.specs.StepEffects.{NoCallFailed, StepKeeps}
+use Rattle.device_model.specs.ModelState.{all_tell, device_at, media_of, all_media_at, tells}
+use Rattle.device_model.specs.PortView.{Media, media_after_move, media_after_clear, operation_of_kind, taken_of}
+use Rattle.device_model.specs.WholeAdapter.{HasDisks, all_media_after_move, all_media_after_clear}
 use Rattle.device_model.specs.declared.bay.Bay.{Bay}
 use Rattle.device_model.specs.declared.bay.PageSource.{PageSource}
 use Rattle.device_model.specs.declared.cache.Cache.{Cache}
@@ -207,11 +207,11 @@ module _ {S : Type 0} where
     pub seated_keeps : (size : S → ℕ) → ((w : DiskIndex) → w ≢ a.which → disk_in_bay b w ≡ disk_in_bay a w) → ((w : DiskIndex) → identity size (disk_in_bay b w) ≡ identity size (disk_in_bay a w)) →
         b.cache.is_on ≡ a.cache.is_on → new.queue ≡ m.queue → new.accesses ≡ m.accesses → StepKeeps size m new
     seated_keeps size out same cached queue accesses = record {
-      out = λ q w ne. seated_out w (out w) q ne;
-      identities = λ q w. seated_same (λ x. option_map (identity size) (option_map (λ (y : Bay S). disk_in_bay y w) x)) (ap Some (same w)) q;
-      port_has_cache = seated_same has_cache cached;
-      queue = queue;
-      accesses = accesses;
+      absent_disks_are_kept = λ q w ne. seated_out w (out w) q ne;
+      identities_are_kept = λ q w. seated_same (λ x. option_map (identity size) (option_map (λ (y : Bay S). disk_in_bay y w) x)) (ap Some (same w)) q;
+      caches_are_kept = seated_same has_cache cached;
+      queue_is_kept = queue;
+      access_count_is_kept = accesses;
     }
 
     -- nothing else is behind the ports, where it is the same behind this one
@@ -292,21 +292,21 @@ module _ {S : Type 0} where
       -- sectors were cleared
       pub outside_zeros : (first count : ℕ) → lasting_of told b ≡ lasting_of told a →
           disk_over a.which (size b.disk.store) (told b.disk.store) ≡ disk_cleared (disk_over a.which (size a.disk.store) (told a.disk.store)) first count →
-          all_media_at size told new ≡ all_media_cleared (all_media_at size told m) port first count
+          all_media_at size told new ≡ all_media_after_clear (all_media_at size told m) port first count
       outside_zeros first count lasts is =
           seated_outside m new port a b was items size told _
           (store_tells (ap (λ (d : Disk). is_some d.sectors) is ∙ cleared_tells (disk_over a.which (size a.disk.store) (told a.disk.store)) first count))
           (store_media lasts
-          ∙ (ap (λ (d : Disk). record { disk = d; plugged = was_put; lasting = lasting_of told a }) is ∙ ap (λ x. media_cleared (media_of size told x) first count) (sym was)))
+          ∙ (ap (λ (d : Disk). record { disk = d; plugged = was_put; lasting = lasting_of told a }) is ∙ ap (λ x. media_after_clear (media_of size told x) first count) (sym was)))
 
       -- a piece was moved
       pub outside_moved : (next : NextMove) (r : TakenCommand) (bytes : List ℕ) → lasting_of told b ≡ lasting_of told a → next.command_kind ≡ r.command_kind → next.sector ≡ next_sector (taken_of r) →
           disk_over a.which (size b.disk.store) (told b.disk.store)
           ≡ disk_after (operation_of_kind next.command_kind) (disk_over a.which (size a.disk.store) (told a.disk.store)) next.sector bytes →
-          all_media_at size told new ≡ all_media_after (all_media_at size told m) port (taken_of r) bytes
+          all_media_at size told new ≡ all_media_after_move (all_media_at size told m) port (taken_of r) bytes
       outside_moved next r bytes lasts kind sector is =
           seated_outside m new port a b was items size told _ (store_tells (ap (λ (d : Disk). is_some d.sectors) is_after ∙ still_tells r.command_kind old (next_sector (taken_of r)) bytes))
-          (store_media lasts ∙ (ap (λ (d : Disk). record { disk = d; plugged = was_put; lasting = lasting_of told a }) is_after ∙ ap (λ x. media_after (media_of size told x) (taken_of r) bytes) (sym was)))
+          (store_media lasts ∙ (ap (λ (d : Disk). record { disk = d; plugged = was_put; lasting = lasting_of told a }) is_after ∙ ap (λ x. media_after_move (media_of size told x) (taken_of r) bytes) (sym was)))
         where
           old : Disk
           old = disk_over a.which (size a.disk.store) (told a.disk.store)
@@ -377,11 +377,11 @@ module _ {S : Type 0} where
     pub put_keeps : (size : S → ℕ) → ((b : Bay S) → bay_of m port ≡ Some b → (w : DiskIndex) → disk_in_bay (put b) w ≡ disk_in_bay b w) →
         ((b : Bay S) → bay_of m port ≡ Some b → (put b).cache.is_on ≡ b.cache.is_on) → new.queue ≡ m.queue → new.accesses ≡ m.accesses → StepKeeps size m new
     put_keeps size same cached queue accesses = record {
-      out = λ q w _. put_same (option_map (λ (b : Bay S). disk_in_bay b w)) (λ b is. ap Some (same b is w)) q;
-      identities = λ q w. put_same (λ x. option_map (identity size) (option_map (λ (b : Bay S). disk_in_bay b w) x)) (λ b is. ap (λ (d : ModelDisk S). Some (identity size d)) (same b is w)) q;
-      port_has_cache = put_same has_cache cached;
-      queue = queue;
-      accesses = accesses;
+      absent_disks_are_kept = λ q w _. put_same (option_map (λ (b : Bay S). disk_in_bay b w)) (λ b is. ap Some (same b is w)) q;
+      identities_are_kept = λ q w. put_same (λ x. option_map (identity size) (option_map (λ (b : Bay S). disk_in_bay b w) x)) (λ b is. ap (λ (d : ModelDisk S). Some (identity size d)) (same b is w)) q;
+      caches_are_kept = put_same has_cache cached;
+      queue_is_kept = queue;
+      access_count_is_kept = accesses;
     }
 
   -- ---- what the disks of a port say is another

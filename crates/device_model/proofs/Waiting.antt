@@ -3,7 +3,7 @@ use Rattle.std.proofs.Common.{ℕ, zero, suc, Bool, true, false, ◌≡◌, ◌�
 use Rattle.std.proofs.lemmas.Bool.Decides.{eqb_tells}
 use Rattle.std.proofs.lemmas.List.Elements.{All-head, All-tail}
 use Rattle.std.specs.Prelude.{if◌then◌else◌, nat_eq, option_map}
-use Rattle.adapter.specs.Asked.{DoesPlug, DoesUnplug, DoesToldStep, SlotGoesOn, busy}
+use Rattle.adapter.specs.ToldSteps.{DoesPlug, DoesUnplug, DoesToldStep, SlotGoesOn, busy}
 use Rattle.adapter.specs.Device.{Device, DevicePort, FetchedCommand}
 use Rattle.adapter.specs.Steps.{Can, WorksOn, begun}
 use Rattle.adapter.specs.Steps.DeviceTransition.{Fetch}
@@ -11,10 +11,10 @@ use Rattle.adapter.specs.declared.access.DeviceStep.{DeviceStep}
 use Rattle.adapter.specs.declared.access.DeviceStep.TheVariants as asked
 use Rattle.sector_store.specs.declared.store.Failures.{Failures}
 use Rattle.device_model.specs.Disks.{disk_in_bay, disk_number, numbered_disk, disk_index_of}
-use Rattle.device_model.specs.Does.{AnswersStep, AsksStore, ClearsFewer, StepFails, FailsToClear, FailsToMove, Possible, PutsIn, asked_port, disk_index_after}
-use Rattle.device_model.specs.Modelled.{device_at}
+use Rattle.device_model.specs.StepEffects.{AnswersStep, AsksStore, ClearsFewer, StepFails, FailsToClear, FailsToMove, IsPossible, PutsIn, asked_port, disk_index_after}
+use Rattle.device_model.specs.ModelState.{device_at}
 use Rattle.device_model.specs.Queue.{DoesEach}
-use Rattle.device_model.specs.Sent.{Sends, SendsEnd}
+use Rattle.device_model.specs.SentFises.{Sends, SendsEnd}
 use Rattle.device_model.specs.declared.disks.DiskIndex.{DiskIndex}
 use Rattle.device_model.specs.declared.disks.DiskIndex.TheVariants.{Disk0, Disk1}
 use Rattle.device_model.specs.declared.bay.PageSource.{PageSource}
@@ -48,7 +48,7 @@ plug_elsewhere q port number old new did empty apart =
     ap (λ (d : Device). (d.port q).present) did.effect ∙ (ap (λ (p : DevicePort). p.present) (changed_other old.port port _ q apart) ∙ empty)
 
 -- a step of this port that doesn't put the disk in leaves it out
-still_out : (l : Option DiskIndex) (s : DeviceStep) (d : Device) (q : ℕ) (w : DiskIndex) (v : Option DiskIndex) → q ≡ asked_port s → v ≢ Some w → (PutsIn l q w s → ⊥) → Possible s d → disk_index_after s v ≢ Some w
+still_out : (l : Option DiskIndex) (s : DeviceStep) (d : Device) (q : ℕ) (w : DiskIndex) (v : Option DiskIndex) → q ≡ asked_port s → v ≢ Some w → (PutsIn l q w s → ⊥) → IsPossible s d → disk_index_after s v ≢ Some w
 still_out l (asked.Plug p number) d q w None at out never may = λ e. some-none e refl
 still_out l (asked.Plug p number) d q w (Some v) at out never may = λ e. never (sym at, named_by w number.0 may.2 (sym (some_one e)))
 still_out l (asked.Fetch p s) d q w v at out never may = out
@@ -68,7 +68,7 @@ still_out l (asked.Unplug p) d q w v at out never may = out
 still_out l (asked.LosePlug p) d q w v at out never may = out
 
 -- where a port has no disk in it, nothing that is asked puts one in, but a Plug
-still_empty : (s : DeviceStep) (old new : Device) (q : ℕ) (w : DiskIndex) (v : Option DiskIndex) → (old.port q).present ≡ false → (PutsIn (Some w) q w s → ⊥) → Possible s old →
+still_empty : (s : DeviceStep) (old new : Device) (q : ℕ) (w : DiskIndex) (v : Option DiskIndex) → (old.port q).present ≡ false → (PutsIn (Some w) q w s → ⊥) → IsPossible s old →
     DoesToldStep (Sends s) s old new → (q ≡ asked_port s → disk_index_after s v ≡ Some w) → (new.port q).present ≡ false
 still_empty (asked.Fetch p s) old new q w v empty never may did same = one_keeps_present q p.0 s.0 old new (inl did) ∙ empty
 still_empty (asked.Move p s) old new q w v empty never may did same = one_keeps_present q p.0 s.0 old new (inr (inl did)) ∙ empty
@@ -149,13 +149,13 @@ module _ {S : Type 0} (size : S → ℕ) (told : S → Option (ℕ → List ℕ)
   none_moves : (s : DeviceStep) (w : DiskIndex) (m : Model S) → (PutsIn (Some w) q w s → ⊥) → q ≡ asked_port s → ((device_at size told m).port q).present ≡ false →
       AsksStore s (device_at size told m) → ⊥
   none_moves (asked.Move p s) w m never at empty moves = there (device_at size told m) p.0 at empty moves.2.works.working.present
-  none_moves (asked.Finish p s) w m never at empty moves = by moves.4.begins
+  none_moves (asked.Finish p s) w m never at empty moves = by moves.4.is_begun_or_fetchable
     where
       d : Device
       d = device_at size told m
 
       t : FetchedCommand
-      t = moves.4.t
+      t = moves.4.fetched_command
 
       by : WorksOn (d.port p.0) s.0 t t.meaning.operation ⊎ (Can (Fetch p.0 s.0 t.meaning t.places) d × (t ≡ begun t.meaning t.places)) → ⊥
       by (inl works) = there d p.0 at empty works.working.present
@@ -182,14 +182,14 @@ module _ {S : Type 0} (size : S → ℕ) (told : S → Option (ℕ → List ℕ)
       | inl here ↦
           λ e.
           let P : ℕ → Type 0 = λ k. disk_index_of new k ≡ disk_index_after s (disk_index_of old k) in
-          still_out l s _ q w (disk_index_of old q) here.1 out never a.0 (sym (subst P (sym here.1) a.1.which) ∙ e)
-      | inr there ↦ λ e. out (sym (ap (option_map (λ (b : Bay S). b.which)) (a.1.others q there.1)) ∙ e)
+          still_out l s _ q w (disk_index_of old q) here.1 out never a.0 (sym (subst P (sym here.1) a.1.disk_index_is) ∙ e)
+      | inr there ↦ λ e. out (sym (ap (option_map (λ (b : Bay S). b.which)) (a.1.other_bays_are_kept q there.1)) ∙ e)
     ],
-    a.1.keeps.out q w out,
+    a.1.step_keeps.absent_disks_are_kept q w out,
   )
   one_stays l s false old new w out never a = (
-    λ e. out (sym (whichs size told failures (asked_port s) old new a.which a.others q) ∙ e),
-    a.keeps.out q w out,
+    λ e. out (sym (whichs size told failures (asked_port s) old new a.disk_index_is a.other_bays_are_kept q) ∙ e),
+    a.step_keeps.absent_disks_are_kept q w out,
   )
 
   pub out_stays : (l : Option DiskIndex) (steps : List DeviceStep) (old new : Model S) (w : DiskIndex) → disk_index_of old q ≢ Some w → All (λ s. PutsIn l q w s → ⊥) steps →
@@ -205,23 +205,23 @@ module _ {S : Type 0} (size : S → ℕ) (told : S → Option (ℕ → List ℕ)
       (PutsIn (Some w) q w s → ⊥) → AnswersStep size told failures s answer old new → IsOut w new × (numbered_disk new q w ≡ numbered_disk old q w)
   last_stays s true old new w empty never a = (
     λ same.
-        elim a.1.came [
-          | inl whole ↦ still_empty s _ _ q w (disk_index_of old q) empty never a.0 whole.asked (after same)
+        elim a.1.completes_or_fails [
+          | inl whole ↦ still_empty s _ _ q w (disk_index_of old q) empty never a.0 whole.does_told_step (after same)
           | inr failed ↦ still_failed q s _ _ _ _ _ _ _ empty failed
         ],
     elim (eqb_tells q (asked_port s)) [
       | inl here ↦
           let P : ℕ → Type 0 = λ k. numbered_disk new k w ≡ numbered_disk old k w in
-          subst P (sym here.1) (a.1.disks (none_moves s w old never here.1 empty) w)
-      | inr there ↦ ap (option_map (λ (b : Bay S). disk_in_bay b w)) (a.1.others q there.1)
+          subst P (sym here.1) (a.1.disks_are_kept (none_moves s w old never here.1 empty) w)
+      | inr there ↦ ap (option_map (λ (b : Bay S). disk_in_bay b w)) (a.1.other_bays_are_kept q there.1)
     ],
   )
     where
       after : disk_index_of new q ≡ Some w → q ≡ asked_port s → disk_index_after s (disk_index_of old q) ≡ Some w
-      after same here = let P : ℕ → Type 0 = λ k. disk_index_of new k ≡ disk_index_after s (disk_index_of old k) in sym (subst P (sym here) a.1.which) ∙ same
+      after same here = let P : ℕ → Type 0 = λ k. disk_index_of new k ≡ disk_index_after s (disk_index_of old k) in sym (subst P (sym here) a.1.disk_index_is) ∙ same
   last_stays s false old new w empty never a = (
-    λ _. ap (λ (d : Device). (d.port q).present) a.device ∙ empty,
-    each_port (option_map (λ (b : Bay S). disk_in_bay b w)) old new (asked_port s) (a.disks w) a.others q,
+    λ _. ap (λ (d : Device). (d.port q).present) a.device_is_kept ∙ empty,
+    each_port (option_map (λ (b : Bay S). disk_in_bay b w)) old new (asked_port s) (a.disks_are_kept w) a.other_bays_are_kept q,
   )
 
   one_waits : (s : DeviceStep) (answer : Bool) (old new : Model S) (w : DiskIndex) → IsOut w old → (PutsIn (Some w) q w s → ⊥) → AnswersStep size told failures s answer old new →

@@ -1,7 +1,7 @@
 -- What has to hold that a command can be done to its end.
 use Rattle.std.specs.Prelude.{ℕ, Bool, true, false, ◌≡◌, ◌+◌, ◌*◌, ◌/◌, ◌^◌, ◌<◌, ◌≤◌, ◌⊎◌, List, Option, None, Some, length, slice_index}
 use Rattle.std.specs.Vec.{vec_len, vec_capacity}
-use Rattle.adapter.specs.Asked.{DoesFetch}
+use Rattle.adapter.specs.ToldSteps.{DoesFetch}
 use Rattle.adapter.specs.Commands.{Meaning, is_ranged}
 use Rattle.adapter.specs.Device.{FetchedCommand, Device}
 use Rattle.adapter.specs.Steps.{Can, WorksOn, begun, next_place}
@@ -9,10 +9,10 @@ use Rattle.adapter.specs.Steps.DeviceTransition.{Fetch}
 use Rattle.adapter.specs.declared.command.Operation.{Operation}
 use Rattle.adapter.specs.declared.command.Operation.TheVariants.{Identify, ReadLog}
 use Rattle.adapter.specs.declared.command.Prd.{Prd}
-use Rattle.device_model.specs.Cached.{HasRoomForOld}
+use Rattle.device_model.specs.WriteCaches.{HasRoomForOld}
 use Rattle.device_model.specs.Trims.{HasClearsLeft, changes_ahead}
-use Rattle.device_model.specs.Fetched.{bytes_of}
-use Rattle.device_model.specs.View.{operation_of_kind, taken_of}
+use Rattle.device_model.specs.FetchedBytes.{bytes_of}
+use Rattle.device_model.specs.PortView.{operation_of_kind, taken_of}
 use Rattle.device_model.specs.WholeAdapter.{HasDisks, AllMedia, device_of}
 use Rattle.device_model.specs.declared.cache.Cache.{Cache}
 use Rattle.device_model.specs.declared.hardware.Hardware.{Hardware}
@@ -38,8 +38,8 @@ IsInside size prd = 1 ≤ prd.bytes / 512 → prd.address + 512 * (prd.bytes / 5
 
 -- so many moves are left of this command, and each of its pieces is in a memory of this size
 pub record IsCovered (t : FetchedCommand) (size left : ℕ) : Type 0 where
-  pub left_is : t.moved + left ≡ length t.places
-  pub inside : AreInside size t.places
+  pub moves_left_are : t.moved + left ≡ length t.places
+  pub pieces_are_inside : AreInside size t.places
 
 -- the port has disks, or the command names sectors, of which a port without disks has none
 abbrev pub HasDisk : Device → ℕ → Operation → Type 0
@@ -48,24 +48,25 @@ HasDisk d port operation = HasDisks d port ⊎ (is_ranged operation ≡ true)
 -- the port, which has disks, works on this command, and its next piece has a place in the memory
 pub record HasMove (d : Device) (port slot : ℕ) (t : FetchedCommand) : Type 0 where
   pub works : WorksOn (d.port port) slot t t.meaning.operation
-  pub left : t.moved < length t.places
-  pub inside : next_place t + 512 ≤ d.size
+  pub piece_is_left : t.moved < length t.places
+  pub piece_is_inside : next_place t + 512 ≤ d.size
   pub has_disks : HasDisks d port
 
 -- the port works on a command of which so many moves, and then so many clears, are left, all of them possible
 pub record IsInProgress (d : Device) (port slot left clears : ℕ) : Type 0 where
-  pub t : FetchedCommand
-  pub covered : IsCovered t d.size left
-  pub clearing : HasClearsLeft t.meaning.operation d.memory t clears
-  pub works : WorksOn (d.port port) slot t t.meaning.operation
+  pub fetched_command : FetchedCommand
+  pub is_covered : IsCovered fetched_command d.size left
+  pub has_clears_left : HasClearsLeft fetched_command.meaning.operation d.memory fetched_command clears
+  pub works : WorksOn (d.port port) slot fetched_command fetched_command.meaning.operation
 
 -- the same, or the command isn't taken yet, and may be
 pub record MayFinish (d : Device) (port slot left clears : ℕ) : Type 0 where
-  pub t : FetchedCommand
-  pub covered : IsCovered t d.size left
-  pub clearing : HasClearsLeft t.meaning.operation d.memory t clears
-  pub begins : WorksOn (d.port port) slot t t.meaning.operation
-      ⊎ (Can (Fetch port slot t.meaning t.places) d × (t ≡ begun t.meaning t.places))
+  pub fetched_command : FetchedCommand
+  pub is_covered : IsCovered fetched_command d.size left
+  pub has_clears_left : HasClearsLeft fetched_command.meaning.operation d.memory fetched_command clears
+  pub is_begun_or_fetchable : WorksOn (d.port port) slot fetched_command fetched_command.meaning.operation
+      ⊎ (Can (Fetch port slot fetched_command.meaning fetched_command.places) d
+      × (fetched_command ≡ begun fetched_command.meaning fetched_command.places))
 
 -- IDENTIFY DEVICE or READ LOG EXT, which send a page to the driver itself
 abbrev pub sends_page : Operation → Bool
@@ -77,23 +78,23 @@ sends_page _ = false
 -- bits
 pub record HasPageCommand (d : Device) (port slot : ℕ) : Type 0 where
   pub left : ℕ
-  pub ready : MayFinish d port slot left 0
-  pub sends : sends_page ready.t.meaning.operation ≡ true
-  pub low : AreInside (2 ^ 32) ready.t.places
+  pub may_finish : MayFinish d port slot left 0
+  pub sends_page : sends_page may_finish.fetched_command.meaning.operation ≡ true
+  pub addresses_are_low : AreInside (2 ^ 32) may_finish.fetched_command.places
 
 -- one that is issued in this slot may be taken, wherever its page is to go
 pub record MayTakePage (d : Device) (port slot : ℕ) : Type 0 where
   pub meaning : Meaning
   pub places : List ℕ
-  pub sends : sends_page meaning.operation ≡ true
+  pub sends_page : sends_page meaning.operation ≡ true
   pub can : Can (Fetch port slot meaning places) d
 
 -- What a look at a slot of a port finds: a command that sends a page and can be done to its end; or one that may be
 -- taken, but can't be done to its end; or neither.
-abbrev pub LooksForPage : Device → (port slot : ℕ) → Option Bool → Type 0
-LooksForPage d port slot (Some true) = HasPageCommand d port slot
-LooksForPage d port slot (Some false) = MayTakePage d port slot × (HasPageCommand d port slot → ⊥)
-LooksForPage d port slot None = (MayTakePage d port slot → ⊥) × (HasPageCommand d port slot → ⊥)
+abbrev pub FindsPageCommand : Device → (port slot : ℕ) → Option Bool → Type 0
+FindsPageCommand d port slot (Some true) = HasPageCommand d port slot
+FindsPageCommand d port slot (Some false) = MayTakePage d port slot × (HasPageCommand d port slot → ⊥)
+FindsPageCommand d port slot None = (MayTakePage d port slot → ⊥) × (HasPageCommand d port slot → ⊥)
 
 -- some command is taken on the port: so none that sends a page may be, which is alone
 abbrev pub HasTakenCommand : Device → ℕ → Type 0
@@ -115,12 +116,12 @@ IsRemaining t memory left clears =
 
 -- It is begun: so many moves and clears are left of it, each possible, and there is room for them and the end; it is
 -- taken now, or was.
-pub record IsBegun (port slot left clears : ℕ) (was_taken : Bool) (old new : Hardware) : Type 0 where
-  pub ready : (o : AllMedia) → MayFinish (device_of old o) port slot left clears
-  pub going : (o : AllMedia) → IsInProgress (device_of new o) port slot left clears
-  pub room : TapeHasRoom new (left + clears + 1)
-  pub did : was_taken ≡ true → (o : AllMedia) → DoesFetch port slot (device_of old o) (device_of new o)
-  pub same : was_taken ≡ false → (o : AllMedia) → device_of new o ≡ device_of old o
+pub record IsCommandBegun (port slot left clears : ℕ) (was_taken : Bool) (old new : Hardware) : Type 0 where
+  pub may_finish : (o : AllMedia) → MayFinish (device_of old o) port slot left clears
+  pub is_in_progress : (o : AllMedia) → IsInProgress (device_of new o) port slot left clears
+  pub tape_has_room : TapeHasRoom new (left + clears + 1)
+  pub fetch_is_done : was_taken ≡ true → (o : AllMedia) → DoesFetch port slot (device_of old o) (device_of new o)
+  pub device_is_kept : was_taken ≡ false → (o : AllMedia) → device_of new o ≡ device_of old o
   pub tape : new.tape.items ≡ old.tape.items
   pub starved : new.starved ≡ old.starved
 
@@ -129,17 +130,20 @@ pub record IsBegun (port slot left clears : ℕ) (was_taken : Bool) (old new : H
 pub record LacksRoom (port slot : ℕ) (old new : Hardware) (was now : Cache) : Type 0 where
   pub left : ℕ
   pub clears : ℕ
-  pub ready : (o : AllMedia) → MayFinish (device_of old o) port slot left clears
-  pub lacked : (o : AllMedia) (n m : ℕ) (may : MayFinish (device_of old o) port slot n m)
+  pub may_finish : (o : AllMedia) → MayFinish (device_of old o) port slot left clears
+  pub room_was_lacking : (o : AllMedia) (n m : ℕ) (may : MayFinish (device_of old o) port slot n m)
       → TapeHasRoom old (n + m + 1) →
-      HasRoomForOld was (changes_ahead may.t.meaning.operation (device_of old o).memory may.t n) → ⊥
-  pub lacks : (o : AllMedia) (n m : ℕ) (may : MayFinish (device_of old o) port slot n m) → TapeHasRoom new (n + m + 1) →
-      HasRoomForOld now (changes_ahead may.t.meaning.operation (device_of old o).memory may.t n) → ⊥
-  pub same : (o : AllMedia) → device_of new o ≡ device_of old o
-  pub told : new.starved ≡ true
+      HasRoomForOld was (changes_ahead may.fetched_command.meaning.operation (device_of old o).memory
+      may.fetched_command n) → ⊥
+  pub room_is_lacking : (o : AllMedia) (n m : ℕ) (may : MayFinish (device_of old o) port slot n m)
+      → TapeHasRoom new (n + m + 1) →
+      HasRoomForOld now (changes_ahead may.fetched_command.meaning.operation (device_of old o).memory
+      may.fetched_command n) → ⊥
+  pub device_is_kept : (o : AllMedia) → device_of new o ≡ device_of old o
+  pub starved_is_set : new.starved ≡ true
 
 -- It isn't begun: there is none that can be done to its end, and nothing is another, or there is no room.
-abbrev pub IsUnbegun : (port slot : ℕ) → (old new : Hardware) → (was now : Cache) → Type 0
-IsUnbegun port slot old new was now =
+abbrev pub IsCommandUnbegun : (port slot : ℕ) → (old new : Hardware) → (was now : Cache) → Type 0
+IsCommandUnbegun port slot old new was now =
     (((o : AllMedia) (left clears : ℕ) → MayFinish (device_of old o) port slot left clears → ⊥) × (new ≡ old))
     ⊎ LacksRoom port slot old new was now

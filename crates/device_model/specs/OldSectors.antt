@@ -17,12 +17,12 @@ AreRising olds = (i j : ℕ) → i < j → j < length olds → old_number_at old
 
 -- the old sector with this number is in this place
 pub record IsOldAt (olds : List OldSector) (sector place : ℕ) : Type 0 where
-  pub inside : place < length olds
+  pub is_inside : place < length olds
   pub number : old_number_at olds place ≡ sector
 
 -- there is none with this number, and it would be put in this place: lower ones before it, and higher ones from it on
 pub record IsGapFor (olds : List OldSector) (sector place : ℕ) : Type 0 where
-  pub inside : place ≤ length olds
+  pub is_inside : place ≤ length olds
   pub lower : (k : ℕ) → k < place → old_number_at olds k < sector
   pub higher : (k : ℕ) → place ≤ k → k < length olds → sector < old_number_at olds k
 

@@ -7,10 +7,10 @@ use Rattle.adapter.specs.Access.{Shows, noted}
 use Rattle.hba_regs.specs.declared.reg.Reg.{Reg}
 use Rattle.sector_store.specs.declared.store.Failures.{Failures}
 use Rattle.device_model.specs.Disks.{numbered_disk, page_source_of, disk_index_of}
-use Rattle.device_model.specs.Does.{AnswersStep, StepKeeps}
-use Rattle.device_model.specs.Paged.{GainsOwnPages}
-use Rattle.device_model.specs.Settled.{DoesOwn, EndsReset, LeavesPageWithoutMemory}
-use Rattle.device_model.specs.Modelled.{device_at}
+use Rattle.device_model.specs.StepEffects.{AnswersStep, StepKeeps}
+use Rattle.device_model.specs.DiskPages.{GainsOwnPages}
+use Rattle.device_model.specs.ModelOwnSteps.{DoesOwn, EndsReset, LeavesPageWithoutMemory}
+use Rattle.device_model.specs.ModelState.{device_at}
 use Rattle.device_model.specs.declared.disks.DiskIndex.{DiskIndex}
 use Rattle.device_model.specs.declared.model.Model.{Model}
 use Rattle.device_model.specs.declared.model.QueuedStep.{QueuedStep}
@@ -35,10 +35,10 @@ DoesEach {S} size told failures (s ∷ steps) old new =
 -- wait on as they were, and each of those is done, in their order, or left.
 pub record BeginsAccess {S : Type 0} (size : S → ℕ) (told : S → Option (ℕ → List ℕ)) (failures : S → Option Failures)
     (old new : Model S) : Type 0 where
-  pub counted : new.accesses.shown ≡ min (old.accesses.shown + 1) (2 ^ 64 - 1)
-  pub made : new.accesses.count.made ≡ old.accesses.count.made + 1
-  pub waiting : new.queue.items ≡ later_steps new.accesses.shown old.queue.items
-  pub does : DoesEach size told failures (due_steps new.accesses.shown old.queue.items)
+  pub access_is_counted : new.accesses.shown ≡ min (old.accesses.shown + 1) (2 ^ 64 - 1)
+  pub made_is : new.accesses.count.made ≡ old.accesses.count.made + 1
+  pub queue_is : new.queue.items ≡ later_steps new.accesses.shown old.queue.items
+  pub does_due_steps : DoesEach size told failures (due_steps new.accesses.shown old.queue.items)
       (record old { accesses = new.accesses; queue = new.queue }) new
 
 -- An access that changes the hardware alone: it begins so, and then changes the device so. The rest of the model stays,
@@ -46,9 +46,9 @@ pub record BeginsAccess {S : Type 0} (size : S → ℕ) (told : S → Option (�
 pub record DoesThen {S : Type 0} (size : S → ℕ) (told : S → Option (ℕ → List ℕ)) (failures : S → Option Failures)
     (effect : Device → Device) (old new : Model S) : Type 0 where
   pub mid : Model S
-  pub begins : BeginsAccess size told failures old mid
+  pub begins_access : BeginsAccess size told failures old mid
   pub effect_is : device_at size told new ≡ effect (device_at size told mid)
-  pub rest : new ≡ record mid { hardware = new.hardware }
+  pub rest_is_kept : new ≡ record mid { hardware = new.hardware }
   pub starved : new.hardware.starved ≡ mid.hardware.starved
 
 -- A reading begins so, too. Then a pending reset may end, and the model's own steps are done; and the value is what the
@@ -58,18 +58,19 @@ pub record DoesThen {S : Type 0} (size : S → ℕ) (told : S → Option (ℕ �
 pub record DoesRead {S : Type 0} (size : S → ℕ) (told : S → Option (ℕ → List ℕ)) (failures : S → Option Failures)
     (r : Reg) (value : ℕ) (old new : Model S) : Type 0 where
   pub mid : Model S
-  pub begins : BeginsAccess size told failures old mid
+  pub begins_access : BeginsAccess size told failures old mid
   pub reset : Device
-  pub ends : EndsReset mid.held new.held (device_at size told mid) reset
+  pub ends_reset : EndsReset mid.held new.held (device_at size told mid) reset
   pub last : Device
-  pub own : DoesOwn new.held reset last
+  pub does_own_steps : DoesOwn new.held reset last
   pub shows : Shows r value last
   pub effect : device_at size told new ≡ noted r value last
-  pub says : (port : ℕ) → page_source_of new port ≡ page_source_of mid port
-  pub pages : GainsOwnPages size mid new
-  pub which : (port : ℕ) → disk_index_of new port ≡ disk_index_of mid port
-  pub disks : (port : ℕ) (which : DiskIndex) → numbered_disk new port which ≡ numbered_disk mid port which
-  pub keeps : StepKeeps size mid new
-  pub starved_on : mid.hardware.starved ≡ true → new.hardware.starved ≡ true
-  pub starved_since : new.hardware.starved ≡ true → (mid.hardware.starved ≡ true) ⊎ LeavesPageWithoutMemory new.hardware
+  pub page_source_is : (port : ℕ) → page_source_of new port ≡ page_source_of mid port
+  pub gains_own_pages : GainsOwnPages size mid new
+  pub disk_index_is : (port : ℕ) → disk_index_of new port ≡ disk_index_of mid port
+  pub disks_are_kept : (port : ℕ) (which : DiskIndex) → numbered_disk new port which ≡ numbered_disk mid port which
+  pub step_keeps : StepKeeps size mid new
+  pub stays_starved : mid.hardware.starved ≡ true → new.hardware.starved ≡ true
+  pub starves_for_want : new.hardware.starved ≡ true → (mid.hardware.starved ≡ true)
+      ⊎ LeavesPageWithoutMemory new.hardware
       last

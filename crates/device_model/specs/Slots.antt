@@ -5,7 +5,7 @@ use Rattle.adapter.specs.Device.{DevicePort}
 use Rattle.adapter.specs.Decoding.{pieces}
 use Rattle.adapter.specs.Steps.{IsFetchable, IsWorking, IsUnmixed, WorksOn, admits, next_sector}
 use Rattle.adapter.specs.declared.command.Operation.{Operation}
-use Rattle.device_model.specs.View.{Media, halt_of, taken_in, port_of, operation_of_kind, taken_of, blank_port}
+use Rattle.device_model.specs.PortView.{Media, halt_of, taken_in, port_of, operation_of_kind, taken_of, blank_port}
 use Rattle.device_model.specs.declared.port.TakenCommand.{TakenCommand}
 use Rattle.device_model.specs.declared.port.PortModel.{PortModel}
 use Rattle.device_model.specs.declared.hardware.Hardware.{Hardware}
@@ -18,7 +18,7 @@ use Rattle.device_model.specs.Trims.{next_uncleared, next_run_length, uncleared}
 pub record MayTake (p : DevicePort) (slot : ℕ) (operation : Operation) : Type 0 where
   pub fetchable : IsFetchable p slot
   pub working : IsWorking p operation
-  pub alone : IsUnmixed p operation
+  pub is_unmixed : IsUnmixed p operation
 
 -- the slot has a command that is issued and not taken, on a port that works: it may be taken, if its bytes say one that
 -- may be now
@@ -33,43 +33,43 @@ IsOpenTo p operation = (admits (halt_of p.halting) operation ≡ true) × ((m : 
 
 -- the port works on this command, which it has taken in this slot
 pub record WorksOnIn (p : PortModel) (slot : ℕ) (t : TakenCommand) : Type 0 where
-  pub held : taken_in p.taken slot ≡ Some t
+  pub is_taken : taken_in p.taken slot ≡ Some t
   pub works : (m : Media) → WorksOn (port_of p m) slot (taken_of t) (operation_of_kind t.command_kind)
 
 -- so many of the next sectors of this command can be cleared: a trim whose block was moved, and of which as many are
 -- left, one at least
 pub record CanClear (t : TakenCommand) (most : ℕ) : Type 0 where
   pub trim : t.command_kind ≡ Trim
-  pub moved : t.moved ≡ length (pieces t.prds)
-  pub some : 1 ≤ most
-  pub enough : most ≤ length (uncleared (taken_of t))
+  pub block_is_moved : t.moved ≡ length (pieces t.prds)
+  pub count_is_positive : 1 ≤ most
+  pub enough_are_left : most ≤ length (uncleared (taken_of t))
 
 -- these sectors of it are cleared at once
 pub record IsNextRun (h : Hardware) (port slot most : ℕ) (run : SectorExtent) (t : TakenCommand) : Type 0 where
-  pub holds : WorksOnIn (slice_index_or h.ports port blank_port) slot t
-  pub can : CanClear t most
+  pub works_on : WorksOnIn (slice_index_or h.ports port blank_port) slot t
+  pub can_clear : CanClear t most
   pub first_is : run.first ≡ next_uncleared (taken_of t)
   pub count_is : run.count ≡ next_run_length most (taken_of t)
-  pub fits : t.cleared + run.count < 2 ^ 32
+  pub cleared_fits : t.cleared + run.count < 2 ^ 32
 
 -- So many pieces of this command follow its next one in their region, each with a place in a memory of this size, an
 -- address of 32 bits and a sector of 64: none, unless it names sectors.
 pub record PiecesFollow (size : ℕ) (next : NextMove) (t : TakenCommand) : Type 0 where
-  pub places : (k : ℕ) → k ≤ next.behind → (t.moved + k < length (pieces t.prds))
+  pub pieces_are : (k : ℕ) → k ≤ next.behind → (t.moved + k < length (pieces t.prds))
       × (slice_index (pieces t.prds) (t.moved + k) ≡ next.address + 512 * k)
-  pub room : t.moved + next.behind + 1 < 2 ^ 32
+  pub moved_fits : t.moved + next.behind + 1 < 2 ^ 32
   pub inside : next.address + 512 * next.behind + 512 ≤ size
-  pub low : next.address + 512 * next.behind < 2 ^ 32
-  pub numbered : next.sector + next.behind < 2 ^ 64
-  pub ranged : 1 ≤ next.behind → is_ranged (operation_of_kind t.command_kind) ≡ true
+  pub addresses_fit : next.address + 512 * next.behind < 2 ^ 32
+  pub sectors_fit : next.sector + next.behind < 2 ^ 64
+  pub is_ranged_if_any : 1 ≤ next.behind → is_ranged (operation_of_kind t.command_kind) ≡ true
 
 -- the next piece of this command goes to or from this address, and is this sector, if it is one
 pub record IsNextMove (h : Hardware) (port slot : ℕ) (next : NextMove) (t : TakenCommand) : Type 0 where
-  pub holds : WorksOnIn (slice_index_or h.ports port blank_port) slot t
-  pub left : t.moved < length (pieces t.prds)
-  pub room : t.moved + 1 < 2 ^ 32
+  pub works_on : WorksOnIn (slice_index_or h.ports port blank_port) slot t
+  pub piece_is_left : t.moved < length (pieces t.prds)
+  pub moved_fits : t.moved + 1 < 2 ^ 32
   pub kind_is : next.command_kind ≡ t.command_kind
   pub sector_is : next.sector ≡ next_sector (taken_of t)
   pub address_is : next.address ≡ slice_index (pieces t.prds) t.moved
   pub inside : next.address + 512 ≤ length h.memory.items
-  pub behind : PiecesFollow (length h.memory.items) next t
+  pub pieces_follow : PiecesFollow (length h.memory.items) next t

@@ -12,25 +12,25 @@ use Rattle.device_model.specs.WholeAdapter.{HasDisks}
 -- ---- runs of sectors that follow one another
 
 -- how many of these follow one another, from this one on
-abbrev pub run_from : ℕ → List ℕ → ℕ
-run_from next [] = 0
-run_from next (sector ∷ rest) = if nat_eq sector next then suc (run_from (suc next) rest) else 0
+abbrev pub run_length_from : ℕ → List ℕ → ℕ
+run_length_from next [] = 0
+run_length_from next (sector ∷ rest) = if nat_eq sector next then suc (run_length_from (suc next) rest) else 0
 
 -- and from the first on, whichever it is
-abbrev pub trim_extent : List ℕ → ℕ
-trim_extent [] = 0
-trim_extent (sector ∷ rest) = suc (run_from (suc sector) rest)
+abbrev pub first_run_length : List ℕ → ℕ
+first_run_length [] = 0
+first_run_length (sector ∷ rest) = suc (run_length_from (suc sector) rest)
 
 -- in how many runs these are, each as long as can be: where a run before them ends at this one, which may go on
-abbrev pub runs_from : ℕ → List ℕ → ℕ
-runs_from next [] = 0
-runs_from next (sector ∷ rest) = if nat_eq sector next then runs_from (suc sector) rest else suc
-    (runs_from (suc sector) rest)
+abbrev pub run_count_from : ℕ → List ℕ → ℕ
+run_count_from next [] = 0
+run_count_from next (sector ∷ rest) = if nat_eq sector next then run_count_from (suc sector) rest else suc
+    (run_count_from (suc sector) rest)
 
 -- and where there is none before them
-abbrev pub runs_of : List ℕ → ℕ
-runs_of [] = 0
-runs_of (sector ∷ rest) = suc (runs_from (suc sector) rest)
+abbrev pub run_count_of : List ℕ → ℕ
+run_count_of [] = 0
+run_count_of (sector ∷ rest) = suc (run_count_from (suc sector) rest)
 
 -- ---- what is left to clear
 
@@ -44,7 +44,7 @@ next_uncleared t = slice_index (uncleared t) 0
 -- How many of the next so many sectors are cleared at once, where all are on the disk: those that follow one another,
 -- from the next one on.
 abbrev pub next_run_length : ℕ → FetchedCommand → ℕ
-next_run_length most t = trim_extent (take most (uncleared t))
+next_run_length most t = first_run_length (take most (uncleared t))
 
 -- The port, which has disks, works on this trim, whose block was moved, and so many sectors are left to clear, one at
 -- least.
@@ -52,9 +52,9 @@ pub record HasClear (d : Device) (port slot most : ℕ) (t : FetchedCommand) : T
   pub has_disks : HasDisks d port
   pub works : WorksOn (d.port port) slot t Trim
   pub trim : t.meaning.operation ≡ Trim
-  pub moved : t.moved ≡ length t.places
-  pub some : 1 ≤ most
-  pub enough : most ≤ length (uncleared t)
+  pub block_is_moved : t.moved ≡ length t.places
+  pub count_is_positive : 1 ≤ most
+  pub enough_are_left : most ≤ length (uncleared t)
 
 -- ---- what a trim is going to clear
 
@@ -65,8 +65,8 @@ block_ahead memory t = if nat_lt t.moved (length t.places) then bytes_at memory
 
 -- so many runs are left to clear of this block
 pub record HasRunsLeft (block : List ℕ) (cleared clears : ℕ) : Type 0 where
-  pub within : cleared ≤ length (trim_sectors block)
-  pub runs : clears ≡ runs_of (drop cleared (trim_sectors block))
+  pub cleared_is_within : cleared ≤ length (trim_sectors block)
+  pub clears_are_runs : clears ≡ run_count_of (drop cleared (trim_sectors block))
 
 -- so many sectors are left to clear of a command: those of a trim, and of another command none
 abbrev pub cleared_ahead : Operation → (ℕ → ℕ) → FetchedCommand → ℕ

@@ -5,7 +5,7 @@ use Rattle.adapter.specs.Memory.{changed}
 use Rattle.adapter.specs.declared.command.Operation.{Operation}
 use Rattle.hba_regs.specs.declared.reg.Reg.{Reg}
 use Rattle.hba_regs.specs.declared.reg.Reg.TheVariants.{Px}
-use Rattle.device_model.specs.View.{Media, media_after, media_cleared, media_ended, port_of, blank_port}
+use Rattle.device_model.specs.PortView.{Media, media_after_move, media_after_clear, media_after_end, port_of, blank_port}
 use Rattle.device_model.specs.declared.hardware.Hardware.{Hardware}
 
 -- what is outside the hardware: what is behind each port, and whether all disks tell their sectors
@@ -14,17 +14,19 @@ pub record AllMedia : Type 0 where
   pub media : ℕ → Media
 
 -- the same after the next piece of a command of this port, these bytes, was moved
-abbrev pub all_media_after : AllMedia → ℕ → FetchedCommand → List ℕ → AllMedia
-all_media_after o port t bytes = record o { media = changed o.media port (media_after (o.media port) t bytes) }
+abbrev pub all_media_after_move : AllMedia → ℕ → FetchedCommand → List ℕ → AllMedia
+all_media_after_move o port t bytes =
+    record o { media = changed o.media port (media_after_move (o.media port) t bytes) }
 
 -- the same after sectors of this port's disk were cleared
-abbrev pub all_media_cleared : AllMedia → (port first count : ℕ) → AllMedia
-all_media_cleared o port first count =
-    record o { media = changed o.media port (media_cleared (o.media port) first count) }
+abbrev pub all_media_after_clear : AllMedia → (port first count : ℕ) → AllMedia
+all_media_after_clear o port first count =
+    record o { media = changed o.media port (media_after_clear (o.media port) first count) }
 
 -- the same after such a command of this port has ended
-abbrev pub all_media_ended : AllMedia → ℕ → Operation → AllMedia
-all_media_ended o port operation = record o { media = changed o.media port (media_ended (o.media port) operation) }
+abbrev pub all_media_after_end : AllMedia → ℕ → Operation → AllMedia
+all_media_after_end o port operation =
+    record o { media = changed o.media port (media_after_end (o.media port) operation) }
 
 abbrev pub device_of : Hardware → AllMedia → Device
 device_of h o =
@@ -56,8 +58,8 @@ no_media =
     }
 
 -- what is behind a port after this disk was put in
-abbrev pub media_plugged : Media → Disk → Media
-media_plugged m disk =
+abbrev pub media_after_plug : Media → Disk → Media
+media_after_plug m disk =
     record {
       disk = disk;
       plugged = m.plugged ++ disk ∷ [];
@@ -65,9 +67,9 @@ media_plugged m disk =
     }
 
 -- the same after this disk was put into a port
-abbrev pub all_media_plugged : AllMedia → ℕ → Disk → AllMedia
-all_media_plugged o port disk =
-    record o { media = changed o.media port (media_plugged (o.media port) disk) }
+abbrev pub all_media_after_plug : AllMedia → ℕ → Disk → AllMedia
+all_media_after_plug o port disk =
+    record o { media = changed o.media port (media_after_plug (o.media port) disk) }
 
 -- The port is one that has disks: one was put in, or was in at first.
 abbrev pub HasDisks : Device → ℕ → Type 0

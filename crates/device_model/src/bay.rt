@@ -3,23 +3,23 @@ ghost use Rattle.std.specs.Prelude.{◌≡◌, ◌<◌, ◌≤◌, ◌+◌, ◌+
 ghost use Rattle.adapter.specs.Commands.{is_ranged, reads_memory};
 ghost use Rattle.adapter.specs.Device.{Disk, IsSector};
 ghost use Rattle.adapter.specs.Steps.{disk_after, disk_cleared};
-ghost use Rattle.device_model.specs.Cached.{CallFails, HasRoomForOld, KeepsSameOldSectors, lasting_in};
+ghost use Rattle.device_model.specs.WriteCaches.{CallFails, HasRoomForOld, KeepsSameOldSectors, lasting_in};
 ghost use Rattle.device_model.specs.Disks.{OnlyEndsCommand, EndsCommand, LosesCache, OnlyChangesPageSource, disk_in_bay, disk_over, identity, is_same, lasting_of, plugged_as};
-ghost use Rattle.device_model.specs.Exchanged.{TransfersPiece, IsTransferred, piece_of};
-ghost use Rattle.device_model.specs.Finishing.{HasRoomAhead, IsBegun, IsUnbegun};
-ghost use Rattle.device_model.specs.Modelled.{AreNewDisks};
-ghost use Rattle.device_model.specs.Paged.{IsSentLog, IsSentIdentify, IsTurned, lying, with_logged_error, truthful};
+ghost use Rattle.device_model.specs.PieceTransfers.{TransfersPiece, IsTransferred, piece_of};
+ghost use Rattle.device_model.specs.Finishing.{HasRoomAhead, IsCommandBegun, IsCommandUnbegun};
+ghost use Rattle.device_model.specs.ModelState.{AreNewDisks};
+ghost use Rattle.device_model.specs.DiskPages.{IsSentLog, IsSentIdentify, HasBitsFlipped, with_lie, with_logged_error, without_lies};
 ghost use Rattle.device_model.specs.Trims.{written_ahead};
-ghost use Rattle.device_model.specs.View.{operation_of_kind};
+ghost use Rattle.device_model.specs.PortView.{operation_of_kind};
 ghost use Rattle.device_model.specs.WholeAdapter.{AllMedia, device_of};
-ghost use Rattle.device_model.specs.Zeroed.{MakesZero};
+ghost use Rattle.device_model.specs.ZeroedSectors.{MakesZero};
 
 use crate::cache::{Cache, put_sector, roll_back};
 use crate::clearing::SectorExtent;
 use crate::disks::{DiskIndex, ModelDisk, PluggedDisks, PortDisks};
 use crate::hardware::Hardware;
 use crate::port::CommandKind;
-use crate::steps::{CommandToFinish, NextMove};
+use crate::steps::{BegunCommand, NextMove};
 use adapter::DiskPage;
 use sector_store::SectorStore;
 use sector_store::pages::{Abilities, LoggedError, log_page};
@@ -69,7 +69,7 @@ pub struct Bay<S> {
 
 /// Turns these bits of a page.
 fn flip_bits(page: &mut [u8; PAGE_BYTES], bits: &[u8; PAGE_BYTES])
-    ensures turned { IsTurned page.old bits.now page.new }
+    ensures turned { HasBitsFlipped page.old bits.now page.new }
     ensures bytes { IsSector page.old → IsSector page.new }
 {
     for offset in 0..PAGE_BYTES {
@@ -216,16 +216,16 @@ impl<S: SectorStore> Bay<S> {
     }
 
     /// Begins to do a slot's command of the port to its end, as `Hardware::begin` does.
-    pub fn begin(&mut self, hardware: &mut Hardware, port: u8, slot: u8) -> Option<CommandToFinish>
+    pub fn begin(&mut self, hardware: &mut Hardware, port: u8, slot: u8) -> Option<BegunCommand>
         requires port { port < 4 }
         requires slot { slot < 32 }
-        ensures begun { IfSome result (λ b. IsBegun port slot b.rest.left b.rest.clears b.was_taken hardware.old
+        ensures begun { IfSome result (λ b. IsCommandBegun port slot b.rest.left b.rest.clears b.was_taken hardware.old
             hardware.new) }
         ensures ahead { IfSome result (λ b. (o : AllMedia)
             → HasRoomAhead self.new.cache port slot b.rest.left (device_of hardware.new o)) }
         ensures same { KeepsSameOldSectors self.old.cache self.new.cache }
         ensures left { result ≡ None
-            → IsUnbegun port slot hardware.old hardware.new self.old.cache self.new.cache }
+            → IsCommandUnbegun port slot hardware.old hardware.new self.old.cache self.new.cache }
         ensures rest { self.new ≡ record self.old { cache = self.new.cache } }
     {
         hardware.begin(port, slot, &mut self.cache)
@@ -261,7 +261,7 @@ impl<S: SectorStore> Bay<S> {
     /// Has the disks lie of a byte of a page once more.
     pub fn lie(&mut self, page: DiskPage, offset: usize, bits: u8)
         requires { offset < 512 }
-        ensures { self.new ≡ record self.old { says = lying page offset bits self.old.says } }
+        ensures { self.new ≡ record self.old { says = with_lie page offset bits self.old.says } }
     {
         match page {
             DiskPage::Identity => self.says.lies[offset] ^= bits,
@@ -271,7 +271,7 @@ impl<S: SectorStore> Bay<S> {
 
     /// Has them tell no lies any more.
     pub fn tell_truth(&mut self)
-        ensures { self.new ≡ record self.old { says = truthful self.old.says } }
+        ensures { self.new ≡ record self.old { says = without_lies self.old.says } }
     {
         self.says.lies = [0; PAGE_BYTES];
         self.says.log_lies = [0; PAGE_BYTES];
@@ -337,7 +337,7 @@ impl<S: SectorStore> Bay<S> {
 
     /// Puts the disk in again that was last in, and what was in its cache is lost. What it may lose is kept: another
     /// one that is put in so loses the same.
-    pub fn put_in_lossy(&mut self)
+    pub fn plug_after_cache_loss(&mut self)
         ensures loses { LosesCache S.size S.told S.failures self.old self.new }
         ensures later { (disk : DiskIndex → S → Disk) → plugged_as disk self.new.later
             ≡ plugged_as disk self.old.later ++ disk self.old.which self.new.disk.store ∷ [] }
@@ -378,7 +378,7 @@ pub fn log_failed<S: SectorStore>(bays: &mut Vec<Option<Bay<S>>>, port: usize, f
 }
 
 /// Has them lie of a byte of a page once more.
-pub fn lie_of<S: SectorStore>(
+pub fn add_lie_of<S: SectorStore>(
     bays: &mut Vec<Option<Bay<S>>>,
     port: usize,
     page: DiskPage,
@@ -386,7 +386,7 @@ pub fn lie_of<S: SectorStore>(
     bits: u8,
 )
     requires { offset < 512 }
-    ensures { OnlyChangesPageSource (lying page offset bits) port bays.old.items bays.new.items }
+    ensures { OnlyChangesPageSource (with_lie page offset bits) port bays.old.items bays.new.items }
 {
     if port < bays.len() {
         if let Some(bay) = &mut bays[port] {
@@ -397,7 +397,7 @@ pub fn lie_of<S: SectorStore>(
 
 /// Has them tell no lies any more.
 pub fn end_lies<S: SectorStore>(bays: &mut Vec<Option<Bay<S>>>, port: usize)
-    ensures { OnlyChangesPageSource truthful port bays.old.items bays.new.items }
+    ensures { OnlyChangesPageSource without_lies port bays.old.items bays.new.items }
 {
     if port < bays.len() {
         if let Some(bay) = &mut bays[port] {

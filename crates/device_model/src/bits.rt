@@ -1,7 +1,7 @@
 // Bits of registers.
 ghost use Rattle.std.specs.Prelude.{◌≡◌, ◌↔◌, ◌<◌, ◌≤◌, ◌^◌, ◌&&◌, ℕ, IsTrue, true, false, not, if◌then◌else◌};
 ghost use Rattle.adapter.specs.Memory.{changed};
-ghost use Rattle.device_model.specs.Bits.{word_bits};
+ghost use Rattle.device_model.specs.WordBits.{word_bits};
 
 use hba_regs::{with_bit, without_bit};
 

@@ -3,7 +3,7 @@
 ghost use Rattle.std.specs.Prelude.{◌≡◌, ◌<◌, ◌≤◌, ◌+◌, ◌⊎◌, ℕ, List, Option, true, false, option_map, length, is_some, []};
 ghost use Rattle.std.specs.Vec.{vec_len, vec_capacity};
 ghost use Rattle.sector_store.specs.Stores.{FailsOn, WritesSector};
-ghost use Rattle.device_model.specs.Cached.{CallFails, HasRoomForOld, KeepsNoOldSectors, KeepsSameOldSectors, RollsBack, lasting_in};
+ghost use Rattle.device_model.specs.WriteCaches.{CallFails, HasRoomForOld, KeepsNoOldSectors, KeepsSameOldSectors, RollsBack, lasting_in};
 ghost use Rattle.device_model.specs.OldSectors.{with_old_bytes};
 
 use crate::old_sectors::OldSectors;

@@ -2,7 +2,7 @@
 ghost use Rattle.std.specs.Prelude.{◌≡◌, ◌≢◌, ◌⊎◌, ◌+◌, ◌-◌, ◌*◌, ◌^◌, ◌<◌, ◌≤◌, length, min, take, drop, slice_index};
 ghost use Rattle.byteorder.specs.Endian.{little_from};
 ghost use Rattle.adapter.specs.Trim.{trim_sectors};
-ghost use Rattle.device_model.specs.Trims.{trim_extent, runs_of};
+ghost use Rattle.device_model.specs.Trims.{first_run_length, run_count_of};
 
 use byteorder::{ByteOrder, LittleEndian};
 
@@ -60,7 +60,7 @@ pub fn count_sectors(block: &[u8]) -> u32
 /// The sectors of a block behind so many, as far as they follow one another, and so many at the most.
 pub fn next_run(block: &[u8], cleared: u32, most: u32) -> SectorExtent
     requires { length block.now ≤ 512 }
-    ensures count { result.count ≡ trim_extent (take most (drop cleared (trim_sectors block.now))) }
+    ensures count { result.count ≡ first_run_length (take most (drop cleared (trim_sectors block.now))) }
     ensures few { result.count ≤ most }
     ensures fits { 1 ≤ result.count → cleared + result.count < 2 ^ 32 }
     ensures first { 1 ≤ result.count → result.first ≡ slice_index (drop cleared (trim_sectors block.now)) 0 }
@@ -101,7 +101,7 @@ fn runs_with(runs: u32, next: u64, first: u64) -> u32
 /// In how many runs the sectors of a block behind so many are.
 pub fn count_runs(block: &[u8], cleared: u32) -> u32
     requires { length block.now ≤ 512 }
-    ensures { result ≡ runs_of (drop cleared (trim_sectors block.now)) }
+    ensures { result ≡ run_count_of (drop cleared (trim_sectors block.now)) }
 {
     let mut skip = cleared;
     let mut runs = 0;

@@ -2,8 +2,8 @@
 ghost use Rattle.std.specs.Prelude.{◌≡◌, ◌<◌, ℕ, List, IfOk, IfSome, None};
 ghost use Rattle.adapter.specs.Commands.{Meaning};
 ghost use Rattle.adapter.specs.Decoding.{DecodesTo};
-ghost use Rattle.device_model.specs.Fetched.{IsUntouched, bytes_of};
-ghost use Rattle.device_model.specs.View.{taken_of};
+ghost use Rattle.device_model.specs.FetchedBytes.{IsUntouched, bytes_of};
+ghost use Rattle.device_model.specs.PortView.{taken_of};
 
 use crate::fetch::decode_into;
 use crate::port::TakenCommand;

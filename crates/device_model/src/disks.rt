@@ -60,7 +60,7 @@ impl DiskIndex {
     }
 
     /// Whether it is that one.
-    pub fn is(self, other: DiskIndex) -> bool
+    pub fn equals(self, other: DiskIndex) -> bool
         ensures { result ≡ is_same self other }
     {
         match self {

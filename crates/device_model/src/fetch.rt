@@ -1,14 +1,14 @@
 // What the bytes of a slot mean, read as the device reads them. Bytes past the end of the memory are zeros.
 ghost use Rattle.std.specs.Prelude.{Bool, ◌≡◌, ◌<◌, ◌≤◌, ◌+◌, ◌*◌, ◌^◌, ◌%◌, ℕ, List, [], true, false, None, Some, All, IfSome, IsTrue, ◌↔◌, length, slice_index};
-ghost use Rattle.adapter.specs.Commands.{IsMeaning, Meaning, command_of, with_fields};
+ghost use Rattle.adapter.specs.Commands.{IsMeaning, Meaning, command_of, command_with_fields};
 ghost use Rattle.adapter.specs.Memory.{bytes_at};
 ghost use Rattle.adapter.specs.Decoding.{HasPrds, IsWholePieces, DecodesTo, pieces};
 ghost use Rattle.adapter.specs.declared.command.Command.{Command};
 ghost use Rattle.adapter.specs.Encoding.{AreZero, EncodesCommand, EncodesHeader, EncodesPrd};
 ghost use Rattle.byteorder.specs.Endian.{little_from};
-ghost use Rattle.device_model.specs.Fetched.{ArePrds, IsUntouched, bytes_of};
+ghost use Rattle.device_model.specs.FetchedBytes.{ArePrds, IsUntouched, bytes_of};
 ghost use Rattle.device_model.specs.Finishing.{sends_page};
-ghost use Rattle.device_model.specs.View.{operation_of_kind, taken_of};
+ghost use Rattle.device_model.specs.PortView.{operation_of_kind, taken_of};
 
 use crate::port::{CommandKind, TakenCommand};
 use crate::prds::PrdTable;
@@ -125,10 +125,11 @@ fn is_ranged_fis(bytes: &[u8], code: u8) -> bool
 /// The sectors that the bytes name, if they are the FIS of a plain command with this code that names some.
 fn decode_range(bytes: &[u8], code: u8) -> Option<Sectors>
     requires { length bytes.now ≡ 20 }
-    ensures found { IfSome result (λ s. EncodesCommand bytes.now (with_fields code 0 (s.count % 65536) s.first 0x40)) }
+    ensures found { IfSome result (λ s. EncodesCommand bytes.now
+        (command_with_fields code 0 (s.count % 65536) s.first 0x40)) }
     ensures range { IfSome result (λ s. (1 ≤ s.count) × (s.count ≤ 65536) × (s.first < 2 ^ 48)) }
     ensures only { (s : Sectors) → 1 ≤ s.count → s.count ≤ 65536
-        → EncodesCommand bytes.now (with_fields code 0 (s.count % 65536) s.first 0x40) → result ≡ Some s }
+        → EncodesCommand bytes.now (command_with_fields code 0 (s.count % 65536) s.first 0x40) → result ≡ Some s }
 {
     if !is_ranged_fis(bytes, code) || bytes[3] != 0 || bytes[11] != 0 {
         return None;
@@ -145,10 +146,11 @@ fn decode_queued(bytes: &[u8], code: u8, tag: u8) -> Option<Sectors>
     requires size { length bytes.now ≡ 20 }
     requires tag { tag < 32 }
     ensures found { IfSome result
-        (λ s. EncodesCommand bytes.now (with_fields code (s.count % 65536) (8 * tag) s.first 0x40)) }
+        (λ s. EncodesCommand bytes.now (command_with_fields code (s.count % 65536) (8 * tag) s.first 0x40)) }
     ensures range { IfSome result (λ s. (1 ≤ s.count) × (s.count ≤ 65536) × (s.first < 2 ^ 48)) }
     ensures only { (s : Sectors) → 1 ≤ s.count → s.count ≤ 65536
-        → EncodesCommand bytes.now (with_fields code (s.count % 65536) (8 * tag) s.first 0x40) → result ≡ Some s }
+        → EncodesCommand bytes.now (command_with_fields code (s.count % 65536) (8 * tag) s.first 0x40) → result
+        ≡ Some s }
 {
     if !is_ranged_fis(bytes, code) || bytes[12] != 8 * tag || bytes[13] != 0 {
         return None;
@@ -163,10 +165,11 @@ fn decode_queued(bytes: &[u8], code: u8, tag: u8) -> Option<Sectors>
 /// features and as count.
 fn decode_bare(bytes: &[u8], code: u8, number: u8) -> Option<Sectors>
     requires { length bytes.now ≡ 20 }
-    ensures found { IfSome result (λ s. EncodesCommand bytes.now (with_fields code number number 0 0x00) × (s.first ≡ 0)
+    ensures found { IfSome result (λ s. EncodesCommand bytes.now (command_with_fields code number number 0 0x00)
+        × (s.first ≡ 0)
         × (s.count ≡ 0)) }
     ensures only { (s : Sectors) → s.first ≡ 0 → s.count ≡ 0
-        → EncodesCommand bytes.now (with_fields code number number 0 0x00) → result ≡ Some s }
+        → EncodesCommand bytes.now (command_with_fields code number number 0 0x00) → result ≡ Some s }
 {
     if bytes[0] == 0x27
         && bytes[1] == 0x80
@@ -185,9 +188,11 @@ fn decode_bare(bytes: &[u8], code: u8, number: u8) -> Option<Sectors>
 /// The sectors that the bytes name, none, if they are the FIS of READ LOG EXT of one page, the first of log 10h.
 fn decode_log(bytes: &[u8]) -> Option<Sectors>
     requires { length bytes.now ≡ 20 }
-    ensures found { IfSome result (λ s. EncodesCommand bytes.now (with_fields 0x2f 0 1 0x10 0x00) × (s.first ≡ 0)
+    ensures found { IfSome result (λ s. EncodesCommand bytes.now (command_with_fields 0x2f 0 1 0x10 0x00)
+        × (s.first ≡ 0)
         × (s.count ≡ 0)) }
-    ensures only { (s : Sectors) → s.first ≡ 0 → s.count ≡ 0 → EncodesCommand bytes.now (with_fields 0x2f 0 1 0x10 0x00)
+    ensures only { (s : Sectors) → s.first ≡ 0 → s.count ≡ 0 → EncodesCommand bytes.now
+        (command_with_fields 0x2f 0 1 0x10 0x00)
         → result ≡ Some s }
 {
     if bytes[0] == 0x27

@@ -1,7 +1,7 @@
 // Whether a fault has halted a port, and what goes on then (AHCI 1.3.1, 6.2.2; ACS-3, 4.15).
 ghost use Rattle.std.specs.Prelude.{◌≡◌};
 ghost use Rattle.adapter.specs.Steps.{admits, halted, halt_after_start};
-ghost use Rattle.device_model.specs.View.{halt_of, operation_of_kind};
+ghost use Rattle.device_model.specs.PortView.{halt_of, operation_of_kind};
 
 use crate::port::CommandKind;
 

@@ -1,14 +1,14 @@
 // The model without its disks.
 ghost use Rattle.std.specs.Prelude.{Bool, List, ◌≡◌, ◌≢◌, ◌+◌, ◌<◌, ◌≤◌, ◌++◌, ℕ, true, false, if◌then◌else◌, All, length, take, drop, slice_index_or};
-ghost use Rattle.adapter.specs.Access.{Shows, is_pending, noted, written, with_is_bit_cleared};
+ghost use Rattle.adapter.specs.Access.{Shows, is_pending, noted, written, port_after_hba_is_write};
 ghost use Rattle.adapter.specs.Memory.{patched, bytes_at};
 ghost use Rattle.adapter.specs.Device.{Device};
-ghost use Rattle.adapter.specs.Steps.{device_after, with_reset};
+ghost use Rattle.adapter.specs.Steps.{device_after, port_after_reset};
 ghost use Rattle.adapter.specs.Steps.DeviceTransition.{ResetEnds};
 ghost use Rattle.hba_regs.specs.Bits.{bit};
-ghost use Rattle.device_model.specs.Held.{IsPortLoose, all_held};
-ghost use Rattle.device_model.specs.Settled.{EndsReset, IsSettled, IsSettledPort, LeadsOwn, Settles, SparesAdapter};
-ghost use Rattle.device_model.specs.View.{Media, port_of, blank_port};
+ghost use Rattle.device_model.specs.HeldPorts.{IsPortReleased, all_held};
+ghost use Rattle.device_model.specs.ModelOwnSteps.{EndsReset, IsSettled, IsSettledPort, LeadsOwn, Settles, SparesAdapter};
+ghost use Rattle.device_model.specs.PortView.{Media, port_of, blank_port};
 ghost use Rattle.device_model.specs.WholeAdapter.{AllMedia, device_of, HasRegister};
 
 use crate::bits::bit_if;
@@ -56,7 +56,7 @@ pub fn put(memory: &mut [u8], at: usize, bytes: &[u8])
 }
 
 /// Copies the bytes from a place on.
-fn get(memory: &[u8], at: usize, out: &mut [u8])
+fn copy_from_memory(memory: &[u8], at: usize, out: &mut [u8])
     requires { at + length out.old ≤ length memory.now }
     ensures copied { out.new ≡ take (length out.old) (drop at memory.now) }
     ensures bytes { All (λ byte. byte < 256) out.new }
@@ -67,7 +67,8 @@ fn get(memory: &[u8], at: usize, out: &mut [u8])
 /// Bits of IS were written.
 fn clear_is_bit(ports: &mut [PortModel; 4], value: u32)
     ensures { (m : Media) (port : ℕ) → port_of (slice_index_or ports.new port blank_port) m ≡
-        (if bit value port then with_is_bit_cleared (port_of (slice_index_or ports.old port blank_port) m) else port_of
+        (if bit value port then port_after_hba_is_write (port_of (slice_index_or ports.old port blank_port) m) else
+        port_of
         (slice_index_or ports.old port blank_port) m) }
 {
     for port in 0..4u32 {
@@ -81,7 +82,7 @@ fn clear_is_bit(ports: &mut [PortModel; 4], value: u32)
 fn reset_all(ports: &mut [PortModel; 4])
     ensures size { length ports.new ≡ length ports.old }
     ensures each { (m : Media) (port : ℕ) → port_of (slice_index_or ports.new port blank_port) m
-        ≡ with_reset (port_of (slice_index_or ports.old port blank_port) m) }
+        ≡ port_after_reset (port_of (slice_index_or ports.old port blank_port) m) }
 {
     for port in 0..4 {
         ports[port].reset();
@@ -161,7 +162,7 @@ impl Hardware {
         ensures shows { (o : AllMedia) → out.new ≡ bytes_at (device_of self.now o).memory at (length out.new) }
         ensures bytes { All (λ byte. byte < 256) out.new }
     {
-        get(&self.memory, at, out);
+        copy_from_memory(&self.memory, at, out);
     }
 
     /// Puts bytes into memory.
@@ -206,7 +207,7 @@ impl Hardware {
     /// What one port does by itself: CR and FR fall where they may, and the link comes up, with the disk's first FIS.
     fn settle_port(&mut self, port: usize)
         requires { port < 4 }
-        ensures own { (o : AllMedia) (held : List Bool) → IsPortLoose held port
+        ensures own { (o : AllMedia) (held : List Bool) → IsPortReleased held port
             → LeadsOwn (Settles held) (device_of self.old o) (device_of self.new o) }
         ensures settled { (o : AllMedia) → IsSettledPort ((device_of self.new o).port port) }
         ensures others { (o : AllMedia) (q : ℕ) → q ≢ port → (device_of self.new o).port q ≡ (device_of self.old o).port

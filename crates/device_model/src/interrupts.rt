@@ -2,7 +2,7 @@
 ghost use Rattle.std.specs.Prelude.{ℕ, ◌≡◌, ◌<◌};
 ghost use Rattle.adapter.specs.Access.{enables_others, is_pending, raises, raises_interrupt, shown_interrupt};
 ghost use Rattle.hba_regs.specs.Bits.{bit};
-ghost use Rattle.device_model.specs.View.{Media, port_of};
+ghost use Rattle.device_model.specs.PortView.{Media, port_of};
 
 use crate::bits::with_bit_as;
 use crate::port::PortModel;

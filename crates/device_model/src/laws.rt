@@ -9,14 +9,14 @@ ghost use Rattle.adapter.specs.Steps.{Can, IsFinished, WorksOn, next_place};
 ghost use Rattle.adapter.specs.Steps.DeviceTransition.{Clear, Fetch, Move};
 ghost use Rattle.adapter.specs.declared.access.DeviceStep.{DeviceStep};
 ghost use Rattle.adapter.specs.declared.access.DeviceStep.TheVariants as asked;
-ghost use Rattle.device_model.specs.Cached.{sector_told};
+ghost use Rattle.device_model.specs.WriteCaches.{sector_told};
 ghost use Rattle.device_model.specs.Disks.{bay_of, numbered_disk, lasting_of, disk_index_of};
-ghost use Rattle.device_model.specs.Does.{DidStep, Possible, PutsIn};
+ghost use Rattle.device_model.specs.StepEffects.{DidStep, IsPossible, PutsIn};
 ghost use Rattle.device_model.specs.Finishing.{HasDisk};
-ghost use Rattle.device_model.specs.Held.{IsPortHeld};
-ghost use Rattle.device_model.specs.Modelled.{device_at};
+ghost use Rattle.device_model.specs.HeldPorts.{IsPortHeld};
+ghost use Rattle.device_model.specs.ModelState.{device_at};
 ghost use Rattle.device_model.specs.Queue.{DoesEach};
-ghost use Rattle.device_model.specs.Settled.{DoesOwn};
+ghost use Rattle.device_model.specs.ModelOwnSteps.{DoesOwn};
 ghost use Rattle.device_model.specs.declared.bay.Bay.{Bay};
 ghost use Rattle.device_model.specs.declared.disks.DiskIndex.{DiskIndex};
 
@@ -38,14 +38,14 @@ pub fn law_moves_are_possible<S: SectorStore>()
         → HasDisk (device_at S.size S.told m) p.0 t.meaning.operation →
         next_place t + 512 ≤ (device_at S.size S.told m).size
         → Can (Move p.0 slot.0 t bytes) (device_at S.size S.told m)
-        → Possible (asked.Move p slot) (device_at S.size S.told m) }
+        → IsPossible (asked.Move p slot) (device_at S.size S.told m) }
 {}
 
 /// A clear that the device may make, of a sector at least, is possible for a model.
 pub fn law_clears_are_possible<S: SectorStore>()
     ensures { (m : Model S) (p : Port) (slot : Slot) (t : FetchedCommand) (first count : ℕ) → slot.0 < 32 → 1 ≤ count →
         Can (Clear p.0 slot.0 t first count) (device_at S.size S.told m)
-        → Possible (asked.Clear p slot count) (device_at S.size S.told m) }
+        → IsPossible (asked.Clear p slot count) (device_at S.size S.told m) }
 {}
 
 /// Whatever steps are done or left, one after another, that don't put a disk in which isn't in: it stays out, with the
@@ -80,27 +80,28 @@ pub fn law_queued_commands_go_on_side_by_side<S: SectorStore>()
         p.0 < 4 → is_queued m.operation ≡ true → is_queued n.operation ≡ true →
         Can (Fetch p.0 slot.0 m xs) (device_at S.size S.told old)
         → Can (Fetch p.0 other.0 n ys) (device_at S.size S.told old) →
-        Possible (asked.Fetch p slot) (device_at S.size S.told old)
+        IsPossible (asked.Fetch p slot) (device_at S.size S.told old)
         × (DidStep S.size S.told S.failures (asked.Fetch p slot) old new
         → Can (Fetch p.0 other.0 n ys) (device_at S.size S.told new)
-        × Possible (asked.Fetch p other) (device_at S.size S.told new)) }
+        × IsPossible (asked.Fetch p other) (device_at S.size S.told new)) }
     ensures ended { (old new : Model S) (p : Port) (slot other : Slot) (t u : FetchedCommand) → slot.0 < 32
         → other.0 < 32
         → other.0 ≢ slot.0 → p.0 < 4 →
         WorksOn ((device_at S.size S.told old).port p.0) slot.0 t t.meaning.operation →
         WorksOn ((device_at S.size S.told old).port p.0) other.0 u u.meaning.operation → IsFinished t → IsFinished u →
-        Possible (asked.Done p slot) (device_at S.size S.told old)
+        IsPossible (asked.Done p slot) (device_at S.size S.told old)
         × (DidStep S.size S.told S.failures (asked.Done p slot) old new
         → WorksOn ((device_at S.size S.told new).port p.0)
         other.0 u u.meaning.operation
-        × Possible (asked.Done p other) (device_at S.size S.told new)) }
+        × IsPossible (asked.Done p other) (device_at S.size S.told new)) }
 {}
 
 /// What a LosePlug leaves on a disk with a cache, of a store that tells its sectors: in each sector what is lasting of
 /// it, or what it held, and then some call on the store has failed. So all is lasting where none has. (Which sectors'
 /// writes have failed says `RollsBack`.)
 pub fn law_lost_caches_leave_what_is_lasting<S: SectorStore>()
-    ensures each { (old new : Model S) (p : Port) (a b : Bay S) → bay_of old p.0 ≡ Some a → bay_of new p.0 ≡ Some b
+    ensures each_sector { (old new : Model S) (p : Port) (a b : Bay S) → bay_of old p.0 ≡ Some a → bay_of new p.0
+        ≡ Some b
         → a.cache.is_on ≡ true → DidStep S.size S.told S.failures (asked.LosePlug p) old new → (sector : ℕ)
         → sector < S.size a.disk.store →
         (sector_told (S.told b.disk.store) sector ≡ sector_told (lasting_of S.told a) sector)

@@ -28,7 +28,7 @@ mod port;
 mod prds;
 mod registers;
 mod scribbling;
-mod sending;
+mod sent_fises;
 mod settling;
 mod slots;
 mod steps;

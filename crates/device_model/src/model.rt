@@ -7,34 +7,34 @@ ghost use Rattle.adapter.specs.Access.{Reads, Writes, Loads, Stores, Shows, writ
 ghost use Rattle.adapter.specs.Memory.{bytes_at, patched};
 ghost use Rattle.adapter.specs.Rules.{MayRead, MayWrite, IsUnowned, IsStable};
 ghost use Rattle.adapter.specs.Steps.{Steps, disk_after, disk_cleared, next_place};
-ghost use Rattle.adapter.specs.Asked.{Asked};
+ghost use Rattle.adapter.specs.ToldSteps.{DoesOrFailsStep};
 ghost use Rattle.sector_store.specs.Stores.{FailsOn};
-ghost use Rattle.device_model.specs.Fetched.{bytes_of};
+ghost use Rattle.device_model.specs.FetchedBytes.{bytes_of};
 ghost use Rattle.adapter.specs.OneCommand.{IsFreeSlot};
 ghost use Rattle.device_model.specs.Disks.{OnlyEndsCommand, HasRoomForOldAt, OnlyChangesPageSource, numbered_disk, disks_given_for, port_0_alone};
-ghost use Rattle.device_model.specs.View.{operation_of_kind};
-ghost use Rattle.device_model.specs.Finishing.{LooksForPage, HasPageCommand, HasMove, TapeHasRoom, HasTakenCommand, MayTakePage, sends_page};
-ghost use Rattle.device_model.specs.Held.{IsPortLoose};
-ghost use Rattle.device_model.specs.Paged.{lying, with_logged_error, truthful};
-ghost use Rattle.device_model.specs.Pending.{TakesPage};
-ghost use Rattle.device_model.specs.Does.{AnswersStep, Completes, OwnStepsKeep, HasCleared, CommandFails, ReadiesNext, was_step_done, asked_fault};
-ghost use Rattle.device_model.specs.Tells.{disks_told};
+ghost use Rattle.device_model.specs.PortView.{operation_of_kind};
+ghost use Rattle.device_model.specs.Finishing.{FindsPageCommand, HasPageCommand, HasMove, TapeHasRoom, HasTakenCommand, MayTakePage, sends_page};
+ghost use Rattle.device_model.specs.HeldPorts.{IsPortReleased};
+ghost use Rattle.device_model.specs.DiskPages.{with_lie, with_logged_error, without_lies};
+ghost use Rattle.device_model.specs.PageTaking.{TakesPage};
+ghost use Rattle.device_model.specs.StepEffects.{AnswersStep, Completes, OwnStepsKeep, HasCleared, CommandFails, KeepsRoomForNext, is_step_answered, asked_fault};
+ghost use Rattle.device_model.specs.ToldDisks.{disks_told};
 ghost use Rattle.device_model.specs.Queue.{BeginsAccess, DoesRead, DoesThen};
-ghost use Rattle.device_model.specs.Modelled.{IsNewBay, IsNewMedia, IsNewModel, all_given_disks_tell, all_tell, cap_of, device_at, given_disks_tell, media_of, tells};
+ghost use Rattle.device_model.specs.ModelState.{IsNewBay, IsNewMedia, IsNewModel, all_given_disks_tell, all_tell, cap_of, device_at, given_disks_tell, media_of, tells};
 ghost use Rattle.device_model.specs.Slots.{IsNextMove};
 ghost use Rattle.device_model.specs.declared.port.TakenCommand.{TakenCommand};
-ghost use Rattle.device_model.specs.Settled.{SendsPages, IsSettled, LeadsOwn, LeavesPageWithoutMemory, NoPageIsLeft};
+ghost use Rattle.device_model.specs.ModelOwnSteps.{SendsPages, IsSettled, LeadsOwn, LeavesPageWithoutMemory, NoPageIsLeft};
 ghost use Rattle.device_model.specs.Trims.{next_run_length, written_ahead};
 ghost use Rattle.device_model.specs.WholeAdapter.{HasDisks, HasRegister};
 
-use crate::bay::{Bay, PAGE_BYTES, end_lies, lie_of, log_failed, note_end_of};
+use crate::bay::{Bay, PAGE_BYTES, add_lie_of, end_lies, log_failed, note_end_of};
 use crate::clearing::SectorExtent;
 use crate::command_room::CommandRoom;
 use crate::config::{ModelConfig, NoMemory};
 use crate::disks::{DiskIndex, Disks, PortDisks};
 use crate::hardware::Hardware;
 use crate::port::{CommandKind, PortModel};
-use crate::steps::{CommandToFinish, NextMove, PendingPage};
+use crate::steps::{BegunCommand, NextMove, PendingPage};
 use adapter::{
     AccessCounter, Adapter, DeviceStep, DiskNumber, DiskPage, Entry, FatalError, Stepped,
 };
@@ -58,7 +58,7 @@ enum StepOutcome {
 impl StepOutcome {
     /// Whether something came of it.
     fn is_told(self) -> bool
-        ensures { result ≡ was_step_done self }
+        ensures { result ≡ is_step_answered self }
     {
         match self {
             StepOutcome::Left => false,
@@ -353,7 +353,7 @@ impl<S: SectorStore> Model<S> {
         };
         if !self
             .hardware
-            .plug(port.0, which.number(), which.is(bay.which))
+            .plug(port.0, which.number(), which.equals(bay.which))
         {
             return false;
         }
@@ -375,7 +375,7 @@ impl<S: SectorStore> Model<S> {
     ) -> StepOutcome
         requires small { slot.0 < 32 }
         requires known { IfSome known.old (λ n. (t : TakenCommand) × IsNextMove self.old.hardware port.0 slot.0 n t) }
-        ensures answers { AnswersStep S.size S.told S.failures (DeviceStep.Move port slot) (was_step_done result)
+        ensures answers { AnswersStep S.size S.told S.failures (DeviceStep.Move port slot) (is_step_answered result)
             self.old
             self.new }
         ensures whole { result ≡ StepOutcome.Done
@@ -383,7 +383,7 @@ impl<S: SectorStore> Model<S> {
             self.new }
         ensures failed { result ≡ StepOutcome.Failed → CommandFails S.size S.told S.failures (DeviceStep.Move port slot)
             self.old self.new }
-        ensures readies { result ≡ StepOutcome.Done → ReadiesNext S.size S.told port.0 slot.0 known.new self.old
+        ensures readies { result ≡ StepOutcome.Done → KeepsRoomForNext S.size S.told port.0 slot.0 known.new self.old
             self.new }
         ensures page { (t : FetchedCommand) → ((device_at S.size S.told self.old).port port.0).taken slot.0 ≡ Some t
             → sends_page t.meaning.operation ≡ true →
@@ -407,7 +407,7 @@ impl<S: SectorStore> Model<S> {
             self.hardware.starved = true;
             return StepOutcome::Left;
         }
-        if !next.is_on(bay.sectors()) {
+        if !next.is_within_disk(bay.sectors()) {
             let _failed = self.fail(port, slot, PAST_THE_DISK, false);
             return StepOutcome::Failed;
         }
@@ -437,7 +437,8 @@ impl<S: SectorStore> Model<S> {
     /// before, if the disks have a cache.
     fn clear_run(&mut self, port: Port, slot: Slot, most: u32) -> StepOutcome
         requires { slot.0 < 32 }
-        ensures answers { AnswersStep S.size S.told S.failures (DeviceStep.Clear port slot most) (was_step_done result)
+        ensures answers { AnswersStep S.size S.told S.failures (DeviceStep.Clear port slot most)
+            (is_step_answered result)
             self.old self.new }
         ensures whole { result ≡ StepOutcome.Done
             → HasCleared (device_at S.size S.told self.old) (device_at S.size S.told self.new) port.0 slot.0 most
@@ -507,11 +508,8 @@ impl<S: SectorStore> Model<S> {
         let Some(bay) = &mut self.bays[usize::from(port.0)] else {
             return false;
         };
-        let Some(CommandToFinish { rest, was_taken }) = bay.begin(
-            &mut self.hardware,
-            port.0,
-            slot.0,
-        ) else {
+        let Some(BegunCommand { rest, was_taken }) = bay.begin(&mut self.hardware, port.0, slot.0)
+        else {
             return false;
         };
         let mut did = was_taken;
@@ -549,14 +547,15 @@ impl<S: SectorStore> Model<S> {
     /// The first slot with an IDENTIFY DEVICE or READ LOG EXT that may be taken, or can be done to its end, of a port
     /// that has disks and isn't left out.
     fn next_page(&self, left_out: &[bool; PORTS]) -> Option<PendingPage>
-        ensures port { IfSome result (λ found. (found.port < 4) × IsPortLoose left_out.now found.port
+        ensures port { IfSome result (λ found. (found.port < 4) × IsPortReleased left_out.now found.port
             × HasDisks (device_at S.size S.told self.now) found.port) }
         ensures small { IfSome result (λ found. found.slot < 32) }
-        ensures found { IfSome result (λ found. LooksForPage (device_at S.size S.told self.now) found.port found.slot
+        ensures found { IfSome result (λ found. FindsPageCommand (device_at S.size S.told self.now) found.port
+            found.slot
             (Some found.ends)) }
-        ensures none { result ≡ None → (port slot : ℕ) → port < 4 → IsPortLoose left_out.now port
+        ensures none { result ≡ None → (port slot : ℕ) → port < 4 → IsPortReleased left_out.now port
             → HasDisks (device_at S.size S.told self.now) port → slot < 32 →
-            LooksForPage (device_at S.size S.told self.now) port slot None }
+            FindsPageCommand (device_at S.size S.told self.now) port slot None }
     {
         for port in 0..4u8 {
             if !left_out[usize::from(port)] && has_disks(self.bays.as_slice(), usize::from(port)) {
@@ -608,7 +607,7 @@ impl<S: SectorStore> Model<S> {
         if offset >= PAGE_BYTES {
             return false;
         }
-        lie_of(&mut self.bays, usize::from(port.0), page, offset, bits);
+        add_lie_of(&mut self.bays, usize::from(port.0), page, offset, bits);
         true
     }
 
@@ -654,7 +653,7 @@ impl<S: SectorStore> Model<S> {
         if !self.hardware.plug(port.0, bay.which.number(), true) {
             return false;
         }
-        bay.put_in_lossy();
+        bay.plug_after_cache_loss();
         true
     }
 
@@ -780,7 +779,7 @@ impl<S: SectorStore> Stepped for Model<S> {
     fn step(&mut self, s: &DeviceStep) -> bool
         ensures steps { Steps (device_at S.size S.told self.old) (device_at S.size S.told self.new) }
         ensures refused { result ≡ false → device_at S.size S.told self.new ≡ device_at S.size S.told self.old }
-        ensures asked { result ≡ true → Asked s.now (device_at S.size S.told self.old)
+        ensures asked { result ≡ true → DoesOrFailsStep s.now (device_at S.size S.told self.old)
             (device_at S.size S.told self.new) }
         ensures counted { self.new.accesses.count.made ≡ self.old.accesses.count.made }
         ensures answers { AnswersStep S.size S.told S.failures s.now result self.old self.new }

@@ -5,9 +5,9 @@ ghost use Rattle.adapter.specs.Device.{Disk, Lasting};
 ghost use Rattle.adapter.specs.Idle.{IsIdlePort};
 ghost use Rattle.adapter.specs.Steps.{lasting_after};
 ghost use Rattle.device_model.specs.Finishing.{sends_page};
-ghost use Rattle.device_model.specs.Modelled.{HasResetValues};
+ghost use Rattle.device_model.specs.ModelState.{HasResetValues};
 ghost use Rattle.device_model.specs.Trims.{written_ahead};
-ghost use Rattle.device_model.specs.View.{Media, cause_of, operation_of_kind, port_of};
+ghost use Rattle.device_model.specs.PortView.{Media, cause_of, operation_of_kind, port_of};
 
 use crate::halt::Halting;
 use crate::prds::PrdTable;
@@ -166,8 +166,8 @@ impl CommandKind {
     /// How long the tape was when the disk last ended a flush, once this has ended: so long, if it is one, and else as
     /// before.
     pub fn lasting_at(self, was: usize, here: usize) -> usize
-        ensures { (lasting : Lasting) (disk : Disk) → lasting.since ≡ was
-            → result ≡ (lasting_after (operation_of_kind self) lasting disk here).since }
+        ensures { (lasting : Lasting) (disk : Disk) → lasting.tape_length ≡ was
+            → result ≡ (lasting_after (operation_of_kind self) lasting disk here).tape_length }
     {
         match self {
             CommandKind::Flush => here,

@@ -1,9 +1,9 @@
 // What the registers of a port show, and what a write does.
 ghost use Rattle.std.specs.Prelude.{◌≡◌, ℕ, true, false};
-ghost use Rattle.adapter.specs.Asked.{fatal_bit};
+ghost use Rattle.adapter.specs.ToldSteps.{fatal_bit};
 ghost use Rattle.adapter.specs.Memory.{changed};
-ghost use Rattle.adapter.specs.Access.{PortShows, note, port_written, with_is_bit_cleared, readings_counted as count_after, link_readings_counted as link_count_after};
-ghost use Rattle.device_model.specs.View.{Media, port_of};
+ghost use Rattle.adapter.specs.Access.{PortShows, note, port_after_write, port_after_hba_is_write, count_after_reading as count_after, link_count_after_reading as link_count_after};
+ghost use Rattle.device_model.specs.PortView.{Media, port_of};
 
 use crate::bits::{bit_if, with_bit_as, without_ones};
 use crate::interrupts::enables_others;
@@ -13,7 +13,7 @@ use ata_types::MOST_READINGS;
 use hba_regs::{PortReg, is_set};
 
 /// One more reading in a row.
-fn readings_counted(again: bool, count: u32) -> u32
+fn count_after_reading(again: bool, count: u32) -> u32
     ensures { result ≡ count_after again count }
 {
     if again {
@@ -24,7 +24,7 @@ fn readings_counted(again: bool, count: u32) -> u32
 }
 
 /// The count of SSTS after one more reading.
-fn link_readings_counted(det: u32, count: u32) -> u32
+fn link_count_after_reading(det: u32, count: u32) -> u32
     ensures { result ≡ link_count_after det count }
 {
     if det == 3 {
@@ -83,12 +83,15 @@ impl PortModel {
             PortReg::Cmd => {
                 let awaited = !self.st && is_set(value, 15) || !self.fre && is_set(value, 14);
                 self.readings.last_cmd = value;
-                self.readings.engine_count = readings_counted(awaited, self.readings.engine_count);
+                self.readings.engine_count = count_after_reading(
+                    awaited,
+                    self.readings.engine_count,
+                );
             }
             PortReg::Ssts => {
                 self.readings.last_ssts = value;
                 if no_comreset {
-                    self.readings.link_count = link_readings_counted(
+                    self.readings.link_count = link_count_after_reading(
                         value % 16,
                         self.readings.link_count,
                     );
@@ -98,13 +101,13 @@ impl PortModel {
                 self.readings.last_tfd = value;
                 if no_comreset {
                     let busy = is_set(value, 7) || is_set(value, 3);
-                    self.readings.busy_count = readings_counted(busy, self.readings.busy_count);
+                    self.readings.busy_count = count_after_reading(busy, self.readings.busy_count);
                 }
             }
             PortReg::Ci => {
                 self.readings.last_ci = value;
                 if no_comreset {
-                    self.readings.command_count = readings_counted(
+                    self.readings.command_count = count_after_reading(
                         is_set(value, 0),
                         self.readings.command_count,
                     );
@@ -119,7 +122,7 @@ impl PortModel {
 
     /// PxCMD is written.
     fn set_command(&mut self, value: u32, tape: usize)
-        ensures { (m : Media) → port_of self.new m ≡ port_written PortReg.Cmd value tape (port_of self.old m) }
+        ensures { (m : Media) → port_of self.new m ≡ port_after_write PortReg.Cmd value tape (port_of self.old m) }
     {
         let st = is_set(value, 0);
         if st && !self.st {
@@ -139,7 +142,7 @@ impl PortModel {
 
     /// PxSCTL is written.
     fn set_control(&mut self, value: u32, tape: usize)
-        ensures { (m : Media) → port_of self.new m ≡ port_written PortReg.Sctl value tape (port_of self.old m) }
+        ensures { (m : Media) → port_of self.new m ≡ port_after_write PortReg.Sctl value tape (port_of self.old m) }
     {
         let det = (value % 16) as u8;
         if self.sctl_det % 16 == 1 && det == 0 {
@@ -158,7 +161,7 @@ impl PortModel {
 
     /// Bits of PxSERR are cleared.
     fn clear_errors(&mut self, value: u32)
-        ensures { (m : Media) (tape : ℕ) → port_of self.new m ≡ port_written PortReg.Serr value tape
+        ensures { (m : Media) (tape : ℕ) → port_of self.new m ≡ port_after_write PortReg.Serr value tape
             (port_of self.old m) }
     {
         self.latch();
@@ -168,7 +171,7 @@ impl PortModel {
 
     /// Bits of PxIS are cleared.
     fn acknowledge(&mut self, value: u32)
-        ensures { (m : Media) (tape : ℕ) → port_of self.new m ≡ port_written PortReg.Is value tape
+        ensures { (m : Media) (tape : ℕ) → port_of self.new m ≡ port_after_write PortReg.Is value tape
             (port_of self.old m) }
     {
         self.latch();
@@ -178,7 +181,7 @@ impl PortModel {
 
     /// PxIE is written.
     fn enable(&mut self, value: u32)
-        ensures { (m : Media) (tape : ℕ) → port_of self.new m ≡ port_written PortReg.Ie value tape
+        ensures { (m : Media) (tape : ℕ) → port_of self.new m ≡ port_after_write PortReg.Ie value tape
             (port_of self.old m) }
     {
         self.latch();
@@ -188,7 +191,7 @@ impl PortModel {
 
     /// A register is written.
     pub fn write(&mut self, r: PortReg, value: u32, tape: usize)
-        ensures { (m : Media) → port_of self.new m ≡ port_written r value tape (port_of self.old m) }
+        ensures { (m : Media) → port_of self.new m ≡ port_after_write r value tape (port_of self.old m) }
     {
         match r {
             PortReg::Cmd => self.set_command(value, tape),
@@ -214,7 +217,7 @@ impl PortModel {
 
     /// The port's bit of IS was written.
     pub fn clear_is_bit(&mut self)
-        ensures { (m : Media) → port_of self.new m ≡ with_is_bit_cleared (port_of self.old m) }
+        ensures { (m : Media) → port_of self.new m ≡ port_after_hba_is_write (port_of self.old m) }
     {
         self.ips = false;
         self.other_causes = enables_others(self.enabled);
@@ -250,7 +253,7 @@ impl PortModel {
           fresh = false;
           serr_n = true;
           serr_x = true;
-          lasting = record { sectors = m.lasting; since = lasting_at };
+          lasting = record { sectors = m.lasting; tape_length = lasting_at };
         } }
     {
         self.lasting_at = lasting_at;

@@ -1,8 +1,8 @@
 // What a port does by itself before a register is read, and what the end of a reset makes of it.
 ghost use Rattle.std.specs.Prelude.{◌≡◌, ◌%◌, ◌↔◌, IsTrue, true, false};
-ghost use Rattle.adapter.specs.Steps.{MayLinkUp, with_link, with_reset};
-ghost use Rattle.device_model.specs.Settled.{SettlesPort};
-ghost use Rattle.device_model.specs.View.{Media, port_of};
+ghost use Rattle.adapter.specs.Steps.{MayLinkUp, port_after_link_up, port_after_reset};
+ghost use Rattle.device_model.specs.ModelOwnSteps.{SettlesPort};
+ghost use Rattle.device_model.specs.PortView.{Media, port_of};
 
 use crate::halt::Halting;
 use crate::port::PortModel;
@@ -47,7 +47,7 @@ impl PortModel {
 
     /// The link comes up.
     fn link_up(&mut self)
-        ensures up { (m : Media) → port_of self.new m ≡ with_link (port_of self.old m) 0x101 true }
+        ensures up { (m : Media) → port_of self.new m ≡ port_after_link_up (port_of self.old m) 0x101 true }
         ensures engine { (self.new.st ≡ self.old.st) × (self.new.cr ≡ self.old.cr) }
         ensures area { (self.new.fre ≡ self.old.fre) × (self.new.fr ≡ self.old.fr) }
     {
@@ -65,7 +65,7 @@ impl PortModel {
     /// The link comes up, if it may; `true` says that it did.
     pub fn link(&mut self) -> bool
         ensures up { result ≡ true → (m : Media) → MayLinkUp (port_of self.old m) 0x101
-            × (port_of self.new m ≡ with_link (port_of self.old m) 0x101 true) }
+            × (port_of self.new m ≡ port_after_link_up (port_of self.old m) 0x101 true) }
         ensures same { result ≡ false → self.new ≡ self.old }
         ensures linked { (self.new.present ≡ true) → (self.new.sctl_det % 16 ≡ 0) → (self.new.link_due ≡ true)
             → false ≡ true }
@@ -91,7 +91,7 @@ impl PortModel {
 
     /// The adapter's reset has ended (AHCI 1.3.1, 10.4.3).
     pub fn reset(&mut self)
-        ensures { (m : Media) → port_of self.new m ≡ with_reset (port_of self.old m) }
+        ensures { (m : Media) → port_of self.new m ≡ port_after_reset (port_of self.old m) }
     {
         self.link_due = self.link_due || self.sctl_det % 16 == 1;
         set!(self, 0: sctl_det, enabled);

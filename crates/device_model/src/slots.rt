@@ -1,11 +1,11 @@
 // The slots of a port: which command is taken, and how it goes on.
 ghost use Rattle.std.specs.Prelude.{◌≡◌, ◌↔◌, ◌<◌, ◌≤◌, ◌^◌, ◌+◌, ◌||◌, ℕ, IsTrue, None, Some, true, false, is_some, slice_index_or, IfSome, List};
-ghost use Rattle.adapter.specs.Steps.{IsUnmixed, IsFetchable, IsWorking, admits, with_clear, with_done, with_fault, with_fetch, with_flush, with_move};
+ghost use Rattle.adapter.specs.Steps.{IsUnmixed, IsFetchable, IsWorking, admits, port_after_clear, port_after_done, port_after_fault, port_after_fetch, port_after_flush, port_after_move};
 ghost use Rattle.adapter.specs.declared.command.Operation.{Operation};
-ghost use Rattle.device_model.specs.Bits.{word_bits};
-ghost use Rattle.device_model.specs.Fetched.{IsUntouched};
+ghost use Rattle.device_model.specs.WordBits.{word_bits};
+ghost use Rattle.device_model.specs.FetchedBytes.{IsUntouched};
 ghost use Rattle.device_model.specs.Slots.{IsOpenTo, MayTake, HasUntaken, WorksOnIn};
-ghost use Rattle.device_model.specs.View.{Media, cause_of, halt_of, taken_in, busy_if_left, media_after, media_cleared, media_ended, operation_of_kind, port_of, taken_of, blank_port};
+ghost use Rattle.device_model.specs.PortView.{Media, cause_of, halt_of, taken_in, busy_if_left, media_after_move, media_after_clear, media_after_end, operation_of_kind, port_of, taken_of, blank_port};
 ghost use Rattle.device_model.specs.declared.port.TakenCommand.{TakenCommand};
 
 use crate::bits::{is_clear_from, with_bit_as};
@@ -40,7 +40,8 @@ impl PortModel {
         requires slot { slot < 32 }
         requires new { IsUntouched command.now }
         requires alone { (m : Media) → IsUnmixed (port_of self.old m) (operation_of_kind command.now.command_kind) }
-        ensures { (m : Media) → port_of self.new m ≡ with_fetch (port_of self.old m) slot (taken_of command.now).meaning
+        ensures { (m : Media) → port_of self.new m ≡ port_after_fetch (port_of self.old m) slot
+            (taken_of command.now).meaning
             (taken_of command.now).places }
     {
         let queued = command.command_kind.is_queued();
@@ -59,7 +60,8 @@ impl PortModel {
         requires held { (t : TakenCommand) × (taken_in self.old.taken slot ≡ Some t) × (t.command_kind ≡ command_kind)
             × (t.moved + 1 < 2 ^ 32) }
         ensures moved { (m : Media) (t : TakenCommand) → taken_in self.old.taken slot ≡ Some t →
-            port_of self.new (media_after m (taken_of t) bytes.now) ≡ with_move (port_of self.old m) slot (taken_of t)
+            port_of self.new (media_after_move m (taken_of t) bytes.now)
+            ≡ port_after_move (port_of self.old m) slot (taken_of t)
             bytes.now }
         ensures held { (t : TakenCommand) → taken_in self.old.taken slot ≡ Some t
             → (command_kind ≡ CommandKind.Trim → ⊥) →
@@ -78,7 +80,8 @@ impl PortModel {
         requires slot { slot < 32 }
         requires room { IfSome (taken_in self.old.taken slot) (λ t. t.cleared + run.count < 2 ^ 32) }
         ensures { (m : Media) (t : TakenCommand) → taken_in self.old.taken slot ≡ Some t →
-            port_of self.new (media_cleared m run.first run.count) ≡ with_clear (port_of self.old m) slot (taken_of t)
+            port_of self.new (media_after_clear m run.first run.count)
+            ≡ port_after_clear (port_of self.old m) slot (taken_of t)
             run.first run.count }
     {
         self.taken.add_cleared(slot, run.count);
@@ -88,8 +91,8 @@ impl PortModel {
     /// PxCI.
     pub fn end(&mut self, slot: u8, command_kind: CommandKind, here: usize)
         requires { slot < 32 }
-        ensures { (m : Media) → port_of self.new (media_ended m (operation_of_kind command_kind)) ≡ with_flush
-            (with_done (port_of self.old m) slot (cause_of command_kind) (operation_of_kind command_kind))
+        ensures { (m : Media) → port_of self.new (media_after_end m (operation_of_kind command_kind)) ≡ port_after_flush
+            (port_after_done (port_of self.old m) slot (cause_of command_kind) (operation_of_kind command_kind))
             (operation_of_kind command_kind)
             here }
     {
@@ -108,7 +111,8 @@ impl PortModel {
     /// A command failed with this error, a queued one or a plain one (AHCI 1.3.1, 6.2.2): PxTFD shows ERR and DRDY, BSY
     /// where its disk is left busy, and the error, TFES is set, and the port is halted. The bits of its slot stay.
     pub fn fail(&mut self, queued: bool, error: u8, busy: bool)
-        ensures { (m : Media) → port_of self.new m ≡ with_fault (port_of self.old m) queued error (busy_if_left busy) }
+        ensures { (m : Media) → port_of self.new m ≡ port_after_fault (port_of self.old m) queued error
+            (busy_if_left busy) }
     {
         self.tfd = Some(u16::from(failed_status(busy)) + 256 * u16::from(error));
         self.is = with_bit_as(self.is, TFES, true);

@@ -7,17 +7,17 @@ ghost use Rattle.adapter.specs.Memory.{bytes_at};
 ghost use Rattle.adapter.specs.Decoding.{pieces};
 ghost use Rattle.adapter.specs.Steps.{Can, IsFinished, device_after, next_sector};
 ghost use Rattle.adapter.specs.Steps.DeviceTransition.{Fetch as FetchStep, FetchFault as FetchFaultStep, Move as MoveStep, Done as DoneStep, Fault as FaultStep, Fatal as FatalStep, Unplug as UnplugStep, Plug as PlugStep};
-ghost use Rattle.adapter.specs.Asked.{DoesFatal, DoesFault, DoesFetch, EndsAndPosts, fatal_bit};
-ghost use Rattle.device_model.specs.Block.{brought};
-ghost use Rattle.device_model.specs.Cached.{HasRoomForOld, KeepsSameOldSectors};
-ghost use Rattle.device_model.specs.Exchanged.{IsTransferred, piece_of};
-ghost use Rattle.device_model.specs.Fetched.{bytes_of};
-ghost use Rattle.device_model.specs.Finishing.{TapeHasRoom, HasRoomAhead, LooksForPage, IsInside, AreInside, IsBegun, IsCovered, IsStepSkipped, IsRemaining, IsUnbegun};
-ghost use Rattle.device_model.specs.Sent.{SendsEnd};
+ghost use Rattle.adapter.specs.ToldSteps.{DoesFatal, DoesFault, DoesFetch, EndsAndPosts, fatal_bit};
+ghost use Rattle.device_model.specs.TakenBlocks.{brought};
+ghost use Rattle.device_model.specs.WriteCaches.{HasRoomForOld, KeepsSameOldSectors};
+ghost use Rattle.device_model.specs.PieceTransfers.{IsTransferred, piece_of};
+ghost use Rattle.device_model.specs.FetchedBytes.{bytes_of};
+ghost use Rattle.device_model.specs.Finishing.{TapeHasRoom, HasRoomAhead, FindsPageCommand, IsInside, AreInside, IsCommandBegun, IsCovered, IsStepSkipped, IsRemaining, IsCommandUnbegun};
+ghost use Rattle.device_model.specs.SentFises.{SendsEnd};
 ghost use Rattle.device_model.specs.Slots.{WorksOnIn, IsNextMove, HasUntaken};
 ghost use Rattle.device_model.specs.Trims.{changes_ahead};
-ghost use Rattle.device_model.specs.View.{taken_in, busy_if_left, operation_of_kind, taken_of, blank_port};
-ghost use Rattle.device_model.specs.WholeAdapter.{AllMedia, device_of, all_media_after, all_media_ended, all_media_plugged};
+ghost use Rattle.device_model.specs.PortView.{taken_in, busy_if_left, operation_of_kind, taken_of, blank_port};
+ghost use Rattle.device_model.specs.WholeAdapter.{AllMedia, device_of, all_media_after_move, all_media_after_end, all_media_after_plug};
 ghost use Rattle.device_model.specs.declared.port.TakenCommand.{TakenCommand};
 
 use crate::cache::Cache;
@@ -59,7 +59,7 @@ pub struct Remaining {
 
 /// A command that is to be done to its end.
 #[derive(Clone, Copy, Debug)]
-pub struct CommandToFinish {
+pub struct BegunCommand {
     pub rest: Remaining,
     /// Whether it was taken just now.
     pub was_taken: bool,
@@ -76,7 +76,7 @@ pub struct PendingPage {
 
 impl NextMove {
     /// Whether it names no sector, or one of so many.
-    pub fn is_on(self, sectors: u64) -> bool
+    pub fn is_within_disk(self, sectors: u64) -> bool
         ensures { IsTrue result ↔ (is_ranged (operation_of_kind self.command_kind) ≡ true → self.sector < sectors) }
     {
         // A sector that is named is on the disk, but for faults, and 0 is where none is named: so one look is enough.
@@ -107,7 +107,7 @@ impl NextMove {
 
 /// How many pieces behind one can be moved without a look for their places: all of its region (65,535 at most), if such
 /// a command names sectors, and each has its place in a memory of this size, and an address of 32 bits; and else none.
-fn behind(command_kind: CommandKind, place: PiecePlace, size: usize) -> u16
+fn pieces_following(command_kind: CommandKind, place: PiecePlace, size: usize) -> u16
     requires { place.address < 2 ^ 32 }
     ensures few { result ≤ place.behind }
     ensures inside { place.address + 512 ≤ size → place.address + 512 * result + 512 ≤ size }
@@ -164,7 +164,7 @@ fn are_inside(prds: &[Prd], size: usize) -> bool
 }
 
 /// How many moves are left of a command, if each of its pieces has a place in a memory of this size.
-fn left_of(command: &TakenCommand, size: usize) -> Option<u32>
+fn moves_left_of(command: &TakenCommand, size: usize) -> Option<u32>
     ensures covered { IfSome result (λ left. IsCovered (taken_of command.now) size left) }
     ensures only { (left : ℕ) → IsCovered (taken_of command.now) size left → result ≡ Some left }
 {
@@ -176,7 +176,7 @@ fn left_of(command: &TakenCommand, size: usize) -> Option<u32>
 }
 
 /// What is left of a command, whose block is this, if each of its moves has a place in the memory.
-fn rest_of(command: &TakenCommand, block: &[u8], memory: &[u8]) -> Option<Remaining>
+fn remaining_of(command: &TakenCommand, block: &[u8], memory: &[u8]) -> Option<Remaining>
     requires block { block.now ≡ brought command.now.block }
     requires few { length block.now ≤ 512 }
     ensures rest { IfSome result (λ rest. IsRemaining command.now memory.now rest.left rest.clears) }
@@ -186,7 +186,7 @@ fn rest_of(command: &TakenCommand, block: &[u8], memory: &[u8]) -> Option<Remain
     ensures only { (left clears : ℕ) → IsRemaining command.now memory.now left clears
         → IsSomeAnd result (λ rest. (rest.left ≡ left) × (rest.clears ≡ clears)) }
 {
-    let left = left_of(command, memory.len())?;
+    let left = moves_left_of(command, memory.len())?;
     let clears = clears_of(command, block, memory)?;
     Some(Remaining {
         left,
@@ -245,7 +245,7 @@ fn can_end(command: &TakenCommand, size: usize) -> bool
     ensures only { result ≡ false → (left : ℕ) → IsCovered (taken_of command.now) size left
         → AreInside (2 ^ 32) (pieces command.now.prds) → ⊥ }
 {
-    match left_of(command, size) {
+    match moves_left_of(command, size) {
         Some(_left) => are_inside(command.prds.as_slice(), 1 << 32),
         None => false,
     }
@@ -333,7 +333,7 @@ impl Hardware {
         requires port { port < 4 }
         requires slot { slot < 32 }
         requires may { HasUntaken (slice_index_or self.now.ports port blank_port) slot }
-        ensures { (o : AllMedia) → LooksForPage (device_of self.now o) port slot result }
+        ensures { (o : AllMedia) → FindsPageCommand (device_of self.now o) port slot result }
     {
         let list = self.ports[port].addresses.clb;
         let command = decode_page_cmd(&self.memory, list, slot)?;
@@ -349,7 +349,7 @@ impl Hardware {
     fn has_page(&self, port: usize, slot: u8) -> Option<bool>
         requires port { port < 4 }
         requires slot { slot < 32 }
-        ensures { (o : AllMedia) → LooksForPage (device_of self.now o) port slot result }
+        ensures { (o : AllMedia) → FindsPageCommand (device_of self.now o) port slot result }
     {
         if !self.ports[port].is_used(slot) {
             return None;
@@ -377,12 +377,12 @@ impl Hardware {
         requires { port < 4 }
         ensures port { IfSome result (λ found. found.port ≡ port) }
         ensures small { IfSome result (λ found. found.slot < 32) }
-        ensures found { IfSome result (λ found. (o : AllMedia) → LooksForPage (device_of self.now o) port found.slot
+        ensures found { IfSome result (λ found. (o : AllMedia) → FindsPageCommand (device_of self.now o) port found.slot
             (Some found.ends)) }
         ensures first { IfSome result (λ found. (o : AllMedia) (slot : ℕ) → slot < found.slot
-            → LooksForPage (device_of self.now o) port slot None) }
+            → FindsPageCommand (device_of self.now o) port slot None) }
         ensures none { result ≡ None → (o : AllMedia) (slot : ℕ) → slot < 32
-            → LooksForPage (device_of self.now o) port slot None }
+            → FindsPageCommand (device_of self.now o) port slot None }
     {
         let place = usize::from(port);
         for slot in 0..32 {
@@ -438,7 +438,7 @@ impl Hardware {
             command_kind: command.command_kind,
             sector: sector_of(command),
             address: place.address as u32,
-            behind: behind(command.command_kind, place, self.memory.len()),
+            behind: pieces_following(command.command_kind, place, self.memory.len()),
         })
     }
 
@@ -451,7 +451,7 @@ impl Hardware {
         requires room { TapeHasRoom self.old 1 }
         ensures moved { (old : Hardware) (o : AllMedia) (t : TakenCommand) → IsTransferred old self.old next →
             IsNextMove old port slot next t →
-            device_of self.new (all_media_after o port (taken_of t) (piece_of self.old next))
+            device_of self.new (all_media_after_move o port (taken_of t) (piece_of self.old next))
             ≡ device_after (MoveStep port slot (taken_of t) (piece_of self.old next)) (device_of old o) }
         ensures left { (n : ℕ) → TapeHasRoom self.old (n + 1) → TapeHasRoom self.new n }
         ensures starved { self.new.starved ≡ self.old.starved }
@@ -509,7 +509,7 @@ impl Hardware {
     {
         let command = working_on(&self.ports, usize::from(port), slot)?;
         let block = self.ports[usize::from(port)].taken.block(slot);
-        rest_of(command, block, &self.memory)
+        remaining_of(command, block, &self.memory)
     }
 
     /// Ends a slot's command, of which nothing is left to move or to clear, sends its FIS, and tells what it was.
@@ -519,7 +519,7 @@ impl Hardware {
         requires slot { slot < 32 }
         ensures did { IfSome result
             (λ command_kind. (o : AllMedia) → EndsAndPosts (SendsEnd slot) port slot (device_of self.old o)
-            (device_of self.new (all_media_ended o port (operation_of_kind command_kind)))) }
+            (device_of self.new (all_media_after_end o port (operation_of_kind command_kind)))) }
         ensures refused { result ≡ None → (o : AllMedia) → device_of self.new o ≡ device_of self.old o }
         ensures left { result ≡ None → (o : AllMedia)
             → IsStepSkipped self.old self.new ((flag : ℕ) × (t : FetchedCommand)
@@ -572,7 +572,7 @@ impl Hardware {
         requires slot { slot < 32 }
         ensures did { IfSome result (λ queued. (o : AllMedia)
             → (f : DoesFault port slot error (busy_if_left busy) (device_of self.old o) (device_of self.new o))
-            × (queued ≡ is_queued f.t.meaning.operation)) }
+            × (queued ≡ is_queued f.fetched_command.meaning.operation)) }
         ensures refused { result ≡ None → (o : AllMedia) → device_of self.new o ≡ device_of self.old o }
         ensures left { result ≡ None → (o : AllMedia)
             → IsStepSkipped self.old self.new ((t : FetchedCommand)
@@ -635,15 +635,16 @@ impl Hardware {
     /// possible, the tape finds memory for them and the end, and the cache of the port's disks for what the sectors
     /// held that they change. Want of memory is told.
     #[inline(never)]
-    fn begin_decoded(&mut self, port: u8, slot: u8, cache: &mut Cache) -> Option<CommandToFinish>
+    fn begin_decoded(&mut self, port: u8, slot: u8, cache: &mut Cache) -> Option<BegunCommand>
         requires port { port < 4 }
         requires slot { slot < 32 }
         requires may { HasUntaken (slice_index_or self.old.ports port blank_port) slot }
-        ensures begun { IfSome result (λ b. IsBegun port slot b.rest.left b.rest.clears b.was_taken self.old self.new) }
+        ensures begun { IfSome result (λ b. IsCommandBegun port slot b.rest.left b.rest.clears b.was_taken self.old
+            self.new) }
         ensures ahead { IfSome result (λ b. (o : AllMedia)
             → HasRoomAhead cache.new port slot b.rest.left (device_of self.new o)) }
         ensures same { KeepsSameOldSectors cache.old cache.new }
-        ensures left { result ≡ None → IsUnbegun port slot self.old self.new cache.old cache.new }
+        ensures left { result ≡ None → IsCommandUnbegun port slot self.old self.new cache.old cache.new }
     {
         let model = &mut self.ports[usize::from(port)];
         let list = model.addresses.clb;
@@ -653,13 +654,13 @@ impl Hardware {
         if !model.may_take_command(command.command_kind) {
             return None;
         }
-        let rest = rest_of(command, &[], &self.memory)?;
+        let rest = remaining_of(command, &[], &self.memory)?;
         if !reserve_all(&mut self.tape, cache, reservations_of(rest)) {
             note_no_memory(&mut self.starved);
             return None;
         }
         model.take(slot, command);
-        Some(CommandToFinish {
+        Some(BegunCommand {
             rest,
             was_taken: true,
         })
@@ -668,14 +669,15 @@ impl Hardware {
     /// Begins to do a slot's command to its end, where each move and each clear that it has left is possible: the tape
     /// finds memory for them and the end, and the cache of the port's disks for what the sectors held that they change,
     /// and the command is taken, unless it is already. Want of memory is told.
-    pub fn begin(&mut self, port: u8, slot: u8, cache: &mut Cache) -> Option<CommandToFinish>
+    pub fn begin(&mut self, port: u8, slot: u8, cache: &mut Cache) -> Option<BegunCommand>
         requires port { port < 4 }
         requires slot { slot < 32 }
-        ensures begun { IfSome result (λ b. IsBegun port slot b.rest.left b.rest.clears b.was_taken self.old self.new) }
+        ensures begun { IfSome result (λ b. IsCommandBegun port slot b.rest.left b.rest.clears b.was_taken self.old
+            self.new) }
         ensures ahead { IfSome result (λ b. (o : AllMedia)
             → HasRoomAhead cache.new port slot b.rest.left (device_of self.new o)) }
         ensures same { KeepsSameOldSectors cache.old cache.new }
-        ensures left { result ≡ None → IsUnbegun port slot self.old self.new cache.old cache.new }
+        ensures left { result ≡ None → IsCommandUnbegun port slot self.old self.new cache.old cache.new }
     {
         let place = usize::from(port);
         if has_untaken(&self.ports, place, slot) {
@@ -686,7 +688,7 @@ impl Hardware {
             self.starved = true;
             return None;
         }
-        Some(CommandToFinish {
+        Some(BegunCommand {
             rest,
             was_taken: false,
         })
@@ -741,7 +743,7 @@ impl Hardware {
         ensures free { result ≡ true → (o : AllMedia) → ((device_of self.old o).port port).present ≡ false }
         ensures did { result ≡ true → (o : AllMedia) (disk : Disk) → disk.name ≡ number →
             same ≡ nat_eq disk.name (o.media port).disk.name →
-            device_of self.new (all_media_plugged o port disk) ≡ device_after (PlugStep port disk)
+            device_of self.new (all_media_after_plug o port disk) ≡ device_after (PlugStep port disk)
             (device_of self.old o) }
         ensures refused { result ≡ false → (o : AllMedia) → device_of self.new o ≡ device_of self.old o }
         ensures left { result ≡ false → (o : AllMedia)

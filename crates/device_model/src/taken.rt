@@ -3,8 +3,8 @@ ghost use Rattle.std.specs.Prelude.{◌≡◌, ◌≢◌, ◌<◌, ◌≤◌, �
 ghost use Rattle.adapter.specs.Commands.{is_queued};
 ghost use Rattle.adapter.specs.Memory.{changed};
 ghost use Rattle.adapter.specs.Steps.{snapshot_of_bytes};
-ghost use Rattle.device_model.specs.Block.{brought, taken_in_slot};
-ghost use Rattle.device_model.specs.View.{taken_in, operation_of_kind};
+ghost use Rattle.device_model.specs.TakenBlocks.{brought, taken_in_slot};
+ghost use Rattle.device_model.specs.PortView.{taken_in, operation_of_kind};
 ghost use Rattle.device_model.specs.declared.port.TakenCommand.{TakenCommand};
 
 use crate::bits::{is_clear_from, with_bit_as};
@@ -29,7 +29,7 @@ pub struct TakenCommands {
 
 impl Model for TakenCommands {
     ghost use Rattle.std.specs.Prelude.{◌≡◌, List, Option, length};
-    ghost use Rattle.device_model.specs.Block.{HasBlock, taken_in_slot, taken_list_from};
+    ghost use Rattle.device_model.specs.TakenBlocks.{HasBlock, taken_in_slot, taken_list_from};
     ghost use Rattle.device_model.specs.declared.port.TakenCommand.{TakenCommand};
 
     ghost Value = { List (Option TakenCommand) };

@@ -1,7 +1,7 @@
 // What can be seen of an adapter in software without an access.
 ghost use Rattle.std.specs.Prelude.{◌≡◌, Bool};
 ghost use Rattle.adapter.specs.Access.{Shows};
-ghost use Rattle.device_model.specs.Modelled.{is_starved};
+ghost use Rattle.device_model.specs.ModelState.{is_starved};
 ghost use Rattle.device_model.specs.WholeAdapter.{HasRegister};
 
 use crate::model::Model;

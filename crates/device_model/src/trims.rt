@@ -4,13 +4,13 @@ ghost use Rattle.adapter.specs.Decoding.{pieces};
 ghost use Rattle.adapter.specs.Steps.{IsFinished, device_after};
 ghost use Rattle.adapter.specs.Steps.DeviceTransition.{Clear as ClearStep};
 ghost use Rattle.adapter.specs.Trim.{trim_sectors};
-ghost use Rattle.device_model.specs.Block.{brought};
-ghost use Rattle.device_model.specs.Fetched.{bytes_of};
+ghost use Rattle.device_model.specs.TakenBlocks.{brought};
+ghost use Rattle.device_model.specs.FetchedBytes.{bytes_of};
 ghost use Rattle.device_model.specs.Finishing.{TapeHasRoom};
 ghost use Rattle.device_model.specs.Slots.{CanClear, WorksOnIn, IsNextRun};
 ghost use Rattle.device_model.specs.Trims.{HasRunsLeft, HasClearsLeft, block_ahead, cleared_ahead, next_uncleared, next_run_length, uncleared};
-ghost use Rattle.device_model.specs.View.{blank_port, operation_of_kind, taken_of};
-ghost use Rattle.device_model.specs.WholeAdapter.{AllMedia, device_of, all_media_cleared};
+ghost use Rattle.device_model.specs.PortView.{blank_port, operation_of_kind, taken_of};
+ghost use Rattle.device_model.specs.WholeAdapter.{AllMedia, device_of, all_media_after_clear};
 ghost use Rattle.device_model.specs.declared.port.TakenCommand.{TakenCommand};
 
 use crate::clearing::{SectorExtent, count_runs, count_sectors, next_run};
@@ -174,7 +174,7 @@ impl Hardware {
         ensures none { run.count ≡ 0 → self.new ≡ self.old }
         ensures cleared { 1 ≤ run.count → (o : AllMedia) (t : TakenCommand)
             → WorksOnIn (slice_index_or self.old.ports port blank_port) slot t →
-            device_of self.new (all_media_cleared o port run.first run.count)
+            device_of self.new (all_media_after_clear o port run.first run.count)
             ≡ device_after (ClearStep port slot (taken_of t) run.first run.count) (device_of self.old o) }
         ensures left { (n : ℕ) → TapeHasRoom self.old (n + 1) → TapeHasRoom self.new n }
         ensures starved { self.new.starved ≡ self.old.starved }

@@ -10,12 +10,12 @@ use Rattle.hba_regs.specs.Bits.{bit}
 use Rattle.hba_regs.specs.declared.reg.Reg.{Reg}
 use Rattle.hba_regs.specs.declared.reg.Reg.TheVariants.{Ghc, Px}
 use Rattle.hba_regs.specs.declared.reg.PortReg.TheVariants.{Ci, Sact}
-use Rattle.adapter.specs.Access.{Access, Does, Reads, Writes, Loads, readings_counted}
+use Rattle.adapter.specs.Access.{Access, Does, Reads, Writes, Loads, count_after_reading}
 use Rattle.adapter.specs.Access.Access.{Reading, Writing, Loading, Storing}
 use Rattle.adapter.specs.Commands.{Meaning, command_of, is_ranged, piece_count}
 use Rattle.adapter.specs.Device.{Bases, Notes, DevicePort, Device}
 use Rattle.adapter.specs.Device.Halt.{NotHalted}
-use Rattle.adapter.specs.Kept.{Keeps, KeepsControls, KeepsPort}
+use Rattle.adapter.specs.KeptBySteps.{Keeps, KeepsControls, KeepsPort}
 use Rattle.adapter.specs.Rules.{IsOn, HasPort, IsUnowned, IsStable, MayWrite}
 use Rattle.adapter.specs.Decoding.{pieces, IsWholePieces}
 use Rattle.adapter.specs.declared.command.Command.{Command}
@@ -23,17 +23,17 @@ use Rattle.adapter.specs.declared.command.Operation.{Operation}
 use Rattle.adapter.specs.declared.command.Prd.{Prd}
 use Rattle.adapter.specs.RegisterEffects.{PortRegisterRead, PortRegisterWritten}
 use Rattle.adapter.specs.declared.tape.Entry.{Entry}
-use Rattle.refinement.specs.Driven.{IsRelated, IsDrivenBy, IsSimulated, IsSimulatedTo, SparesOtherPorts, IsSimulatedAlong, IsSimulatedAlongTo, AnyUse, NoneWrites, AnyAccess, GainsNoMove}
+use Rattle.refinement.specs.Fragments.{IsRelated, IsDrivenBy, IsSimulated, IsSimulatedChangingUses, SparesOtherPorts, IsSimulatedAlong, IsSimulatedAlongChangingUses, AnyUse, NoneWrites, AnyAccess, GainsNoMove}
 use Rattle.refinement.specs.Driver.{IsOwnPrepared}
 use Rattle.refinement.specs.PortFacts.{IsSlotClear}
-use Rattle.refinement.specs.Places.{list_of, scratch_of}
-use Rattle.refinement.specs.Slots.{Free, Own, SlotStates, put as used, SlotDecodesTo, IsOver, op_of, PageStandsInScratch}
-use Rattle.command_table.specs.Places.{places_of}
-use Rattle.command_table.specs.Written.{IsTableFor, IsTableStore, IsUnused}
-use Rattle.disk_page.specs.Asking.{page_operation, AreVainReadings, MayAsk, IsPageAccess, BringsLastPage, ShowsIssued, WaitsInVain}
-use Rattle.disk_page.specs.Waiting.{IsPageAwaited}
+use Rattle.refinement.specs.MemoryLayout.{list_of, scratch_of}
+use Rattle.refinement.specs.Slots.{Free, Own, SlotStates, set_slot_state as used, SlotDecodesTo, IsOver, op_of, PageStandsInScratch}
+use Rattle.command_table.specs.SectorPlaces.{places_of}
+use Rattle.command_table.specs.TableStores.{IsTableFor, IsTableStore, IsUnused}
+use Rattle.disk_page.specs.PageRequests.{page_operation, AreIssuedReadings, MayAskForPage, IsPageAccess, BringsLastPage, ShowsIssued, WaitsInVain}
+use Rattle.disk_page.specs.PageWaits.{IsPageAwaited}
 use Rattle.disk_page.specs.declared.Page.{Page}
-use Rattle.disk_page.specs.declared.Page.TheVariants.{Identity, Errors}
+use Rattle.disk_page.specs.declared.Page.TheVariants.{Identity, ErrorLog}
 use Rattle.disk_page.specs.Laws.{Laws}
 use Rattle.std.proofs.lemmas.List.Elements.{All-nil, All-cons, All-append, All-weaker}
 use Rattle.disk_page.specs.Laws.AccessPurpose.{Asking, Awaiting, Storing as Stored}
@@ -56,7 +56,7 @@ pub record IsPending (port : Port) (start : Device) (n : ℕ) (d : Device) : Typ
   pub on : IsOn d
   pub there : HasPort d port.0
   pub det : (d.port port.0).sctl_det ≡ 0
-  pub told : IsSimulatedAlong (AreVainReadings port n) (IsPageAccess port) AnyUse start d
+  pub told : IsSimulatedAlong (AreIssuedReadings port n) (IsPageAccess port) AnyUse start d
   pub waiting : (o : Operation) (since : ℕ) (uses : SlotStates) (begun : Device) → IsPageAwaited port o since uses begun start → IsPageAwaited port o since uses begun d
   pub low : n ≤ (d.port port.0).notes.command_count
   pub high : 0 < n → (d.port port.0).notes.command_count ≤ MOST_READINGS
@@ -87,25 +87,25 @@ asking_is_of port (Storing at bytes) is = tt
 
 own : (page : Page) → op_of (page_operation page) ≡ None
 own Identity = refl
-own Errors = refl
+own ErrorLog = refl
 
 pub unranged : (page : Page) → is_ranged (page_operation page) ≡ false
 unranged Identity = refl
-unranged Errors = refl
+unranged ErrorLog = refl
 
 pub one_piece : (page : Page) → piece_count (page_operation page) 0 ≡ 1
 one_piece Identity = refl
-one_piece Errors = refl
+one_piece ErrorLog = refl
 
-pub may_after : (port : ℕ) (old new : Device) → Leaves port old new → MayAsk port old → MayAsk port new
+pub may_after : (port : ℕ) (old new : Device) → Leaves port old new → MayAskForPage port old → MayAskForPage port new
 may_after port old new l may =
     let controls = l.controls in
     let keeps = l.keeps in
     record {
-      started = controls.st ∙ may.started;
-      list = ap (λ (b : Bases). b.clb) keeps.bases ∙ may.list;
-      det = controls.sctl_det ∙ may.det;
-      known = let same = l.set_at in let later = l.later in let known = may.known in omega (arith, same, later, known);
+      st_is_set = controls.st ∙ may.st_is_set;
+      list_is_in_place = ap (λ (b : Bases). b.clb) keeps.bases ∙ may.list_is_in_place;
+      no_comreset = controls.sctl_det ∙ may.no_comreset;
+      st_set_in_tape = let same = l.set_at in let later = l.later in let known = may.st_set_in_tape in omega (arith, same, later, known);
     }
 
 -- one frame, of which the page takes the first 512 bytes
@@ -114,9 +114,9 @@ pub table_for : (page : Page) (command : Command) (prds : List Prd) (port n : �
 table_for page command prds port n same is whole places = record {
   meaning = record { ranged = λ ranged. absurd (true≢false (sym ranged ∙ (unranged page))); not_ranged = λ _. (refl, refl) };
   fields = is;
-  whole = whole;
-  in_order = (let at : 4096 * (PORT_FRAMES * n + SCRATCH_FRAME) + 512 * (0 % 8) ≡ scratch_of port = omega (arith, same) in ap (λ (a : ℕ). a ∷ []) (sym at)) ∙ sym places;
-  as_many = sym (one_piece page);
+  prds_are_whole_pieces = whole;
+  places_are = (let at : 4096 * (PORT_FRAMES * n + SCRATCH_FRAME) + 512 * (0 % 8) ≡ scratch_of port = omega (arith, same) in ap (λ (a : ℕ). a ∷ []) (sym at)) ∙ sym places;
+  place_count_is = sym (one_piece page);
 }
 
 -- so they say the command
@@ -129,9 +129,9 @@ page_is_told page command prds written port n memory same is whole places value 
     says (meaning_of page) (scratch_of port ∷ []) (subst P (sym value) (table_for page command prds port n same is whole places))
 
 -- one more reading that shows the command
-vain_more : (port : Port) (n v : ℕ) (early late : List Access) → AreVainReadings port n early → late ≡ Reading (Px port Ci) v ∷ [] → bit v 0 ≡ true → AreVainReadings port (n + 1) (early ++ late)
+vain_more : (port : Port) (n v : ℕ) (early late : List Access) → AreIssuedReadings port n early → late ≡ Reading (Px port Ci) v ∷ [] → bit v 0 ≡ true → AreIssuedReadings port (n + 1) (early ++ late)
 vain_more port n v early late (number, all) is set =
-    let P : List Access → Type 0 = λ last. AreVainReadings port (n + 1) (early ++ last) in
+    let P : List Access → Type 0 = λ last. AreIssuedReadings port (n + 1) (early ++ last) in
     let both = length-append early (Reading (Px port Ci) v ∷ []) in
     subst P (sym is) (
       omega (arith, both, number),
@@ -144,9 +144,9 @@ vain_then port early late w = record {
   before = w.before;
   waits = w.waits;
   later = w.later ++ late;
-  here = ap (λ (made : List Access). made ++ late) w.here
+  accesses_are = ap (λ (made : List Access). made ++ late) w.accesses_are
       ∙ (append_assoc w.before (w.waits ++ w.later) late ∙ ap (λ (made : List Access). w.before ++ made) (append_assoc w.waits w.later late));
-  vain = w.vain;
+  waits_are_vain = w.waits_are_vain;
 }
 
 pub vain_since : (port : Port) (early late : List Access) → WaitsInVain port late → WaitsInVain port (early ++ late)
@@ -154,8 +154,8 @@ vain_since port early late w = record {
   before = early ++ w.before;
   waits = w.waits;
   later = w.later;
-  here = ap (λ (made : List Access). early ++ made) w.here ∙ sym (append_assoc early w.before (w.waits ++ w.later));
-  vain = w.vain;
+  accesses_are = ap (λ (made : List Access). early ++ made) w.accesses_are ∙ sym (append_assoc early w.before (w.waits ++ w.later));
+  waits_are_vain = w.waits_are_vain;
 }
 
 module _ (laws : Laws) where
@@ -163,12 +163,12 @@ module _ (laws : Laws) where
   stores_of : (port : Port) (old new : Device) → IsDrivenBy (IsTableStore port.0 0) old new → IsDrivenBy (SparesOtherPorts (next port)) old new
   stores_of port old new a = record {
     accesses = a.accesses;
-    all = a.all;
-    only = All-weaker (IsTableStore port.0 0) (SparesOtherPorts (next port)) (laws.stores_any (next port) port.0 0) a.accesses a.only;
+    all_are_done = a.all_are_done;
+    accesses_are_of_kind = All-weaker (IsTableStore port.0 0) (SparesOtherPorts (next port)) (laws.stores_any (next port) port.0 0) a.accesses a.accesses_are_of_kind;
   }
 
   any : (May : Access → Type 0) (old new : Device) → IsDrivenBy May old new → IsDrivenBy AnyAccess old new
-  any May old new a = record { accesses = a.accesses; all = a.all; only = All-weaker May AnyAccess (λ access is. tt) a.accesses a.only }
+  any May old new a = record { accesses = a.accesses; all_are_done = a.all_are_done; accesses_are_of_kind = All-weaker May AnyAccess (λ access is. tt) a.accesses a.accesses_are_of_kind }
 
   tables_leave : (port : Port) (old new : Device) → IsOn old → IsDrivenBy (IsTableStore port.0 0) old new → Leaves port.0 old new
   tables_leave port old new on a =
@@ -189,10 +189,10 @@ module _ (laws : Laws) where
       let k : Keeps old x.mid = laws.law_step_lists_keep_what_steps_keep _ _ x.steps in
       record {
         same = laws.access_same (Reading (Px port Ci) v) old new x;
-        keeps = s.keeps.port port.0;
-        controls = s.keeps.on.controls port.0;
+        keeps = s.keeps.ports_are_kept port.0;
+        controls = s.keeps.keeps_outside_reset.controls port.0;
         set_at = ap (λ (n : Notes). n.st_set_at) s.notes;
-        later = grown old.tape new.tape k.gained (ap (λ (d : Device). d.tape) x.effect ∙ k.tape);
+        later = grown old.tape new.tape k.new_entries (ap (λ (d : Device). d.tape) x.effect ∙ k.tape_grows);
       }
 
   pub asking_spares_ghc : (port : Port) → NoneWrites (IsPageAccess port) Ghc
@@ -203,13 +203,13 @@ module _ (laws : Laws) where
       GainsNoMove port.0 other old new
   access_silent port uses other access old new a page none x =
       let g = laws.tape.access_grows access old new x in
-      (g.0, g.1, laws.access_pages uses a.machine access old new port.0 other g.0 a.reached a.knows.agrees x g.1 page (λ is. absurd (none is)))
+      (g.0, g.1, laws.access_pages uses a.machine access old new port.0 other g.0 a.reached a.driver_relation.state_relation x g.1 page (λ is. absurd (none is)))
 
   -- slot 0 has another command
   other_own : (port : ℕ) (o other : Operation) (uses : SlotStates) → uses port 0 ≡ Own o → other ≢ o → uses port 0 ≡ Own other → ⊥
   other_own port o other uses own differs is = let both : Own other ≡ Own o = sym is ∙ own in let same : other ≡ o = cc in differs same
 
-  module _ (port : Port) (page : Page) (mid new : Device) (on : IsOn mid) (there : HasPort mid port.0) (room : DRIVER_BYTES ≤ mid.size) (may : MayAsk port.0 mid)
+  module _ (port : Port) (page : Page) (mid new : Device) (on : IsOn mid) (there : HasPort mid port.0) (room : DRIVER_BYTES ≤ mid.size) (may : MayAskForPage port.0 mid)
       (told : SlotDecodesTo mid.memory (list_of port.0) port.0 0 (meaning_of page) (scratch_of port.0 ∷ [])) where
     o : Operation
     o = page_operation page
@@ -220,28 +220,28 @@ module _ (laws : Laws) where
         record {
           own = own page;
           free = free;
-          started = may.started;
-          placed = record { port_below = there.0; slot_below = lit< tt; list = may.list };
+          st_is_set = may.st_is_set;
+          list_is_in_place = record { port_below = there.0; slot_below = lit< tt; list = may.list_is_in_place };
           command = meaning_of page;
           operation_is = refl;
-          told = subst T (sym may.list) told;
-          known = may.known;
-          here = refl;
-          alone = bit_one_other;
+          slot_decodes_to = subst T (sym may.list_is_in_place) told;
+          st_set_is_on_tape = may.st_set_in_tape;
+          bit_is_set = refl;
+          no_other_bit_is_set = bit_one_other;
         }
 
     pub ask_permitted : (uses : SlotStates) → IsUnused port.0 0 uses → IsRelated uses mid → IsStable (MayWrite (Px port Ci) 1) mid
-    ask_permitted uses free a = laws.own_is_permitted uses a.machine mid a.reached a.knows.agrees port (page_operation page) 1 on there (prepared uses free)
+    ask_permitted uses free a = laws.own_is_permitted uses a.machine mid a.reached a.driver_relation.state_relation port (page_operation page) 1 on there (prepared uses free)
 
     module _ (call : Writes (Px port Ci) 1 mid new) where
-      pub asked_to : IsSimulatedTo (IsPageAccess port) (IsUnused port.0 0) (λ uses. used uses port.0 0 (Own (page_operation page))) mid new
+      pub asked_to : IsSimulatedChangingUses (IsPageAccess port) (IsUnused port.0 0) (λ uses. used uses port.0 0 (Own (page_operation page))) mid new
       asked_to = laws.fragments.asks (Asking port) port (page_operation page) 1 mid new (refl, refl) on.no_reset prepared call
 
       put_ci : PortRegisterWritten port.0 Ci 1 mid new
       put_ci = laws.put_at port Ci 1 mid new call on.no_reset
 
       pub asked_det : (new.port port.0).sctl_det ≡ 0
-      asked_det = ap (λ (p : DevicePort). p.sctl_det) put_ci.here ∙ (put_ci.keeps.on.controls port.0).sctl_det ∙ may.det
+      asked_det = ap (λ (p : DevicePort). p.sctl_det) put_ci.port_is_written ∙ (put_ci.keeps.keeps_outside_reset.controls port.0).sctl_det ∙ may.no_comreset
 
       pub asked_on : IsOn new
       asked_on = laws.access_on (Writing (Px port Ci) 1) mid new on (λ v e. absurd cc) call
@@ -252,52 +252,52 @@ module _ (laws : Laws) where
       pub asked_later : length mid.tape ≤ length new.tape
       asked_later =
           let k : Keeps mid put_ci.mid = laws.law_step_lists_keep_what_steps_keep _ _ put_ci.steps in
-          let l = grown mid.tape put_ci.mid.tape k.gained k.tape in
+          let l = grown mid.tape put_ci.mid.tape k.new_entries k.tape_grows in
           let same = ap (λ (es : List Entry). length es) put_ci.tape in omega (arith, l, same)
 
       pub asked_waits : (start : Device) (uses : SlotStates) → IsUnused port.0 0 uses → IsRelated uses mid → ((other : Operation) → op_of other ≡ None → GainsNoMove port.0 other start mid) →
           IsPageAwaited port (page_operation page) (length new.tape) (used uses port.0 0 (Own (page_operation page))) start new
       asked_waits start uses free a before = record {
-        on = laws.access_on (Writing (Px port Ci) 1) mid new on (λ v e. absurd cc) call;
-        room = let same = (laws.access_same (Writing (Px port Ci) 1) mid new call).size in omega (arith, same, room);
-        agreed = laws.fragments.agreed (Asking port) (λ uses. used uses port.0 0 (Own (page_operation page))) uses mid new free asked_to a;
-        awaits = laws.page_is_issued uses a.machine port (page_operation page) 1 mid new a.reached a.knows.agrees on.no_reset (prepared uses free) call;
-        ends = λ alone. laws.halt_is_issued uses a.machine port (page_operation page) 1 mid new a.reached a.knows.agrees on.no_reset
+        adapter_is_on = laws.access_on (Writing (Px port Ci) 1) mid new on (λ v e. absurd cc) call;
+        driver_memory_fits = let same = (laws.access_same (Writing (Px port Ci) 1) mid new call).size in omega (arith, same, room);
+        machine_is_related = laws.fragments.agreed (Asking port) (λ uses. used uses port.0 0 (Own (page_operation page))) uses mid new free asked_to a;
+        awaits = laws.page_is_issued uses a.machine port (page_operation page) 1 mid new a.reached a.driver_relation.state_relation on.no_reset (prepared uses free) call;
+        ends_halt = λ alone. laws.halt_is_issued uses a.machine port (page_operation page) 1 mid new a.reached a.driver_relation.state_relation on.no_reset
             (λ slot other. sym (laws.put_others uses port.0 0 (Own (page_operation page)) port.0 slot (λ same here. other here)) ∙ alone slot other) (prepared uses free) call;
-        silent = λ other page differs. laws.silent_more port.0 other start mid new (before other page)
+        no_other_page_moves = λ other page differs. laws.silent_more port.0 other start mid new (before other page)
             (access_silent port uses other (Writing (Px port Ci) 1) mid new a page (λ is. let e : Free ≡ Own other = sym free ∙ is in absurd cc) call);
       }
 
   -- ---- stretches, one after another
 
   -- it is asked for after the stores
-  pub stored_then : (port : Port) (next : SlotStates → SlotStates) (old mid new : Device) → IsSimulated (IsPageAccess port) (IsUnused port.0 0) old mid → IsSimulatedTo (IsPageAccess port) (IsUnused port.0 0) next mid new →
-      IsSimulatedTo (IsPageAccess port) (IsUnused port.0 0) next old new
+  pub stored_then : (port : Port) (next : SlotStates → SlotStates) (old mid new : Device) → IsSimulated (IsPageAccess port) (IsUnused port.0 0) old mid → IsSimulatedChangingUses (IsPageAccess port) (IsUnused port.0 0) next mid new →
+      IsSimulatedChangingUses (IsPageAccess port) (IsUnused port.0 0) next old new
   stored_then port next old mid new a b = (laws.fragments.both (Asking port) (Asking port) (λ uses. uses) next (λ access may. may) (λ uses free. free) old mid new a b).followed
 
   -- what was asked for is awaited
-  pub asked_then : (port : Port) (next : SlotStates → SlotStates) (old mid new : Device) → IsSimulatedTo (IsPageAccess port) (IsUnused port.0 0) next old mid → IsSimulated (IsPageAccess port) AnyUse mid new →
-      IsSimulatedTo (IsPageAccess port) (IsUnused port.0 0) next old new
+  pub asked_then : (port : Port) (next : SlotStates → SlotStates) (old mid new : Device) → IsSimulatedChangingUses (IsPageAccess port) (IsUnused port.0 0) next old mid → IsSimulated (IsPageAccess port) AnyUse mid new →
+      IsSimulatedChangingUses (IsPageAccess port) (IsUnused port.0 0) next old new
   asked_then port next old mid new a b = (laws.fragments.both (Asking port) (Awaiting port) next (λ uses. uses) (λ access may. may) (λ uses free. tt) old mid new a b).followed
 
   -- in vain, as is told of the accesses
-  pub asked_in_vain : (port : Port) (next : SlotStates → SlotStates) (old mid new : Device) → IsSimulatedTo (IsPageAccess port) (IsUnused port.0 0) next old mid → IsSimulatedAlong (AreVainReadings port MOST_READINGS) (IsPageAccess port) AnyUse mid new →
-      IsSimulatedAlongTo (WaitsInVain port) (IsPageAccess port) (IsUnused port.0 0) next old new
+  pub asked_in_vain : (port : Port) (next : SlotStates → SlotStates) (old mid new : Device) → IsSimulatedChangingUses (IsPageAccess port) (IsUnused port.0 0) next old mid → IsSimulatedAlong (AreIssuedReadings port MOST_READINGS) (IsPageAccess port) AnyUse mid new →
+      IsSimulatedAlongChangingUses (WaitsInVain port) (IsPageAccess port) (IsUnused port.0 0) next old new
   asked_in_vain port next old mid new a b =
       let both = laws.fragments.both (Asking port) (Awaiting port) next (λ uses. uses) (λ access may. may) (λ uses free. tt) old mid new a b.followed in
-      let early = a.driven.accesses in
-      let waits = b.followed.driven.accesses in
+      let early = a.is_driven.accesses in
+      let waits = b.followed.is_driven.accesses in
       record {
         followed = both.followed;
         tells = subst (WaitsInVain port) (sym both.tells)
-            (record { before = early; waits = waits; later = []; here = ap (λ (rest : List Access). early ++ rest) (sym (append-nil waits)); vain = b.tells });
+            (record { before = early; waits = waits; later = []; accesses_are = ap (λ (rest : List Access). early ++ rest) (sym (append-nil waits)); waits_are_vain = b.tells });
       }
 
   awaited_then : (port : Port) (old mid new : Device) → IsSimulated (IsPageAccess port) AnyUse old mid → IsSimulated (IsPageAccess port) AnyUse mid new → IsSimulated (IsPageAccess port) AnyUse old new
   awaited_then port old mid new a b = (laws.fragments.both (Awaiting port) (Awaiting port) (λ uses. uses) (λ uses. uses) (λ access may. may) (λ uses any. tt) old mid new a b).followed
 
   -- a page that came leaves its slot
-  pub asked_back : (port : Port) (o : Operation) (old new : Device) → IsOver (new.port port.0) 0 → IsSimulatedTo (IsPageAccess port) (IsUnused port.0 0) (λ uses. used uses port.0 0 (Own o)) old new →
+  pub asked_back : (port : Port) (o : Operation) (old new : Device) → IsOver (new.port port.0) 0 → IsSimulatedChangingUses (IsPageAccess port) (IsUnused port.0 0) (λ uses. used uses port.0 0 (Own o)) old new →
       IsSimulated (IsPageAccess port) (IsUnused port.0 0) old new
   asked_back port o old new over a = (laws.fragments.over (Asking port) port o 1 old new (refl, refl) (λ uses free. free) over a).followed
 
@@ -305,7 +305,7 @@ module _ (laws : Laws) where
 
   module _ (port : Port) (old mid : Device) (on : IsOn old) (stores : IsSimulated (IsTableStore port.0 0) (IsUnused port.0 0) old mid) where
     pub stores_leave : Leaves port.0 old mid
-    stores_leave = tables_leave port old mid on stores.driven
+    stores_leave = tables_leave port old mid on stores.is_driven
 
     pub stores_asking : IsSimulated (IsPageAccess port) (IsUnused port.0 0) old mid
     stores_asking = (laws.fragments.wider (Stored port) (Asking port) (λ uses. uses) kind (λ uses free. free) old mid stores).followed
@@ -339,22 +339,22 @@ module _ (laws : Laws) where
     -- the driver goes on to wait
     reads_wait : (o : Operation) (since : ℕ) (uses : SlotStates) (begun : Device) → IsPageAwaited port o since uses begun d → IsPageAwaited port o since uses begun e
     reads_wait o since uses begun w =
-        let a = w.agreed in
+        let a = w.machine_is_related in
         record {
-          on = reads_on;
-          room = let same = (laws.access_same (Reading (Px port Ci) v) d e call).size in let room = w.room in omega (arith, same, room);
-          agreed = laws.fragments.agreed (Awaiting port) (λ uses. uses) uses d e tt reads_followed a;
-          awaits = laws.access_waits uses a.machine port o since (Reading (Px port Ci) v) d e a.reached a.knows.agrees (λ w f. absurd cc) reads_on.no_reset call w.awaits;
-          ends = λ alone. laws.access_ends_halt uses a.machine port (Reading (Px port Ci) v) d e a.reached a.knows.agrees (λ w f. absurd cc) tt reads_on.no_reset call (w.ends alone);
-          silent = λ other page differs. laws.silent_more port.0 other begun d e (w.silent other page differs)
+          adapter_is_on = reads_on;
+          driver_memory_fits = let same = (laws.access_same (Reading (Px port Ci) v) d e call).size in let room = w.driver_memory_fits in omega (arith, same, room);
+          machine_is_related = laws.fragments.agreed (Awaiting port) (λ uses. uses) uses d e tt reads_followed a;
+          awaits = laws.access_waits uses a.machine port o since (Reading (Px port Ci) v) d e a.reached a.driver_relation.state_relation (λ w f. absurd cc) reads_on.no_reset call w.awaits;
+          ends_halt = λ alone. laws.access_ends_halt uses a.machine port (Reading (Px port Ci) v) d e a.reached a.driver_relation.state_relation (λ w f. absurd cc) tt reads_on.no_reset call (w.ends_halt alone);
+          no_other_page_moves = λ other page differs. laws.silent_more port.0 other begun d e (w.no_other_page_moves other page differs)
               (access_silent port uses other (Reading (Px port Ci) v) d e a page (other_own port.0 o other uses w.awaits.own differs) call);
         }
 
     -- or it finds the command over
     reads_over : bit v 0 ≡ false → (o : Operation) (since : ℕ) (uses : SlotStates) (begun : Device) → IsPageAwaited port o since uses begun d → IsSlotClear (e.port port.0) 0
     reads_over clear o since uses begun w =
-        let a = w.agreed in
-        (laws.page_is_found uses a.machine port o since v d e a.reached a.knows.agrees w.awaits call clear).0.clear
+        let a = w.machine_is_related in
+        (laws.page_is_found uses a.machine port o since v d e a.reached a.driver_relation.state_relation w.awaits call clear).0.slot_is_clear
 
     reads_there : HasPort d port.0 → HasPort e port.0
     reads_there there = (there.0, ap (λ (pi : ℕ). bit pi port.0) (reading_leaves port v d e on call).same.pi ∙ there.1)
@@ -362,10 +362,10 @@ module _ (laws : Laws) where
     reads_det : (d.port port.0).sctl_det ≡ 0 → (e.port port.0).sctl_det ≡ 0
     reads_det det = (reading_leaves port v d e on call).controls.sctl_det ∙ det
 
-    count_read : (d.port port.0).sctl_det ≡ 0 → (e.port port.0).notes.command_count ≡ readings_counted (bit v 0) (d.port port.0).notes.command_count
+    count_read : (d.port port.0).sctl_det ≡ 0 → (e.port port.0).notes.command_count ≡ count_after_reading (bit v 0) (d.port port.0).notes.command_count
     count_read det =
         let s : PortRegisterRead port.0 Ci v d e = laws.seen_at port Ci v d e call on.no_reset in
-        let P : ℕ → Type 0 = λ x. (e.port port.0).notes.command_count ≡ (if nat_eq x 0 then readings_counted (bit v 0) (d.port port.0).notes.command_count else (d.port port.0).notes.command_count) in
+        let P : ℕ → Type 0 = λ x. (e.port port.0).notes.command_count ≡ (if nat_eq x 0 then count_after_reading (bit v 0) (d.port port.0).notes.command_count else (d.port port.0).notes.command_count) in
         subst P (reads_det det) (ap (λ (n : Notes). n.command_count) s.notes)
 
   pub pending_first : (port : Port) (d : Device) → IsOn d → HasPort d port.0 → (d.port port.0).sctl_det ≡ 0 → IsPending port d 0 d
@@ -374,7 +374,7 @@ module _ (laws : Laws) where
     there = there;
     det = det;
     told = let none = laws.fragments.none (Awaiting port) d in
-        record { followed = none.followed; tells = subst (AreVainReadings port 0) (sym none.tells) (refl, All-nil (ShowsIssued port)) };
+        record { followed = none.followed; tells = subst (AreIssuedReadings port 0) (sym none.tells) (refl, All-nil (ShowsIssued port)) };
     waiting = λ o since uses begun w. w;
     low = omega arith;
     high = λ some. absurd (omega (arith, some));
@@ -383,8 +383,8 @@ module _ (laws : Laws) where
   -- one more reading with the bit
   pub pending_again : (port : Port) (start : Device) (n : ℕ) (v : ℕ) (d e : Device) → n < MOST_READINGS → IsPending port start n d → Reads (Px port Ci) v d e → bit v 0 ≡ true → IsPending port start (n + 1) e
   pending_again port start n v d e small p call set =
-      let count : (e.port port.0).notes.command_count ≡ readings_counted true (d.port port.0).notes.command_count =
-      count_read port v d e p.on call p.det ∙ ap (λ (b : Bool). readings_counted b (d.port port.0).notes.command_count) set in
+      let count : (e.port port.0).notes.command_count ≡ count_after_reading true (d.port port.0).notes.command_count =
+      count_read port v d e p.on call p.det ∙ ap (λ (b : Bool). count_after_reading b (d.port port.0).notes.command_count) set in
       let low = p.low in
       record {
         on = reads_on port v d e p.on call;
@@ -395,7 +395,7 @@ module _ (laws : Laws) where
             let both = laws.fragments.both (Awaiting port) (Awaiting port) (λ uses. uses) (λ uses. uses) (λ access may. may) (λ uses any. tt) start d e p.told.followed more.followed in
             record {
               followed = both.followed;
-              tells = subst (AreVainReadings port (n + 1)) (sym both.tells) (vain_more port n v p.told.followed.driven.accesses more.followed.driven.accesses p.told.tells more.tells set);
+              tells = subst (AreIssuedReadings port (n + 1)) (sym both.tells) (vain_more port n v p.told.followed.is_driven.accesses more.followed.is_driven.accesses p.told.tells more.tells set);
             };
         waiting = λ o since uses begun w. reads_wait port v d e p.on call o since uses begun (p.waiting o since uses begun w);
         low = rw count (omega (arith, low, small));
@@ -416,20 +416,20 @@ module _ (laws : Laws) where
   sooner : (memory : ℕ → ℕ) (tape : List Entry) (port : ℕ) (o : Operation) (since early : ℕ) → early ≤ since → (b : PageStandsInScratch memory tape port o since) → (bytes : List ℕ) → bytes ≡ b.move.bytes.value →
       (c : PageStandsInScratch memory tape port o early) × (bytes ≡ c.move.bytes.value)
   sooner memory tape port o since early le b bytes same = (
-    record { before = b.before; after = le_trans le b.after; move = b.move; later = b.later; here = b.here; is_move = b.is_move; last = b.last; bytes = b.bytes },
+    record { before = b.before; came_since = le_trans le b.came_since; move = b.move; later = b.later; tape_is_split = b.tape_is_split; is_move = b.is_move; last = b.last; bytes = b.bytes },
     same,
   )
 
   module _ (port : Port) (o : Operation) (since : ℕ) (uses : SlotStates) (begun old : Device) (below : port.0 < 4) (w : IsPageAwaited port o since uses begun old) (clear : IsSlotClear (old.port port.0) 0) where
     pub page_free : IsStable (IsUnowned (scratch_of port.0) 512) old
     page_free =
-        let a = w.agreed in
-        let room = w.room in
-        laws.page_is_free uses a.machine old a.reached a.knows.agrees port.0 below (omega (arith, room, below)) clear.over
+        let a = w.machine_is_related in
+        let room = w.driver_memory_fits in
+        laws.page_is_free uses a.machine old a.reached a.driver_relation.state_relation port.0 below (omega (arith, room, below)) clear.over
 
     module _ (bytes : List ℕ) (new : Device) (call : Loads (scratch_of port.0) bytes old new) (size : length bytes ≡ 512) where
       pub load_on : IsOn new
-      load_on = laws.access_on (Loading (scratch_of port.0) bytes) old new w.on (λ v e. absurd cc) call
+      load_on = laws.access_on (Loading (scratch_of port.0) bytes) old new w.adapter_is_on (λ v e. absurd cc) call
 
       pub load_clear : IsSlotClear (new.port port.0) 0
       load_clear = laws.access_clear port 0 (Loading (scratch_of port.0) bytes) old new (λ v e. absurd cc) (λ v e. absurd cc) call clear
@@ -439,23 +439,23 @@ module _ (laws : Laws) where
 
       pub load_brings : (early : ℕ) → early ≤ since → BringsLastPage port.0 o early bytes new
       load_brings early le =
-          let a = w.agreed in
-          let x = laws.awaited_is_loaded uses a.machine port.0 o since bytes old new a.reached a.knows.agrees w.awaits clear.over call size in
+          let a = w.machine_is_related in
+          let x = laws.awaited_is_loaded uses a.machine port.0 o since bytes old new a.reached a.driver_relation.state_relation w.awaits clear.over call size in
           let y = sooner new.memory new.tape port.0 o since early le x.0 bytes x.1 in
-          record { brought = y.0; same = y.1; clear = load_clear }
+          record { page_stands = y.0; page_bytes_are = y.1; slot_is_clear = load_clear }
 
       pub load_agrees : IsRelated uses new
-      load_agrees = laws.fragments.agreed (Awaiting port) (λ uses. uses) uses old new tt load_followed w.agreed
+      load_agrees = laws.fragments.agreed (Awaiting port) (λ uses. uses) uses old new tt load_followed w.machine_is_related
 
       pub load_running : ((slot : ℕ) → slot ≢ 0 → uses port.0 slot ≡ Free) → (new.port port.0).halt ≡ NotHalted
       load_running alone =
-          let a = w.agreed in
-          let h = laws.access_ends_halt uses a.machine port (Loading (scratch_of port.0) bytes) old new a.reached a.knows.agrees (λ v e. absurd cc) tt load_on.no_reset call (w.ends alone) in
+          let a = w.machine_is_related in
+          let h = laws.access_ends_halt uses a.machine port (Loading (scratch_of port.0) bytes) old new a.reached a.driver_relation.state_relation (λ v e. absurd cc) tt load_on.no_reset call (w.ends_halt alone) in
           elim h.ends [
             | inl issued ↦ absurd (true≢false (sym issued ∙ load_clear.over.issued))
             | inr running ↦ running
           ]
 
       pub load_silent : (other : Operation) → op_of other ≡ None → other ≢ o → GainsNoMove port.0 other begun new
-      load_silent other page differs = laws.silent_more port.0 other begun old new (w.silent other page differs)
-          (access_silent port uses other (Loading (scratch_of port.0) bytes) old new w.agreed page (other_own port.0 o other uses w.awaits.own differs) call)
+      load_silent other page differs = laws.silent_more port.0 other begun old new (w.no_other_page_moves other page differs)
+          (access_silent port uses other (Loading (scratch_of port.0) bytes) old new w.machine_is_related page (other_own port.0 o other uses w.awaits.own differs) call)

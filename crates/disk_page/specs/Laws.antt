@@ -4,22 +4,22 @@ use Rattle.ata_types.specs.declared.Port.{Port}
 use Rattle.adapter.specs.Access.{Access, Does, Loads, Reads, Writes}
 use Rattle.refinement.specs.Laws.{FragmentLaws, TapeLaws}
 use Rattle.refinement.specs.Relation.{StateRelation}
-use Rattle.refinement.specs.Driven.{AnyAccess, AnyUse, IsRelated, IsDrivenBy, SparesOtherPorts, LeavesPort, NoneWrites, GainsNoMove}
-use Rattle.refinement.specs.Awaits.{AwaitsPage}
-use Rattle.refinement.specs.Recovering.{EndsHalt}
-use Rattle.refinement.specs.Slots.{PageStandsInScratch, Free, IsMove, IsOver, Own, SlotState, SlotStates, op_of, put}
+use Rattle.refinement.specs.Fragments.{AnyAccess, AnyUse, IsRelated, IsDrivenBy, SparesOtherPorts, LeavesPort, NoneWrites, GainsNoMove}
+use Rattle.refinement.specs.AwaitedPage.{AwaitsPage}
+use Rattle.refinement.specs.HaltRecovery.{EndsHalt}
+use Rattle.refinement.specs.Slots.{PageStandsInScratch, Free, IsMove, IsOver, Own, SlotState, SlotStates, op_of, set_slot_state}
 use Rattle.hba_regs.specs.declared.reg.PortReg.TheVariants.{Ci, Sact}
-use Rattle.refinement.specs.Started.{ClearsNoStart}
+use Rattle.refinement.specs.StartedPort.{ClearsNoStart}
 use Rattle.adapter.specs.Device.{Device, DevicePort}
 use Rattle.adapter.specs.declared.tape.Entry.{Entry}
 use Rattle.refinement.specs.PortFacts.{FindsOwnPage, IsSlotClear, FaultsOnRecord}
 use Rattle.hba_regs.specs.declared.reg.Reg.TheVariants.{Ghc, Px}
 use Rattle.adapter.specs.Rules.{HasPort, IsUnowned, IsOn, MayWrite, IsStable}
-use Rattle.disk_page.specs.Asking.{IsPageAccess}
+use Rattle.disk_page.specs.PageRequests.{IsPageAccess}
 use Rattle.refinement.specs.Driver.{IsOwnPrepared}
 use Rattle.block_machine.specs.Histories.{IsReachable}
-use Rattle.command_table.specs.Written.{IsTableStore, IsUnused}
-use Rattle.adapter.specs.Kept.{Keeps, KeepsControls}
+use Rattle.command_table.specs.TableStores.{IsTableStore, IsUnused}
+use Rattle.adapter.specs.KeptBySteps.{Keeps, KeepsControls}
 use Rattle.adapter.specs.Access.Access.{Writing}
 use Rattle.block_machine.specs.State.{Machine}
 use Rattle.adapter.specs.declared.command.Operation.{Operation}
@@ -29,7 +29,7 @@ use Rattle.hba_regs.specs.declared.reg.Reg.{Reg}
 use Rattle.refinement.specs.Links.{SameAdapter, DoesNotWrite}
 use Rattle.adapter.specs.Steps.{Steps}
 use Rattle.hba_regs.specs.Bits.{bit}
-use Rattle.refinement.specs.Places.{scratch_of}
+use Rattle.refinement.specs.MemoryLayout.{scratch_of}
 
 -- ---- kinds of accesses
 
@@ -91,7 +91,7 @@ pub record Laws : Type 0 where
       → IsStable (MayWrite (Px port Ci) v) d
   pub page_is_issued : (uses : SlotStates) (m : Machine) (port : Port) (o : Operation) (v : ℕ) (old new : Device)
       → IsReachable m → StateRelation uses m old → old.hr ≡ false → IsOwnPrepared uses old port.0 o v
-      → Writes (Px port Ci) v old new → AwaitsPage (put uses port.0 0 (Own o)) port.0 o (length new.tape) new
+      → Writes (Px port Ci) v old new → AwaitsPage (set_slot_state uses port.0 0 (Own o)) port.0 o (length new.tape) new
   pub access_waits : (uses : SlotStates) (m : Machine) (port : Port) (o : Operation) (since : ℕ) (access : Access)
       (old new : Device) → IsReachable m → StateRelation uses m old → ClearsNoStart port access → new.hr ≡ false
       → Does access old new → AwaitsPage uses port.0 o since old → AwaitsPage uses port.0 o since new
@@ -108,11 +108,11 @@ pub record Laws : Type 0 where
       → (port : ℕ) → port < 4
       → scratch_of port + 512 ≤ d.size → IsOver (d.port port) 0 → IsStable (IsUnowned (scratch_of port) 512) d
   pub agrees_released : (uses : SlotStates) (port : ℕ) (o : Operation) (d : Device) → uses port 0 ≡ Free
-      → IsOver (d.port port) 0 → IsRelated (put uses port 0 (Own o)) d → IsRelated uses d
+      → IsOver (d.port port) 0 → IsRelated (set_slot_state uses port 0 (Own o)) d → IsRelated uses d
   pub halt_is_issued : (uses : SlotStates) (m : Machine) (port : Port) (o : Operation) (v : ℕ) (old new : Device)
       → IsReachable m → StateRelation uses m old → old.hr ≡ false → ((slot : ℕ) → slot ≢ 0 → uses port.0 slot ≡ Free)
       → IsOwnPrepared uses old port.0 o v → Writes (Px port Ci) v old new
-      → EndsHalt (put uses port.0 0 (Own o)) port.0 new
+      → EndsHalt (set_slot_state uses port.0 0 (Own o)) port.0 new
   pub access_ends_halt : (uses : SlotStates) (m : Machine) (port : Port) (access : Access) (old new : Device)
       → IsReachable m
       → StateRelation uses m old → ClearsNoStart port access → DoesNotWrite (Px port Sact) access → new.hr ≡ false
@@ -125,7 +125,8 @@ pub record Laws : Type 0 where
   pub silent_more : (port : ℕ) (o : Operation) (old mid new : Device) → GainsNoMove port o old mid
       → GainsNoMove port o mid new → GainsNoMove port o old new
   pub put_others : (uses : SlotStates) (port slot : ℕ) (u : SlotState) (other_port other_slot : ℕ)
-      → (other_port ≡ port → other_slot ≡ slot → ⊥) → put uses port slot u other_port other_slot ≡ uses other_port
+      → (other_port ≡ port → other_slot ≡ slot → ⊥) → set_slot_state uses port slot u other_port other_slot
+      ≡ uses other_port
       other_slot
   -- this crate's kinds of accesses
   pub fragments : FragmentLaws AccessPurpose accesses_for slot_uses_for

@@ -1,4 +1,4 @@
-pub mod Asking
+pub mod PageRequests
 pub mod Laws
-pub mod Waiting
+pub mod PageWaits
 pub mod Costs

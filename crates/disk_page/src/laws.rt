@@ -4,19 +4,19 @@ ghost use Rattle.ata_types.specs.declared.Port.{Port};
 ghost use Rattle.adapter.specs.Access.{Access};
 ghost use Rattle.adapter.specs.Device.{Device};
 ghost use Rattle.adapter.specs.Rules.{IsOn};
-ghost use Rattle.refinement.specs.Driven.{HasNoCommand, IsDrivenBy, SparesOtherPorts};
+ghost use Rattle.refinement.specs.Fragments.{HasNoCommand, IsDrivenBy, SparesOtherPorts};
 ghost use Rattle.refinement.specs.Slots.{IsOver};
-ghost use Rattle.disk_page.specs.Asking.{IsPageAccess, LeavesRunning, WaitsInVain};
+ghost use Rattle.disk_page.specs.PageRequests.{IsPageAccess, LeavesRunning, WaitsInVain};
 
 use super::prerequisites::law_prerequisites;
 
 /// Asking touches no register of another port; so what is said of such accesses (`SparesOtherPorts`) is so of it. And
 /// accesses of its kinds, in any order, leave the port running; one without a command has none once slot 0's is over.
 pub fn law_asking_is_of_one_port()
-    ensures of { (port : Port) (access : Access) → IsPageAccess port access → SparesOtherPorts port access }
-    ensures leaves { (port : Port) (old new : Device) → IsOn old → IsDrivenBy (IsPageAccess port) old new
+    ensures of_its_port { (port : Port) (access : Access) → IsPageAccess port access → SparesOtherPorts port access }
+    ensures leaves_running { (port : Port) (old new : Device) → IsOn old → IsDrivenBy (IsPageAccess port) old new
         → LeavesRunning port.0 old new }
-    ensures none { (port : ℕ) (old new : Device) → LeavesRunning port old new → HasNoCommand (old.port port)
+    ensures slots_stay_empty { (port : ℕ) (old new : Device) → LeavesRunning port old new → HasNoCommand (old.port port)
         → IsOver (new.port port) 0 → HasNoCommand (new.port port) }
 {
     law_prerequisites();

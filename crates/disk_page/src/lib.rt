@@ -10,13 +10,13 @@ ghost use Rattle.adapter.specs.Commands.{command_of};
 ghost use Rattle.adapter.specs.Device.{Device};
 ghost use Rattle.adapter.specs.Rules.{IsOn, HasPort};
 ghost use Rattle.adapter.specs.declared.command.Operation.{Operation};
-ghost use Rattle.refinement.specs.Driven.{AnyUse, IsSimulated, IsSimulatedAlong};
+ghost use Rattle.refinement.specs.Fragments.{AnyUse, IsSimulated, IsSimulatedAlong};
 ghost use Rattle.refinement.specs.PortFacts.{IsSlotClear};
 ghost use Rattle.refinement.specs.Slots.{SlotStates};
-ghost use Rattle.disk_page.specs.Asking.{AreVainReadings, GetsPage, IsPageAccess, MayAwaitPage, MayGetPage, page_operation};
-ghost use Rattle.disk_page.specs.Waiting.{AsksForPage, IsPageAwaited};
-ghost use Rattle.adapter.specs.Counted.{MakesAtMost};
-ghost use Rattle.disk_page.specs.Costs.{ASK_ACCESSES, PAGE_ACCESSES};
+ghost use Rattle.disk_page.specs.PageRequests.{AreIssuedReadings, GetsPage, IsPageAccess, MayAwaitPage, MayGetPage, page_operation};
+ghost use Rattle.disk_page.specs.PageWaits.{AsksForPage, IsPageAwaited};
+ghost use Rattle.adapter.specs.AccessBounds.{MakesAtMost};
+ghost use Rattle.disk_page.specs.Costs.{ASK_FOR_PAGE_ACCESSES, PAGE_ACCESSES};
 
 pub mod laws;
 mod prerequisites;
@@ -41,7 +41,7 @@ pub enum Page {
     /// What the disk is: IDENTIFY DEVICE.
     Identity,
     /// Which queued command failed: READ LOG EXT of log 10h, page 0.
-    Errors,
+    ErrorLog,
 }
 
 /// The command that brings the page (ACS-3).
@@ -50,7 +50,7 @@ fn command(page: Page) -> Command
 {
     let (code, count, lba) = match page {
         Page::Identity => (IDENTIFY_DEVICE, 0, 0),
-        Page::Errors => (READ_LOG_EXT, 1, QUEUED_ERROR_LOG),
+        Page::ErrorLog => (READ_LOG_EXT, 1, QUEUED_ERROR_LOG),
     };
     Command {
         code,
@@ -66,7 +66,7 @@ fn ask<A: Adapter>(adapter: &mut A, port: Port, page: Page)
     requires may { MayGetPage port (A.device adapter.old) }
     ensures on { IsOn (A.device adapter.new) }
     ensures asks { AsksForPage port page (A.device adapter.old) (A.device adapter.new) }
-    ensures cost { MakesAtMost ASK_ACCESSES (A.access_count adapter.old) (A.access_count adapter.new) }
+    ensures cost { MakesAtMost ASK_FOR_PAGE_ACCESSES (A.access_count adapter.old) (A.access_count adapter.new) }
 {
     law_prerequisites();
     let scratch = Frame(PORT_FRAMES * u16::from(port.0) + SCRATCH_FRAME);
@@ -88,7 +88,7 @@ fn wait<A: Adapter>(adapter: &mut A, port: Port) -> bool
         → IsSlotClear ((A.device adapter.new).port port.0) 0 }
     ensures vain { result ≡ false
         → (((A.device adapter.new).port port.0).notes.command_count ≡ MOST_READINGS)
-        × IsSimulatedAlong (AreVainReadings port MOST_READINGS) (IsPageAccess port) AnyUse (A.device adapter.old)
+        × IsSimulatedAlong (AreIssuedReadings port MOST_READINGS) (IsPageAccess port) AnyUse (A.device adapter.old)
         (A.device adapter.new) }
     ensures cost { MakesAtMost MOST_READINGS (A.access_count adapter.old) (A.access_count adapter.new) }
 {

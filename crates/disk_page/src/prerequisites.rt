@@ -5,11 +5,11 @@ use adapter::laws::{
     law_kept_controls_compose, law_port_register_accesses, law_step_lists_keep_what_steps_keep,
 };
 use command_table::laws::law_stores_are_of_one_port;
+use refinement::access_kinds::law_fragment_prerequisites;
 use refinement::fragments::{
     law_agreeing_goes_on, law_other_ports_are_left, law_tape_prerequisites,
     law_unused_slots_are_silent,
 };
-use refinement::kinds::law_fragment_prerequisites;
 use refinement::laws::{
     law_own_issuing_is_permitted, law_pages_come_when_asked, law_pages_may_be_loaded,
     law_putting_is_of_one_slot,

@@ -7,14 +7,14 @@ use Rattle.ata_types.specs.declared.refusal.FrameFault.{FrameFault}
 use Rattle.ata_types.specs.declared.refusal.FrameFault.TheVariants.{FrameForeign, FrameTwice, FrameLent}
 use Rattle.ata_types.specs.declared.refusal.Refusal.TheVariants as refused
 use Rattle.ata_types.specs.declared.refusal.Rule.TheVariants.{Frames}
-use Rattle.block_machine.specs.Rules.{IsForeignAt, IsTwiceAt, IsLentAt, HasFault, RanksBefore, rank, HasNoFault, IsFirstFault}
-use Rattle.dma_frames.specs.Places.{IsLeast}
+use Rattle.block_machine.specs.Rules.{IsForeignAt, IsTwiceAt, IsLentAt, HasFault, RanksBefore, refusal_rank, HasNoFault, IsFirstFault}
+use Rattle.dma_frames.specs.LeastPlaces.{IsLeast}
 
 module _ (owner : Frame → Option ClientId) (lent : Frame → Option RequestId) (client : ClientId) (frames : List Frame) where
   pub first_foreign_fault : (i : ℕ) → IsLeast (IsForeignAt owner client frames) i → IsFirstFault owner lent client frames (FrameForeign i)
   first_foreign_fault i least = (least.0, none_before)
     where
-      none_before : (other : FrameFault) → RanksBefore (rank (refused.Rule (Frames other))) (rank (refused.Rule (Frames (FrameForeign i)))) → HasFault owner lent client frames other → ⊥
+      none_before : (other : FrameFault) → RanksBefore (refusal_rank (refused.Rule (Frames other))) (refusal_rank (refused.Rule (Frames (FrameForeign i)))) → HasFault owner lent client frames other → ⊥
       none_before (FrameForeign j) before = elim before [ inl h ↦ absurd (omega arith) | inr h ↦ least.1 j h.1 ]
       none_before (FrameTwice j) before = elim before [ inl h ↦ absurd (omega arith) | inr h ↦ absurd (omega arith) ]
       none_before (FrameLent j) before = elim before [ inl h ↦ absurd (omega arith) | inr h ↦ absurd (omega arith) ]
@@ -23,7 +23,7 @@ module _ (owner : Frame → Option ClientId) (lent : Frame → Option RequestId)
       → IsFirstFault owner lent client frames (FrameTwice i)
   first_twice_fault i own least = (least.0, none_before)
     where
-      none_before : (other : FrameFault) → RanksBefore (rank (refused.Rule (Frames other))) (rank (refused.Rule (Frames (FrameTwice i)))) → HasFault owner lent client frames other → ⊥
+      none_before : (other : FrameFault) → RanksBefore (refusal_rank (refused.Rule (Frames other))) (refusal_rank (refused.Rule (Frames (FrameTwice i)))) → HasFault owner lent client frames other → ⊥
       none_before (FrameForeign j) before = own j
       none_before (FrameTwice j) before = elim before [ inl h ↦ absurd (omega arith) | inr h ↦ least.1 j h.1 ]
       none_before (FrameLent j) before = elim before [ inl h ↦ absurd (omega arith) | inr h ↦ absurd (omega arith) ]
@@ -32,7 +32,7 @@ module _ (owner : Frame → Option ClientId) (lent : Frame → Option RequestId)
       → IsLeast (IsLentAt lent frames) i → IsFirstFault owner lent client frames (FrameLent i)
   first_lent_fault i own once least = (least.0, none_before)
     where
-      none_before : (other : FrameFault) → RanksBefore (rank (refused.Rule (Frames other))) (rank (refused.Rule (Frames (FrameLent i)))) → HasFault owner lent client frames other → ⊥
+      none_before : (other : FrameFault) → RanksBefore (refusal_rank (refused.Rule (Frames other))) (refusal_rank (refused.Rule (Frames (FrameLent i)))) → HasFault owner lent client frames other → ⊥
       none_before (FrameForeign j) before = own j
       none_before (FrameTwice j) before = once j
       none_before (FrameLent j) before = elim before [ inl h ↦ absurd (omega arith) | inr h ↦ least.1 j h.1 ]

@@ -5,7 +5,7 @@ use Rattle.std.proofs.lemmas.Bool.{cases_eq}
 use Rattle.std.proofs.lemmas.List.{get_or-set_other, get_or-set_same}
 use Rattle.std.proofs.lemmas.Nat.Bits.{bit_at_set_other, bit_at_set_same, bit_at-zero}
 use Rattle.ata_types.specs.declared.memory.TheConstants.{MOST_FRAMES}
-use Rattle.dma_frames.specs.Words.{frame_bit}
+use Rattle.dma_frames.specs.FrameBits.{frame_bit}
 
 module _ (words : List ℕ) (many : length words ≡ 16) (f : ℕ) (within : f < MOST_FRAMES) where
   abbrev word : ℕ

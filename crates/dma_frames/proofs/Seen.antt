@@ -6,7 +6,7 @@ use Rattle.std.proofs.lemmas.Option.{same_Some}
 use Rattle.ata_types.specs.declared.request.Frame.{Frame}
 use Rattle.ata_types.specs.declared.memory.TheConstants.{MOST_FRAMES}
 use Rattle.block_machine.specs.Rules.{IsTwiceAt}
-use Rattle.dma_frames.specs.Words.{frame_bit}
+use Rattle.dma_frames.specs.FrameBits.{frame_bit}
 use Rattle.dma_frames.proofs.FrameBits.{no_bit}
 
 -- one of the first n frames is the one of this number

@@ -5,7 +5,7 @@ use Rattle.std.proofs.lemmas.List.{get_or_default, get_or_past, get_or-map, get_
 use Rattle.std.proofs.lemmas.List.FromFn.{get_or-map-range_with_len, length-map-range_with_len}
 use Rattle.ata_types.specs.declared.request.Frame.{Frame}
 use Rattle.ata_types.specs.declared.request.RequestId.{RequestId}
-use Rattle.dma_frames.specs.Stored.{client_of, owners_of, borrower_of, borrowers_of}
+use Rattle.dma_frames.specs.TableLists.{client_of, owners_of, borrower_of, borrowers_of}
 
 abbrev zero_id : RequestId
 zero_id = record { 0 = 0 }

@@ -8,17 +8,17 @@
 ghost use Rattle.std.specs.Prelude.{[], ◌≡◌, ◌≢◌, ℕ, ◌<◌, ◌≤◌, length, All, AllPairs, Contains, None, Some, IsSome, IsTrue, false, ◌↔◌, OnOk, IfOk, IfErr, slice_index_or};
 ghost use Rattle.block_machine.specs.Rules.{IsForeignAt, IsTwiceAt, IsLentAt, HasNoFault, IsFirstFault};
 ghost use Rattle.dma_frames.specs.Loan.{Lending};
-ghost use Rattle.dma_frames.specs.Places.{IsLeastPlace};
-ghost use Rattle.dma_frames.specs.Table.{FrameExtent, owner_of, lent_to, LendsOnly, ExtentHasFrame, IsOwnerExtent, IsTableOf, ExtentsApart};
-ghost use Rattle.dma_frames.specs.Stored.{client_of, borrowers_of, owners_of};
+ghost use Rattle.dma_frames.specs.LeastPlaces.{IsLeastPlace};
+ghost use Rattle.dma_frames.specs.FrameTables.{FrameExtent, owner_of, lent_to, LendsOnly, ExtentHasFrame, IsOwnerExtent, IsTableOf, ExtentsApart};
+ghost use Rattle.dma_frames.specs.TableLists.{client_of, borrowers_of, owners_of};
 
-mod words;
+mod frame_bits;
 
 use ata_types::{ClientId, Frame, FrameFault, MOST_FRAMES, MOST_REQUEST_FRAMES, RequestId};
+use frame_bits::BIT_WORDS;
 use std::alloc::{AllocError, Global};
 use std::marker::Model;
 use std::mem;
-use words::BIT_WORDS;
 
 /// The number of frames of the largest memory.
 pub const FRAMES: usize = MOST_FRAMES as usize;
@@ -131,10 +131,10 @@ pub struct FrameTable {
 }
 
 impl Model for FrameTable {
-    ghost use Rattle.dma_frames.specs.Table.{Table};
-    ghost use Rattle.dma_frames.specs.Stored.{HasAllFrames, borrowers_of, owners_of};
+    ghost use Rattle.dma_frames.specs.FrameTables.{FrameOwnership};
+    ghost use Rattle.dma_frames.specs.TableLists.{HasAllFrames, borrowers_of, owners_of};
 
-    ghost Value = { Table };
+    ghost Value = { FrameOwnership };
 
     ghost view = { λ t. record { owners = owners_of t.owners; lent = borrowers_of t.lent t.ids } };
 
@@ -221,10 +221,10 @@ impl FrameTable {
         }
         let mut before = [0; BIT_WORDS];
         for frame in frames {
-            if !self.is_lendable(client, *frame) || words::is_frame_bit_set(&before, *frame) {
+            if !self.is_lendable(client, *frame) || frame_bits::is_frame_bit_set(&before, *frame) {
                 return false;
             }
-            words::set_frame_bit(&mut before, *frame);
+            frame_bits::set_frame_bit(&mut before, *frame);
         }
         true
     }
@@ -394,10 +394,10 @@ fn first_twice(frames: &[Frame]) -> Option<usize>
 {
     let mut seen = [0; BIT_WORDS];
     for (place, frame) in frames.iter().enumerate() {
-        if words::is_frame_bit_set(&seen, *frame) {
+        if frame_bits::is_frame_bit_set(&seen, *frame) {
             return Some(place);
         }
-        words::set_frame_bit(&mut seen, *frame);
+        frame_bits::set_frame_bit(&mut seen, *frame);
     }
     None
 }

@@ -20,12 +20,12 @@ use Rattle.block_machine.specs.Ports.{Ports, Evidence, IsStoppedOrStuck}
 use Rattle.block_machine.specs.State.{Machine}
 use Rattle.block_machine.specs.Steps.{Step}
 use Rattle.identify.specs.declared.wanted.Wanted.{Wanted}
-use Rattle.driver_history.specs.Heeding.{IsDisturbed, IsLeftAlone, ServesReady, HeedsAt}
+use Rattle.driver_history.specs.EvidenceHandling.{IsDisturbed, IsLeftAlone, ServicesReadyPort, HandlesEvidenceAt}
 use Rattle.driver_history.specs.Claims.{IsFaultFreeOutcome, IsSpared}
 use Rattle.driver_history.specs.Evidence.{TapeGainsEntry, HasErrors, HasFatalErrors, IsEvidencedOf, IsGone, ShowsFailure, StaysHealthy}
 use Rattle.error_recovery.specs.Evidence.{GainsSinceStart, ShowsFatal}
 use Rattle.driver_history.specs.Histories.{LosesNoPortError, CallCorresponds}
-use Rattle.driver_history.specs.Trace.{LeavesEngine}
+use Rattle.driver_history.specs.AccessTrace.{LeavesEngine}
 
 -- what the law on disks says
 abbrev pub EntryIsTold : Type 0
@@ -64,30 +64,30 @@ fatal_disturbs port (entry.Done x) is = absurd is
 -- a calm tape gained no disturbance
 none_gained : (port : ℕ) (Is : Entry → Type 0) (old new : Device) → ((e : Entry) → Is e → IsDisturbance port e) → Undisturbed port old new → TapeGainsEntry Is old new → ⊥
 none_gained port Is old new disturbs u g =
-    let same : g.gained ≡ u.gained = append_cancel_left old.tape g.gained u.gained (sym g.tape ∙ u.tape) in
-    All-contains (λ e. IsDisturbance port e → ⊥) u.gained g.entry u.calm (subst (λ (xs : List Entry). Contains xs g.entry) same g.here) (disturbs g.entry g.is)
+    let same : g.new_entries ≡ u.new_entries = append_cancel_left old.tape g.new_entries u.new_entries (sym g.tape_is ∙ u.tape_is) in
+    All-contains (λ e. IsDisturbance port e → ⊥) u.new_entries g.entry u.no_disturbance (subst (λ (xs : List Entry). Contains xs g.entry) same g.entry_is_new) (disturbs g.entry g.entry_is_of_kind)
 
 no_fatal : (p : DevicePort) → ShowsNoTrouble p → ShowsFatal p → ⊥
-no_fatal p quiet f = let low = f.from in let high = f.to in false≢true (sym (quiet.quiet f.place low (omega (arith, high))) ∙ f.set)
+no_fatal p quiet f = let low = f.from in let high = f.to in false≢true (sym (quiet.no_error_bit_is_set f.place low (omega (arith, high))) ∙ f.cause_is_set)
 
 no_failure : (p : DevicePort) → ShowsNoTrouble p → ShowsFailure p → ⊥
-no_failure p quiet f = ⊎_elim (no_fatal p quiet) (λ fault. false≢true (sym (quiet.quiet 30 (omega arith) (omega arith)) ∙ fault)) f
+no_failure p quiet f = ⊎_elim (no_fatal p quiet) (λ fault. false≢true (sym (quiet.no_error_bit_is_set 30 (omega arith) (omega arith)) ∙ fault)) f
 
 -- what was gained while ST was one was gained
 pub gains_of : (port : ℕ) (Is : Entry → Type 0) (old new : Device) → GainsSinceStart Is port old new → TapeGainsEntry Is old new
 gains_of port Is old new g = record {
-  gained = g.before ++ (g.entry ∷ g.later);
-  tape = g.tape;
+  new_entries = g.before ++ (g.entry ∷ g.later);
+  tape_is = g.tape;
   entry = g.entry;
-  here = Contains-append_right g.before (g.entry ∷ g.later) g.entry (0, omega arith, refl);
-  is = g.is;
+  entry_is_new = Contains-append_right g.before (g.entry ∷ g.later) g.entry (0, omega arith, refl);
+  entry_is_of_kind = g.is_of_kind;
 }
 
 -- a port that stays healthy has no trouble that could be lost
 pub untroubled : (evidence : Evidence) (old : JointState Device) (ports : Ports) (new : Device) (port : Port) → StaysHealthy port.0 old.device new → LosesNoPortError evidence old ports new port
 untroubled evidence old ports new port healthy = record {
   errors = λ ready port_error. absurd (⊎_elim
-      (no_failure (old.device.port port.0) healthy.well.quiet)
+      (no_failure (old.device.port port.0) healthy.port_runs_well.shows_no_trouble)
       (λ g. ⊎_elim
       (none_gained port.0 (IsFaultOf port.0) old.device new (fault_disturbs port.0) healthy.undisturbed)
       (none_gained port.0 (IsFatalOf port.0) old.device new (fatal_disturbs port.0) healthy.undisturbed)
@@ -97,7 +97,7 @@ untroubled evidence old ports new port healthy = record {
   fatal = λ ready g. absurd (none_gained port.0 (IsFatalOf port.0) old.device new (fatal_disturbs port.0) healthy.undisturbed (gains_of port.0 (IsFatalOf port.0) old.device new g));
   disk = λ ready g. absurd (none_gained port.0 (IsPlugEvent port.0) old.device new (plugging_disturbs port.0) healthy.undisturbed (gains_of port.0 (IsPlugEvent port.0) old.device new g));
   changes = λ ready port_error. absurd (⊎_elim
-      (λ change. ⊎_elim (λ n. false≢true (sym healthy.well.quiet.serr_n ∙ n)) (λ x. false≢true (sym healthy.well.quiet.serr_x ∙ x)) change)
+      (λ change. ⊎_elim (λ n. false≢true (sym healthy.port_runs_well.shows_no_trouble.serr_n ∙ n)) (λ x. false≢true (sym healthy.port_runs_well.shows_no_trouble.serr_x ∙ x)) change)
       (none_gained port.0 (IsPlugEvent port.0) old.device new (plugging_disturbs port.0) healthy.undisturbed)
       port_error);
 }
@@ -106,7 +106,7 @@ untroubled evidence old ports new port healthy = record {
 module _ (port : Port) (old : JointState Device) (new : Device) (healthy : StaysHealthy port.0 old.device new) where
   pub no_errors : HasErrors port old new → ⊥
   no_errors e = ⊎_elim
-      (no_failure (old.device.port port.0) healthy.well.quiet)
+      (no_failure (old.device.port port.0) healthy.port_runs_well.shows_no_trouble)
       (λ g. ⊎_elim
       (none_gained port.0 (IsFaultOf port.0) old.device new (fault_disturbs port.0) healthy.undisturbed)
       (none_gained port.0 (IsFatalOf port.0) old.device new (fatal_disturbs port.0) healthy.undisturbed)
@@ -115,7 +115,7 @@ module _ (port : Port) (old : JointState Device) (new : Device) (healthy : Stays
 
   pub no_fatal_errors : HasFatalErrors port old new → ⊥
   no_fatal_errors e = ⊎_elim
-      (no_fatal (old.device.port port.0) healthy.well.quiet)
+      (no_fatal (old.device.port port.0) healthy.port_runs_well.shows_no_trouble)
       (none_gained port.0 (IsFatalOf port.0) old.device new (fatal_disturbs port.0) healthy.undisturbed)
       e.1
 
@@ -124,8 +124,8 @@ module _ (port : Port) (old : JointState Device) (new : Device) (healthy : Stays
 
   pub not_gone : IsGone port old new → ⊥
   not_gone g = ⊎_elim
-      (λ change. ⊎_elim (λ n. false≢true (sym healthy.well.quiet.serr_n ∙ n)) (λ x. false≢true (sym healthy.well.quiet.serr_x ∙ x)) change)
-      (λ more. ⊎_elim (λ missing. missing healthy.well.det) no_plugging more)
+      (λ change. ⊎_elim (λ n. false≢true (sym healthy.port_runs_well.shows_no_trouble.serr_n ∙ n)) (λ x. false≢true (sym healthy.port_runs_well.shows_no_trouble.serr_x ∙ x)) change)
+      (λ more. ⊎_elim (λ missing. missing healthy.port_runs_well.det) no_plugging more)
       g.1
 
 -- ---- a call in which a port stays healthy
@@ -136,37 +136,37 @@ module _ (told : EntryIsTold) (wanted : List Wanted) (old : JointState Device) (
   p = old.device.port port.0
 
   ev : IsEvidencedOf h.event.ask h.event.said t.accesses old h.event.ports h.device h.event.evidence port
-  ev = t.evidenced.port port
+  ev = t.is_evidenced.port port
 
   changes : list_any (changes_disk port) h.event.steps ≡ true → ⊥
   changes is =
-      let x = told port old.abstract.machine t.backed.gained h.event.steps t.backed.tells is in
-      no_plugging port old h.device healthy (record { gained = t.backed.gained; tape = t.backed.tape; entry = x.0; here = x.1; is = x.2 })
+      let x = told port old.abstract.machine t.is_backed.new_entries h.event.steps t.is_backed.tells_device_steps is in
+      no_plugging port old h.device healthy (record { new_entries = t.is_backed.new_entries; tape_is = t.is_backed.tape_is; entry = x.0; entry_is_new = x.1; entry_is_of_kind = x.2 })
 
   undisturbed : IsDisturbed h.event.evidence h.event.steps port → ⊥
-  undisturbed d = ⊎_elim (λ failed. no_errors port old h.device healthy (ev.failed_only failed)) (λ rest. ⊎_elim (λ g. not_gone port old h.device healthy (ev.gone_only g)) changes rest) d
+  undisturbed d = ⊎_elim (λ failed. no_errors port old h.device healthy (ev.failed_only failed)) (λ rest. ⊎_elim (λ g. not_gone port old h.device healthy (ev.link_changed_only g)) changes rest) d
 
   module _ (asks : h.event.ask ≡ Service) (ready : old.abstract.ports.state port ≡ Ready) where
-    serves : ServesReady old.abstract h.event.evidence h.event.steps (abstract_after old.abstract h.event) port
+    serves : ServicesReadyPort old.abstract h.event.evidence h.event.steps (abstract_after old.abstract h.event) port
     serves =
-        let Heeded : AbstractCall DeviceStep → Type 0 = λ ask. HeedsAt port ask old.abstract h.event.evidence h.event.steps (abstract_after old.abstract h.event) in
-        let its : Heeded Service = subst Heeded asks (t.port port).heeds in
+        let Heeded : AbstractCall DeviceStep → Type 0 = λ ask. HandlesEvidenceAt port ask old.abstract h.event.evidence h.event.steps (abstract_after old.abstract h.event) in
+        let its : Heeded Service = subst Heeded asks (t.ports_correspond port).handles_evidence in
         its ready
 
     alone : IsLeftAlone old.abstract.ports h.event.evidence h.event.steps h.event.ports port
-    alone = ⊎_elim (λ d. absurd (undisturbed d)) (λ a. a) serves.calm
+    alone = ⊎_elim (λ d. absurd (undisturbed d)) (λ a. a) serves.is_left_alone_if_calm
 
     pub spared : IsSpared old h t.accesses port
     spared = record {
-      same = alone.same;
-      told = λ e o here at. subst (λ (ask : AbstractCall DeviceStep). IsFaultFreeOutcome ask o) (sym asks) (⊎_elim (λ x. x) (λ x. x) (alone.told e o here at));
-      engine = ⊎_elim (λ a. a) (λ i. absurd (alone.uninterrupted i)) ev.stopped_all;
+      port_is_same = alone.port_is_same;
+      outcomes_are_fault_free = λ e o here at. subst (λ (ask : AbstractCall DeviceStep). IsFaultFreeOutcome ask o) (sym asks) (⊎_elim (λ x. x) (λ x. x) (alone.only_ok_is_told e o here at));
+      engine_is_left = ⊎_elim (λ a. a) (λ i. absurd (alone.is_not_interrupted i)) ev.stopped_all;
     }
 
   -- nothing stopped it, unless it is a tick that restarts it, or a reset
-  no_interrupt : (ask : AbstractCall DeviceStep) → HeedsAt port ask old.abstract h.event.evidence h.event.steps (abstract_after old.abstract h.event) → ask ≢ Reset
+  no_interrupt : (ask : AbstractCall DeviceStep) → HandlesEvidenceAt port ask old.abstract h.event.evidence h.event.steps (abstract_after old.abstract h.event) → ask ≢ Reset
       → (ask ≡ Tick → IsStoppedOrStuck h.event.evidence port → ⊥) → old.abstract.ports.state port ≡ Ready → IsStoppedOrStuck h.event.evidence port → ⊥
-  no_interrupt Service heeds other spares ready i = ⊎_elim undisturbed (λ (a : IsLeftAlone old.abstract.ports h.event.evidence h.event.steps h.event.ports port). a.uninterrupted i) (heeds ready).calm
+  no_interrupt Service heeds other spares ready i = ⊎_elim undisturbed (λ (a : IsLeftAlone old.abstract.ports h.event.evidence h.event.steps h.event.ports port). a.is_not_interrupted i) (heeds ready).is_left_alone_if_calm
   no_interrupt Tick heeds other spares ready i = spares refl i
   no_interrupt Reset heeds other spares ready i = other refl
   no_interrupt (Submit r) heeds other spares ready i = heeds i
@@ -177,10 +177,10 @@ module _ (told : EntryIsTold) (wanted : List Wanted) (old : JointState Device) (
   no_interrupt (Told step) heeds other spares ready i = heeds i
 
   pub engine_left : h.event.ask ≢ Reset → (h.event.ask ≡ Tick → IsStoppedOrStuck h.event.evidence port → ⊥) → old.abstract.ports.state port ≡ Ready → All (LeavesEngine port) t.accesses
-  engine_left other spares ready = ⊎_elim (λ a. a) (λ i. absurd (no_interrupt h.event.ask (t.port port).heeds other spares ready i)) ev.stopped_all
+  engine_left other spares ready = ⊎_elim (λ a. a) (λ i. absurd (no_interrupt h.event.ask (t.ports_correspond port).handles_evidence other spares ready i)) ev.stopped_all
 
 tick_restarts : (said : CallResult) (old : AbstractState) (evidence : Evidence) (steps : List Step) (new : AbstractState) → IsAnswered {D = DeviceStep} Tick said old evidence steps new → RestartsTimedOut old evidence steps new
-tick_restarts (Served replies) old evidence steps new a = a.restarts
+tick_restarts (Served replies) old evidence steps new a = a.restarts_timed_out
 tick_restarts (Submitted r) old evidence steps new a = absurd a
 tick_restarts (Stored r) old evidence steps new a = absurd a
 tick_restarts (Loaded r) old evidence steps new a = absurd a
@@ -196,4 +196,4 @@ restarts_of ask said old evidence steps new answered asks = tick_restarts said o
 -- a tick interrupts none that it doesn't bring to its limit
 pub tick_spares : (ask : AbstractCall DeviceStep) (said : CallResult) (old : AbstractState) (evidence : Evidence) (steps : List Step) (new : AbstractState) (port : Port) → IsAnswered ask said old evidence steps new
     → (ask ≡ Tick → HasTimedOut old port → ⊥) → ask ≡ Tick → IsStoppedOrStuck evidence port → ⊥
-tick_spares ask said old evidence steps new port answered young asks i = young asks (((restarts_of ask said old evidence steps new answered asks).interrupts port).1 i)
+tick_spares ask said old evidence steps new port answered young asks i = young asks (((restarts_of ask said old evidence steps new answered asks).is_interrupted port).1 i)

@@ -13,7 +13,7 @@ use Rattle.adapter.specs.Access.{Access, Does}
 use Rattle.adapter.specs.Device.{Device, DevicePort}
 use Rattle.adapter.specs.Steps.{Steps}
 use Rattle.adapter.specs.declared.tape.Entry.{Entry}
-use Rattle.refinement.specs.Driven.{TapeGrows}
+use Rattle.refinement.specs.Fragments.{TapeGrows}
 use Rattle.refinement.specs.Errors.{IsFatalOf, NoneFails, NoneFatal}
 use Rattle.refinement.specs.PortFacts.{IsFaultOf}
 use Rattle.refinement.specs.Links.{IsPlugEvent, NoPlugEvents, DoesNotWrite}
@@ -26,18 +26,18 @@ use Rattle.driver_history.specs.Laws.{Laws}
 -- what the tape gained none of, it gained none of
 pub denies : (Such : Entry → Type 0) (old new : Device) (gained : List Entry) → new.tape ≡ old.tape ++ gained → All (λ e. Such e → ⊥) gained → TapeGainsEntry Such old new → ⊥
 denies Such old new gained tape none g =
-    let same : g.gained ≡ gained = append_cancel_left old.tape g.gained gained (sym g.tape ∙ tape) in
-    All-contains (λ e. Such e → ⊥) gained g.entry none (subst (λ (xs : List Entry). Contains xs g.entry) same g.here) g.is
+    let same : g.new_entries ≡ gained = append_cancel_left old.tape g.new_entries gained (sym g.tape_is ∙ tape) in
+    All-contains (λ e. Such e → ⊥) gained g.entry none (subst (λ (xs : List Entry). Contains xs g.entry) same g.entry_is_new) g.entry_is_of_kind
 
 -- what it gained, it gained in the one part or in the other
 pub in_parts : (Such : Entry → Type 0) (old mid new : Device) → TapeGrows old mid → TapeGrows mid new → TapeGainsEntry Such old new → TapeGainsEntry Such old mid ⊎ TapeGainsEntry Such mid new
 in_parts Such old mid new early late g =
     let tape : new.tape ≡ old.tape ++ (early.0 ++ late.0) = late.1 ∙ ap (λ (tape : List Entry). tape ++ late.0) early.1 ∙ append_assoc old.tape early.0 late.0 in
-    let same : g.gained ≡ early.0 ++ late.0 = append_cancel_left old.tape g.gained (early.0 ++ late.0) (sym g.tape ∙ tape) in
+    let same : g.new_entries ≡ early.0 ++ late.0 = append_cancel_left old.tape g.new_entries (early.0 ++ late.0) (sym g.tape_is ∙ tape) in
     ⊎_elim
-    (λ here. inl (record { gained = early.0; tape = early.1; entry = g.entry; here = here; is = g.is }))
-    (λ here. inr (record { gained = late.0; tape = late.1; entry = g.entry; here = here; is = g.is }))
-    (Contains-append_cases early.0 late.0 g.entry (subst (λ (xs : List Entry). Contains xs g.entry) same g.here))
+    (λ here. inl (record { new_entries = early.0; tape_is = early.1; entry = g.entry; entry_is_new = here; entry_is_of_kind = g.entry_is_of_kind }))
+    (λ here. inr (record { new_entries = late.0; tape_is = late.1; entry = g.entry; entry_is_new = here; entry_is_of_kind = g.entry_is_of_kind }))
+    (Contains-append_cases early.0 late.0 g.entry (subst (λ (xs : List Entry). Contains xs g.entry) same g.entry_is_new))
 
 -- ---- the kinds
 
@@ -132,23 +132,23 @@ module _ (laws : Laws) where
   -- what isn't shown wasn't, and hasn't come
   of_faults : (port : ℕ) (old new : Device) → ((new.port port).is 30 ≡ false → ((old.port port).is 30 ≡ false) × NoneFails port old new) → AreShown faults port old new
   of_faults port old new tells =
-      let b = by_bit (IsFaultOf port) old new ((old.port port).is 30) ((new.port port).is 30) (λ clear. let t = tells clear in (t.0, (t.1.gained, t.1.tape, t.1.none))) in
+      let b = by_bit (IsFaultOf port) old new ((old.port port).is 30) ((new.port port).is 30) (λ clear. let t = tells clear in (t.0, (t.1.new_entries, t.1.tape_is, t.1.no_such_entry))) in
       record { still = b.0; came = b.1 }
 
   of_disks : (port : ℕ) (old new : Device) → ((new.port port).serr_n ≡ false → ((old.port port).serr_n ≡ false) × NoPlugEvents port old new) → AreShown disks port old new
   of_disks port old new tells =
-      let b = by_bit (IsPlugEvent port) old new (old.port port).serr_n (new.port port).serr_n (λ clear. let t = tells clear in (t.0, (t.1.gained, t.1.tape, t.1.none))) in
+      let b = by_bit (IsPlugEvent port) old new (old.port port).serr_n (new.port port).serr_n (λ clear. let t = tells clear in (t.0, (t.1.new_entries, t.1.tape_is, t.1.no_such_entry))) in
       record { still = b.0; came = b.1 }
 
   pub of_links : (port : ℕ) (old new : Device) → ((old.port port).serr_x ≡ true → (new.port port).serr_x ≡ true) → AreShown links port old new
-  of_links port old new keeps = record { still = keeps; came = λ g. absurd g.is }
+  of_links port old new keeps = record { still = keeps; came = λ g. absurd g.entry_is_of_kind }
 
   of_fatals : (port : ℕ) (old new : Device)
       → (((place : ℕ) → 27 ≤ place → place ≤ 29 → (new.port port).is place ≡ false) → ((place : ℕ) → 27 ≤ place → place ≤ 29 → (old.port port).is place ≡ false) × NoneFatal port old new)
       → AreShown fatals port old new
   of_fatals port old new tells = record {
-    still = λ shown. laws.fatal_unless (new.port port) (λ clear. false≢true (sym ((tells clear).0 shown.place shown.from shown.to) ∙ shown.set));
-    came = λ g. laws.fatal_unless (new.port port) (λ clear. let none = (tells clear).1 in denies (IsFatalOf port) old new none.gained none.tape none.none g);
+    still = λ shown. laws.fatal_unless (new.port port) (λ clear. false≢true (sym ((tells clear).0 shown.place shown.from shown.to) ∙ shown.cause_is_set));
+    came = λ g. laws.fatal_unless (new.port port) (λ clear. let none = (tells clear).1 in denies (IsFatalOf port) old new none.new_entries none.tape_is none.no_such_entry g);
   }
 
   -- the device's own steps clear none

@@ -6,14 +6,14 @@ use Rattle.ata_types.specs.declared.request.Outcome.{Outcome}
 use Rattle.adapter.specs.Device.{Device}
 use Rattle.adapter.specs.declared.access.DeviceStep.{DeviceStep}
 use Rattle.block_machine.specs.Events.{AbstractCall, Submit, StoreAt, LoadAt, Service, Tick, Reset, RevokeOf, State, Device as Told, CallResult, Submitted, Stored, Loaded, WasRevoked, Shown, Stepped, AbstractState, IsAnswered, HasTimedOut, IsByServer, abstract_after}
-use Rattle.block_machine.specs.Histories.{JointState, JointEvent, now}
+use Rattle.block_machine.specs.Histories.{JointState, JointEvent, joint_state_after}
 use Rattle.block_machine.specs.Ports.{Ports, Evidence, SamePort}
 use Rattle.block_machine.specs.State.{Pending}
 use Rattle.block_machine.specs.Steps.{Step, Answer}
 use Rattle.identify.specs.declared.wanted.Wanted.{Wanted}
 use Rattle.driver_history.specs.Claims.{GoesWellFor, IsFaultFreeOutcome, IsHealthyFor, IsSpared}
 use Rattle.driver_history.specs.Histories.{IsDriverHistory, CallCorresponds}
-use Rattle.driver_history.specs.Trace.{LeavesEngine}
+use Rattle.driver_history.specs.AccessTrace.{LeavesEngine}
 use Rattle.driver_history.proofs.Calm.{EntryIsTold, engine_left, restarts_of, spared, tick_spares}
 use Rattle.driver_history.proofs.Lasting.{KeepsWell}
 use Rattle.driver_history.proofs.Leaving.{left_well}
@@ -24,7 +24,7 @@ same_port : (ask : AbstractCall DeviceStep) (said : CallResult) (old : AbstractS
     → ask ≢ Service → ask ≢ Tick → ask ≢ Reset → SamePort old.ports new.ports port
 same_port (Submit r) (Submitted (Ok id)) old evidence steps new port a one two three = a.2 port
 same_port (Submit r) (Submitted (Err refusal)) old evidence steps new port a one two three = a.2 port
-same_port (RevokeOf client number) (WasRevoked (Some replies)) old evidence steps new port a one two three = a.same port
+same_port (RevokeOf client number) (WasRevoked (Some replies)) old evidence steps new port a one two three = a.ports_are_same port
 same_port (RevokeOf client number) (WasRevoked None) old evidence steps new port a one two three = a.2 port
 same_port (StoreAt client frame offset bytes) (Stored None) old evidence steps new port a one two three = a.0 port
 same_port (StoreAt client frame offset bytes) (Stored (Some fault)) old evidence steps new port a one two three = a.0 port
@@ -71,39 +71,39 @@ kind_of (State at) = other (λ e. let z : State at ≡ Service = e in absurd cc)
 kind_of (Told step) = other (λ e. let z : Told step ≡ Service = e in absurd cc) (λ e. let z : Told step ≡ Tick = e in absurd cc) (λ e. let z : Told step ≡ Reset = e in absurd cc)
 
 module _ (told : EntryIsTold) (steps : KeepsWell) (wanted : List Wanted) (first : JointState Device) (port : Port) where
-  module _ (past : List (JointEvent Device DeviceStep)) (h : JointEvent Device DeviceStep) (history : IsDriverHistory wanted first (h ∷ past)) (healthy : IsHealthyFor (now first past) h port) where
+  module _ (past : List (JointEvent Device DeviceStep)) (h : JointEvent Device DeviceStep) (history : IsDriverHistory wanted first (h ∷ past)) (healthy : IsHealthyFor (joint_state_after first past) h port) where
     abbrev old : JointState Device
-    old = now first past
+    old = joint_state_after first past
 
     t : CallCorresponds wanted old h
     t = history.2
 
     engine : All (LeavesEngine port) t.accesses
-    engine = engine_left told wanted old h t port healthy.healthy healthy.no_reset
-        (tick_spares h.event.ask h.event.said old.abstract h.event.evidence h.event.steps (abstract_after old.abstract h.event) port history.1.answered healthy.young) healthy.ready
+    engine = engine_left told wanted old h t port healthy.stays_healthy healthy.is_no_reset
+        (tick_spares h.event.ask h.event.said old.abstract h.event.evidence h.event.steps (abstract_after old.abstract h.event) port history.1.is_answered healthy.has_not_timed_out) healthy.ready
 
     left_alone : Kind h.event.ask → IsSpared old h t.accesses port
-    left_alone (service asks) = spared told wanted old h t port healthy.healthy asks healthy.ready
-    left_alone (reset asks) = absurd (healthy.no_reset asks)
+    left_alone (service asks) = spared told wanted old h t port healthy.stays_healthy asks healthy.ready
+    left_alone (reset asks) = absurd (healthy.is_no_reset asks)
     left_alone (tick asks) =
-        let r = restarts_of h.event.ask h.event.said old.abstract h.event.evidence h.event.steps (abstract_after old.abstract h.event) history.1.answered asks in
+        let r = restarts_of h.event.ask h.event.said old.abstract h.event.evidence h.event.steps (abstract_after old.abstract h.event) history.1.is_answered asks in
         record {
-          same = ⊎_elim (λ (calm : _ × _). calm.1) (λ (hung : _ × _). absurd (healthy.young asks hung.0)) (r.ports port);
-          told = λ e o here own. absurd (healthy.young asks (subst (HasTimedOut old.abstract) own (r.answer e o here)));
-          engine = engine;
+          port_is_same = ⊎_elim (λ (calm : _ × _). calm.1) (λ (hung : _ × _). absurd (healthy.has_not_timed_out asks hung.0)) (r.ports port);
+          outcomes_are_fault_free = λ e o here own. absurd (healthy.has_not_timed_out asks (subst (HasTimedOut old.abstract) own (r.only_timed_out_are_answered e o here)));
+          engine_is_left = engine;
         }
     left_alone (other one two three) = record {
-      same = same_port h.event.ask h.event.said old.abstract h.event.evidence h.event.steps (abstract_after old.abstract h.event) port history.1.answered one two three;
-      told = λ e o here own. ⊎_elim (λ (d : ⊥). absurd d) (λ s. tells_calmly h.event.ask h.event.ports e o s one two three) (belongs_of h.event.ask h.event.ports h.event.steps history.1.belong (Answer e o) here);
-      engine = engine;
+      port_is_same = same_port h.event.ask h.event.said old.abstract h.event.evidence h.event.steps (abstract_after old.abstract h.event) port history.1.is_answered one two three;
+      outcomes_are_fault_free = λ e o here own. ⊎_elim (λ (d : ⊥). absurd d) (λ s. tells_calmly h.event.ask h.event.ports e o s one two three) (belongs_of h.event.ask h.event.ports h.event.steps history.1.steps_are_of_call (Answer e o) here);
+      engine_is_left = engine;
     }
 
     pub goes_well : GoesWellFor old h port
     goes_well = record {
       accesses = t.accesses;
-      came = t.came;
-      spared = left_alone (kind_of h.event.ask);
-      well = left_well told steps wanted first past h port history healthy.ready healthy.no_reset healthy.young healthy.healthy;
-      finds = (t.port port).finds;
-      issues = t.issues port;
+      accesses_are_explained = t.accesses_are_explained;
+      is_spared = left_alone (kind_of h.event.ask);
+      port_runs_well = left_well told steps wanted first past h port history healthy.ready healthy.is_no_reset healthy.has_not_timed_out healthy.stays_healthy;
+      finds_done = (t.ports_correspond port).finds_done;
+      issues_all_due = t.issues_all_due port;
     }

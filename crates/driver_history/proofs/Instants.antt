@@ -11,7 +11,7 @@ use Rattle.adapter.specs.Device.{Device}
 use Rattle.adapter.specs.declared.access.DeviceStep.{DeviceStep}
 use Rattle.refinement.specs.Acts.{DriverSlots}
 use Rattle.refinement.specs.Slots.{Free, Serves, ServesRequest, RelatesSlot, SlotState}
-use Rattle.block_machine.specs.Histories.{JointState, JointEvent, now}
+use Rattle.block_machine.specs.Histories.{JointState, JointEvent, joint_state_after}
 use Rattle.block_machine.specs.Histories as histories
 use Rattle.block_machine.specs.Ports.{PortsWellFormed}
 use Rattle.block_machine.specs.State.{Pending}
@@ -22,15 +22,15 @@ use Rattle.driver_history.specs.PortInvariants.{DriverInvariant, PortStateInvari
 
 -- the ports of a history are fit
 pub history_fit : {D E : Type 0} (Begins : JointState D → Type 0) (Relation : JointState D → JointEvent D E → Type 0) (first : JointState D) (past : List (JointEvent D E))
-    → histories.IsHistory Begins Relation first past → PortsWellFormed (now first past).abstract.ports
+    → histories.IsHistory Begins Relation first past → PortsWellFormed (joint_state_after first past).abstract.ports
 history_fit Begins Relation first [] h = h.0.1
-history_fit Begins Relation first (x ∷ past) h = h.1.fit
+history_fit Begins Relation first (x ∷ past) h = h.1.ports_are_well_formed
 
 -- a port that is ready is served, and one of the four
 pub ready_low : (i : JointState Device) (port : Port) → PortsWellFormed i.abstract.ports → i.abstract.ports.state port ≡ Ready → (i.abstract.ports.served port ≡ true) × (port.0 < 4)
 ready_low i port fit ready = ⊎_elim
-    (λ (served : i.abstract.ports.served port ≡ true). (served, fit.few port served))
-    (λ (other : i.abstract.ports.served port ≡ false). let z : Absent ≡ Ready = sym (fit.absent port other) ∙ ready in absurd cc)
+    (λ (served : i.abstract.ports.served port ≡ true). (served, fit.few_are_served port served))
+    (λ (other : i.abstract.ports.served port ≡ false). let z : Absent ≡ Ready = sym (fit.unserved_are_absent port other) ∙ ready in absurd cc)
     (cases_Bool (i.abstract.ports.served port))
 
 pub ready_at : (wanted : List Wanted) (i : JointState Device) (port : Port) → PortsWellFormed i.abstract.ports → (s : DriverSlots) → DriverInvariantWith wanted s i → i.abstract.ports.state port ≡ Ready
@@ -38,21 +38,21 @@ pub ready_at : (wanted : List Wanted) (i : JointState Device) (port : Port) → 
 ready_at wanted i port fit s holds ready =
     let low = ready_low i port fit ready in
     subst (λ (state : PortState). PortStateInvariant (wanted_of wanted port.0) s i port true state) ready
-    (subst (λ (b : Bool). PortStateInvariant (wanted_of wanted port.0) s i port b (i.abstract.ports.state port)) low.0 (holds.port port low.1))
+    (subst (λ (b : Bool). PortStateInvariant (wanted_of wanted port.0) s i port b (i.abstract.ports.state port)) low.0 (holds.ports_hold port low.1))
 
 module _ (wanted : List Wanted) where
-  pub holds_at : (first : JointState Device) (past : List (JointEvent Device DeviceStep)) → IsDriverHistory wanted first past → DriverInvariant wanted (now first past)
+  pub holds_at : (first : JointState Device) (past : List (JointEvent Device DeviceStep)) → IsDriverHistory wanted first past → DriverInvariant wanted (joint_state_after first past)
   holds_at first [] h = h.1.0
-  holds_at first (x ∷ past) h = h.2.holds
+  holds_at first (x ∷ past) h = h.2.invariant_holds
 
-  pub fit_at : (first : JointState Device) (past : List (JointEvent Device DeviceStep)) → IsDriverHistory wanted first past → PortsWellFormed (now first past).abstract.ports
+  pub fit_at : (first : JointState Device) (past : List (JointEvent Device DeviceStep)) → IsDriverHistory wanted first past → PortsWellFormed (joint_state_after first past).abstract.ports
   fit_at first [] h = h.0.1
-  fit_at first (x ∷ past) h = h.1.fit
+  fit_at first (x ∷ past) h = h.1.ports_are_well_formed
 
-  module _ (first : JointState Device) (past : List (JointEvent Device DeviceStep)) (e : Pending) (h : IsDriverHistory wanted first past) (is_ready : (now first past).abstract.ports.state e.request.port ≡ Ready)
-      (here : Contains (now first past).abstract.machine.book e) (issued : e.issued ≡ true) where
+  module _ (first : JointState Device) (past : List (JointEvent Device DeviceStep)) (e : Pending) (h : IsDriverHistory wanted first past) (is_ready : (joint_state_after first past).abstract.ports.state e.request.port ≡ Ready)
+      (here : Contains (joint_state_after first past).abstract.machine.book e) (issued : e.issued ≡ true) where
     abbrev i : JointState Device
-    i = now first past
+    i = joint_state_after first past
 
     abbrev s : DriverSlots
     s = (holds_at first past h).0
@@ -65,14 +65,14 @@ module _ (wanted : List Wanted) where
 
     slot : (slot : ℕ) × (s.uses e.request.port.0 slot ≡ Serves e.request.id)
     slot = ⊎_elim
-        (λ parked. absurd (All-contains (λ _. ⊥) [] e.request.id (All-nil (λ _. ⊥)) (subst (λ (ids : List RequestId). Contains ids e.request.id) ready.slots.unparked parked)))
+        (λ parked. absurd (All-contains (λ _. ⊥) [] e.request.id (All-nil (λ _. ⊥)) (subst (λ (ids : List RequestId). Contains ids e.request.id) ready.slots_invariant.none_is_parked parked)))
         (λ has. has)
-        (holds.knows.have e.request.port.0 e (inl (here, issued)) refl)
+        (holds.driver_relation.have_slots e.request.port.0 e (inl (here, issued)) refl)
 
     usable : slot.0 < (i.abstract.ports.mode e.request.port).usable
     usable = ⊎_elim
         (λ low. low)
-        (λ high. let z : Free ≡ Serves e.request.id = sym (ready.slots.low slot.0 high) ∙ slot.1 in absurd cc)
+        (λ high. let z : Free ≡ Serves e.request.id = sym (ready.slots_invariant.unusable_are_free slot.0 high) ∙ slot.1 in absurd cc)
         (cases_lt slot.0 (i.abstract.ports.mode e.request.port).usable)
 
     pub has_slot : (slot : ℕ) × (slot < (i.abstract.ports.mode e.request.port).usable)
@@ -81,6 +81,6 @@ module _ (wanted : List Wanted) where
     has_slot = (
       slot.0,
       usable,
-      subst (λ (u : SlotState). RelatesSlot i.abstract.machine i.device.memory i.device.tape (i.device.port e.request.port.0) e.request.port.0 slot.0 u) slot.1 (holds.knows.agrees.slot e.request.port.0 slot.0),
-      ready.runs.st,
+      subst (λ (u : SlotState). RelatesSlot i.abstract.machine i.device.memory i.device.tape (i.device.port e.request.port.0) e.request.port.0 slot.0 u) slot.1 (holds.driver_relation.state_relation.relates_slots e.request.port.0 slot.0),
+      ready.engine_runs.st,
     )

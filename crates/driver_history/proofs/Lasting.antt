@@ -8,7 +8,7 @@ use Rattle.hba_regs.specs.declared.reg.Reg.TheVariants.{Ghc, Px}
 use Rattle.hba_regs.specs.declared.reg.PortReg.TheVariants.{Cmd, Sctl, Sact, Ci}
 use Rattle.adapter.specs.Access.{Access, DoesAll}
 use Rattle.adapter.specs.Access.Access.{Reading, Writing, Loading, Storing}
-use Rattle.adapter.specs.Asked.{Asked}
+use Rattle.adapter.specs.ToldSteps.{DoesOrFailsStep}
 use Rattle.adapter.specs.Device.{Device}
 use Rattle.adapter.specs.Rules.{IsOn}
 use Rattle.adapter.specs.Steps.{Steps}
@@ -17,8 +17,8 @@ use Rattle.refinement.specs.PortFacts.{RunsWell, Undisturbed}
 use Rattle.refinement.specs.Links.{DoesNotWrite}
 use Rattle.block_machine.specs.Events.{AbstractCall, Submit, StoreAt, LoadAt, Service, Tick, Reset, RevokeOf, Device as Told, CallResult, Submitted, Stored, Loaded, Served, WasRevoked, Stepped, HasTimedOut, AbstractState}
 use Rattle.driver_history.specs.Histories.{ExplainsAccesses, IsIssuingAccess, IsPortAlive}
-use Rattle.driver_history.specs.Trace.{IsAccessForPorts, LeavesEngine}
-use Rattle.port_boot.specs.States.{RunsOn}
+use Rattle.driver_history.specs.AccessTrace.{IsAccessForPorts, LeavesEngine}
+use Rattle.port_boot.specs.States.{StaysRunning}
 
 -- it writes neither GHC, nor PxCMD or PxSCTL of the port
 abbrev pub LeavesRunning : Port → Access → Type 0
@@ -47,13 +47,13 @@ IsNoReset ask = ask ≢ Reset
 -- what laws say of a port that runs well
 pub record KeepsWell : Type 0 where
   -- what the device was told to do is some of its steps
-  pub asked : (step : DeviceStep) (old new : Device) → Asked step old new → Steps old new
+  pub asked : (step : DeviceStep) (old new : Device) → DoesOrFailsStep step old new → Steps old new
   -- over the device's steps
   pub steps : (port : ℕ) (old new : Device) → old.hr ≡ false → Steps old new → Undisturbed port old new → RunsWell (old.port port) → RunsWell (new.port port)
   -- and over accesses
   pub runs : (port : Port) (accesses : List Access) (old new : Device) → IsOn old → DoesAll accesses old new → All (DoesNotWrite Ghc) accesses → All (DoesNotWrite (Px port Sctl)) accesses
-      → All (DoesNotWrite (Px port Cmd)) accesses → RunsOn port.0 old new
-  pub well : (port : ℕ) (old new : Device) → RunsOn port old new → Undisturbed port old new → RunsWell (old.port port) → RunsWell (new.port port)
+      → All (DoesNotWrite (Px port Cmd)) accesses → StaysRunning port.0 old new
+  pub well : (port : ℕ) (old new : Device) → StaysRunning port old new → Undisturbed port old new → RunsWell (old.port port) → RunsWell (new.port port)
 
 module _ (port : Port) (m : AbstractState) (accesses : List Access) (old new : Device) where
   abbrev Calm : Type 0

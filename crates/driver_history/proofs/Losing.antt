@@ -21,7 +21,7 @@ use Rattle.block_machine.specs.Histories.{JointState}
 use Rattle.block_machine.specs.Ports.{Evidence, Ports}
 use Rattle.driver_history.specs.Histories.{LosesNoPortError}
 use Rattle.driver_history.specs.Laws.{Laws}
-use Rattle.driver_history.specs.Trace.{ClearsNoError}
+use Rattle.driver_history.specs.AccessTrace.{ClearsNoError}
 use Rattle.driver_history.proofs.Calm.{gains_of}
 use Rattle.driver_history.proofs.Errors.{AreShown, Shows, TroubleKind, access_shows, change_still, disks, failure_still, faults, fatals, links, register_of, shown_more, shown_none, steps_show}
 use Rattle.driver_history.proofs.Parting.{grows_over}
@@ -70,25 +70,25 @@ module _ (laws : Laws) (port : Port) where
     module _ (x : PortRegisterWritten port.0 register.Is v old new) (leaves : ClearsNoError port (Writing (Px port register.Is) v)) where
       cause_left : (place : ℕ) → 27 ≤ place → place ≤ 30 → (x.mid.port port.0).is place ≡ true → (new.port port.0).is place ≡ true
       cause_left place low high set =
-          ap (λ (p : DevicePort). p.is place) x.here
-          ∙ cleared_of ((x.mid.port port.0).is place) (bit v place) (leaves.is refl place low high) set
+          ap (λ (p : DevicePort). p.is place) x.port_is_written
+          ∙ cleared_of ((x.mid.port port.0).is place) (bit v place) (leaves.pxis_trouble_is_kept refl place low high) set
 
     module _ (x : PortRegisterWritten port.0 register.Serr v old new) (leaves : ClearsNoError port (Writing (Px port register.Serr) v)) where
       disk_left : (x.mid.port port.0).serr_n ≡ true → (new.port port.0).serr_n ≡ true
       disk_left set =
-          ap (λ (p : DevicePort). p.serr_n) x.here
-          ∙ cleared_of (x.mid.port port.0).serr_n (bit v 16) (leaves.serr refl).0 set
+          ap (λ (p : DevicePort). p.serr_n) x.port_is_written
+          ∙ cleared_of (x.mid.port port.0).serr_n (bit v 16) (leaves.serr_trouble_is_kept refl).0 set
 
       link_left : (x.mid.port port.0).serr_x ≡ true → (new.port port.0).serr_x ≡ true
       link_left set =
-          ap (λ (p : DevicePort). p.serr_x) x.here
-          ∙ cleared_of (x.mid.port port.0).serr_x (bit v 26) (leaves.serr refl).1 set
+          ap (λ (p : DevicePort). p.serr_x) x.port_is_written
+          ∙ cleared_of (x.mid.port port.0).serr_x (bit v 26) (leaves.serr_trouble_is_kept refl).1 set
 
     left_set : (kind : TroubleKind) → ClearsNoError port (Writing (Px port (register_of kind)) v) → (x : PortRegisterWritten port.0 (register_of kind) v old new) → Shows kind (x.mid.port port.0) → Shows kind (new.port port.0)
     left_set faults leaves x set = cause_left x leaves 30 (omega arith) (omega arith) set
     left_set fatals leaves x shown =
         let high = shown.to in
-        record { place = shown.place; from = shown.from; to = high; set = cause_left x leaves shown.place shown.from (omega (arith, high)) shown.set }
+        record { place = shown.place; from = shown.from; to = high; cause_is_set = cause_left x leaves shown.place shown.from (omega (arith, high)) shown.cause_is_set }
     left_set disks leaves x set = disk_left x leaves set
     left_set links leaves x set = link_left x leaves set
 
@@ -98,7 +98,7 @@ module _ (laws : Laws) (port : Port) where
         let y = steps_show laws kind port.0 old x.mid on x.steps in
         record {
           still = λ shown. left_set kind leaves x (y.still shown);
-          came = λ g. left_set kind leaves x (y.came (record { gained = g.gained; tape = sym x.tape ∙ g.tape; entry = g.entry; here = g.here; is = g.is }));
+          came = λ g. left_set kind leaves x (y.came (record { new_entries = g.new_entries; tape_is = sym x.tape ∙ g.tape_is; entry = g.entry; entry_is_new = g.entry_is_new; entry_is_of_kind = g.entry_is_of_kind }));
         }
 
   one_shows : (kind : TroubleKind) (access : Access) (old new : Device) → old.hr ≡ false → ClearsNoError port access → Does access old new → AreShown kind port.0 old new

@@ -14,7 +14,7 @@ use Rattle.adapter.specs.declared.tape.Entry.{Entry}
 use Rattle.adapter.specs.declared.tape.Entry.TheVariants as entry
 use Rattle.adapter.specs.declared.tape.Fault as tape_fault
 use Rattle.adapter.specs.declared.command.Operation.TheVariants.{ReadLog}
-use Rattle.refinement.specs.Driven.{IsDrivenBy, SparesOtherPorts, TapeGrows, LeavesPort, GainsNoMove}
+use Rattle.refinement.specs.Fragments.{IsDrivenBy, SparesOtherPorts, TapeGrows, LeavesPort, GainsNoMove}
 use Rattle.refinement.specs.Slots.{IsMove}
 use Rattle.refinement.specs.Errors.{ChangesByDisks, ChangesByErrors, IsFatalOf}
 use Rattle.refinement.specs.PortFacts.{IsFaultOf}
@@ -25,8 +25,8 @@ use Rattle.block_machine.specs.Ports.{Ports, SamePort, Evidence, IsStoppedOrStuc
 use Rattle.driver_history.specs.Evidence.{TapeGainsEntry, HasErrors, HasFatalErrors, IsEvidencedOf, IsGone, IsLost, ShowsChange, ShowsLoss}
 use Rattle.error_recovery.specs.Evidence.{BringsLog, HasFailed, ShowsFatal}
 use Rattle.driver_history.specs.Laws.{Laws}
-use Rattle.driver_history.specs.Parts.{HasTurnIn, IsOfOtherPort, EvidenceAgreesOn, call_accesses}
-use Rattle.driver_history.specs.Trace.{DoesNotWriteCmd, LeavesEngine}
+use Rattle.driver_history.specs.PortTurn.{HasTurnIn, IsOfOtherPort, EvidenceAgreesOn, call_accesses}
+use Rattle.driver_history.specs.AccessTrace.{DoesNotWriteCmd, LeavesEngine}
 use Rattle.driver_history.proofs.Errors.{AreShown, TroubleKind, access_shows, change_still, failure_still, fatals, register_of, shown_more, shown_none}
 
 -- ---- entries of a kind, or none
@@ -48,7 +48,7 @@ one_or_none Is decides (e ∷ gained) = ⊎_elim
 pub gains_or_none : (Is : Entry → Type 0) → ((e : Entry) → Is e ⊎ (Is e → ⊥)) → (old new : Device) → TapeGrows old new → GainsOrNone Is old new
 unfolding GainsOrNone
 gains_or_none Is decides old new grows = ⊎_elim
-    (λ found. inl (record { gained = grows.0; tape = grows.1; entry = found.0; here = found.1; is = found.2 }))
+    (λ found. inl (record { new_entries = grows.0; tape_is = grows.1; entry = found.0; entry_is_new = found.1; entry_is_of_kind = found.2 }))
     (λ none. inr (grows.0, grows.1, none))
     (one_or_none Is decides grows.0)
 
@@ -82,17 +82,17 @@ is_fatal port (entry.Fault x) = inr (λ is. is)
 -- a disk of the port went or came, or none did
 pub plugged_or_not : (port : ℕ) (old new : Device) → TapeGrows old new → TapeGainsEntry (IsPlugEvent port) old new ⊎ NoPlugEvents port old new
 unfolding GainsOrNone
-plugged_or_not port old new grows = ⊎_elim (λ g. inl g) (λ none. inr (record { gained = none.0; tape = none.1; none = none.2 })) (gains_or_none (IsPlugEvent port) (is_plugging port) old new grows)
+plugged_or_not port old new grows = ⊎_elim (λ g. inl g) (λ none. inr (record { new_entries = none.0; tape_is = none.1; no_such_entry = none.2 })) (gains_or_none (IsPlugEvent port) (is_plugging port) old new grows)
 
 -- what a part of a call gained, the call did
 pub gains_within : (Is : Entry → Type 0) (old start end new : Device) → TapeGrows old start → TapeGrows end new → TapeGainsEntry Is start end → TapeGainsEntry Is old new
 gains_within Is old start end new first last g = record {
-  gained = first.0 ++ (g.gained ++ last.0);
-  tape = last.1 ∙ ap (λ (tape : List Entry). tape ++ last.0) (g.tape ∙ ap (λ (tape : List Entry). tape ++ g.gained) first.1)
-      ∙ append_assoc (old.tape ++ first.0) g.gained last.0 ∙ append_assoc old.tape first.0 (g.gained ++ last.0);
+  new_entries = first.0 ++ (g.new_entries ++ last.0);
+  tape_is = last.1 ∙ ap (λ (tape : List Entry). tape ++ last.0) (g.tape_is ∙ ap (λ (tape : List Entry). tape ++ g.new_entries) first.1)
+      ∙ append_assoc (old.tape ++ first.0) g.new_entries last.0 ∙ append_assoc old.tape first.0 (g.new_entries ++ last.0);
   entry = g.entry;
-  here = Contains-append_right first.0 (g.gained ++ last.0) g.entry (Contains-append_left g.gained last.0 g.entry g.here);
-  is = g.is;
+  entry_is_new = Contains-append_right first.0 (g.new_entries ++ last.0) g.entry (Contains-append_left g.new_entries last.0 g.entry g.entry_is_new);
+  entry_is_of_kind = g.entry_is_of_kind;
 }
 
 -- ---- accesses of other ports
@@ -126,7 +126,7 @@ module _ (laws : Laws) (port : Port) where
 
   one_left : (access : Access) (old new : Device) → IsOn old → IsOfOtherPort port access → Does access old new → IsLeft old new
   one_left access old new on (other, apart, of) does =
-      let driven : IsDrivenBy (SparesOtherPorts other) old new = record { accesses = access ∷ []; all = (new, does, refl); only = All-cons (SparesOtherPorts other) access [] of (All-nil (SparesOtherPorts other)) } in
+      let driven : IsDrivenBy (SparesOtherPorts other) old new = record { accesses = access ∷ []; all_are_done = (new, does, refl); accesses_are_of_kind = All-cons (SparesOtherPorts other) access [] of (All-nil (SparesOtherPorts other)) } in
       record {
         on = laws.on other old new on driven;
         leaves = laws.left other port.0 old new apart on driven;
@@ -207,13 +207,13 @@ module _ (laws : Laws) (port : Port) where
       loss
     where
       first : IsLeft old t.start
-      first = others_leave t.before old t.start on t.first t.others
+      first = others_leave t.before old t.start on t.leads_to_start t.earlier_are_of_others
 
       middle : TapeGrows t.start t.end
-      middle = grows_over t.turn t.start t.end t.then
+      middle = grows_over t.turn t.start t.end t.turn_leads_to_end
 
       last : TapeGrows t.end new
-      last = grows_over t.later t.end new t.last
+      last = grows_over t.later t.end new t.leads_to_new
 
       since : TapeGrows t.start new
       since = laws.tape.grows_more t.start t.end new middle last
@@ -223,13 +223,13 @@ module _ (laws : Laws) (port : Port) where
       (was : SamePort old.abstract.ports begun.ports port) (stays : SamePort ended ports port) (alike : EvidenceAgreesOn port turn call)
       (its : IsEvidencedOf ask said t.turn (record { device = t.start; abstract = begun }) ended t.end turn port) where
     first : IsLeft old.device t.start
-    first = others_leave t.before old.device t.start on t.first t.others
+    first = others_leave t.before old.device t.start on t.leads_to_start t.earlier_are_of_others
 
     last : IsLeft t.end new
-    last = others_leave t.later t.end new on_then t.last t.others_later
+    last = others_leave t.later t.end new on_then t.leads_to_new t.later_are_of_others
 
     since : TapeGrows t.start new
-    since = laws.tape.grows_more t.start t.end new (grows_over t.turn t.start t.end t.then) last.grows
+    since = laws.tape.grows_more t.start t.end new (grows_over t.turn t.start t.end t.turn_leads_to_end) last.grows
 
     -- what the turn gained, and what was gained before it, the call gained
     within : (Is : Entry → Type 0) → TapeGainsEntry Is t.start t.end → TapeGainsEntry Is old.device new
@@ -264,8 +264,8 @@ module _ (laws : Laws) (port : Port) where
           place = shown.place;
           from = shown.from;
           to = shown.to;
-          set = ⊎_elim (λ set. set)
-              (λ clear. absurd (false≢true (sym (first.errors.fatal (record { gained = none.0; tape = none.1; none = none.2 }) shown.place shown.from shown.to clear) ∙ shown.set)))
+          cause_is_set = ⊎_elim (λ set. set)
+              (λ clear. absurd (false≢true (sym (first.errors.fatal (record { new_entries = none.0; tape_is = none.1; no_such_entry = none.2 }) shown.place shown.from shown.to clear) ∙ shown.cause_is_set)))
               (cases_Bool ((old.device.port port.0).is shown.place));
         }))
         (gains_or_none (IsFatalOf port.0) (is_fatal port.0) old.device t.start first.grows)
@@ -275,7 +275,7 @@ module _ (laws : Laws) (port : Port) where
     failed shown = ⊎_elim
         (λ g. inr (before (IsFaultOf port.0) g))
         (λ none. inl (⊎_elim (λ set. set)
-        (λ clear. absurd (false≢true (sym (first.errors.fault (record { gained = none.0; tape = none.1; none = none.2 }) clear) ∙ shown)))
+        (λ clear. absurd (false≢true (sym (first.errors.fault (record { new_entries = none.0; tape_is = none.1; no_such_entry = none.2 }) clear) ∙ shown)))
         (cases_Bool ((old.device.port port.0).is 30))))
         (gains_or_none (IsFaultOf port.0) (is_fault port.0) old.device t.start first.grows)
 
@@ -313,15 +313,15 @@ module _ (laws : Laws) (port : Port) where
     pub evidence_is_the_calls : IsEvidencedOf ask said (call_accesses t) old ports new call port
     evidence_is_the_calls = record {
       lost = λ named. lost (linked (inr (alike.lost.1 named))) (its.lost (alike.lost.1 named));
-      gone_all = λ is loss. alike.gone.0 (its.gone_all (ready is) (loss_then old.device new on (linked (inl is)) t loss));
-      gone_only = λ named. gone_only (its.gone_only (alike.gone.1 named));
+      link_changed_all = λ is loss. alike.link_changed.0 (its.link_changed_all (ready is) (loss_then old.device new on (linked (inl is)) t loss));
+      link_changed_only = λ named. gone_only (its.link_changed_only (alike.link_changed.1 named));
       failed_all = λ is failure. alike.failed.0 (its.failed_all (ready is) (failure_still port.0 old.device t.start first.trouble_shown failure));
       failed_only = λ named. errors (its.failed_only (alike.failed.1 named));
       fatal_all = λ is shown. alike.fatal.0 (its.fatal_all (ready is) ((first.trouble_shown fatals).still shown));
       fatal_only = λ named. fatal_errors (its.fatal_only (alike.fatal.1 named));
       stopped_all = ⊎_elim
-          (λ left. inl (All-append (LeavesEngine port) t.before (t.turn ++ t.later) (others_leave_engine t.before t.others)
-          (All-append (LeavesEngine port) t.turn t.later left (others_leave_engine t.later t.others_later))))
+          (λ left. inl (All-append (LeavesEngine port) t.before (t.turn ++ t.later) (others_leave_engine t.before t.earlier_are_of_others)
+          (All-append (LeavesEngine port) t.turn t.later left (others_leave_engine t.later t.later_are_of_others))))
           (λ (i : IsStoppedOrStuck turn port). inr (⊎_elim (λ a. inl (alike.stopped.0 a)) (λ b. inr (alike.stuck.0 b)) i))
           its.stopped_all;
       stopped_only = λ named. ⊎_elim
@@ -341,39 +341,39 @@ module _ (laws : Laws) (port : Port) where
 
   module _ (old new : Device) (on : IsOn old) (t : HasTurnIn port old new) where
     ahead : IsLeft old t.start
-    ahead = others_leave t.before old t.start on t.first t.others
+    ahead = others_leave t.before old t.start on t.leads_to_start t.earlier_are_of_others
 
     -- a fault on the tape at a moment of the turn before the port was stopped stands there before it was stopped in the call
     pub failed_in_call : (fault : tape_fault.Fault) → HasFailed port t.turn t.start t.end fault → HasFailed port (call_accesses t) old new fault
     failed_in_call fault f = record {
-      at = f.at;
-      running = record {
-        early = t.before ++ f.running.early;
-        late = f.running.late ++ t.later;
-        here = ap (λ (turn : List Access). t.before ++ (turn ++ t.later)) f.running.here
-            ∙ ap (λ (rest : List Access). t.before ++ rest) (append_assoc f.running.early f.running.late t.later)
-            ∙ sym (append_assoc t.before f.running.early (f.running.late ++ t.later));
-        running = All-append (DoesNotWriteCmd port) t.before f.running.early
-            (All-weaker (LeavesEngine port) (DoesNotWriteCmd port) (λ access leaves. leaves.0) t.before (others_leave_engine t.before t.others)) f.running.running;
-        first = laws.does_append t.before f.running.early old t.start f.at t.first f.running.first;
-        rest = laws.does_append f.running.late t.later f.at t.end new f.running.rest t.last;
+      device_before_stop = f.device_before_stop;
+      cmd_is_unwritten = record {
+        early = t.before ++ f.cmd_is_unwritten.early;
+        late = f.cmd_is_unwritten.late ++ t.later;
+        accesses_are = ap (λ (turn : List Access). t.before ++ (turn ++ t.later)) f.cmd_is_unwritten.accesses_are
+            ∙ ap (λ (rest : List Access). t.before ++ rest) (append_assoc f.cmd_is_unwritten.early f.cmd_is_unwritten.late t.later)
+            ∙ sym (append_assoc t.before f.cmd_is_unwritten.early (f.cmd_is_unwritten.late ++ t.later));
+        cmd_is_unwritten = All-append (DoesNotWriteCmd port) t.before f.cmd_is_unwritten.early
+            (All-weaker (LeavesEngine port) (DoesNotWriteCmd port) (λ access leaves. leaves.0) t.before (others_leave_engine t.before t.earlier_are_of_others)) f.cmd_is_unwritten.cmd_is_unwritten;
+        does_early = laws.does_append t.before f.cmd_is_unwritten.early old t.start f.device_before_stop t.leads_to_start f.cmd_is_unwritten.does_early;
+        does_late = laws.does_append f.cmd_is_unwritten.late t.later f.device_before_stop t.end new f.cmd_is_unwritten.does_late t.leads_to_new;
       };
-      here = subst (λ (n : ℕ). Contains (drop n f.at.tape) (entry.Fault fault)) (ap (λ n. n.st_set_at) ahead.leaves.notes) f.here;
+      fault_is_told = subst (λ (n : ℕ). Contains (drop n f.device_before_stop.tape) (entry.Fault fault)) (ap (λ n. n.st_set_at) ahead.leaves.notes) f.fault_is_told;
       port_is = f.port_is;
     }
 
     -- the last page of the log that the turn brought is the call's last
     pub brought_in_call : (page : List ℕ) → GainsNoMove port.0 ReadLog t.end new → BringsLog port t.start t.end page → BringsLog port old new page
     brought_in_call page (later, tape, none) b = record {
-      gained = ahead.grows.0 ++ (b.gained ++ later);
-      tape = tape ∙ ap (λ (xs : List Entry). xs ++ later) (b.tape ∙ ap (λ (xs : List Entry). xs ++ b.gained) ahead.grows.1)
-          ∙ append_assoc (old.tape ++ ahead.grows.0) b.gained later ∙ append_assoc old.tape ahead.grows.0 (b.gained ++ later);
+      new_entries = ahead.grows.0 ++ (b.new_entries ++ later);
+      tape_grows = tape ∙ ap (λ (xs : List Entry). xs ++ later) (b.tape_grows ∙ ap (λ (xs : List Entry). xs ++ b.new_entries) ahead.grows.1)
+          ∙ append_assoc (old.tape ++ ahead.grows.0) b.new_entries later ∙ append_assoc old.tape ahead.grows.0 (b.new_entries ++ later);
       before = ahead.grows.0 ++ b.before;
       move = b.move;
       later = b.later ++ later;
-      here = ap (λ (xs : List Entry). ahead.grows.0 ++ (xs ++ later)) b.here ∙ ap (λ (xs : List Entry). ahead.grows.0 ++ xs) (append_assoc b.before (entry.Move b.move ∷ b.later) later)
+      entries_are = ap (λ (xs : List Entry). ahead.grows.0 ++ (xs ++ later)) b.entries_are ∙ ap (λ (xs : List Entry). ahead.grows.0 ++ xs) (append_assoc b.before (entry.Move b.move ∷ b.later) later)
           ∙ sym (append_assoc ahead.grows.0 b.before (entry.Move b.move ∷ (b.later ++ later)));
       is_move = b.is_move;
-      last = All-append (λ e. IsMove port.0 ReadLog e → ⊥) b.later later b.last none;
-      bytes = b.bytes;
+      no_later_page = All-append (λ e. IsMove port.0 ReadLog e → ⊥) b.later later b.no_later_page none;
+      bytes_are = b.bytes_are;
     }

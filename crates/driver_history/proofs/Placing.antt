@@ -11,17 +11,17 @@ use Rattle.adapter.specs.declared.tape.Entry.TheVariants as entry
 use Rattle.adapter.specs.declared.tape.Move as tape_move
 use Rattle.adapter.specs.declared.tape.Clear as tape_clear
 use Rattle.refinement.specs.Slots.{op_of}
-use Rattle.refinement.specs.Places.{scratch_of}
+use Rattle.refinement.specs.MemoryLayout.{scratch_of}
 use Rattle.refinement.specs.Tape.{MovesSector, ClearsSectors, TellsDeviceSteps, TellsEntry, TellsMove}
 use Rattle.block_machine.specs.Events.{IsRun, steps_of}
-use Rattle.block_machine.specs.Histories.{JointState, JointEvent, events_of, now}
+use Rattle.block_machine.specs.Histories.{JointState, JointEvent, events_of, joint_state_after}
 use Rattle.block_machine.specs.Expected.{after, IsLegal}
 use Rattle.block_machine.specs.State.{Machine}
 use Rattle.block_machine.specs.Steps.{Step, Touch}
 use Rattle.identify.specs.declared.wanted.Wanted.{Wanted}
 use Rattle.driver_history.specs.Histories.{IsDriverHistory}
 use Rattle.driver_history.specs.Laws.{RunLaws}
-use Rattle.driver_history.specs.Moves.{IsConfinedClear, IsConfinedMove, MovesConfined, KeepsToItsFrames}
+use Rattle.driver_history.specs.ConfinedMoves.{IsConfinedClear, IsConfinedMove, ConfinesCallMoves, KeepsToItsFrames}
 use Rattle.driver_history.proofs.Telling.{history_runs, machine_is}
 
 -- ---- among a call's steps
@@ -43,10 +43,10 @@ Goes other m steps move = move.address ≡ scratch_of move.port.0
 among_first : (m : Machine) (op : Op) (move : tape_move.Move) (own first rest : List Step) → MovesSector (after m own) op move first → IsAmong m (rest ++ (first ++ own)) op move
 among_first m op move own first rest t = record {
   later = rest;
-  step = Touch t.pending t.number (slice_index move.bytes.value);
+  step = Touch t.pending t.sector_number (slice_index move.bytes.value);
   before = own;
-  here = ap (λ (steps : List Step). rest ++ (steps ++ own)) t.step;
-  touch = subst (MovesSector (after m own) op move) t.step t;
+  here = ap (λ (steps : List Step). rest ++ (steps ++ own)) t.step_is;
+  touch = subst (MovesSector (after m own) op move) t.step_is t;
 }
 
 goes_first : (o : Option Op) (m : Machine) (move : tape_move.Move) (own first rest : List Step) → TellsMove o (after m own) move first → Goes o m (rest ++ (first ++ own)) move
@@ -62,7 +62,7 @@ among_later laws m op move rest early a = record {
   step = a.step;
   before = a.before ++ early;
   here = ap (λ (steps : List Step). steps ++ early) a.here ∙ append_assoc a.later (a.step ∷ a.before) early;
-  touch = subst (λ (n : Machine). MovesSector n op move (a.step ∷ [])) (sym (laws.joined m a.before early)) a.touch;
+  touch = subst (λ (n : Machine). MovesSector n op move (a.step ∷ [])) (sym (laws.after_joins m a.before early)) a.touch;
 }
 
 goes_later : RunLaws → (o : Option Op) (m : Machine) (move : tape_move.Move) (rest early : List Step) → Goes o (after m early) rest move → Goes o m (rest ++ early) move
@@ -105,7 +105,7 @@ cleared_later laws m clear rest early c = record {
   before = c.before ++ early;
   here = ap (λ (steps : List Step). steps ++ early) c.here ∙ append_assoc c.later (c.touches ++ c.before) early
       ∙ ap (λ (steps : List Step). c.later ++ steps) (append_assoc c.touches c.before early);
-  clears = subst (λ (n : Machine). ClearsSectors n clear c.touches) (sym (laws.joined m c.before early)) c.clears;
+  clears = subst (λ (n : Machine). ClearsSectors n clear c.touches) (sym (laws.after_joins m c.before early)) c.clears;
 }
 
 abbrev ClearsAs : Machine → List Step → Entry → Type 0
@@ -140,24 +140,24 @@ module _ (laws : RunLaws) (wanted : List Wanted) (first : JointState Device) (pa
   run = history_runs wanted first (h ∷ past) history
 
   abbrev m : Machine
-  m = (now first past).abstract.machine
+  m = (joint_state_after first past).abstract.machine
 
   confined : (op : Op) (move : tape_move.Move) → IsAmong m h.event.steps op move → IsConfinedMove start early h.event.steps op move
   confined op move a = record {
     later = a.later;
     step = a.step;
     before = a.before;
-    here = a.here;
-    touch = then;
-    confined = laws.touches first.abstract (events_of (h ∷ past)) a.later (a.before ++ early) then.pending then.number (slice_index move.bytes.value) run split;
+    steps_are_split = a.here;
+    moves_sector = then;
+    is_confined = laws.touches first.abstract (events_of (h ∷ past)) a.later (a.before ++ early) then.pending then.sector_number (slice_index move.bytes.value) run split;
   }
     where
       then : MovesSector (after start (a.before ++ early)) op move (a.step ∷ [])
-      then = subst (λ (n : Machine). MovesSector n op move (a.step ∷ [])) (ap (λ (n : Machine). after n a.before) (machine_is laws wanted first past history.0) ∙ sym (laws.joined start a.before early)) a.touch
+      then = subst (λ (n : Machine). MovesSector n op move (a.step ∷ [])) (ap (λ (n : Machine). after n a.before) (machine_is laws wanted first past history.0) ∙ sym (laws.after_joins start a.before early)) a.touch
 
-      split : h.event.steps ++ early ≡ a.later ++ Touch then.pending then.number (slice_index move.bytes.value) ∷ (a.before ++ early)
+      split : h.event.steps ++ early ≡ a.later ++ Touch then.pending then.sector_number (slice_index move.bytes.value) ∷ (a.before ++ early)
       split = ap (λ (steps : List Step). steps ++ early) a.here ∙ append_assoc a.later (a.step ∷ a.before) early
-          ∙ ap (λ (steps : List Step). a.later ++ (steps ++ (a.before ++ early))) then.step
+          ∙ ap (λ (steps : List Step). a.later ++ (steps ++ (a.before ++ early))) then.step_is
 
   keeps : (o : Option Op) (move : tape_move.Move) → Goes o m h.event.steps move → KeepsToItsFrames o start early h.event.steps move
   keeps (Some Read) move a = confined Read move a
@@ -171,24 +171,24 @@ module _ (laws : RunLaws) (wanted : List Wanted) (first : JointState Device) (pa
     later = c.later;
     touches = c.touches;
     before = c.before;
-    here = c.here;
-    clears = then;
-    accepted =
+    steps_are_split = c.here;
+    clears_sectors = then;
+    was_accepted =
         let whole = laws.legal first.abstract (events_of (h ∷ past)) run in
-        laws.lived start (c.before ++ early) then.pending whole.0 (legal_before start (c.later ++ c.touches) (c.before ++ early) (subst (IsLegal start) split whole.1))
-        (⊎_elim (λ issued. inl issued.0) (λ kept. inr kept) then.moves);
+        laws.holders_were_accepted start (c.before ++ early) then.pending whole.0 (legal_before start (c.later ++ c.touches) (c.before ++ early) (subst (IsLegal start) split whole.1))
+        (⊎_elim (λ issued. inl issued.0) (λ kept. inr kept) then.may_still_move);
   }
     where
       then : ClearsSectors (after start (c.before ++ early)) clear c.touches
-      then = subst (λ (n : Machine). ClearsSectors n clear c.touches) (ap (λ (n : Machine). after n c.before) (machine_is laws wanted first past history.0) ∙ sym (laws.joined start c.before early)) c.clears
+      then = subst (λ (n : Machine). ClearsSectors n clear c.touches) (ap (λ (n : Machine). after n c.before) (machine_is laws wanted first past history.0) ∙ sym (laws.after_joins start c.before early)) c.clears
 
       split : h.event.steps ++ early ≡ (c.later ++ c.touches) ++ (c.before ++ early)
       split = ap (λ (steps : List Step). steps ++ early) (c.here ∙ sym (append_assoc c.later c.touches c.before)) ∙ append_assoc (c.later ++ c.touches) c.before early
 
-  pub keeps_moves : MovesConfined start early h.event.steps (now first past).device h.device
+  pub keeps_moves : ConfinesCallMoves start early h.event.steps (joint_state_after first past).device h.device
   keeps_moves = record {
-    gained = history.2.backed.gained;
-    tape = history.2.backed.tape;
-    moves = λ move here. keeps (op_of move.operation) move (goes laws m history.2.backed.gained h.event.steps history.2.backed.tells move here);
-    clears = λ clear here. confined_clear clear (cleared laws m history.2.backed.gained h.event.steps history.2.backed.tells clear here);
+    new_entries = history.2.is_backed.new_entries;
+    tape_is = history.2.is_backed.tape_is;
+    moves_keep_to_frames = λ move here. keeps (op_of move.operation) move (goes laws m history.2.is_backed.new_entries h.event.steps history.2.is_backed.tells_device_steps move here);
+    clears_are_confined = λ clear here. confined_clear clear (cleared laws m history.2.is_backed.new_entries h.event.steps history.2.is_backed.tells_device_steps clear here);
   }

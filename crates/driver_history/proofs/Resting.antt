@@ -12,11 +12,11 @@ use Rattle.ata_types.specs.declared.request.Outcome.{Outcome}
 use Rattle.ata_types.specs.declared.request.Outcome.TheVariants as outcome
 use Rattle.adapter.specs.Device.{Device}
 use Rattle.adapter.specs.declared.access.DeviceStep.{DeviceStep}
-use Rattle.block_machine.specs.Events.{AbstractCall, Submit, StoreAt, LoadAt, Service, Tick, Reset, RevokeOf, State, Device as Told, CallResult, AbstractState, AllAnswersLawful, AllMay, AreStepsOfCall, Happens, IsByDevice, IsLawfulAnswer, IsByServer, abstract_after}
+use Rattle.block_machine.specs.Events.{AbstractCall, Submit, StoreAt, LoadAt, Service, Tick, Reset, RevokeOf, State, Device as Told, CallResult, AbstractState, AllAnswersLawful, AllEnabled, AreStepsOfCall, Happens, IsByDevice, IsLawfulAnswer, IsByServer, abstract_after}
 use Rattle.block_machine.specs.Histories.{JointState, JointEvent}
 use Rattle.block_machine.specs.Ports.{Ports, Evidence, PortsWellFormed}
 use Rattle.block_machine.specs.State.{Pending, Machine}
-use Rattle.block_machine.specs.Steps.{Step, Again, Answer, HasGrant, May}
+use Rattle.block_machine.specs.Steps.{Step, WaitAgain, Answer, HasGrant, IsEnabled}
 use Rattle.block_machine.specs.Expected.{after}
 use Rattle.host_boot.specs.TakeOver.{wanted_of}
 use Rattle.identify.specs.declared.wanted.Wanted.{Wanted}
@@ -30,15 +30,15 @@ dead_at : (wanted : List Wanted) (i : JointState Device) (port : Port) → Ports
 dead_at wanted i port fit (s, holds) dead = ⊎_elim
     (λ (served : i.abstract.ports.served port ≡ true).
     subst (λ (state : PortState). PortStateInvariant (wanted_of wanted port.0) s i port true state) dead
-    (subst (λ (b : Bool). PortStateInvariant (wanted_of wanted port.0) s i port b (i.abstract.ports.state port)) served (holds.port port (fit.few port served))))
-    (λ (other : i.abstract.ports.served port ≡ false). let z : Absent ≡ Dead = sym (fit.absent port other) ∙ dead in absurd cc)
+    (subst (λ (b : Bool). PortStateInvariant (wanted_of wanted port.0) s i port b (i.abstract.ports.state port)) served (holds.ports_hold port (fit.few_are_served port served))))
+    (λ (other : i.abstract.ports.served port ≡ false). let z : Absent ≡ Dead = sym (fit.unserved_are_absent port other) ∙ dead in absurd cc)
     (cases_Bool (i.abstract.ports.served port))
 
 -- ---- a step of a call
 
 lawful_rest : (old : AbstractState) (evidence : Evidence) (ports : Ports) (step : Step) (before : List Step) → AllAnswersLawful old evidence ports (step ∷ before) → AllAnswersLawful old evidence ports before
 lawful_rest old evidence ports (Answer e o) before l = l.0
-lawful_rest old evidence ports (Again e) before l = l.0
+lawful_rest old evidence ports (WaitAgain e) before l = l.0
 lawful_rest old evidence ports _ before l = l
 
 -- each answer among lawful steps is lawful
@@ -80,51 +80,51 @@ RowsShrink = (start : Machine) (history : List Step) → ((row : GrantRow) → C
     × ((frame : Frame) → (after start history).owner frame ≡ start.owner frame)
 
 -- a request that a call tells Revoked has no grant when it is told so, and none at the call's end
-all_gone : RowsShrink → (m : Machine) (steps : List Step) → AllMay m steps → All (λ step. (e : Pending) → step ≡ Answer e outcome.Revoked → HasGrant (after m steps) e → ⊥) steps
+all_gone : RowsShrink → (m : Machine) (steps : List Step) → AllEnabled m steps → All (λ step. (e : Pending) → step ≡ Answer e outcome.Revoked → HasGrant (after m steps) e → ⊥) steps
 all_gone shrink m [] may = All-nil (λ step. (e : Pending) → step ≡ Answer e outcome.Revoked → HasGrant m e → ⊥)
 all_gone shrink m (step ∷ before) may =
     All-cons (λ x. (e : Pending) → x ≡ Answer e outcome.Revoked → HasGrant (after m (step ∷ before)) e → ⊥) step before
-    (λ e same has. let told : May (after m before) (Answer e outcome.Revoked) = subst (May (after m before)) same may.1 in told.1 (had e has))
+    (λ e same has. let told : IsEnabled (after m before) (Answer e outcome.Revoked) = subst (IsEnabled (after m before)) same may.1 in told.1 (had e has))
     (All-weaker (λ x. (e : Pending) → x ≡ Answer e outcome.Revoked → HasGrant (after m before) e → ⊥) (λ x. (e : Pending) → x ≡ Answer e outcome.Revoked → HasGrant (after m (step ∷ before)) e → ⊥)
     (λ x gone e same has. gone e same (had e has)) before (all_gone shrink m before may.0))
   where
     had : (e : Pending) → HasGrant (after m (step ∷ before)) e → HasGrant (after m before) e
     had e has = (has.0, (shrink (after m before) (step ∷ [])).0 has.0 has.1, has.2)
 
-grant_gone : RowsShrink → (m : Machine) (steps : List Step) (e : Pending) → AllMay m steps → Contains steps (Answer e outcome.Revoked) → HasGrant (after m steps) e → ⊥
+grant_gone : RowsShrink → (m : Machine) (steps : List Step) (e : Pending) → AllEnabled m steps → Contains steps (Answer e outcome.Revoked) → HasGrant (after m steps) e → ⊥
 grant_gone shrink m steps e may h = All-contains (λ step. (e : Pending) → step ≡ Answer e outcome.Revoked → HasGrant (after m steps) e → ⊥) steps (Answer e outcome.Revoked) (all_gone shrink m steps may) h e refl
 
 module _ (wanted : List Wanted) (old : JointState Device) (h : JointEvent Device DeviceStep) (x : Happens old.abstract h.event) (t : CallCorresponds wanted old h) where
   lawful : (e : Pending) (o : Outcome) → Contains h.event.steps (Answer e o) → IsLawfulAnswer old.abstract h.event.evidence h.event.ports e o
-  lawful e o here = lawful_of old.abstract h.event.evidence h.event.ports h.event.steps x.lawful e o here
+  lawful e o here = lawful_of old.abstract h.event.evidence h.event.ports h.event.steps x.answers_are_lawful e o here
 
   -- a port of which Unplugged is told was lost
   pub lost_then : (e : Pending) → Contains h.event.steps (Answer e outcome.Unplugged) → IsLost e.request.port old h.event.ports h.device
-  lost_then e here = (t.evidenced.port e.request.port).lost (lawful e outcome.Unplugged here).0
+  lost_then e here = (t.is_evidenced.port e.request.port).lost (lawful e outcome.Unplugged here).0
 
   module _ (shrink : RowsShrink) where
     rests : (e : Pending) (o : Outcome) → Contains h.event.steps (Answer e o) → IsLawfulAnswer old.abstract h.event.evidence h.event.ports e o → AnswerJustified old h t.accesses e o
     rests e outcome.Ok here l = l
     rests e (outcome.DeviceError status error) here l = (
-      t.evidenced.faults _ l.2,
+      t.is_evidenced.faults _ l.2,
       ⊎_elim
           (λ stops. stops)
           (λ (ends : _ × _). absurd (⊎_elim (λ (d : ⊥). d) (λ s. no_fault h.event.ask h.event.said h.event.ports e status error ends.0 s)
-          (belongs_of h.event.ask h.event.ports h.event.steps x.belong (Answer e (outcome.DeviceError status error)) here)))
-          ((t.evidenced.port e.request.port).stopped_only l.3),
+          (belongs_of h.event.ask h.event.ports h.event.steps x.steps_are_of_call (Answer e (outcome.DeviceError status error)) here)))
+          ((t.is_evidenced.port e.request.port).stopped_only l.3),
     )
     rests e outcome.Aborted here l = (l.1, l.2.0)
     rests e outcome.Unplugged here l = lost_then e here
     rests e outcome.PortDead here l = (
       l,
       ⊎_elim (λ ends. inl ends.1) (λ off. inr off)
-          (dead_at wanted (record { device = h.device; abstract = abstract_after old.abstract h.event }) e.request.port x.fit t.holds l).why,
+          (dead_at wanted (record { device = h.device; abstract = abstract_after old.abstract h.event }) e.request.port x.ports_are_well_formed t.invariant_holds l).is_backed_or_off,
     )
     rests e outcome.Revoked here l = (
-      grant_gone shrink old.abstract.machine h.event.steps e x.may here,
+      grant_gone shrink old.abstract.machine h.event.steps e x.steps_are_enabled here,
       ⊎_elim
           (λ waits. inl waits)
-          (λ again. inr (⊎_elim (λ stops. inl stops) (λ ends. inr ends.0) ((t.evidenced.port e.request.port).stopped_only again.1)))
+          (λ again. inr (⊎_elim (λ stops. inl stops) (λ ends. inr ends.0) ((t.is_evidenced.port e.request.port).stopped_only again.1)))
           l,
     )
 

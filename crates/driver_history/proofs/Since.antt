@@ -5,7 +5,7 @@ use Rattle.std.proofs.lemmas.List.Elements.{All-cons, All-head, All-nil, All-tai
 use Rattle.adapter.specs.Device.{Device}
 use Rattle.adapter.specs.declared.tape.Entry.{Entry}
 use Rattle.adapter.specs.declared.tape.Entry.TheVariants as entry
-use Rattle.refinement.specs.Driven.{TapeGrows}
+use Rattle.refinement.specs.Fragments.{TapeGrows}
 use Rattle.refinement.specs.Errors.{IsFatalOf}
 use Rattle.refinement.specs.PortFacts.{IsDisturbance, IsFaultOf, Undisturbed}
 use Rattle.refinement.specs.Links.{IsPlugEvent, NoPlugEvents}
@@ -25,7 +25,7 @@ gained_later {X} old early before e later last p q r =
 pub running_in_part : (Such : Entry → Type 0) (port : ℕ) (old start end new : Device) → TapeGrows old start → TapeGrows end new → (new.port port).notes.st_set_at ≡ (end.port port).notes.st_set_at → GainsSinceStart Such port start end
     → GainsSinceStart Such port old new
 running_in_part Such port old start end new first last same g =
-    let since = g.since in
+    let since = g.came_since_start in
     let long = ap (λ (xs : List Entry). length xs) first.1 ∙ length-append old.tape first.0 in
     let more = length-append first.0 g.before in
     record {
@@ -33,8 +33,8 @@ running_in_part Such port old start end new first last same g =
       entry = g.entry;
       later = g.later ++ last.0;
       tape = gained_later old.tape first.0 g.before g.entry g.later last.0 first.1 g.tape last.1;
-      is = g.is;
-      since = omega (arith, same, since, long, more);
+      is_of_kind = g.is_of_kind;
+      came_since_start = omega (arith, same, since, long, more);
     }
 
 module _ (laws : Laws) (port : ℕ) (old mid new : Device) (early : TapeGrows old mid) (late : TapeGrows mid new) (set : (new.port port).notes.st_set_at ≤ length mid.tape) where
@@ -48,8 +48,8 @@ module _ (laws : Laws) (port : ℕ) (old mid new : Device) (early : TapeGrows ol
         later = later;
         tape = tape ∙ ap (λ (xs : List Entry). xs ++ (before ++ e ∷ later)) early.1 ∙ append_assoc old.tape early.0 (before ++ e ∷ later)
             ∙ ap (λ (xs : List Entry). old.tape ++ xs) (sym (append_assoc early.0 before (e ∷ later)));
-        is = is;
-        since = omega (arith, set, long, more);
+        is_of_kind = is;
+        came_since_start = omega (arith, set, long, more);
       }
 
   module _ (unfailed : GainsSinceStart (IsFaultOf port) port old new → ⊥) (unbroken : GainsSinceStart (IsFatalOf port) port old new → ⊥) where
@@ -71,4 +71,4 @@ module _ (laws : Laws) (port : ℕ) (old mid new : Device) (early : TapeGrows ol
   pub calm_since : NoPlugEvents port old new → (GainsSinceStart (IsFaultOf port) port old new → ⊥) → (GainsSinceStart (IsFatalOf port) port old new → ⊥) → Undisturbed port mid new
   calm_since none unfailed unbroken =
       let after = (laws.tape.plugs_parts port old mid new early.0 late.0 early.1 late.1 none).1 in
-      record { gained = after.gained; tape = after.tape; calm = all_calm unfailed unbroken [] after.gained after.tape after.none }
+      record { new_entries = after.new_entries; tape_is = after.tape_is; no_disturbance = all_calm unfailed unbroken [] after.new_entries after.tape_is after.no_such_entry }

@@ -3,7 +3,7 @@ use Rattle.std.proofs.Common.{◌≡◌, true, List, [], ◌∷◌, refl, ap, �
 use Rattle.adapter.specs.Device.{Device}
 use Rattle.adapter.specs.declared.access.DeviceStep.{DeviceStep}
 use Rattle.block_machine.specs.Events.{CallRecord, AbstractState, Happens, IsRun, EveryReadHolds, abstract_after, abstract_after_all, steps_of}
-use Rattle.block_machine.specs.Histories.{JointState, JointEvent, IsReachable, now, events_of}
+use Rattle.block_machine.specs.Histories.{JointState, JointEvent, IsReachable, joint_state_after, events_of}
 use Rattle.block_machine.specs.Expected.{after, AllStepsFaithful}
 use Rattle.block_machine.specs.State.{Machine}
 use Rattle.durability.specs.Durable.{EveryPlugFindsFlushed}
@@ -11,7 +11,7 @@ use Rattle.identify.specs.declared.wanted.Wanted.{Wanted}
 use Rattle.driver_history.specs.Histories.{IsDriverHistory}
 use Rattle.driver_history.specs.Laws.{RunLaws}
 
-now_is : (first : JointState Device) (past : List (JointEvent Device DeviceStep)) → (now first past).abstract ≡ abstract_after_all first.abstract (events_of past)
+now_is : (first : JointState Device) (past : List (JointEvent Device DeviceStep)) → (joint_state_after first past).abstract ≡ abstract_after_all first.abstract (events_of past)
 now_is first [] = refl
 now_is first (h ∷ past) = ap (λ (m : AbstractState). abstract_after m h.event) (now_is first past)
 
@@ -21,24 +21,24 @@ history_runs wanted first [] h = h.0
 history_runs wanted first (x ∷ past) h = (history_runs wanted first past h.0, subst (λ (m : AbstractState). Happens m x.event) (now_is first past) h.1)
 
 -- disks go on to tell their sectors, if they did
-telling_stays : (wanted : List Wanted) (first : JointState Device) (past : List (JointEvent Device DeviceStep)) → IsDriverHistory wanted first past → (now first past).device.telling ≡ first.device.telling
+telling_stays : (wanted : List Wanted) (first : JointState Device) (past : List (JointEvent Device DeviceStep)) → IsDriverHistory wanted first past → (joint_state_after first past).device.telling ≡ first.device.telling
 telling_stays wanted first [] h = refl
-telling_stays wanted first (x ∷ past) h = h.2.backed.telling ∙ telling_stays wanted first past h.0
+telling_stays wanted first (x ∷ past) h = h.2.is_backed.telling ∙ telling_stays wanted first past h.0
 
 module _ (laws : RunLaws) (wanted : List Wanted) where
-  pub machine_is : (first : JointState Device) (past : List (JointEvent Device DeviceStep)) → IsDriverHistory wanted first past → (now first past).abstract.machine ≡ after first.abstract.machine (steps_of (events_of past))
+  pub machine_is : (first : JointState Device) (past : List (JointEvent Device DeviceStep)) → IsDriverHistory wanted first past → (joint_state_after first past).abstract.machine ≡ after first.abstract.machine (steps_of (events_of past))
   machine_is first past h = ap (λ (m : AbstractState). m.machine) (now_is first past) ∙ (laws.legal first.abstract (events_of past) (history_runs wanted first past h)).2
 
   -- the machine of a history is reached
-  pub history_reached : (first : JointState Device) (past : List (JointEvent Device DeviceStep)) → IsDriverHistory wanted first past → IsReachable (now first past).abstract.machine
+  pub history_reached : (first : JointState Device) (past : List (JointEvent Device DeviceStep)) → IsDriverHistory wanted first past → IsReachable (joint_state_after first past).abstract.machine
   history_reached first past h =
       let run = laws.legal first.abstract (events_of past) (history_runs wanted first past h) in
-      record { first = first.abstract.machine; past = steps_of (events_of past); starts = run.0; legal = run.1; is = machine_is first past h }
+      record { initial_machine = first.abstract.machine; steps_since = steps_of (events_of past); is_initial = run.0; is_legal = run.1; leads_to_machine = machine_is first past h }
 
   all_told : (first : JointState Device) (past : List (JointEvent Device DeviceStep)) → IsDriverHistory wanted first past → first.device.telling ≡ true → AllStepsFaithful first.abstract.machine (steps_of (events_of past))
   all_told first [] h tells = tt
   all_told first (x ∷ past) h tells = laws.told first.abstract.machine x.event.steps (steps_of (events_of past)) (all_told first past h.0 tells)
-      (subst (λ (m : Machine). AllStepsFaithful m x.event.steps) (machine_is first past h.0) (h.2.backed.told (telling_stays wanted first past h.0 ∙ tells)))
+      (subst (λ (m : Machine). AllStepsFaithful m x.event.steps) (machine_is first past h.0) (h.2.is_backed.steps_are_faithful (telling_stays wanted first past h.0 ∙ tells)))
 
   pub reads_hold : (first : JointState Device) (past : List (JointEvent Device DeviceStep)) → IsDriverHistory wanted first past → first.device.telling ≡ true → EveryReadHolds first.abstract (events_of past)
   reads_hold first past h tells = laws.reads first.abstract (events_of past) (history_runs wanted first past h) (all_told first past h tells)

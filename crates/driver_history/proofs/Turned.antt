@@ -12,7 +12,7 @@ use Rattle.adapter.specs.Access.{Access, Does, DoesAll}
 use Rattle.adapter.specs.Device.{Device, DevicePort}
 use Rattle.adapter.specs.Rules.{IsOn}
 use Rattle.adapter.specs.declared.tape.Entry.{Entry}
-use Rattle.refinement.specs.Driven.{TapeGrows}
+use Rattle.refinement.specs.Fragments.{TapeGrows}
 use Rattle.refinement.specs.Errors.{ChangesByErrors, IsFatalOf, NoDiskComes, NoneFatal}
 use Rattle.refinement.specs.PortFacts.{IsFaultOf}
 use Rattle.refinement.specs.Links.{ShowsDiskIfIn, IsPlugEvent, NoPlugEvents, DoesNotWrite}
@@ -24,8 +24,8 @@ use Rattle.error_recovery.specs.Evidence.{GainsSinceStart, ShowsFatal}
 use Rattle.driver_history.specs.Evidence.{TapeGainsEntry, ShowsChange, ShowsFailure}
 use Rattle.driver_history.specs.Histories.{BootsAnew, HasUnservedDisk, HasOnlyTaskFileError, HasSignatureOrNoDevice, LosesNoPortError, RunsWellAnew, IsPortAlive, ProbesDisk}
 use Rattle.driver_history.specs.Laws.{Laws}
-use Rattle.driver_history.specs.Parts.{EndsNoLinkDue, HasTurnIn, IsOfOtherPort, EvidenceAgreesOn, call_accesses}
-use Rattle.driver_history.specs.Trace.{ResetsLink}
+use Rattle.driver_history.specs.PortTurn.{EndsNoLinkDue, HasTurnIn, IsOfOtherPort, EvidenceAgreesOn, call_accesses}
+use Rattle.driver_history.specs.AccessTrace.{ResetsLink}
 use Rattle.driver_history.proofs.Parting.{IsLeft, gains_within, grows_over, loss_then, others_leave, plugged_or_not}
 use Rattle.driver_history.proofs.Since.{calm_since, running_in_part}
 use Rattle.driver_history.proofs.Errors.{IsOne, Shows, Tells, TroubleKind, change_still, disks, failure_still, faults, fatals, in_parts, is_trouble, links, tells_still, told}
@@ -34,11 +34,11 @@ use Rattle.driver_history.proofs.Within.{parts_at, reset_after, reset_before, re
 -- what the tape gained, as a list in two parts or three
 gained_at : (Such : Entry → Type 0) (old new : Device) (before : List Entry) (e : Entry) (later : List Entry) → new.tape ≡ old.tape ++ (before ++ e ∷ later) → Such e → TapeGainsEntry Such old new
 gained_at Such old new before e later tape is = record {
-  gained = before ++ e ∷ later;
-  tape = tape;
+  new_entries = before ++ e ∷ later;
+  tape_is = tape;
   entry = e;
-  here = Contains-append_right before (e ∷ later) e (0, omega arith, refl);
-  is = is;
+  entry_is_new = Contains-append_right before (e ∷ later) e (0, omega arith, refl);
+  entry_is_of_kind = is;
 }
 
 fresh_or_gone : (p : DevicePort) → HasFirstFisIfShown p → HasSignatureOrNoDevice p
@@ -64,19 +64,19 @@ module _ (laws : Laws) (port : Port) where
       let low = shown.from in
       let high = shown.to in
       ⊎_elim
-      (λ (set : (old.port port.0).is shown.place ≡ true). clear (record { place = shown.place; from = low; to = high; set = set }))
-      (λ (off : (old.port port.0).is shown.place ≡ false). false≢true (sym (rises.fatal none shown.place low high off) ∙ shown.set))
+      (λ (set : (old.port port.0).is shown.place ≡ true). clear (record { place = shown.place; from = low; to = high; cause_is_set = set }))
+      (λ (off : (old.port port.0).is shown.place ≡ false). false≢true (sym (rises.fatal none shown.place low high off) ∙ shown.cause_is_set))
       (cases_Bool ((old.port port.0).is shown.place))
 
   module _ (old : JointState Device) (begun : AbstractState) (new : Device) (on : IsOn old.device) (t : HasTurnIn port old.device new) (on_then : IsOn t.end) where
     first : IsLeft laws port old.device t.start
-    first = others_leave laws port t.before old.device t.start on t.first t.others
+    first = others_leave laws port t.before old.device t.start on t.leads_to_start t.earlier_are_of_others
 
     last : IsLeft laws port t.end new
-    last = others_leave laws port t.later t.end new on_then t.last t.others_later
+    last = others_leave laws port t.later t.end new on_then t.leads_to_new t.later_are_of_others
 
     middle : TapeGrows t.start t.end
-    middle = grows_over laws port t.turn t.start t.end t.then
+    middle = grows_over laws port t.turn t.start t.end t.turn_leads_to_end
 
     since : TapeGrows t.start new
     since = laws.tape.grows_more t.start t.end new middle last.grows
@@ -100,10 +100,10 @@ module _ (laws : Laws) (port : Port) where
       spares_other accesses of = All-weaker (IsOfOtherPort port) (DoesNotWrite (Px port Sctl)) (λ access x. laws.spares x.0 port Sctl x.1 access x.2) accesses of
 
       reset_in_call : ResetsLink port t.turn → ResetsLink port (call_accesses t)
-      reset_in_call r = reset_within port t.before t.turn t.later (spares_other t.later t.others_later) r
+      reset_in_call r = reset_within port t.before t.turn t.later (spares_other t.later t.later_are_of_others) r
 
       reset_in_turn : ResetsLink port (call_accesses t) → ResetsLink port t.turn
-      reset_in_turn r = reset_before port t.turn t.later (spares_other t.later t.others_later) (reset_after port t.before (t.turn ++ t.later) (spares_other t.before t.others) r)
+      reset_in_turn r = reset_before port t.turn t.later (spares_other t.later t.later_are_of_others) (reset_after port t.before (t.turn ++ t.later) (spares_other t.before t.earlier_are_of_others) r)
 
       pub boots_are_the_calls : (one other : CallResult) → (old.abstract.ports.state port ≡ Ready → (old.device.port port.0).link_due ≡ false) → SamePort old.abstract.ports begun.ports port → BootsAnew Service one t.turn began ended t.end port
           → BootsAnew Service other (call_accesses t) old ports new port
@@ -154,7 +154,7 @@ module _ (laws : Laws) (port : Port) where
 
       -- the disk's first FIS has come, or no device shows, at the call's end, where it has at the turn's
       fresh_still : NoDiskComes port.0 t.end new → HasSignatureOrNoDevice (t.end.port port.0) → HasSignatureOrNoDevice (new.port port.0)
-      fresh_still none fresh = fresh_or_gone (new.port port.0) (stays_over HasFirstFisIfShown (laws.fresh port) t.later t.end new t.last none (fresh_if_shown (t.end.port port.0) fresh))
+      fresh_still none fresh = fresh_or_gone (new.port port.0) (stays_over HasFirstFisIfShown (laws.fresh port) t.later t.end new t.leads_to_new none (fresh_if_shown (t.end.port port.0) fresh))
 
       pub tries_are_the_calls : SamePort old.abstract.ports begun.ports port → (HasUnservedDisk old.abstract.ports port → ShowsDiskIfIn (old.device.port port.0)) → EndsNoLinkDue port began ended t.end
           → (NoDiskComes port.0 t.start t.end → ProbesDisk t.turn began ended t.end port) → NoDiskComes port.0 old.device new → ProbesDisk (call_accesses t) old ports new port
@@ -198,12 +198,12 @@ module _ (laws : Laws) (port : Port) where
           -- what is so of the disk's first FIS when the turn begins is so at the call's end
           from_start : HasFirstFisIfShown (t.start.port port.0) → HasSignatureOrNoDevice (new.port port.0)
           from_start fresh = fresh_or_gone (new.port port.0)
-              (stays_over HasFirstFisIfShown (laws.fresh port) t.later t.end new t.last parts.2 (stays_over HasFirstFisIfShown (laws.fresh port) t.turn t.start t.end t.then parts.1 fresh))
+              (stays_over HasFirstFisIfShown (laws.fresh port) t.later t.end new t.leads_to_new parts.2 (stays_over HasFirstFisIfShown (laws.fresh port) t.turn t.start t.end t.turn_leads_to_end parts.1 fresh))
 
           -- where no disk was in, none is when the turn begins
           vacant_then : HasUnservedDisk old.abstract.ports port → (old.device.port port.0).ssts_det ≢ 3 → IsVacant (t.start.port port.0)
-          vacant_then bad out = stays_over IsVacant (laws.vacant port) t.before old.device t.start t.first parts.0
-              (⊎_elim (λ (shows : (old.device.port port.0).ssts_det ≡ 3). absurd (out shows)) (λ gone. record { out = gone; det = out }) (there bad))
+          vacant_then bad out = stays_over IsVacant (laws.vacant port) t.before old.device t.start t.leads_to_start parts.0
+              (⊎_elim (λ (shows : (old.device.port port.0).ssts_det ≡ 3). absurd (out shows)) (λ gone. record { no_disk_is_in = gone; det = out }) (there bad))
 
       module _ (turn call : Evidence) (alike : EvidenceAgreesOn port turn call) where
         named : IsStoppedOrStuck turn port → IsStoppedOrStuck call port
@@ -266,12 +266,12 @@ module _ (laws : Laws) (port : Port) where
               → GainsSinceStart (IsOne kind port.0) port.0 old.device new → Shows kind (new.port port.0)
           came_since kind its_own ready g =
               let at : (new.port port.0).notes.st_set_at ≡ (t.end.port port.0).notes.st_set_at = ap (λ n. n.st_set_at) last.leaves.notes in
-              let least = g.since in
+              let least = g.came_since_start in
               let is_ready : ended.state port ≡ Ready = sym stays.1 ∙ ready in
-              by_parts (IsOne kind port.0) (Shows kind (new.port port.0)) g.before g.entry g.later g.tape g.is
+              by_parts (IsOne kind port.0) (Shows kind (new.port port.0)) g.before g.entry g.later g.tape g.is_of_kind
               (λ early small. let set = set_since is_ready (stopped (inr is_ready) kind early) in absurd (omega (arith, at, least, set, small)))
               (λ ahead rest tape place.
-              (last.trouble_shown kind).still (its_own is_ready (record { before = ahead; entry = g.entry; later = rest; tape = tape; is = g.is; since = omega (arith, at, least, place) })))
+              (last.trouble_shown kind).still (its_own is_ready (record { before = ahead; entry = g.entry; later = rest; tape = tape; is_of_kind = g.is_of_kind; came_since_start = omega (arith, at, least, place) })))
               (last.trouble_shown kind).came
 
           pub trouble_is_the_calls : LosesNoPortError call old ports new port
@@ -303,10 +303,10 @@ module _ (laws : Laws) (port : Port) where
             let parts = plug_parts plugs in
             let up : ResetsLink port t.turn ⊎ ((t.start.port port.0).fresh ≡ true) = ⊎_elim (λ r. inl (reset_in_turn r)) (λ fresh. ⊎_elim (λ undue. inr (first.fresh undue parts.0 ∙ fresh)) (λ r. inl r) (linked is_ready)) how in
             laws.well port.0 t.end new
-            (laws.runs port t.later t.end new on_then t.last
-            (All-weaker (IsOfOtherPort port) (DoesNotWrite Ghc) (λ access x. laws.spares_host x.0 access x.2) t.later t.others_later)
-            (spares_other t.later t.others_later)
-            (All-weaker (IsOfOtherPort port) (DoesNotWrite (Px port Cmd)) (λ access x. laws.spares x.0 port Cmd x.1 access x.2) t.later t.others_later))
+            (laws.runs port t.later t.end new on_then t.leads_to_new
+            (All-weaker (IsOfOtherPort port) (DoesNotWrite Ghc) (λ access x. laws.spares_host x.0 access x.2) t.later t.later_are_of_others)
+            (spares_other t.later t.later_are_of_others)
+            (All-weaker (IsOfOtherPort port) (DoesNotWrite (Px port Cmd)) (λ access x. laws.spares x.0 port Cmd x.1 access x.2) t.later t.later_are_of_others))
             (calm_since laws port.0 old.device t.end new (laws.tape.grows_more old.device t.start t.end first.grows middle) last.grows (omega (arith, same, small)) plugs unfailed unbroken)
             (its (unnamed i) is_ready parts.1
             (λ g. unfailed (running_in_part (IsFaultOf port.0) port.0 old.device t.start t.end new first.grows last.grows same g))
@@ -318,14 +318,14 @@ module _ (laws : Laws) (port : Port) where
 module _ (laws : Laws) (port : Port) (old : JointState Device) (begun : AbstractState) (new : Device) (on : IsOn old.device) (undue : (old.device.port port.0).link_due ≡ false) (t : HasTurnIn port old.device new) (on_then : IsOn t.end)
     (ready_then : begun.ports.state port ≡ Ready) (alone : HasOnlyTaskFileError port old new) where
   first_left : IsLeft laws port old.device t.start
-  first_left = others_leave laws port t.before old.device t.start on t.first t.others
+  first_left = others_leave laws port t.before old.device t.start on t.leads_to_start t.earlier_are_of_others
 
   parts : NoPlugEvents port.0 old.device t.start × NoPlugEvents port.0 t.start t.end
-  parts = plug_parts laws port old begun new on t on_then alone.plugged
+  parts = plug_parts laws port old begun new on t on_then alone.no_plug_events
 
   -- no change of its link is shown when the turn begins, since none was
   unchanged : ShowsChange (t.start.port port.0) → ⊥
-  unchanged shown = alone.shows.change (⊎_elim
+  unchanged shown = alone.shows_only_tfes.no_change_is_shown (⊎_elim
       (λ n. inl (⊎_elim (λ set. set) (λ clear. absurd (false≢true (sym ((first_left.disks undue).serr_n parts.0 clear) ∙ n))) (cases_Bool (old.device.port port.0).serr_n)))
       (λ x. inr (⊎_elim (λ set. set) (λ clear. absurd (false≢true (sym ((first_left.disks undue).serr_x (laws.tape.plugs_come port.0 old.device t.start parts.0) clear) ∙ x))) (cases_Bool (old.device.port port.0).serr_x)))
       shown)
@@ -333,18 +333,18 @@ module _ (laws : Laws) (port : Port) (old : JointState Device) (begun : Abstract
   -- where TFES alone is shown, with no other trouble in the call, so it is in its turn
   pub alone_then : HasOnlyTaskFileError port (record { device = t.start; abstract = begun }) t.end
   alone_then =
-      let middle = grows_over laws port t.turn t.start t.end t.then in
-      let last = grows_over laws port t.later t.end new t.last in
+      let middle = grows_over laws port t.turn t.start t.end t.turn_leads_to_end in
+      let last = grows_over laws port t.later t.end new t.leads_to_new in
       let since = laws.tape.grows_more t.start t.end new middle last in
-      let a = laws.tape.fatal_parts port.0 old.device t.start new first_left.grows.0 since.0 first_left.grows.1 since.1 alone.fatal in
+      let a = laws.tape.fatal_parts port.0 old.device t.start new first_left.grows.0 since.0 first_left.grows.1 since.1 alone.none_is_fatal in
       record {
         ready = ready_then;
-        shows = record {
-          fault = (first_left.trouble_shown faults).still alone.shows.fault;
-          fatal = no_fatal_then laws port old.device t.start first_left.errors a.0 alone.shows.fatal;
-          change = unchanged;
-          device = first_left.shows undue parts.0 ∙ alone.shows.device;
+        shows_only_tfes = record {
+          tfes_is_set = (first_left.trouble_shown faults).still alone.shows_only_tfes.tfes_is_set;
+          no_fatal_is_shown = no_fatal_then laws port old.device t.start first_left.errors a.0 alone.shows_only_tfes.no_fatal_is_shown;
+          no_change_is_shown = unchanged;
+          device_is_shown = first_left.shows undue parts.0 ∙ alone.shows_only_tfes.device_is_shown;
         };
-        fatal = (laws.tape.fatal_parts port.0 t.start t.end new middle.0 last.0 middle.1 last.1 a.1).0;
-        plugged = parts.1;
+        none_is_fatal = (laws.tape.fatal_parts port.0 t.start t.end new middle.0 last.0 middle.1 last.1 a.1).0;
+        no_plug_events = parts.1;
       }

@@ -7,7 +7,7 @@ use Rattle.ata_types.specs.declared.Port.{Port}
 use Rattle.hba_regs.specs.Bits.{bit}
 use Rattle.hba_regs.specs.declared.reg.Reg.TheVariants.{Ghc, Px}
 use Rattle.hba_regs.specs.declared.reg.PortReg.TheVariants.{Cmd, Sctl}
-use Rattle.adapter.specs.Access.{Access, Does, DoesAll, Writes, with_st}
+use Rattle.adapter.specs.Access.{Access, Does, DoesAll, Writes, port_after_st_write}
 use Rattle.adapter.specs.Access.Access.{Loading, Reading, Storing, Writing}
 use Rattle.adapter.specs.Device.{Device, DevicePort}
 use Rattle.adapter.specs.Rules.{IsOn}
@@ -16,7 +16,7 @@ use Rattle.refinement.specs.Relation.{port_at}
 use Rattle.refinement.specs.Links.{DoesNotWrite}
 use Rattle.port_control.specs.Engines.{Stops}
 use Rattle.driver_history.specs.Laws.{Laws}
-use Rattle.driver_history.specs.Trace.{ResetsLink}
+use Rattle.driver_history.specs.AccessTrace.{ResetsLink}
 
 -- ---- lists
 
@@ -50,8 +50,8 @@ module _ (port : Port) where
       (λ (i : (rest : List Access) × (xs ≡ r.before ++ Writing (Px port Sctl) r.sending ∷ rest) × (r.between ++ Writing (Px port Sctl) r.ending ∷ r.later ≡ rest ++ ys)).
       absurd (spared xs r.before i.0 r.sending all i.1))
       (λ (o : (ahead : List Access) × (r.before ≡ xs ++ ahead) × (ys ≡ ahead ++ Writing (Px port Sctl) r.sending ∷ (r.between ++ Writing (Px port Sctl) r.ending ∷ r.later))).
-      record { before = o.0; between = r.between; later = r.later; sending = r.sending; ending = r.ending; here = o.2; sends = r.sends; ends = r.ends; held = r.held; left = r.left })
-      (parts_at xs ys r.before (r.between ++ Writing (Px port Sctl) r.ending ∷ r.later) (Writing (Px port Sctl) r.sending) r.here)
+      record { before = o.0; between = r.between; later = r.later; sending = r.sending; ending = r.ending; accesses_are_split = o.2; sends_comreset = r.sends_comreset; ends_comreset = r.ends_comreset; sctl_is_unwritten_between = r.sctl_is_unwritten_between; sctl_is_unwritten_later = r.sctl_is_unwritten_later })
+      (parts_at xs ys r.before (r.between ++ Writing (Px port Sctl) r.ending ∷ r.later) (Writing (Px port Sctl) r.sending) r.accesses_are_split)
 
   front : (xs ys : List Access) → All Spares (xs ++ ys) → All Spares xs
   front [] ys all = All-nil Spares
@@ -68,17 +68,17 @@ module _ (port : Port) where
         later = j.0;
         sending = r.sending;
         ending = r.ending;
-        here = i.1 ∙ ap (λ (list : List Access). r.before ++ Writing (Px port Sctl) r.sending ∷ list) j.1;
-        sends = r.sends;
-        ends = r.ends;
-        held = r.held;
-        left = front j.0 zs (subst (All Spares) j.2 r.left);
+        accesses_are_split = i.1 ∙ ap (λ (list : List Access). r.before ++ Writing (Px port Sctl) r.sending ∷ list) j.1;
+        sends_comreset = r.sends_comreset;
+        ends_comreset = r.ends_comreset;
+        sctl_is_unwritten_between = r.sctl_is_unwritten_between;
+        sctl_is_unwritten_later = front j.0 zs (subst (All Spares) j.2 r.sctl_is_unwritten_later);
       })
       (λ (o : (ahead : List Access) × (r.between ≡ i.0 ++ ahead) × (zs ≡ ahead ++ Writing (Px port Sctl) r.ending ∷ r.later)). absurd (spared zs o.0 r.later r.ending all o.2))
       (parts_at i.0 zs r.between r.later (Writing (Px port Sctl) r.ending) (sym i.2)))
       (λ (o : (ahead : List Access) × (r.before ≡ ys ++ ahead) × (zs ≡ ahead ++ Writing (Px port Sctl) r.sending ∷ (r.between ++ Writing (Px port Sctl) r.ending ∷ r.later))).
       absurd (spared zs o.0 (r.between ++ Writing (Px port Sctl) r.ending ∷ r.later) r.sending all o.2))
-      (parts_at ys zs r.before (r.between ++ Writing (Px port Sctl) r.ending ∷ r.later) (Writing (Px port Sctl) r.sending) r.here)
+      (parts_at ys zs r.before (r.between ++ Writing (Px port Sctl) r.ending ∷ r.later) (Writing (Px port Sctl) r.sending) r.accesses_are_split)
 
   pub reset_within : (xs ys zs : List Access) → All Spares zs → ResetsLink port ys → ResetsLink port (xs ++ (ys ++ zs))
   reset_within xs ys zs all r = record {
@@ -87,14 +87,14 @@ module _ (port : Port) where
     later = r.later ++ zs;
     sending = r.sending;
     ending = r.ending;
-    here = ap (λ (list : List Access). xs ++ (list ++ zs)) r.here
+    accesses_are_split = ap (λ (list : List Access). xs ++ (list ++ zs)) r.accesses_are_split
         ∙ ap (λ (list : List Access). xs ++ list) (append_assoc r.before (Writing (Px port Sctl) r.sending ∷ (r.between ++ Writing (Px port Sctl) r.ending ∷ r.later)) zs)
         ∙ ap (λ (list : List Access). xs ++ (r.before ++ Writing (Px port Sctl) r.sending ∷ list)) (append_assoc r.between (Writing (Px port Sctl) r.ending ∷ r.later) zs)
         ∙ sym (append_assoc xs r.before (Writing (Px port Sctl) r.sending ∷ (r.between ++ Writing (Px port Sctl) r.ending ∷ (r.later ++ zs))));
-    sends = r.sends;
-    ends = r.ends;
-    held = r.held;
-    left = All-append Spares r.later zs r.left all;
+    sends_comreset = r.sends_comreset;
+    ends_comreset = r.ends_comreset;
+    sctl_is_unwritten_between = r.sctl_is_unwritten_between;
+    sctl_is_unwritten_later = All-append Spares r.later zs r.sctl_is_unwritten_later all;
   }
 
 module _ (laws : Laws) (port : Port) where
@@ -120,9 +120,9 @@ module _ (laws : Laws) (port : Port) where
   stays_set v old new on runs set x =
       let put = laws.put port Cmd v old new x on in
       let k = laws.steps old put.mid put.steps in
-      ap (λ (p : DevicePort). p.notes.st_set_at) put.here ∙ ap (λ (p : DevicePort). p.notes.st_set_at) (left (bit v 0) (length put.mid.tape) (put.mid.port port.0) set (((k.on on).controls port.0).st ∙ runs)) ∙ ap (λ n. n.st_set_at) (k.notes port.0)
+      ap (λ (p : DevicePort). p.notes.st_set_at) put.port_is_written ∙ ap (λ (p : DevicePort). p.notes.st_set_at) (left (bit v 0) (length put.mid.tape) (put.mid.port port.0) set (((k.keeps_outside_reset on).controls port.0).st ∙ runs)) ∙ ap (λ n. n.st_set_at) (k.notes_are_kept port.0)
     where
-      left : (b : Bool) (tape : ℕ) (p : DevicePort) → b ≡ true → p.st ≡ true → with_st b tape p ≡ p
+      left : (b : Bool) (tape : ℕ) (p : DevicePort) → b ≡ true → p.st ≡ true → port_after_st_write b tape p ≡ p
       left b tape p one other = cond-true b _ _ one ∙ cond-true p.st p _ other
 
   since_access : (least : ℕ) (access : Access) (old new : Device) → old.hr ≡ false → least ≤ length old.tape → Does access old new → SetSince least (old.port port.0) → SetSince least (new.port port.0)
@@ -186,8 +186,8 @@ module _ (laws : Laws) (port : Port) where
       ⊎_elim
       (λ (off : (new.port port.0).st ≡ false). absurd (false≢true (sym off ∙ runs)))
       (λ (since : length old.tape ≤ (new.port port.0).notes.st_set_at). since)
-      (cleared_among (length old.tape) stops.before rest stops.cleared old new on (subst (All (DoesNotWrite Ghc)) stops.here spares) (omega arith) stops.clears
-      (subst (λ (list : List Access). DoesAll list old new) stops.here does))
+      (cleared_among (length old.tape) stops.before rest stops.cleared old new on (subst (All (DoesNotWrite Ghc)) stops.accesses_are spares) (omega arith) stops.start_is_cleared
+      (subst (λ (list : List Access). DoesAll list old new) stops.accesses_are does))
 
   -- what was noted of a write of PxSCTL stays where no other comes
   noted_all : (least : ℕ) (accesses : List Access) (old new : Device) → IsOn old → All (DoesNotWrite Ghc) accesses → All (DoesNotWrite (Px port Sctl)) accesses → DoesAll accesses old new
@@ -214,6 +214,6 @@ module _ (laws : Laws) (port : Port) where
   reset_noted accesses old new on host does resets =
       let first : List Access = resets.before ++ Writing (Px port Sctl) resets.sending ∷ resets.between in
       let here : accesses ≡ first ++ Writing (Px port Sctl) resets.ending ∷ resets.later =
-      resets.here ∙ sym (append_assoc resets.before (Writing (Px port Sctl) resets.sending ∷ resets.between) (Writing (Px port Sctl) resets.ending ∷ resets.later)) in
-      written_among (length old.tape) first resets.later resets.ending old new on (subst (All (DoesNotWrite Ghc)) here host) resets.left (omega arith)
+      resets.accesses_are_split ∙ sym (append_assoc resets.before (Writing (Px port Sctl) resets.sending ∷ resets.between) (Writing (Px port Sctl) resets.ending ∷ resets.later)) in
+      written_among (length old.tape) first resets.later resets.ending old new on (subst (All (DoesNotWrite Ghc)) here host) resets.sctl_is_unwritten_later (omega arith)
       (subst (λ (list : List Access). DoesAll list old new) here does)

@@ -17,10 +17,10 @@ use Rattle.block_machine.specs.State.{Pending}
 use Rattle.block_machine.specs.Steps.{Answer, AllTouched, HasGrant}
 use Rattle.port_control.specs.Engines.{Stops}
 use Rattle.error_recovery.specs.Evidence.{ShowsFatal}
-use Rattle.driver_history.specs.Heeding.{ToldOkOr, tells_fault}
+use Rattle.driver_history.specs.EvidenceHandling.{ToldOkOr, tells_fault}
 use Rattle.driver_history.specs.Evidence.{IsEndedReset, IsFaultTold, IsLost, StaysHealthy}
 use Rattle.driver_history.specs.Histories.{ExplainsAccesses, FindsDoneInCall, IssuesAllDue, TellsPlainFaults}
-use Rattle.driver_history.specs.Trace.{LeavesEngine}
+use Rattle.driver_history.specs.AccessTrace.{LeavesEngine}
 
 -- what a call may tell where nothing goes wrong: Ok; or Revoked, where it revokes a grant
 abbrev pub IsFaultFreeOutcome : AbstractCall DeviceStep → Outcome → Type 0
@@ -31,10 +31,11 @@ IsFaultFreeOutcome ask o = o ≡ outcome.Ok
 -- neither PxCMD nor PxSCTL of it is written.
 pub record IsSpared (old : JointState Device) (h : JointEvent Device DeviceStep) (accesses : List Access)
     (port : Port) : Type 0 where
-  pub same : SamePort old.abstract.ports h.event.ports port
-  pub told : (e : Pending) (o : Outcome) → Contains h.event.steps (Answer e o) → e.request.port ≡ port
+  pub port_is_same : SamePort old.abstract.ports h.event.ports port
+  pub outcomes_are_fault_free : (e : Pending) (o : Outcome) → Contains h.event.steps (Answer e o) → e.request.port
+      ≡ port
       → IsFaultFreeOutcome h.event.ask o
-  pub engine : All (LeavesEngine port) accesses
+  pub engine_is_left : All (LeavesEngine port) accesses
 
 -- What an answer of a call that made these accesses rests on, in the device's terms. Ok: the request was issued when
 -- the call began, the device has moved all its sectors since its last issue, and ended it. DeviceError: the device told
@@ -60,19 +61,20 @@ AnswerJustified old h accesses e outcome.Revoked = (HasGrant (abstract_after old
 -- isn't a reset, nor a tick that brings a request of the port to its age of three.
 pub record IsHealthyFor (old : JointState Device) (h : JointEvent Device DeviceStep) (port : Port) : Type 0 where
   pub ready : old.abstract.ports.state port ≡ Ready
-  pub healthy : StaysHealthy port.0 old.device h.device
-  pub no_reset : h.event.ask ≢ Reset
-  pub young : h.event.ask ≡ Tick → HasTimedOut old.abstract port → ⊥
+  pub stays_healthy : StaysHealthy port.0 old.device h.device
+  pub is_no_reset : h.event.ask ≢ Reset
+  pub has_not_timed_out : h.event.ask ≡ Tick → HasTimedOut old.abstract port → ⊥
 
 -- Such a call goes well for it: the port is left alone, and runs well after it; a service has read the masks, and
 -- answered exactly what they show done; and what is due is issued.
 pub record GoesWellFor (old : JointState Device) (h : JointEvent Device DeviceStep) (port : Port) : Type 0 where
   pub accesses : List Access
-  pub came : ExplainsAccesses old.abstract h.event.ask h.event.said accesses old.device h.device
-  pub spared : IsSpared old h accesses port
-  pub well : RunsWell (h.device.port port.0)
-  pub finds : FindsDoneInCall h.event.ask accesses old h.event.steps port
-  pub issues : IssuesAllDue h.event.ask h.event.steps (abstract_after old.abstract h.event).machine h.event.ports port
+  pub accesses_are_explained : ExplainsAccesses old.abstract h.event.ask h.event.said accesses old.device h.device
+  pub is_spared : IsSpared old h accesses port
+  pub port_runs_well : RunsWell (h.device.port port.0)
+  pub finds_done : FindsDoneInCall h.event.ask accesses old h.event.steps port
+  pub issues_all_due : IssuesAllDue h.event.ask h.event.steps (abstract_after old.abstract h.event).machine
+      h.event.ports port
 
 -- ---- failures
 
@@ -82,12 +84,12 @@ pub record GoesWellFor (old : JointState Device) (h : JointEvent Device DeviceSt
 -- call, and no disk that goes or comes, a plain one that was outstanding, and hadn't ended, is told its fault, unless
 -- the port ends dead. So it isn't tried again.
 pub record HandlesShownFailure (port : Port) (old : JointState Device) (h : JointEvent Device DeviceStep) : Type 0 where
-  pub ended : AnswersEnded old.abstract.machine h.event.steps port
-  pub stopped : IsStoppedOrStuck h.event.evidence port
-  pub anew : NoneStaysIssued h.event.steps (abstract_after old.abstract h.event).machine port
-  pub single : count_by (tells_fault port) h.event.steps ≤ 1
-  pub fatal : ShowsFatal (old.device.port port.0) → count_by (tells_fault port) h.event.steps ≡ 0
-  pub told : TellsPlainFaults Service old h.event.ports h.device h.event.steps port
+  pub answers_ended : AnswersEnded old.abstract.machine h.event.steps port
+  pub is_stopped_or_stuck : IsStoppedOrStuck h.event.evidence port
+  pub none_stays_issued : NoneStaysIssued h.event.steps (abstract_after old.abstract h.event).machine port
+  pub one_fault_at_most : count_by (tells_fault port) h.event.steps ≤ 1
+  pub fatal_tells_no_fault : ShowsFatal (old.device.port port.0) → count_by (tells_fault port) h.event.steps ≡ 0
+  pub tells_plain_faults : TellsPlainFaults Service old h.event.ports h.device h.event.steps port
 
 -- ---- lost disks
 
@@ -95,7 +97,9 @@ pub record HandlesShownFailure (port : Port) (old : JointState Device) (h : Join
 -- and each of its other requests is answered, too, all with Unplugged, or all with PortDead. The port was stopped, or
 -- got stuck.
 pub record HandlesShownLoss (port : Port) (old : JointState Device) (h : JointEvent Device DeviceStep) : Type 0 where
-  pub ended : AnswersEnded old.abstract.machine h.event.steps port
-  pub emptied : (e : Pending) → Contains (abstract_after old.abstract h.event).machine.book e → e.request.port ≢ port
-  pub told : ToldOkOr outcome.Unplugged h.event.steps port ⊎ ToldOkOr outcome.PortDead h.event.steps port
-  pub stopped : IsStoppedOrStuck h.event.evidence port
+  pub answers_ended : AnswersEnded old.abstract.machine h.event.steps port
+  pub none_is_left : (e : Pending) → Contains (abstract_after old.abstract h.event).machine.book e
+      → e.request.port ≢ port
+  pub others_are_told_alike : ToldOkOr outcome.Unplugged h.event.steps port
+      ⊎ ToldOkOr outcome.PortDead h.event.steps port
+  pub is_stopped_or_stuck : IsStoppedOrStuck h.event.evidence port

@@ -21,19 +21,19 @@ use Rattle.block_machine.specs.State.{Pending}
 use Rattle.port_control.specs.Engines.{Stops, EngineSticks}
 use Rattle.identify.specs.Log.{TellsError}
 use Rattle.error_recovery.specs.Evidence.{BringsLog, HasFailed, ShowsFatal}
-use Rattle.driver_history.specs.Trace.{LeavesEngine}
+use Rattle.driver_history.specs.AccessTrace.{LeavesEngine}
 
 -- the tape gained an entry of this kind
 pub record TapeGainsEntry (Is : Entry → Type 0) (old new : Device) : Type 0 where
-  pub gained : List Entry
-  pub tape : new.tape ≡ old.tape ++ gained
+  pub new_entries : List Entry
+  pub tape_is : new.tape ≡ old.tape ++ new_entries
   pub entry : Entry
-  pub here : Contains gained entry
-  pub is : Is entry
+  pub entry_is_new : Contains new_entries entry
+  pub entry_is_of_kind : Is entry
 
 -- The port runs well when the call begins, and nothing goes wrong on it meanwhile.
 pub record StaysHealthy (port : ℕ) (old new : Device) : Type 0 where
-  pub well : RunsWell (old.port port)
+  pub port_runs_well : RunsWell (old.port port)
   pub undisturbed : Undisturbed port old new
 
 -- ---- what a port shows
@@ -51,7 +51,8 @@ ShowsFailure p = ShowsFatal p ⊎ (p.is 30 ≡ true)
 -- A plain request is the one of its port that is issued, and status and error are those of such a fault of its slot.
 pub record FailsPlain (old : JointState Device) (new : Device) (accesses : List Access) (e : Pending) (slot : ℕ)
     (told : RequestFault) : Type 0 where
-  pub alone : (other : Pending) → Contains old.abstract.machine.book other → other.request.port ≡ e.request.port
+  pub is_only_issued : (other : Pending) → Contains old.abstract.machine.book other → other.request.port
+      ≡ e.request.port
       → other.issued ≡ true → other.request.id ≡ e.request.id
   pub fault : tape_fault.Fault
   pub failed : HasFailed e.request.port accesses old.device new fault
@@ -72,7 +73,7 @@ pub record FailsQueued (old : JointState Device) (new : Device) (accesses : List
 pub record IsFaultTold (old : JointState Device) (new : Device) (accesses : List Access)
     (told : RequestFault) : Type 0 where
   pub pending : Pending
-  pub here : Contains old.abstract.machine.book pending
+  pub is_in_book : Contains old.abstract.machine.book pending
   pub issued : pending.issued ≡ true
   pub id_is : pending.request.id ≡ told.id
   pub slot : ℕ
@@ -137,8 +138,9 @@ pub record IsEvidencedOf (ask : AbstractCall DeviceStep) (said : CallResult) (ac
     (ports : Ports) (new : Device)
     (evidence : Evidence) (port : Port) : Type 0 where
   pub lost : Contains evidence.lost port → IsLost port old ports new
-  pub gone_all : old.abstract.ports.state port ≡ Ready → ShowsLoss port old.device new → Contains evidence.gone port
-  pub gone_only : Contains evidence.gone port → IsGone port old new
+  pub link_changed_all : old.abstract.ports.state port ≡ Ready → ShowsLoss port old.device new
+      → Contains evidence.link_changed port
+  pub link_changed_only : Contains evidence.link_changed port → IsGone port old new
   pub failed_all : old.abstract.ports.state port ≡ Ready → ShowsFailure (old.device.port port.0)
       → Contains evidence.failed port
   pub failed_only : Contains evidence.failed port → HasErrors port old new

@@ -11,7 +11,7 @@ use Rattle.hba_regs.specs.declared.reg.Reg.TheVariants.{Px}
 use Rattle.hba_regs.specs.declared.reg.PortReg.TheVariants.{Sact, Ci}
 use Rattle.adapter.specs.Access.{Access, DoesAll}
 use Rattle.adapter.specs.Access.Access.{Writing, Loading, Storing}
-use Rattle.adapter.specs.Asked.{Asked}
+use Rattle.adapter.specs.ToldSteps.{DoesOrFailsStep}
 use Rattle.adapter.specs.Commands.{is_queued}
 use Rattle.adapter.specs.Device.{DevicePort, Device}
 use Rattle.adapter.specs.Rules.{IsOn}
@@ -21,8 +21,8 @@ use Rattle.refinement.specs.Errors.{IsFatalOf, NoDiskComes, NoneFatal}
 use Rattle.refinement.specs.PortFacts.{RunsWell, IsFaultOf}
 use Rattle.refinement.specs.Links.{IsPlugEvent, NoPlugEvents}
 use Rattle.refinement.specs.Slots.{ServesRequest}
-use Rattle.block_machine.specs.Events.{AbstractCall, Submit, StoreAt, LoadAt, Service, Tick, Reset, RevokeOf, Device as Told, CallResult, Submitted, Stored, Loaded, Served, WasReset, WasRevoked, Stepped, AbstractState, HasTimedOut, IsIssuedIn, issues_it, abstract_after}
-use Rattle.block_machine.specs.Due.{IsDue}
+use Rattle.block_machine.specs.Events.{AbstractCall, Submit, StoreAt, LoadAt, Service, Tick, Reset, RevokeOf, Device as Told, CallResult, Submitted, Stored, Loaded, Served, WasReset, WasRevoked, Stepped, AbstractState, HasTimedOut, IsIssuedIn, issues_id, abstract_after}
+use Rattle.block_machine.specs.DueRequests.{IsDue}
 use Rattle.block_machine.specs.Histories.{JointState, JointEvent}
 use Rattle.block_machine.specs.Histories as histories
 use Rattle.block_machine.specs.Ports.{Ports, SamePort, Evidence, IsStoppedOrStuck}
@@ -32,12 +32,12 @@ use Rattle.block_machine.specs.Steps.{Step, Answer}
 use Rattle.block_machine.specs.declared.due.QueueMode.{QueueMode}
 use Rattle.block_machine.specs.declared.due.Unanswered.{Unanswered}
 use Rattle.identify.specs.declared.wanted.Wanted.{Wanted}
-use Rattle.host_boot.specs.Resets.{AwaitsReset, BeginsReset}
+use Rattle.host_boot.specs.Resets.{AwaitsResetInVain, BeginsReset}
 use Rattle.error_recovery.specs.Evidence.{GainsSinceStart, ShowsFatal}
 use Rattle.driver_history.specs.Evidence.{TapeGainsEntry, ShowsChange, ShowsFailure, ShowsLoss, IsEvidenced}
-use Rattle.driver_history.specs.Heeding.{HeedsAt, OnlyFailedPortsRequeueIn}
+use Rattle.driver_history.specs.EvidenceHandling.{HandlesEvidenceAt, OnlyFailedPortsRequeueIn}
 use Rattle.driver_history.specs.PortInvariants.{DriverInvariant}
-use Rattle.driver_history.specs.Trace.{ReadsCiAndSact, ResetsLink, IsAccessForPorts, IsDriversOwn, IsOfPorts}
+use Rattle.driver_history.specs.AccessTrace.{ReadsCiAndSact, ResetsLink, IsAccessForPorts, IsDriversOwn, IsOfPorts}
 
 -- ---- how a call came from the one device to the other
 
@@ -71,7 +71,7 @@ HasAeAndIe d = IsOn d × (d.ie ≡ true)
 -- is the server's own contract). Each other call makes none, a refused one among them.
 abbrev pub ExplainsAccesses : AbstractState → AbstractCall DeviceStep → CallResult → List Access → Device → Device
     → Type 0
-ExplainsAccesses now (Told step) (Stepped true) accesses old new = (accesses ≡ []) × Asked step old new
+ExplainsAccesses now (Told step) (Stepped true) accesses old new = (accesses ≡ []) × DoesOrFailsStep step old new
 ExplainsAccesses now (Submit r) (Submitted (Ok id)) accesses old new =
     DoesAll accesses old new × ((row : GrantRow) × IsNamed now.machine.rows r row
     × All (IsIssuingAccess row.port) accesses)
@@ -90,7 +90,7 @@ ExplainsAccesses now Reset (WasReset (Some replies)) accesses old new =
     DoesAll accesses old new × All IsDriversOwn accesses × All (IsOfPorts (IsPortServed now.ports)) accesses
     × BeginsReset accesses
     × HasAeAndIe new
-ExplainsAccesses now Reset (WasReset None) accesses old new = DoesAll accesses old new × AwaitsReset accesses
+ExplainsAccesses now Reset (WasReset None) accesses old new = DoesAll accesses old new × AwaitsResetInVain accesses
 ExplainsAccesses now ask said accesses old new = (accesses ≡ []) × (new ≡ old)
 
 -- ---- what is issued
@@ -98,7 +98,7 @@ ExplainsAccesses now ask said accesses old new = (accesses ≡ []) × (new ≡ o
 -- the book, were none of the requests issued that these steps issue
 abbrev pub with_issue_undone : List Step → List Unanswered → List Unanswered
 with_issue_undone steps book = map (λ (r : Unanswered). if list_any
-    (issues_it r.id) steps then record r { issued = false }
+    (issues_id r.id) steps then record r { issued = false }
     else r) book
 
 -- Of the unanswered requests of a port the steps issue exactly those that are due once all else is done.
@@ -124,7 +124,7 @@ IsAnsweredOk e steps = (done : Pending) × (done.request ≡ e.request) × Conta
 
 -- an unanswered request of the port is issued
 pub record IsIssuedOn (port : Port) (m : Machine) (e : Pending) : Type 0 where
-  pub here : Contains m.book e
+  pub is_in_book : Contains m.book e
   pub port_is : e.request.port ≡ port
   pub issued : e.issued ≡ true
 
@@ -150,17 +150,17 @@ FindsDoneInCall ask accesses old steps port = Unit {0}
 
 -- The port shows TFES, and no other trouble: no change of its link, no fatal error, and a device.
 pub record ShowsOnlyTaskFileError (p : DevicePort) : Type 0 where
-  pub fault : p.is 30 ≡ true
-  pub fatal : ShowsFatal p → ⊥
-  pub change : ShowsChange p → ⊥
-  pub device : p.ssts_det ≡ 3
+  pub tfes_is_set : p.is 30 ≡ true
+  pub no_fatal_is_shown : ShowsFatal p → ⊥
+  pub no_change_is_shown : ShowsChange p → ⊥
+  pub device_is_shown : p.ssts_det ≡ 3
 
 -- so it was of a ready port when the call began, and no fatal error came in it, nor a disk, nor went one
 pub record HasOnlyTaskFileError (port : Port) (old : JointState Device) (new : Device) : Type 0 where
   pub ready : old.abstract.ports.state port ≡ Ready
-  pub shows : ShowsOnlyTaskFileError (old.device.port port.0)
-  pub fatal : NoneFatal port.0 old.device new
-  pub plugged : NoPlugEvents port.0 old.device new
+  pub shows_only_tfes : ShowsOnlyTaskFileError (old.device.port port.0)
+  pub none_is_fatal : NoneFatal port.0 old.device new
+  pub no_plug_events : NoPlugEvents port.0 old.device new
 
 -- the request is answered with a fault
 abbrev pub IsAnsweredFaulty : Pending → List Step → Type 0
@@ -262,13 +262,14 @@ RunsWellAnew evidence accesses old ports new port =
 -- trouble; and it heeds what the evidence names of the port.
 pub record PortCorresponds (old : JointState Device) (h : JointEvent Device DeviceStep) (accesses : List Access)
     (port : Port) : Type 0 where
-  pub finds : FindsDoneInCall h.event.ask accesses old h.event.steps port
-  pub faults : TellsPlainFaults h.event.ask old h.event.ports h.device h.event.steps port
-  pub probes : ProbesInCall h.event.ask accesses old h.event.ports h.device port
-  pub boots : BootsAnew h.event.ask h.event.said accesses old h.event.ports h.device port
-  pub port_error : LosesNoPortError h.event.evidence old h.event.ports h.device port
-  pub well : RunsWellAnew h.event.evidence accesses old h.event.ports h.device port
-  pub heeds : HeedsAt port h.event.ask old.abstract h.event.evidence h.event.steps (abstract_after old.abstract h.event)
+  pub finds_done : FindsDoneInCall h.event.ask accesses old h.event.steps port
+  pub plain_faults_are_told : TellsPlainFaults h.event.ask old h.event.ports h.device h.event.steps port
+  pub probes_disk : ProbesInCall h.event.ask accesses old h.event.ports h.device port
+  pub boots_anew : BootsAnew h.event.ask h.event.said accesses old h.event.ports h.device port
+  pub loses_no_error : LosesNoPortError h.event.evidence old h.event.ports h.device port
+  pub runs_well_anew : RunsWellAnew h.event.evidence accesses old h.event.ports h.device port
+  pub handles_evidence : HandlesEvidenceAt port h.event.ask old.abstract h.event.evidence h.event.steps
+      (abstract_after old.abstract h.event)
 
 -- The device's part in a call. Its accesses led there, and the tape backs the machine's steps. What stands behind the
 -- evidence is so, and what rests on it is grounded. It has issued what is due. Of each port it has done its part. And
@@ -276,15 +277,18 @@ pub record PortCorresponds (old : JointState Device) (h : JointEvent Device Devi
 pub record CallCorresponds (wanted : List Wanted) (old : JointState Device)
     (h : JointEvent Device DeviceStep) : Type 0 where
   pub accesses : List Access
-  pub came : ExplainsAccesses old.abstract h.event.ask h.event.said accesses old.device h.device
-  pub backed : IsBacked old.device h.device old.abstract.machine h.event.steps
-  pub evidenced : IsEvidenced h.event.ask h.event.said accesses old h.event.ports h.device h.event.evidence
-  pub grounded : OnlyFailedPortsRequeueIn h.event.ask h.event.evidence h.event.steps
-  pub issues : (port : Port)
+  pub accesses_are_explained : ExplainsAccesses old.abstract h.event.ask h.event.said accesses old.device h.device
+  pub is_backed : IsBacked old.device h.device old.abstract.machine h.event.steps
+  pub is_evidenced : IsEvidenced h.event.ask h.event.said accesses old h.event.ports h.device h.event.evidence
+  pub only_failed_requeue : OnlyFailedPortsRequeueIn h.event.ask h.event.evidence h.event.steps
+  pub issues_all_due : (port : Port)
       → IssuesAllDue h.event.ask h.event.steps (abstract_after old.abstract h.event).machine h.event.ports
       port
-  pub port : (port : Port) → PortCorresponds old h accesses port
-  pub holds : DriverInvariant wanted (record { device = h.device; abstract = abstract_after old.abstract h.event })
+  pub ports_correspond : (port : Port) → PortCorresponds old h accesses port
+  pub invariant_holds : DriverInvariant wanted (record {
+    device = h.device;
+    abstract = abstract_after old.abstract h.event;
+  })
 
 -- What a new server leaves is what holds at each instant, with the adapter on. (Its book is empty, since the machine is
 -- a start.)

@@ -7,21 +7,21 @@ use Rattle.hba_regs.specs.declared.reg.PortReg.TheVariants.{Cmd, Is, Sctl, Serr}
 use Rattle.hba_regs.specs.declared.reg.Reg.TheVariants.{Ghc, Px}
 use Rattle.adapter.specs.Access.{Access, Does, DoesAll, Writes}
 use Rattle.adapter.specs.Device.{DevicePort, Device}
-use Rattle.adapter.specs.Kept.{Keeps}
+use Rattle.adapter.specs.KeptBySteps.{Keeps}
 use Rattle.adapter.specs.Rules.{IsOn}
 use Rattle.adapter.specs.Steps.{Steps}
 use Rattle.refinement.specs.Laws.{TapeLaws}
-use Rattle.refinement.specs.Driven.{IsDrivenBy, SparesOtherPorts, LeavesPort}
+use Rattle.refinement.specs.Fragments.{IsDrivenBy, SparesOtherPorts, LeavesPort}
 use Rattle.refinement.specs.Errors.{ChangesByErrors, KeepsErrors, NoDiskComes, NoneFails, NoneFatal}
 use Rattle.refinement.specs.PortFacts.{RunsWell, Undisturbed}
 use Rattle.refinement.specs.Links.{LeavesControls, LeavesLink, NoPlugEvents, DoesNotWrite}
 use Rattle.refinement.specs.Vacant.{HasFirstFisIfShown, IsVacant}
 use Rattle.error_recovery.specs.Evidence.{ShowsFatal}
-use Rattle.port_boot.specs.States.{RunsOn}
+use Rattle.port_boot.specs.States.{StaysRunning}
 use Rattle.port_control.specs.Engines.{EngineFalls, EngineSticks}
 use Rattle.adapter.specs.RegisterEffects.{PortRegisterWritten}
 use Rattle.adapter.specs.declared.access.DeviceStep.{DeviceStep}
-use Rattle.block_machine.specs.Confined.{IsConfined, WasAccepted}
+use Rattle.block_machine.specs.Confinement.{IsConfined, WasAccepted}
 use Rattle.block_machine.specs.Events.{AbstractState, CallRecord, EveryReadHolds, IsRun, abstract_after_all, steps_of}
 use Rattle.block_machine.specs.Expected.{AllStepsFaithful, IsInitial, IsLegal, after}
 use Rattle.block_machine.specs.State.{Block, Machine, Pending}
@@ -96,8 +96,9 @@ pub record Laws : Type 0 where
       → HasFirstFisIfShown (old.port port.0) → HasFirstFisIfShown (new.port port.0)
   pub runs : (port : Port) (accesses : List Access) (old new : Device) → IsOn old → DoesAll accesses old new
       → All (DoesNotWrite Ghc) accesses → All (DoesNotWrite (Px port Sctl)) accesses
-      → All (DoesNotWrite (Px port Cmd)) accesses → RunsOn port.0 old new
-  pub well : (port : ℕ) (old new : Device) → RunsOn port old new → Undisturbed port old new → RunsWell (old.port port)
+      → All (DoesNotWrite (Px port Cmd)) accesses → StaysRunning port.0 old new
+  pub well : (port : ℕ) (old new : Device) → StaysRunning port old new → Undisturbed port old new
+      → RunsWell (old.port port)
       → RunsWell (new.port port)
 
 -- What laws say of runs of calls, and of the steps that they make one after another.
@@ -110,8 +111,9 @@ pub record RunLaws : Type 0 where
       → IsConfined first.machine early e.request i
   pub reads : (first : AbstractState) (run : List (CallRecord DeviceStep)) → IsRun first run
       → AllStepsFaithful first.machine (steps_of run) → EveryReadHolds first run
-  pub joined : (m : Machine) (late early : List Step) → after m (late ++ early) ≡ after (after m early) late
+  pub after_joins : (m : Machine) (late early : List Step) → after m (late ++ early) ≡ after (after m early) late
   pub told : (m : Machine) (late early : List Step) → AllStepsFaithful m early → AllStepsFaithful (after m early) late
       → AllStepsFaithful m (late ++ early)
-  pub lived : (start : Machine) (history : List Step) (e : Pending) → IsInitial start → IsLegal start history
+  pub holders_were_accepted : (start : Machine) (history : List Step) (e : Pending) → IsInitial start
+      → IsLegal start history
       → HoldsFrames (after start history) e → WasAccepted start history e.request

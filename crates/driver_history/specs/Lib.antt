@@ -1,9 +1,9 @@
-pub mod Trace
+pub mod AccessTrace
 pub mod Evidence
-pub mod Parts
+pub mod PortTurn
 pub mod Laws
 pub mod PortInvariants
-pub mod Heeding
+pub mod EvidenceHandling
 pub mod Histories
-pub mod Moves
+pub mod ConfinedMoves
 pub mod Claims

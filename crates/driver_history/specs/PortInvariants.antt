@@ -15,7 +15,7 @@ use Rattle.refinement.specs.Driver.{AllFree, DriverRelation}
 use Rattle.refinement.specs.PortFacts.{RecordsFaults}
 use Rattle.refinement.specs.Links.{ShowsDiskIfIn}
 use Rattle.refinement.specs.Slots.{SlotState, Free, Serves, SlotDecodesTo}
-use Rattle.block_machine.specs.Due.{is_plain}
+use Rattle.block_machine.specs.DueRequests.{is_plain}
 use Rattle.block_machine.specs.Histories.{JointState}
 use Rattle.block_machine.specs.Ports.{Ports}
 use Rattle.block_machine.specs.State.{Pending, Machine}
@@ -52,40 +52,42 @@ pub record EngineRuns (port : ℕ) (d : Device) : Type 0 where
   pub cr : (d.port port).cr ≡ true
   pub fre : (d.port port).fre ≡ true
   pub bases : (d.port port).bases ≡ programmed port
-  pub saw : (d.port port).notes.link_count ≡ MOST_READINGS
-  pub recorded : RecordsFaults d.tape (d.port port) port
+  pub device_was_seen : (d.port port).notes.link_count ≡ MOST_READINGS
+  pub faults_are_recorded : RecordsFaults d.tape (d.port port) port
 
 -- the slot is free, or serves a client's request
 abbrev pub IsFreeOrServes : SlotState → Type 0
 IsFreeOrServes u = (u ≡ Free) ⊎ ((id : RequestId) × (u ≡ Serves id))
 
 -- the slot serves an unanswered request
-pub record ServesIn (s : DriverSlots) (i : JointState Device) (port : Port) (slot : ℕ) (e : Pending) : Type 0 where
-  pub here : Contains i.abstract.machine.book e
+pub record SlotServesUnanswered (s : DriverSlots) (i : JointState Device) (port : Port) (slot : ℕ) (e : Pending) : Type
+    0 where
+  pub is_in_book : Contains i.abstract.machine.book e
   pub serves : s.uses port.0 slot ≡ Serves e.request.id
 
 -- the command that header and table of the slot say is queued exactly if the request isn't plain
 pub record IsQueuedAsAsked (mode : QueueMode) (d : Device) (port slot : ℕ) (e : Pending) : Type 0 where
   pub command : Meaning
   pub places : List ℕ
-  pub told : SlotDecodesTo d.memory (d.port port).bases.clb port slot command places
+  pub slot_decodes_to : SlotDecodesTo d.memory (d.port port).bases.clb port slot command places
   pub kind : is_queued command.operation ≡ not (is_plain mode e.request.asked.op)
 
 -- What the driver has in the slots of a port that runs: clients' requests alone, in usable slots, by commands of their
 -- kind (of one that has ended nobody asks); a plain one is in slot 0, and alone. No request is parked.
 pub record ReadySlotsInvariant (s : DriverSlots) (i : JointState Device) (port : Port) (mode : QueueMode) : Type 0 where
-  pub clients : (slot : ℕ) → IsFreeOrServes (s.uses port.0 slot)
-  pub low : (slot : ℕ) → mode.usable ≤ slot → s.uses port.0 slot ≡ Free
-  pub unparked : s.parked port.0 ≡ []
-  pub kinds : (slot : ℕ) (e : Pending) → ServesIn s i port slot e → e.ended ≡ false
+  pub slots_serve_clients : (slot : ℕ) → IsFreeOrServes (s.uses port.0 slot)
+  pub unusable_are_free : (slot : ℕ) → mode.usable ≤ slot → s.uses port.0 slot ≡ Free
+  pub none_is_parked : s.parked port.0 ≡ []
+  pub commands_are_as_asked : (slot : ℕ) (e : Pending) → SlotServesUnanswered s i port slot e → e.ended ≡ false
       → IsQueuedAsAsked mode i.device port.0 slot e
-  pub alone : (slot : ℕ) (e : Pending) → ServesIn s i port slot e → is_plain mode e.request.asked.op ≡ true
+  pub plain_is_alone : (slot : ℕ) (e : Pending) → SlotServesUnanswered s i port slot e
+      → is_plain mode e.request.asked.op ≡ true
       → (slot ≡ 0) × ((other : ℕ) → other ≢ 0 → s.uses port.0 other ≡ Free)
 
 -- nothing is in the slots of a port, and nothing is parked
 pub record HasNothingInSlots (s : DriverSlots) (port : ℕ) : Type 0 where
-  pub free : AllFree s.uses port
-  pub unparked : s.parked port ≡ []
+  pub all_are_free : AllFree s.uses port
+  pub none_is_parked : s.parked port ≡ []
 
 -- no request of the port is unanswered
 abbrev pub HasNoUnanswered : Machine → Port → Type 0
@@ -94,13 +96,13 @@ HasNoUnanswered m port = (e : Pending) → Contains m.book e → e.request.port 
 -- A ready port runs, and its disk's last page, which came after PxSCTL was last written, says what clients are told.
 -- Clients' requests are in its slots, and no request is kept.
 pub record IsReadyAt (wanted : Wanted) (s : DriverSlots) (i : JointState Device) (port : Port) : Type 0 where
-  pub on : IsOn i.device
-  pub runs : EngineRuns port.0 i.device
+  pub adapter_is_on : IsOn i.device
+  pub engine_runs : EngineRuns port.0 i.device
   pub info : DiskInfo
-  pub disk : HasFitDisk (serial_of wanted) port.0 i.device info
-  pub shows : ShowsDiskInfo i.abstract.ports port i.device.cap info
-  pub slots : ReadySlotsInvariant s i port (i.abstract.ports.mode port)
-  pub kept : NoneQuarantined i.abstract.machine port
+  pub has_fit_disk : HasFitDisk (serial_of wanted) port.0 i.device info
+  pub shows_disk_info : ShowsDiskInfo i.abstract.ports port i.device.cap info
+  pub slots_invariant : ReadySlotsInvariant s i port (i.abstract.ports.mode port)
+  pub none_is_quarantined : NoneQuarantined i.abstract.machine port
 
 -- ---- the other states
 
@@ -108,26 +110,26 @@ pub record IsReadyAt (wanted : Wanted) (s : DriverSlots) (i : JointState Device)
 -- page, says why. In one with a disk a device shows, or none is in. Nobody waits for it, and no request is kept.
 pub record IsStoppedAt (wanted : Wanted) (s : DriverSlots) (i : JointState Device) (port : Port)
     (state : PortState) : Type 0 where
-  pub on : IsOn i.device
-  pub ends : BacksState (serial_of wanted) state port.0 i.device
-  pub shown : FoundBadDisk state → ShowsDiskIfIn (i.device.port port.0)
-  pub slots : HasNothingInSlots s port.0
-  pub waits : HasNoUnanswered i.abstract.machine port
-  pub kept : NoneQuarantined i.abstract.machine port
+  pub adapter_is_on : IsOn i.device
+  pub backs_state : BacksState (serial_of wanted) state port.0 i.device
+  pub shows_disk_if_in : FoundBadDisk state → ShowsDiskIfIn (i.device.port port.0)
+  pub has_nothing_in_slots : HasNothingInSlots s port.0
+  pub has_no_unanswered : HasNoUnanswered i.abstract.machine port
+  pub none_is_quarantined : NoneQuarantined i.abstract.machine port
 
 -- A dead port: its engine was awaited in vain; or the adapter isn't on, since its last reset wasn't seen to end. Nobody
 -- waits for it, but between such a reset and the service that tells it.
 pub record IsDeadAt (wanted : Wanted) (i : JointState Device) (port : Port) : Type 0 where
-  pub why : BacksState (serial_of wanted) Dead port.0 i.device ⊎ (IsOn i.device → ⊥)
-  pub waits : IsOn i.device → HasNoUnanswered i.abstract.machine port
+  pub is_backed_or_off : BacksState (serial_of wanted) Dead port.0 i.device ⊎ (IsOn i.device → ⊥)
+  pub has_no_unanswered : IsOn i.device → HasNoUnanswered i.abstract.machine port
 
 -- A port that isn't served is idle, with nothing in its slots, and absent to clients: nobody waits for it.
 pub record IsUnservedAt (s : DriverSlots) (i : JointState Device) (port : Port) : Type 0 where
-  pub absent : i.abstract.ports.state port ≡ Absent
-  pub idle : IsIdlePort (i.device.port port.0)
-  pub slots : HasNothingInSlots s port.0
-  pub waits : HasNoUnanswered i.abstract.machine port
-  pub kept : NoneQuarantined i.abstract.machine port
+  pub state_is_absent : i.abstract.ports.state port ≡ Absent
+  pub port_is_idle : IsIdlePort (i.device.port port.0)
+  pub has_nothing_in_slots : HasNothingInSlots s port.0
+  pub has_no_unanswered : HasNoUnanswered i.abstract.machine port
+  pub none_is_quarantined : NoneQuarantined i.abstract.machine port
 
 -- what holds of a port, whether it is served, and in which state
 abbrev pub PortStateInvariant : Wanted → DriverSlots → JointState Device → Port → Bool → PortState → Type 0
@@ -143,11 +145,12 @@ PortStateInvariant wanted s i port true (Unfit cause) = IsStoppedAt wanted s i p
 -- What holds at each instant of a history, of the device, the ports as clients see them, the machine, and what the
 -- driver has in its slots. (A server has ports 0 to 3.)
 pub record DriverInvariantWith (wanted : List Wanted) (s : DriverSlots) (i : JointState Device) : Type 0 where
-  pub knows : DriverRelation i.abstract.machine (driver_state s i.device)
+  pub driver_relation : DriverRelation i.abstract.machine (driver_state s i.device)
   pub served : (port : Port) → port.0 < 4 → (i.abstract.ports.served port ≡ true)
       ↔ IsServed (wanted_of wanted port.0) port.0 i.device
-  pub on : IsOn i.device ⊎ ((port : Port) → i.abstract.ports.served port ≡ true → i.abstract.ports.state port ≡ Dead)
-  pub port : (port : Port) → port.0 < 4
+  pub adapter_is_on : IsOn i.device ⊎ ((port : Port) → i.abstract.ports.served port ≡ true
+      → i.abstract.ports.state port ≡ Dead)
+  pub ports_hold : (port : Port) → port.0 < 4
       → PortStateInvariant (wanted_of wanted port.0) s i port (i.abstract.ports.served port)
       (i.abstract.ports.state port)
 

@@ -12,12 +12,12 @@ ghost use Rattle.adapter.specs.Rules.{IsOn, IsStable};
 ghost use Rattle.adapter.specs.declared.access.DeviceStep.{DeviceStep};
 ghost use Rattle.adapter.specs.declared.command.Operation.TheVariants.{ReadLog};
 ghost use Rattle.adapter.specs.declared.tape.Fault.{Fault};
-ghost use Rattle.refinement.specs.Driven.{GainsNoMove};
+ghost use Rattle.refinement.specs.Fragments.{GainsNoMove};
 ghost use Rattle.refinement.specs.PortFacts.{DeviceSparesFrame, RunsWell};
 ghost use Rattle.refinement.specs.Links.{NoPlugEvents};
 ghost use Rattle.refinement.specs.Slots.{ServesRequest};
 ghost use Rattle.block_machine.specs.Events.{AbstractCall, AbstractState, CallResult, steps_of, Service, Tick, Reset, HasTimedOut, IsRun, EveryReadHolds, NoneStaysIssued};
-ghost use Rattle.block_machine.specs.Histories.{JointState, JointEvent, IsReachable, events_of, now};
+ghost use Rattle.block_machine.specs.Histories.{JointState, JointEvent, IsReachable, events_of, joint_state_after};
 ghost use Rattle.block_machine.specs.Ports.{PortsWellFormed, Evidence, Ports, SameDisk, SamePort};
 ghost use Rattle.block_machine.specs.State.{Pending};
 ghost use Rattle.block_machine.specs.Steps.{Answer};
@@ -28,8 +28,8 @@ ghost use Rattle.driver_history.specs.Evidence.{HasErrors, HasFatalErrors, IsEvi
 ghost use Rattle.error_recovery.specs.Evidence.{BringsLog, HasFailed};
 ghost use Rattle.driver_history.specs.Histories.{IsDriverHistory, IssuesAllDue, LosesNoPortError};
 ghost use Rattle.driver_history.specs.PortInvariants.{DriverInvariant};
-ghost use Rattle.driver_history.specs.Moves.{MovesConfined};
-ghost use Rattle.driver_history.specs.Parts.{HasTurnIn, EvidenceAgreesOn, call_accesses};
+ghost use Rattle.driver_history.specs.ConfinedMoves.{ConfinesCallMoves};
+ghost use Rattle.driver_history.specs.PortTurn.{HasTurnIn, EvidenceAgreesOn, call_accesses};
 
 use super::prerequisites::{law_prerequisites, law_run_prerequisites};
 use adapter::DeviceStep;
@@ -51,7 +51,7 @@ pub fn law_histories_are_runs()
 /// The machine of a history is reached.
 pub fn law_histories_reach_their_machines()
     ensures { (wanted : List Wanted) (first : JointState Device) (past : List (JointEvent Device DeviceStep))
-        → IsDriverHistory wanted first past → IsReachable (now first past).abstract.machine }
+        → IsDriverHistory wanted first past → IsReachable (joint_state_after first past).abstract.machine }
 {
     law_run_prerequisites();
 }
@@ -85,8 +85,8 @@ pub fn law_moves_keep_to_their_places()
     ensures { (wanted : List Wanted) (first : JointState Device) (past : List (JointEvent Device DeviceStep))
         (h : JointEvent Device DeviceStep)
         → IsDriverHistory wanted first (h ∷ past)
-        → MovesConfined first.abstract.machine (steps_of (events_of past)) h.event.steps
-        (now first past).device h.device }
+        → ConfinesCallMoves first.abstract.machine (steps_of (events_of past)) h.event.steps
+        (joint_state_after first past).device h.device }
 {
     law_run_prerequisites();
 }
@@ -95,9 +95,10 @@ pub fn law_moves_keep_to_their_places()
 /// served.
 pub fn law_driver_invariant_holds()
     ensures holds { (wanted : List Wanted) (first : JointState Device) (past : List (JointEvent Device DeviceStep))
-        → IsDriverHistory wanted first past → DriverInvariant wanted (now first past) }
-    ensures fit { (wanted : List Wanted) (first : JointState Device) (past : List (JointEvent Device DeviceStep))
-        → IsDriverHistory wanted first past → PortsWellFormed (now first past).abstract.ports }
+        → IsDriverHistory wanted first past → DriverInvariant wanted (joint_state_after first past) }
+    ensures ports_are_well_formed { (wanted : List Wanted) (first : JointState Device)
+        (past : List (JointEvent Device DeviceStep))
+        → IsDriverHistory wanted first past → PortsWellFormed (joint_state_after first past).abstract.ports }
 {}
 
 /// At each instant of a history, a request that is issued on a ready port has a usable slot of that port, on which ST
@@ -106,13 +107,13 @@ pub fn law_driver_invariant_holds()
 pub fn law_issued_requests_have_their_slots()
     ensures { (wanted : List Wanted) (first : JointState Device) (past : List (JointEvent Device DeviceStep))
         (e : Pending)
-        → IsDriverHistory wanted first past → (now first past).abstract.ports.state e.request.port ≡ Ready
-        → Contains (now first past).abstract.machine.book e → e.issued ≡ true
-        → (slot : ℕ) × (slot < ((now first past).abstract.ports.mode e.request.port).usable)
-        × ServesRequest (now first past).abstract.machine (now first past).device.memory
-        ((now first past).device.port e.request.port.0)
+        → IsDriverHistory wanted first past → (joint_state_after first past).abstract.ports.state e.request.port ≡ Ready
+        → Contains (joint_state_after first past).abstract.machine.book e → e.issued ≡ true
+        → (slot : ℕ) × (slot < ((joint_state_after first past).abstract.ports.mode e.request.port).usable)
+        × ServesRequest (joint_state_after first past).abstract.machine (joint_state_after first past).device.memory
+        ((joint_state_after first past).device.port e.request.port.0)
         e.request.port.0 slot e.request.id
-        × (((now first past).device.port e.request.port.0).st ≡ true) }
+        × (((joint_state_after first past).device.port e.request.port.0).st ≡ true) }
 {}
 
 /// In a service a ready port that stays healthy is left alone: it is what it was, each answer there is Ok, and neither
@@ -121,8 +122,9 @@ pub fn law_healthy_ports_are_left_alone()
     ensures { (wanted : List Wanted) (first : JointState Device) (past : List (JointEvent Device DeviceStep))
         (h : JointEvent Device DeviceStep)
         (port : Port) → (history : IsDriverHistory wanted first (h ∷ past)) → h.event.ask ≡ Service
-        → (now first past).abstract.ports.state port ≡ Ready
-        → StaysHealthy port.0 (now first past).device h.device → IsSpared (now first past) h history.2.accesses port }
+        → (joint_state_after first past).abstract.ports.state port ≡ Ready
+        → StaysHealthy port.0 (joint_state_after first past).device h.device
+        → IsSpared (joint_state_after first past) h history.2.accesses port }
 {
     law_disks_are_told();
 }
@@ -132,10 +134,11 @@ pub fn law_healthy_ports_are_left_alone()
 pub fn law_calls_leave_ports_well()
     ensures { (wanted : List Wanted) (first : JointState Device) (past : List (JointEvent Device DeviceStep))
         (h : JointEvent Device DeviceStep)
-        (port : Port) → IsDriverHistory wanted first (h ∷ past) → (now first past).abstract.ports.state port ≡ Ready
+        (port : Port) → IsDriverHistory wanted first (h ∷ past)
+        → (joint_state_after first past).abstract.ports.state port ≡ Ready
         → h.event.ask ≢ Reset
-        → (h.event.ask ≡ Tick → HasTimedOut (now first past).abstract port → ⊥)
-        → StaysHealthy port.0 (now first past).device h.device → RunsWell (h.device.port port.0) }
+        → (h.event.ask ≡ Tick → HasTimedOut (joint_state_after first past).abstract port → ⊥)
+        → StaysHealthy port.0 (joint_state_after first past).device h.device → RunsWell (h.device.port port.0) }
 {
     law_disks_are_told();
     law_told_steps_are_transitions();
@@ -149,7 +152,7 @@ pub fn law_answers_justified()
         (h : JointEvent Device DeviceStep)
         (history : IsDriverHistory wanted first (h ∷ past)) → (e : Pending) (told : Outcome)
         → Contains h.event.steps (Answer e told)
-        → AnswerJustified (now first past) h history.2.accesses e told }
+        → AnswerJustified (joint_state_after first past) h history.2.accesses e told }
 {
     law_rows_shrink_and_owners_stay();
 }
@@ -160,8 +163,8 @@ pub fn law_answers_justified()
 pub fn law_device_spares_unlent()
     ensures { (wanted : List Wanted) (first : JointState Device) (past : List (JointEvent Device DeviceStep))
         (frame : Frame) → IsDriverHistory wanted first past
-        → DRIVER_FRAMES ≤ frame.0 → (now first past).abstract.machine.lent frame ≡ None
-        → IsStable (DeviceSparesFrame frame) (now first past).device }
+        → DRIVER_FRAMES ≤ frame.0 → (joint_state_after first past).abstract.machine.lent frame ≡ None
+        → IsStable (DeviceSparesFrame frame) (joint_state_after first past).device }
 {
     law_run_prerequisites();
     law_device_spares_frames();
@@ -173,12 +176,13 @@ pub fn law_unplugged_needs_loss()
     ensures { (wanted : List Wanted) (first : JointState Device) (past : List (JointEvent Device DeviceStep))
         (h : JointEvent Device DeviceStep)
         (e : Pending) → IsDriverHistory wanted first (h ∷ past)
-        → (ShowsChange ((now first past).device.port e.request.port.0)
+        → (ShowsChange ((joint_state_after first past).device.port e.request.port.0)
         → ⊥)
-        → ((now first past).device.port e.request.port.0).ssts_det ≡ 3
-        → NoPlugEvents e.request.port.0 (now first past).device h.device → (h.event.ports.state e.request.port ≡ Dead)
+        → ((joint_state_after first past).device.port e.request.port.0).ssts_det ≡ 3
+        → NoPlugEvents e.request.port.0 (joint_state_after first past).device h.device
+        → (h.event.ports.state e.request.port ≡ Dead)
         ⊎ ((h.event.ports.state e.request.port ≡ Ready)
-        × SameDisk (now first past).abstract.ports h.event.ports e.request.port)
+        × SameDisk (joint_state_after first past).abstract.ports h.event.ports e.request.port)
         → Contains h.event.steps (Answer e outcome.Unplugged) → ⊥ }
 {}
 
@@ -188,10 +192,11 @@ pub fn law_clear_bits_are_answered()
     ensures { (wanted : List Wanted) (first : JointState Device) (past : List (JointEvent Device DeviceStep))
         (h : JointEvent Device DeviceStep)
         (port : Port) (slot : ℕ) (id : RequestId) → IsDriverHistory wanted first (h ∷ past) → h.event.ask ≡ Service
-        → (now first past).abstract.ports.state port ≡ Ready
-        → ServesRequest (now first past).abstract.machine (now first past).device.memory
-        ((now first past).device.port port.0) port.0 slot id
-        → ((now first past).device.port port.0).ci slot ≡ false → ((now first past).device.port port.0).sact slot
+        → (joint_state_after first past).abstract.ports.state port ≡ Ready
+        → ServesRequest (joint_state_after first past).abstract.machine (joint_state_after first past).device.memory
+        ((joint_state_after first past).device.port port.0) port.0 slot id
+        → ((joint_state_after first past).device.port port.0).ci slot ≡ false
+        → ((joint_state_after first past).device.port port.0).sact slot
         ≡ false
         → (done : Pending) × (done.request.id ≡ id) × Contains h.event.steps (Answer done outcome.Ok) }
 {}
@@ -201,8 +206,8 @@ pub fn law_timeouts_undo_issues()
     ensures { (wanted : List Wanted) (first : JointState Device) (past : List (JointEvent Device DeviceStep))
         (h : JointEvent Device DeviceStep)
         (port : Port) → IsDriverHistory wanted first (h ∷ past) → h.event.ask ≡ Tick
-        → HasTimedOut (now first past).abstract port
-        → NoneStaysIssued h.event.steps (now first (h ∷ past)).abstract.machine port }
+        → HasTimedOut (joint_state_after first past).abstract port
+        → NoneStaysIssued h.event.steps (joint_state_after first (h ∷ past)).abstract.machine port }
 {}
 
 /// Composition on healthy ports: each call of a history that is healthy for a port goes well for it, whatever was
@@ -212,8 +217,8 @@ pub fn law_timeouts_undo_issues()
 pub fn law_healthy_calls_go_well()
     ensures { (wanted : List Wanted) (first : JointState Device) (past : List (JointEvent Device DeviceStep))
         (h : JointEvent Device DeviceStep)
-        (port : Port) → IsDriverHistory wanted first (h ∷ past) → IsHealthyFor (now first past) h port
-        → GoesWellFor (now first past) h port }
+        (port : Port) → IsDriverHistory wanted first (h ∷ past) → IsHealthyFor (joint_state_after first past) h port
+        → GoesWellFor (joint_state_after first past) h port }
 {
     law_disks_are_told();
     law_told_steps_are_transitions();
@@ -227,7 +232,8 @@ pub fn law_due_are_issued()
     ensures { (wanted : List Wanted) (first : JointState Device) (past : List (JointEvent Device DeviceStep))
         (h : JointEvent Device DeviceStep)
         (port : Port) → IsDriverHistory wanted first (h ∷ past)
-        → IssuesAllDue h.event.ask h.event.steps (now first (h ∷ past)).abstract.machine h.event.ports port }
+        → IssuesAllDue h.event.ask h.event.steps (joint_state_after first (h ∷ past)).abstract.machine h.event.ports
+        port }
 {}
 
 /// What stands behind a port's evidence in its own turn of a call stands behind it in the whole call, where the turn's
@@ -257,7 +263,8 @@ pub fn law_a_turns_evidence_is_the_calls()
 /// Of a port that stays healthy in a call nothing is so for which trouble is named: it isn't gone, and has no errors.
 /// So there is no trouble that could be lost.
 pub fn law_healthy_ports_have_no_error()
-    ensures gone { (port : Port) (old : JointState Device) (new : Device) → StaysHealthy port.0 old.device new
+    ensures link_is_unchanged { (port : Port) (old : JointState Device) (new : Device)
+        → StaysHealthy port.0 old.device new
         → IsGone port old new → ⊥ }
     ensures errors { (port : Port) (old : JointState Device) (new : Device) → StaysHealthy port.0 old.device new
         → HasErrors port old new → ⊥ }

@@ -9,19 +9,19 @@ ghost use Rattle.adapter.specs.Device.{Device};
 ghost use Rattle.adapter.specs.Rules.{IsOn};
 ghost use Rattle.adapter.specs.Steps.{Steps};
 ghost use Rattle.adapter.specs.declared.access.DeviceStep.{DeviceStep};
-ghost use Rattle.refinement.specs.Driven.{TapeGrows};
+ghost use Rattle.refinement.specs.Fragments.{TapeGrows};
 ghost use Rattle.refinement.specs.Errors.{IsFatalOf, NoDiskComes};
 ghost use Rattle.refinement.specs.PortFacts.{IsFaultOf, Undisturbed};
 ghost use Rattle.refinement.specs.Links.{ShowsDiskIfIn, NoPlugEvents, DoesNotWrite};
 ghost use Rattle.block_machine.specs.Events.{AbstractState, CallResult, Service};
-ghost use Rattle.block_machine.specs.Histories.{JointEvent, JointState, now};
+ghost use Rattle.block_machine.specs.Histories.{JointEvent, JointState, joint_state_after};
 ghost use Rattle.block_machine.specs.Ports.{Evidence, IsStoppedOrStuck, Ports, SamePort};
 ghost use Rattle.error_recovery.specs.Evidence.{GainsSinceStart};
 ghost use Rattle.driver_history.specs.Claims.{HandlesShownFailure, HandlesShownLoss};
 ghost use Rattle.driver_history.specs.Evidence.{ShowsChange, ShowsFailure, ShowsLoss};
 ghost use Rattle.driver_history.specs.Histories.{BootsAnew, HasUnservedDisk, HasOnlyTaskFileError, IsDriverHistory, LosesNoPortError, RunsWellAnew, ProbesDisk};
-ghost use Rattle.driver_history.specs.Parts.{EndsNoLinkDue, HasTurnIn, EvidenceAgreesOn, call_accesses};
-ghost use Rattle.driver_history.specs.Trace.{ClearsNoError, ResetsLink};
+ghost use Rattle.driver_history.specs.PortTurn.{EndsNoLinkDue, HasTurnIn, EvidenceAgreesOn, call_accesses};
+ghost use Rattle.driver_history.specs.AccessTrace.{ClearsNoError, ResetsLink};
 ghost use Rattle.identify.specs.declared.wanted.Wanted.{Wanted};
 ghost use Rattle.port_control.specs.Engines.{Stops};
 
@@ -35,8 +35,9 @@ pub fn law_shown_faults_are_heeded()
     ensures { (wanted : List Wanted) (first : JointState Device) (past : List (JointEvent Device DeviceStep))
         (h : JointEvent Device DeviceStep)
         (port : Port) → IsDriverHistory wanted first (h ∷ past) → h.event.ask ≡ Service
-        → (now first past).abstract.ports.state port ≡ Ready
-        → ShowsFailure ((now first past).device.port port.0) → HandlesShownFailure port (now first past) h }
+        → (joint_state_after first past).abstract.ports.state port ≡ Ready
+        → ShowsFailure ((joint_state_after first past).device.port port.0)
+        → HandlesShownFailure port (joint_state_after first past) h }
 {}
 
 /// A service heeds that a ready port showed a change of its link when it began, or no device, with no disk that comes
@@ -46,8 +47,9 @@ pub fn law_shown_losses_are_heeded()
     ensures { (wanted : List Wanted) (first : JointState Device) (past : List (JointEvent Device DeviceStep))
         (h : JointEvent Device DeviceStep)
         (port : Port) → IsDriverHistory wanted first (h ∷ past) → h.event.ask ≡ Service
-        → (now first past).abstract.ports.state port ≡ Ready
-        → ShowsLoss port (now first past).device h.device → HandlesShownLoss port (now first past) h }
+        → (joint_state_after first past).abstract.ports.state port ≡ Ready
+        → ShowsLoss port (joint_state_after first past).device h.device
+        → HandlesShownLoss port (joint_state_after first past) h }
 {}
 
 /// Accesses that leave the adapter on, and clear no bit that tells of a port's trouble, lose none of it; nor does the

@@ -7,8 +7,8 @@ use Rattle.ata_types.specs.declared.request.RequestId.{RequestId}
 use Rattle.ata_types.specs.declared.request.Op.TheVariants.{Flush}
 use Rattle.ata_types.specs.declared.request.Outcome.TheVariants.{Ok, DeviceError}
 use Rattle.block_machine.specs.State.{Block, DiskBytes, Accepted, Pending, Machine, sector_of, block_written}
-use Rattle.block_machine.specs.Due.{is_flush, changes_sectors}
-use Rattle.block_machine.specs.Steps.{Step, Accept, Issue, Touch, End, Age, Again, Answer, Release, Revoke, Unplug, Replace, Store, Load, May, MayStillMove, after_step, at, newly_issued, touch, mark_ended, requeued, older, newly_accepted, put_sector, SameBytes, HoldsOrHeldSinceFlush}
+use Rattle.block_machine.specs.DueRequests.{is_flush, changes_sectors}
+use Rattle.block_machine.specs.Steps.{Step, Accept, Issue, Touch, End, Age, WaitAgain, Answer, Release, Revoke, Unplug, Replace, Store, Load, IsEnabled, MayStillMove, after_step, update_pending, newly_issued, touch, mark_ended, requeued, aged_pending, newly_accepted, put_sector, SameBytes, HoldsOrHeldSinceFlush}
 use Rattle.block_machine.specs.Expected.{after, IsLegal, IsInitial, IsAccept, IsTouch, HasTouched, plug_count}
 use Rattle.durability.specs.Durable.{AnswersOk, takes_out, plugs_other_disk, WriteAccepted, WriteAnswered, FlushAccepted, FlushAnswered, IsWrittenSince, FindsFlushed, EveryPlugFindsFlushed}
 use Rattle.block_machine.proofs.Members.{map_in, at_cases, without_in, append_in}
@@ -18,7 +18,7 @@ use Rattle.block_machine.proofs.Trace.{Seen, seen_touch, lives_one, runs_lives, 
 use Rattle.block_machine.proofs.Runs.{traced}
 use Rattle.block_machine.specs.Events.{AbstractState, CallRecord, IsRun, steps_of}
 use Rattle.block_machine.proofs.EventLemmas.{IsWhole, AllWhole, run_starts, run_legal, run_whole}
-use Rattle.block_machine.specs.Histories.{now}
+use Rattle.block_machine.specs.Histories.{joint_state_after}
 
 -- From this step on the bytes of the port's disk last: a flush of it is ended, or another disk is put in.
 abbrev pub starts_lasting : Machine → Port → Step → Bool
@@ -59,7 +59,7 @@ record IsWritten (m : Machine) (step : Step) (port : Port) (k : ℕ) : Type 0 wh
   touched : IsTouch step entry.request k
   from : entry.request.asked.first.0 ≤ k
   to : k < entry.request.asked.first.0 + entry.request.asked.count
-  is : (after_step m step).disks port k ≡ block_written entry.request.asked.op entry.request.held (k - entry.request.asked.first.0)
+  is : (after_step m step).disks port k ≡ block_written entry.request.asked.op entry.request.held_blocks (k - entry.request.asked.first.0)
 
 record IsReplaced (m : Machine) (step : Step) (port : Port) : Type 0 where
   id : ℕ
@@ -79,9 +79,9 @@ Effect m step port k = IsIdle m step port k ⊎ (IsWritten m step port k ⊎ IsR
 effect_touch : (m : Machine) (e : Pending) (i : ℕ) (block : Block) (port : Port) (k : ℕ) → MayStillMove m e → i < e.request.asked.count → Effect m (Touch e i block) port k
 effect_touch m e i block port k r lt = by_op (changes_sectors e.request.asked.op) refl
   where
-    by_place : changes_sectors e.request.asked.op ≡ true → (after_step m (Touch e i block)).disks port k ≡ put_sector e.request.port (e.request.asked.first.0 + i) (block_written e.request.asked.op e.request.held i) m.disks port k
+    by_place : changes_sectors e.request.asked.op ≡ true → (after_step m (Touch e i block)).disks port k ≡ put_sector e.request.port (e.request.asked.first.0 + i) (block_written e.request.asked.op e.request.held_blocks i) m.disks port k
         → (b : Bool) → ((port.0 == e.request.port.0) && (k == e.request.asked.first.0 + i)) ≡ b → Effect m (Touch e i block) port k
-    by_place w now true t =
+    by_place w joint_state_after true t =
         let p = and_parts (port.0 == e.request.port.0) (k == e.request.asked.first.0 + i) t in
         let sector : e.request.asked.first.0 + i ≡ k = sym (eqb-true k (e.request.asked.first.0 + i) p.1) in
         let nth : k - e.request.asked.first.0 ≡ i = omega (arith, sector) in
@@ -93,10 +93,10 @@ effect_touch m e i block port k r lt = by_op (changes_sectors e.request.asked.op
           touched = (refl, sector);
           from = omega (arith, sector);
           to = omega (arith, sector, lt);
-          is = now ∙ cond-true ((port.0 == e.request.port.0) && (k == e.request.asked.first.0 + i)) (block_written e.request.asked.op e.request.held i) (m.disks port k) t ∙ ap (λ (x : ℕ). block_written e.request.asked.op e.request.held x) (sym nth);
+          is = joint_state_after ∙ cond-true ((port.0 == e.request.port.0) && (k == e.request.asked.first.0 + i)) (block_written e.request.asked.op e.request.held_blocks i) (m.disks port k) t ∙ ap (λ (x : ℕ). block_written e.request.asked.op e.request.held_blocks x) (sym nth);
         }))
-    by_place w now false t = inl (record {
-      same = now ∙ cond-false ((port.0 == e.request.port.0) && (k == e.request.asked.first.0 + i)) (block_written e.request.asked.op e.request.held i) (m.disks port k) t;
+    by_place w joint_state_after false t = inl (record {
+      same = joint_state_after ∙ cond-false ((port.0 == e.request.port.0) && (k == e.request.asked.first.0 + i)) (block_written e.request.asked.op e.request.held_blocks i) (m.disks port k) t;
       quiet = λ x _ here touch.
           let port_same : port ≡ e.request.port = sym here ∙ ap (λ (j : Accepted). j.port) (sym touch.0) in
           let k_same : k ≡ e.request.asked.first.0 + i = sym touch.1 ∙ ap (λ (j : Accepted). sector_of j i) (sym touch.0) in
@@ -104,9 +104,9 @@ effect_touch m e i block port k r lt = by_op (changes_sectors e.request.asked.op
     })
 
     by_op : (b : Bool) → changes_sectors e.request.asked.op ≡ b → Effect m (Touch e i block) port k
-    by_op true w = by_place w (ap (λ (d : Port → DiskBytes). d port k) (cond-true (changes_sectors e.request.asked.op) (put_sector e.request.port (e.request.asked.first.0 + i) (block_written e.request.asked.op e.request.held i) m.disks) m.disks w)) _ refl
+    by_op true w = by_place w (ap (λ (d : Port → DiskBytes). d port k) (cond-true (changes_sectors e.request.asked.op) (put_sector e.request.port (e.request.asked.first.0 + i) (block_written e.request.asked.op e.request.held_blocks i) m.disks) m.disks w)) _ refl
     by_op false w = inl (record {
-      same = ap (λ (d : Port → DiskBytes). d port k) (cond-false (changes_sectors e.request.asked.op) (put_sector e.request.port (e.request.asked.first.0 + i) (block_written e.request.asked.op e.request.held i) m.disks) m.disks w);
+      same = ap (λ (d : Port → DiskBytes). d port k) (cond-false (changes_sectors e.request.asked.op) (put_sector e.request.port (e.request.asked.first.0 + i) (block_written e.request.asked.op e.request.held_blocks i) m.disks) m.disks w);
       quiet = λ x writes _ touch. both_ways _ w (subst (λ (j : Accepted). changes_sectors j.asked.op ≡ true) (sym touch.0) writes);
     })
 
@@ -123,14 +123,14 @@ effect_replace m p id size disk port k gone = ⊎_elim
     (λ (ne : port.0 ≡ p.0 → ⊥). inl (record { same = ap (λ (d : DiskBytes). d k) (cond-false (port.0 == p.0) disk (m.disks port) (ne_eqb port.0 p.0 ne)); quiet = λ w _ _ t. t }))
     (cases_eq port.0 p.0)
 
-effect : (m : Machine) (step : Step) (port : Port) (k : ℕ) → May m step → Effect m step port k
+effect : (m : Machine) (step : Step) (port : Port) (k : ℕ) → IsEnabled m step → Effect m step port k
 effect m (Touch e i block) port k may = effect_touch m e i block port k may.0 may.1
 effect m (Replace p id size disk) port k may = effect_replace m p id size disk port k may.0
 effect m (Accept request) port k may = inl (record { same = refl; quiet = λ w _ _ t. t })
 effect m (Issue mode e) port k may = inl (record { same = refl; quiet = λ w _ _ t. t })
 effect m (End e) port k may = inl (record { same = refl; quiet = λ w _ _ t. t })
 effect m (Age ready) port k may = inl (record { same = refl; quiet = λ w _ _ t. t })
-effect m (Again e) port k may = inl (record { same = refl; quiet = λ w _ _ t. t })
+effect m (WaitAgain e) port k may = inl (record { same = refl; quiet = λ w _ _ t. t })
 effect m (Answer e outcome) port k may = inl (record { same = refl; quiet = λ w _ _ t. t })
 effect m (Revoke client number) port k may = inl (record { same = refl; quiet = λ w _ _ t. t })
 effect m Release port k may = inl (record { same = refl; quiet = λ w _ _ t. t })
@@ -139,7 +139,7 @@ effect m (Store client frame offset bytes) port k may = inl (record { same = ref
 effect m (Load client frame offset bytes) port k may = inl (record { same = refl; quiet = λ w _ _ t. t })
 
 -- while no disk is taken out, one stays in
-stays_in : (m : Machine) (step : Step) (port : Port) → May m step → takes_out port step ≡ false → m.present port ≡ true → (after_step m step).present port ≡ true
+stays_in : (m : Machine) (step : Step) (port : Port) → IsEnabled m step → takes_out port step ≡ false → m.present port ≡ true → (after_step m step).present port ≡ true
 stays_in m (Unplug p) port may out here = cond-false (port.0 == p.0) false (m.present port) (ne_eqb port.0 p.0 (λ e. both_ways _ out (eq-eqb p.0 port.0 (sym e)))) ∙ here
 stays_in m (Replace p id size disk) port may out here = cond_both (port.0 == p.0) true (m.present port) (λ b. b ≡ true) (λ _. refl) (λ _. here)
 stays_in m (Touch e i block) port may out here = here
@@ -147,7 +147,7 @@ stays_in m (Accept request) port may out here = here
 stays_in m (Issue mode e) port may out here = here
 stays_in m (End e) port may out here = here
 stays_in m (Age ready) port may out here = here
-stays_in m (Again e) port may out here = here
+stays_in m (WaitAgain e) port may out here = here
 stays_in m (Answer e outcome) port may out here = here
 stays_in m (Revoke client number) port may out here = here
 stays_in m Release port may out here = here
@@ -155,10 +155,10 @@ stays_in m (Store client frame offset bytes) port may out here = here
 stays_in m (Load client frame offset bytes) port may out here = here
 
 since_more : (w : Accepted) (k : ℕ) (step : Step) (h : List Step) (block : Block) → IsWrittenSince w k h block → IsWrittenSince w k (step ∷ h) block
-since_more w k step h block s = record { writer = s.writer; writes = s.writes; here = s.here; later = s.later; disk = s.disk; touched = inr s.touched; is = s.is }
+since_more w k step h block s = record { writer = s.writer; op_changes_sectors = s.op_changes_sectors; port_is = s.port_is; accepted_later = s.accepted_later; disk = s.disk; touched = inr s.touched; block_is = s.block_is }
 
 since_bytes : (w : Accepted) (k : ℕ) (h : List Step) (a b : Block) → SameBytes a b → IsWrittenSince w k h b → IsWrittenSince w k h a
-since_bytes w k h a b e s = record { writer = s.writer; writes = s.writes; here = s.here; later = s.later; disk = s.disk; touched = s.touched; is = λ x lt. e x lt ∙ s.is x lt }
+since_bytes w k h a b e s = record { writer = s.writer; op_changes_sectors = s.op_changes_sectors; port_is = s.port_is; accepted_later = s.accepted_later; disk = s.disk; touched = s.touched; block_is = λ x lt. e x lt ∙ s.block_is x lt }
 
 since_same : (w : Accepted) (k : ℕ) (h : List Step) (a b : Block) → a ≡ b → IsWrittenSince w k h b → IsWrittenSince w k h a
 since_same w k h a b e s = since_bytes w k h a b (λ x lt. ap (λ (c : Block). c x) e) s
@@ -167,15 +167,15 @@ since_same w k h a b e s = since_bytes w k h a b (λ x lt. ap (λ (c : Block). c
 since_written : (m : Machine) (step : Step) (h : List Step) (w : Accepted) (k : ℕ) → Seen m w k → changes_sectors w.asked.op ≡ true → (t : IsWritten m step w.port k) → IsWrittenSince w k (step ∷ h) ((after_step m step).disks w.port k)
 since_written m step h w k seen writes t = record {
   writer = t.entry.request;
-  writes = t.writes;
-  here = t.here;
-  later = ⊎_elim
+  op_changes_sectors = t.writes;
+  port_is = t.here;
+  accepted_later = ⊎_elim
       (λ (less : t.entry.request.id.0 < w.id.0). absurd (seen.order t.entry (runs_lives m t.entry t.runs) less
       (conflict_at t.entry.request w k t.here (or_left _ _ t.writes) t.from t.to seen.from seen.to)))
       (λ (le : w.id.0 ≤ t.entry.request.id.0). le) (cases_lt t.entry.request.id.0 w.id.0);
   disk = plug_count t.entry.request.port h;
   touched = inl (t.touched, refl);
-  is = λ x lt. ap (λ (c : Block). c x) t.is;
+  block_is = λ x lt. ap (λ (c : Block). c x) t.is;
 }
 
 -- A sector of w that is touched, with a disk in, and that holds w's block or a later one.
@@ -187,7 +187,7 @@ record Stage (start : Machine) (h : List Step) (w : Accepted) (k : ℕ) : Type 0
   since : IsWrittenSince w k h ((after start h).disks w.port k)
 
 -- the disk keeps its size, unless another comes
-sizes_stay : (m : Machine) (step : Step) (port : Port) → May m step → plugs_other_disk m port step ≡ false → (after_step m step).sizes port ≡ m.sizes port
+sizes_stay : (m : Machine) (step : Step) (port : Port) → IsEnabled m step → plugs_other_disk m port step ≡ false → (after_step m step).sizes port ≡ m.sizes port
 sizes_stay m (Replace p id size disk) port may other = ⊎_elim
     (λ (ne : (p.0 == port.0) ≡ false). cond-false (port.0 == p.0) size (m.sizes port) (ne_eqb port.0 p.0 (λ e. eqb-false p.0 port.0 ne (sym e))))
     (λ (same : not (id == m.disk_ids port) ≡ false). cond_both (port.0 == p.0) size (m.sizes port) (λ n. n ≡ m.sizes port)
@@ -198,7 +198,7 @@ sizes_stay m (Replace p id size disk) port may other = ⊎_elim
 sizes_stay m _ port may other = refl
 
 -- another disk comes only where none is in
-other_absent : (m : Machine) (step : Step) (port : Port) → May m step → plugs_other_disk m port step ≡ true → m.present port ≡ false
+other_absent : (m : Machine) (step : Step) (port : Port) → IsEnabled m step → plugs_other_disk m port step ≡ true → m.present port ≡ false
 other_absent m (Replace p i n d) port may t = ap m.present (sym (ap (λ (n : ℕ). record { 0 = n }) (eqb-true p.0 port.0 (and_parts _ _ t).0))) ∙ may.0
 other_absent m (Answer e outcome) port may t = absurd (false≢true t)
 other_absent m (Accept request) port may t = absurd (false≢true t)
@@ -206,14 +206,14 @@ other_absent m (Issue mode e) port may t = absurd (false≢true t)
 other_absent m (Touch e i block) port may t = absurd (false≢true t)
 other_absent m (End e) port may t = absurd (false≢true t)
 other_absent m (Age ready) port may t = absurd (false≢true t)
-other_absent m (Again e) port may t = absurd (false≢true t)
+other_absent m (WaitAgain e) port may t = absurd (false≢true t)
 other_absent m (Revoke client number) port may t = absurd (false≢true t)
 other_absent m Release port may t = absurd (false≢true t)
 other_absent m (Unplug q) port may t = absurd (false≢true t)
 other_absent m (Store client frame offset bytes) port may t = absurd (false≢true t)
 other_absent m (Load client frame offset bytes) port may t = absurd (false≢true t)
 
-none_other : (m : Machine) (step : Step) (port : Port) → May m step → m.present port ≡ true → plugs_other_disk m port step ≡ false
+none_other : (m : Machine) (step : Step) (port : Port) → IsEnabled m step → m.present port ≡ true → plugs_other_disk m port step ≡ false
 none_other m step port may here = false_from_ne_true _ (λ t. both_ways _ (other_absent m step port may t) here)
 
 absent_here : (m : Machine) (port : Port) → m.present port ≡ true → m.present port ≡ false → ⊥
@@ -243,18 +243,18 @@ IsTouchAt _ request i = ⊥
 abbrev Came : Machine → Step → Pending → ℕ → Type 0
 Came m step x i = ((o : Pending) × Contains m.book o × (x.request ≡ o.request) × (o.touched i ≡ true)) ⊎ IsTouchAt step x.request i
 
-came_at : (m : Machine) (step : Step) (id : RequestId) (f : Pending → Pending) (x : Pending) (i : ℕ) → Contains (map (at id f) m.book) x → ((e : Pending) → (f e).request ≡ e.request) → ((e : Pending) → (f e).touched i ≡ true → e.touched i ≡ true)
+came_at : (m : Machine) (step : Step) (id : RequestId) (f : Pending → Pending) (x : Pending) (i : ℕ) → Contains (map (update_pending id f) m.book) x → ((e : Pending) → (f e).request ≡ e.request) → ((e : Pending) → (f e).touched i ≡ true → e.touched i ≡ true)
     → x.touched i ≡ true → Came m step x i
 came_at m step id f x i hx kj kt t =
-    let r = map_in (at id f) m.book x hx in
+    let r = map_in (update_pending id f) m.book x hx in
     ⊎_elim
     (λ p. inl (r.0, r.1, ap (λ (y : Pending). y.request) (r.2 ∙ p.1) ∙ kj r.0, kt r.0 (subst (λ (y : Pending). y.touched i ≡ true) (r.2 ∙ p.1) t)))
     (λ p. inl (r.0, r.1, ap (λ (y : Pending). y.request) (r.2 ∙ p.1), subst (λ (y : Pending). y.touched i ≡ true) (r.2 ∙ p.1) t))
     (at_cases id f r.0)
 
-came_touch : (m : Machine) → Sound m → (e : Pending) (n : ℕ) (block : Block) (x : Pending) (i : ℕ) → MayStillMove m e → Contains (map (at e.request.id (touch n)) m.book) x → x.touched i ≡ true → Came m (Touch e n block) x i
+came_touch : (m : Machine) → Sound m → (e : Pending) (n : ℕ) (block : Block) (x : Pending) (i : ℕ) → MayStillMove m e → Contains (map (update_pending e.request.id (touch n)) m.book) x → x.touched i ≡ true → Came m (Touch e n block) x i
 came_touch m s e n block x i run hx t =
-    let r = map_in (at e.request.id (touch n)) m.book x hx in
+    let r = map_in (update_pending e.request.id (touch n)) m.book x hx in
     ⊎_elim
     (λ p. ⊎_elim
     (λ (q : (i == n) ≡ true). inr (lives_one m s e r.0 (runs_lives m e run) (inl r.1) (sym p.0) ∙ sym (ap (λ (y : Pending). y.request) (r.2 ∙ p.1)), sym (eqb-true i n q)))
@@ -263,14 +263,14 @@ came_touch m s e n block x i run hx t =
     (λ p. inl (r.0, r.1, ap (λ (y : Pending). y.request) (r.2 ∙ p.1), subst (λ (y : Pending). y.touched i ≡ true) (r.2 ∙ p.1) t))
     (at_cases e.request.id (touch n) r.0)
 
-came : (m : Machine) (step : Step) → May m step → Sound m → (x : Pending) (i : ℕ) → Contains (after_step m step).book x → x.touched i ≡ true → Came m step x i
+came : (m : Machine) (step : Step) → IsEnabled m step → Sound m → (x : Pending) (i : ℕ) → Contains (after_step m step).book x → x.touched i ≡ true → Came m step x i
 came m (Accept request) may s x i hx t = ⊎_elim (λ (p : Contains m.book x). inl (x, p, refl, t)) (λ (p : x ≡ newly_accepted request). absurd (false≢true (subst (λ (y : Pending). y.touched i ≡ true) p t))) (append_in m.book (newly_accepted request) x hx)
 came m (Issue mode e) may s x i hx t = came_at m (Issue mode e) e.request.id newly_issued x i hx (λ y. refl) (λ y q. absurd (false≢true q)) t
 came m (Touch e n block) may s x i hx t = came_touch m s e n block x i may.0 hx t
 came m (End e) may s x i hx t = came_at m (End e) e.request.id mark_ended x i hx (λ y. refl) (λ y q. q) t
-came m (Age ready) may s x i hx t = let r = map_in (older ready) m.book x hx in
+came m (Age ready) may s x i hx t = let r = map_in (aged_pending ready) m.book x hx in
     inl (r.0, r.1, ap (λ (y : Pending). y.request) r.2 ∙ older_keeps ready r.0, subst (λ (f : ℕ → Bool). f i ≡ true) (ap (λ (y : Pending). y.touched) r.2 ∙ older_touched ready r.0) t)
-came m (Again e) may s x i hx t = came_at m (Again e) e.request.id requeued x i hx (λ y. refl) (λ y q. absurd (false≢true q)) t
+came m (WaitAgain e) may s x i hx t = came_at m (WaitAgain e) e.request.id requeued x i hx (λ y. refl) (λ y q. absurd (false≢true q)) t
 came m (Answer e outcome) may s x i hx t = inl (x, (without_in e.request.id m.book x hx).0, refl, t)
 came m (Revoke client number) may s x i hx t = inl (x, hx, refl, t)
 came m Release may s x i hx t = inl (x, hx, refl, t)
@@ -310,10 +310,10 @@ accept_of (Accept request) w t = ap Accept t
 accept_of _ w t = absurd t
 
 -- what the answer Ok of a request says of its request
-ok_entry : (m : Machine) (step : Step) (w : Accepted) → May m step → IsWhole step → AnswersOk step w → (e : Pending) × Contains m.book e × (e.request ≡ w) × ((i : ℕ) → i < w.asked.count → e.touched i ≡ true) × (e.ended ≡ true)
+ok_entry : (m : Machine) (step : Step) (w : Accepted) → IsEnabled m step → IsWhole step → AnswersOk step w → (e : Pending) × Contains m.book e × (e.request ≡ w) × ((i : ℕ) → i < w.asked.count → e.touched i ≡ true) × (e.ended ≡ true)
 ok_entry m step w may whole ok =
     let r = answer_ok step w ok in
-    let here : May m (Answer r.0 Ok) = subst (λ (x : Step). May m x) r.1 may in
+    let here : IsEnabled m (Answer r.0 Ok) = subst (λ (x : Step). IsEnabled m x) r.1 may in
     let law : IsWhole (Answer r.0 Ok) = subst (λ (x : Step). IsWhole x) r.1 whole in
     (r.0, here.0, r.2, (λ i lt. law.0 i (subst (λ (j : Accepted). i < j.asked.count) (sym r.2) lt)), law.1)
 
@@ -324,10 +324,10 @@ accept_out : (port : Port) (step : Step) (w : Accepted) → IsAccept step w → 
 accept_out port step w t = ap (takes_out port) (accept_of step w t)
 
 -- a request that is accepted now has nothing touched and isn't ended
-new_entry : (m : Machine) (step : Step) (w : Accepted) → May m step → Sound m → IsAccept step w → (x : Pending) → Contains (after_step m step).book x → x.request ≡ w → x ≡ newly_accepted w
+new_entry : (m : Machine) (step : Step) (w : Accepted) → IsEnabled m step → Sound m → IsAccept step w → (x : Pending) → Contains (after_step m step).book x → x.request ≡ w → x ≡ newly_accepted w
 new_entry m step w may s t x hx same =
     let e = accept_of step w t in
-    let new : May m (Accept w) = subst (λ (y : Step). May m y) e may in
+    let new : IsEnabled m (Accept w) = subst (λ (y : Step). IsEnabled m y) e may in
     ⊎_elim
     (λ (i : Contains m.book x). let b = s.below x (inl i) in let q : x.request.id.0 ≡ w.id.0 = ap (λ (j : Accepted). j.id.0) same in let n = new.id in absurd (omega (arith, b, q, n)))
     (λ (p : x ≡ newly_accepted w). p)
@@ -370,7 +370,7 @@ pub held_now : (start : Machine) (port : Port) (k : ℕ) (h : List Step) → Hel
 held_now start port k [] = inl (λ b lt. refl)
 held_now start port k (step ∷ past) = inl (λ b lt. refl)
 
-same_disk : (start : Machine) (past : List Step) (step : Step) (port : Port) (k id size : ℕ) (disk : DiskBytes) → May (after start past) step → ComesBack start past step → plugs_other_disk (after start past) port step ≡ false
+same_disk : (start : Machine) (past : List Step) (step : Step) (port : Port) (k id size : ℕ) (disk : DiskBytes) → IsEnabled (after start past) step → ComesBack start past step → plugs_other_disk (after start past) port step ≡ false
     → k < (after start past).sizes port → IsReplace step port id size disk → HeldSince start port k (disk k) past
 same_disk start past (Replace p i n d) port k id size disk may back other inside t =
     let named : i ≡ (after start past).disk_ids port = ⊎_elim
@@ -412,34 +412,34 @@ IsEnd _ request = ⊥
 abbrev Ended : Machine → Step → Pending → Type 0
 Ended m step x = ((o : Pending) × Contains m.book o × (x.request ≡ o.request) × (o.ended ≡ true)) ⊎ IsEnd step x.request
 
-ended_at : (m : Machine) (step : Step) (id : RequestId) (f : Pending → Pending) (x : Pending) → Contains (map (at id f) m.book) x → ((e : Pending) → (f e).request ≡ e.request) → ((e : Pending) → (f e).ended ≡ true → e.ended ≡ true)
+ended_at : (m : Machine) (step : Step) (id : RequestId) (f : Pending → Pending) (x : Pending) → Contains (map (update_pending id f) m.book) x → ((e : Pending) → (f e).request ≡ e.request) → ((e : Pending) → (f e).ended ≡ true → e.ended ≡ true)
     → x.ended ≡ true → Ended m step x
 ended_at m step id f x hx kj kt t =
-    let r = map_in (at id f) m.book x hx in
+    let r = map_in (update_pending id f) m.book x hx in
     ⊎_elim
     (λ p. inl (r.0, r.1, ap (λ (y : Pending). y.request) (r.2 ∙ p.1) ∙ kj r.0, kt r.0 (subst (λ (y : Pending). y.ended ≡ true) (r.2 ∙ p.1) t)))
     (λ p. inl (r.0, r.1, ap (λ (y : Pending). y.request) (r.2 ∙ p.1), subst (λ (y : Pending). y.ended ≡ true) (r.2 ∙ p.1) t))
     (at_cases id f r.0)
 
-ended_end : (m : Machine) → Sound m → (e : Pending) (x : Pending) → MayStillMove m e → Contains (map (at e.request.id mark_ended) m.book) x → x.ended ≡ true → Ended m (End e) x
+ended_end : (m : Machine) → Sound m → (e : Pending) (x : Pending) → MayStillMove m e → Contains (map (update_pending e.request.id mark_ended) m.book) x → x.ended ≡ true → Ended m (End e) x
 ended_end m s e x run hx t =
-    let r = map_in (at e.request.id mark_ended) m.book x hx in
+    let r = map_in (update_pending e.request.id mark_ended) m.book x hx in
     ⊎_elim
     (λ p. inr (lives_one m s e r.0 (runs_lives m e run) (inl r.1) (sym p.0) ∙ sym (ap (λ (y : Pending). y.request) (r.2 ∙ p.1))))
     (λ p. inl (r.0, r.1, ap (λ (y : Pending). y.request) (r.2 ∙ p.1), subst (λ (y : Pending). y.ended ≡ true) (r.2 ∙ p.1) t))
     (at_cases e.request.id mark_ended r.0)
 
-older_ended : (ready : Port → Bool) (e : Pending) → (older ready e).ended ≡ e.ended
+older_ended : (ready : Port → Bool) (e : Pending) → (aged_pending ready e).ended ≡ e.ended
 older_ended ready e = elim (e.issued && ready e.request.port) as (λ b. (cond b (record e { age = suc e.age }) e).ended ≡ e.ended) [ true ↦ refl | false ↦ refl ]
 
-ended : (m : Machine) (step : Step) → May m step → Sound m → (x : Pending) → Contains (after_step m step).book x → x.ended ≡ true → Ended m step x
+ended : (m : Machine) (step : Step) → IsEnabled m step → Sound m → (x : Pending) → Contains (after_step m step).book x → x.ended ≡ true → Ended m step x
 ended m (Accept request) may s x hx t = ⊎_elim (λ (p : Contains m.book x). inl (x, p, refl, t)) (λ (p : x ≡ newly_accepted request). absurd (false≢true (subst (λ (y : Pending). y.ended ≡ true) p t))) (append_in m.book (newly_accepted request) x hx)
 ended m (Issue mode e) may s x hx t = ended_at m (Issue mode e) e.request.id newly_issued x hx (λ y. refl) (λ y q. absurd (false≢true q)) t
 ended m (Touch e n block) may s x hx t = ended_at m (Touch e n block) e.request.id (touch n) x hx (λ y. refl) (λ y q. q) t
 ended m (End e) may s x hx t = ended_end m s e x may.0 hx t
-ended m (Age ready) may s x hx t = let r = map_in (older ready) m.book x hx in
+ended m (Age ready) may s x hx t = let r = map_in (aged_pending ready) m.book x hx in
     inl (r.0, r.1, ap (λ (y : Pending). y.request) r.2 ∙ older_keeps ready r.0, sym (ap (λ (y : Pending). y.ended) r.2 ∙ older_ended ready r.0) ∙ t)
-ended m (Again e) may s x hx t = ended_at m (Again e) e.request.id requeued x hx (λ y. refl) (λ y q. absurd (false≢true q)) t
+ended m (WaitAgain e) may s x hx t = ended_at m (WaitAgain e) e.request.id requeued x hx (λ y. refl) (λ y q. absurd (false≢true q)) t
 ended m (Answer e outcome) may s x hx t = inl (x, (without_in e.request.id m.book x hx).0, refl, t)
 ended m (Revoke client number) may s x hx t = inl (x, hx, refl, t)
 ended m Release may s x hx t = inl (x, hx, refl, t)
@@ -493,7 +493,7 @@ flushed_lasts start (step ∷ past) w flush s legal whole back writes port op (i
 -- a disk that comes back has the writes that were flushed
 finds : (start : Machine) (past : List Step) (step : Step) → IsInitial start → IsLegal start (step ∷ past) → AllWhole past → IsVolatile start (step ∷ past) → FindsFlushed start past step
 finds start past (Replace port id size disk) s legal whole back = λ same w flush here f i lt.
-    let lasts = flushed_lasts start past w flush s legal.0 whole back.0 f.writes f.port f.flush_is f.answered i lt in
+    let lasts = flushed_lasts start past w flush s legal.0 whole back.0 f.op_changes_sectors f.flush_port_is f.flush_is f.answered i lt in
     let inside : sector_of w i < (after start past).sizes port = subst (λ (p : Port). sector_of w i < (after start past).sizes p) here lasts.inside in
     let large = legal.1.1 same in
     lasts.since (disk (sector_of w i)) (subst (λ (p : Port). HeldSince start p (sector_of w i) (disk (sector_of w i)) past) (sym here) (back.1 same (sector_of w i) (omega (arith, inside, large))))

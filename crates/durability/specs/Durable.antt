@@ -3,7 +3,7 @@ use Rattle.std.specs.Prelude.{◌≡◌, ◌⊎◌, ℕ, ◌-◌, ◌<◌, ◌�
 use Rattle.ata_types.specs.declared.Port.{Port}
 use Rattle.ata_types.specs.declared.request.Op.TheVariants.{Flush}
 use Rattle.ata_types.specs.declared.request.Outcome.TheVariants.{Ok}
-use Rattle.block_machine.specs.Due.{changes_sectors}
+use Rattle.block_machine.specs.DueRequests.{changes_sectors}
 use Rattle.block_machine.specs.State.{Block, DiskBytes, Accepted, Machine, sector_of, block_written}
 use Rattle.block_machine.specs.Steps.{Step, Answer, Unplug, Replace, SameBytes}
 use Rattle.block_machine.specs.Expected.{after, IsAccept, HasTouched}
@@ -50,9 +50,9 @@ FlushAnswered start w flush (step ∷ past) =
 -- the write or trim was answered Ok before the flush of its port was accepted, and the flush was answered Ok, all on
 -- one disk
 pub record IsFlushed (start : Machine) (w flush : Accepted) (history : List Step) : Type 0 where
-  pub writes : changes_sectors w.asked.op ≡ true
+  pub op_changes_sectors : changes_sectors w.asked.op ≡ true
   pub flush_is : flush.asked.op ≡ Flush
-  pub port : flush.port ≡ w.port
+  pub flush_port_is : flush.port ≡ w.port
   pub answered : FlushAnswered start w flush history
 
 -- The block is what w, or a write or trim of its port accepted later, put on sector k of the disk that was in,
@@ -60,12 +60,12 @@ pub record IsFlushed (start : Machine) (w flush : Accepted) (history : List Step
 -- port, maybe several times.)
 pub record IsWrittenSince (w : Accepted) (k : ℕ) (history : List Step) (block : Block) : Type 0 where
   pub writer : Accepted
-  pub writes : changes_sectors writer.asked.op ≡ true
-  pub here : writer.port ≡ w.port
-  pub later : w.id.0 ≤ writer.id.0
+  pub op_changes_sectors : changes_sectors writer.asked.op ≡ true
+  pub port_is : writer.port ≡ w.port
+  pub accepted_later : w.id.0 ≤ writer.id.0
   pub disk : ℕ
   pub touched : HasTouched writer k disk history
-  pub is : SameBytes block (block_written writer.asked.op writer.held (k - writer.asked.first.0))
+  pub block_is : SameBytes block (block_written writer.asked.op writer.held_blocks (k - writer.asked.first.0))
 
 -- each sector of the write or trim has, on this disk, what it put there, or what one accepted later did
 abbrev pub HoldsWrite : Accepted → List Step → DiskBytes → Type 0

@@ -16,11 +16,11 @@ use Rattle.adapter.specs.Rules.{HasPort, IsOn, MayWrite, IsStable}
 use Rattle.adapter.specs.Steps.{device_after}
 use Rattle.adapter.specs.Steps.DeviceTransition.{Fatal, Fall}
 use Rattle.refinement.specs.Relation.{port_at}
-use Rattle.refinement.specs.Driven.{AnyUse, IsRelated, OnPortWriting, IsSimulatedAlong}
+use Rattle.refinement.specs.Fragments.{AnyUse, IsRelated, IsPortAccessWriting, IsSimulatedAlong}
 use Rattle.refinement.specs.Driver.{IsSafeCmdWrite, KeepsOtherCmdBits}
 use Rattle.refinement.specs.Links.{DoesNotWrite}
-use Rattle.refinement.specs.Slots.{Free, Serves, SlotState, SlotStates, put}
-use Rattle.refinement.specs.Witness.{FirstReadWitness, first_id, first_uses}
+use Rattle.refinement.specs.Slots.{Free, Serves, SlotState, SlotStates, set_slot_state}
+use Rattle.refinement.specs.ReadWitness.{FirstReadWitness, first_id, first_uses}
 use Rattle.port_control.specs.Engines.{Stops}
 use Rattle.port_control.specs.Ports.{PortStops, IsStopped, IsCommandRegister}
 use Rattle.error_recovery.specs.Evidence.{ShowsFatal}
@@ -94,7 +94,7 @@ stands = record { halted = record { st = refl; cr = refl; ci = λ slot. refl; ta
 
 errs : ShowsFatal (seen.port 0)
 unfolding changed
-errs = record { place = 27; from = omega arith; to = omega arith; set = refl }
+errs = record { place = 27; from = omega arith; to = omega arith; cause_is_set = refl }
 
 is_broken : (seen.port 0).broken ≡ true
 unfolding changed
@@ -112,7 +112,7 @@ module _ (laws : Laws)
     may_stop = permits (port_at 0) 0xc011 0xc010 commanded is_on (omega arith, refl) noted_so.0 (subst (λ (fre : Bool). KeepsOtherCmdBits false fre 0xc011 0xc010) (sym noted_so.1) written_back)
 
     abbrev Commands : List Access → Device → Device → Type 0
-    Commands accesses old new = IsSimulatedAlong (λ made. made ≡ accesses) (OnPortWriting IsCommandRegister (port_at 0)) AnyUse old new
+    Commands accesses old new = IsSimulatedAlong (λ made. made ≡ accesses) (IsPortAccessWriting IsCommandRegister (port_at 0)) AnyUse old new
 
     abbrev kind : AccessPurpose
     kind = Controlling Commanding AnyUses (port_at 0)
@@ -138,15 +138,15 @@ module _ (laws : Laws)
       between = [];
       fallen = 0x4010;
       later = [];
-      here = ap (λ (xs : List Access). xs ++ late) a ∙ ap (λ (xs : List Access). stop_list ++ xs) b;
-      clears = refl;
-      only = All-nil (DoesNotWrite (Px (port_at 0) Cmd));
-      shown = refl;
+      accesses_are = ap (λ (xs : List Access). xs ++ late) a ∙ ap (λ (xs : List Access). stop_list ++ xs) b;
+      start_is_cleared = refl;
+      cmd_is_unwritten = All-nil (DoesNotWrite (Px (port_at 0) Cmd));
+      stop_is_shown = refl;
     }
 
     halts : PortStops (port_at 0) seen stopped
     halts = record {
-      told = told_both laws (λ made. made ≡ stop_list) (λ made. made ≡ Reading (Px (port_at 0) Cmd) 0x4010 ∷ []) (Stops (port_at 0)) tells_stop
+      is_simulated = told_both laws (λ made. made ≡ stop_list) (λ made. made ≡ Reading (Px (port_at 0) Cmd) 0x4010 ∷ []) (Stops (port_at 0)) tells_stop
           kind kind (λ uses. uses) (λ uses. uses) (λ access is. is) (λ uses fits. fits) seen stopping stopped began fell;
       stopped = stands;
     }
@@ -154,17 +154,17 @@ module _ (laws : Laws)
     agreed : IsRelated first_uses first_read_device → IsRelated first_uses seen
     agreed a = laws.fragments.agreed kind (λ uses. uses) first_uses first_read_device seen tt (laws.fragments.reads kind (Px (port_at 0) Ssts) 3 first_read_device seen refl sees).followed a
 
-    pub may_be_given_up : ((uses : SlotStates) (port slot : ℕ) (u : SlotState) → put uses port slot u port slot ≡ u) → FirstReadWitness → StopWitness
+    pub may_be_given_up : ((uses : SlotStates) (port slot : ℕ) (u : SlotState) → set_slot_state uses port slot u port slot ≡ u) → FirstReadWitness → StopWitness
     may_be_given_up here k = record {
       device = seen;
-      on = record { ae = refl; no_reset = refl };
-      there = (omega arith, refl);
-      agreed = (first_uses, tt, agreed (record { machine = k.machine; parked = λ port. []; reached = k.reached; knows = k.knows }));
+      adapter_is_on = record { ae = refl; no_reset = refl };
+      has_port = (omega arith, refl);
+      machine_is_related = (first_uses, tt, agreed (record { machine = k.machine; parked = λ port. []; reached = k.reached; driver_relation = k.driver_relation }));
       fatal = errs;
       broken = is_broken;
       serves = (first_id, here (λ port at. Free) 0 0 (Serves first_id));
       outstanding = 1;
-      among = refl;
+      is_outstanding = refl;
       stopped = stopped;
       token = record { port = port_at 0 };
       gives_up = λ queued. gives_up_stopped laws (port_at 0) 1 queued seen stopped (record { ae = refl; no_reset = refl }) (record { port = port_at 0 }) refl halts;

@@ -14,11 +14,11 @@ use Rattle.adapter.specs.Device.{Device, Notes}
 use Rattle.adapter.specs.Device.Halt.{NotHalted}
 use Rattle.adapter.specs.Rules.{IsOn}
 use Rattle.adapter.specs.declared.command.Operation.TheVariants.{Identify, ReadLog}
-use Rattle.refinement.specs.Driven.{RelatesWith, AnyUse, IsRelated, OnPortWriting, IsDrivenBy, IsSimulated, IsSimulatedTo, IsSimulatedAlongTo, GainsNoMove}
+use Rattle.refinement.specs.Fragments.{RelatesWith, AnyUse, IsRelated, IsPortAccessWriting, IsDrivenBy, IsSimulated, IsSimulatedChangingUses, IsSimulatedAlongChangingUses, GainsNoMove}
 use Rattle.refinement.specs.Driver.{AllFree}
-use Rattle.refinement.specs.Slots.{Free, IsMove, Own, SlotStates, put, op_of}
-use Rattle.disk_page.specs.Asking.{BringsLastPage, IsPageAccess, LeavesRunning, WaitsInVain}
-use Rattle.command_table.specs.Written.{IsUnused}
+use Rattle.refinement.specs.Slots.{Free, IsMove, Own, SlotStates, set_slot_state, op_of}
+use Rattle.disk_page.specs.PageRequests.{BringsLastPage, IsPageAccess, LeavesRunning, WaitsInVain}
+use Rattle.command_table.specs.TableStores.{IsUnused}
 use Rattle.identify.specs.Log.{TellsNoError}
 use Rattle.identify.specs.declared.error_log.FailedSlot.{FailedSlot}
 use Rattle.port_control.specs.Engines.{FailsToStop, EngineSticks, Stops}
@@ -33,8 +33,8 @@ use Rattle.error_recovery.specs.Laws.{Laws}
 use Rattle.error_recovery.specs.Laws.SlotCondition.{AnyUses, PortUnused}
 use Rattle.error_recovery.specs.Laws.RegisterSet.{ButIssued, Commanding}
 use Rattle.error_recovery.specs.Laws.AccessPurpose.{Asking, Controlling, Recovering}
-use Rattle.error_recovery.specs.Parts.{StopGetsStuck, StartsAgain, HasDriverMemory, MayStartAgain, ReadsLog, IsQuietedForRecovery}
-use Rattle.error_recovery.specs.Recovery.{EndsAsNext, IsRecoveryAccess, LeavesRecovery, SlotsAfterRecovery, MayRecover, RecoversOrStops, NamesUnknownSlot, Parts, Recovers, BacksFailure, StopsThenWaits}
+use Rattle.error_recovery.specs.RecoveryParts.{StopGetsStuck, StartsAgain, HasDriverMemory, MayStartAgain, ReadsLog, IsClearedForRecovery}
+use Rattle.error_recovery.specs.Recovery.{EndsAsNext, IsRecoveryAccess, LeavesRecovery, SlotsAfterRecovery, MayRecover, RecoversOrStops, NamesUnknownSlot, SplitsOutstanding, Recovers, BacksFailure, StopsThenWaits}
 use Rattle.error_recovery.proofs.Going.{Asks, Goes, asks_over, goes_over}
 use Rattle.error_recovery.proofs.Quieting.{commands_silent, starting_silent}
 use Rattle.error_recovery.proofs.Resting.{IsTold, brings_log}
@@ -44,8 +44,8 @@ use Rattle.error_recovery.proofs.Stretching.{commands_recover, followed_commands
 use Rattle.error_recovery.proofs.Whole.{quieted_told, silent_others, spares_other, asked, goes, only, performs, quieted, started, stops, told, total}
 
 -- nobody is named
-pub all_go_again : (outstanding : ℕ) → Parts outstanding None outstanding
-all_go_again outstanding = record { split = λ slot small set. inr set; apart = λ slot small set. (set, λ named. named) }
+pub all_go_again : (outstanding : ℕ) → SplitsOutstanding outstanding None outstanding
+all_go_again outstanding = record { each_is_in_one = λ slot small set. inr set; none_is_in_both = λ slot small set. (set, λ named. named) }
 
 -- what a plain command that is named rests on
 pub rests_on_fault : (port : Port) (outstanding shown : ℕ) (accesses : List Access) (old new : Device) → IsTold port false shown accesses old new → (failed : Option FailedSlot) →
@@ -53,10 +53,10 @@ pub rests_on_fault : (port : Port) (outstanding shown : ℕ) (accesses : List Ac
 rests_on_fault port outstanding shown accesses old new t None is = tt
 rests_on_fault port outstanding shown accesses old new t (Some f) is = record {
   slot_is = is.0;
-  among = is.1;
+  is_outstanding = is.1;
   fault = t.fault;
   has_failed = t.has_failed;
-  at = t.at refl;
+  fault_slot_is = t.fault_slot_is refl;
   status_is = t.status_is ∙ sym is.2;
   error_is = t.error_is ∙ sym is.3;
 }
@@ -67,17 +67,17 @@ is_named outstanding None none set = absurd (true≢false (sym set ∙ none))
 is_named outstanding (Some f) none set = λ e. absurd cc
 
 -- ST may be set
-pub may_go_on : (port : Port) (outstanding : ℕ) (queued : Bool) (before after : ℕ) (old d : Device) → IsQuietedForRecovery port outstanding queued before after old d → bit after 7 || bit after 3 ≡ false → MayStartAgain port.0 d
+pub may_go_on : (port : Port) (outstanding : ℕ) (queued : Bool) (before after : ℕ) (old d : Device) → IsClearedForRecovery port outstanding queued before after old d → bit after 7 || bit after 3 ≡ false → MayStartAgain port.0 d
 may_go_on port outstanding queued before after old d r idle =
     let q = r.quiets in
-    record { room = q.room; receives = q.receives; linked = q.linked; idle = ap (λ (v : ℕ). bit v 7 || bit v 3) q.file ∙ idle; quiet = q.quiet; agreed = q.agreed }
+    record { driver_memory_fits = q.driver_memory_fits; receives = q.receives; link_was_seen = q.link_was_seen; disk_was_idle = ap (λ (v : ℕ). bit v 7 || bit v 3) q.last_tfd_is ∙ idle; is_clean_to_start = q.is_clean_to_start; machine_is_related = q.machine_is_related }
 
 -- of what a call is asked, so it goes on
-pub resumes_at : (port at : Port) (outstanding : ℕ) (queued is : Bool) (before after : ℕ) (old d : Device) → at ≡ port → queued ≡ is → IsQuietedForRecovery port outstanding queued before after old d →
-    IsQuietedForRecovery at outstanding is before after old d
+pub resumes_at : (port at : Port) (outstanding : ℕ) (queued is : Bool) (before after : ℕ) (old d : Device) → at ≡ port → queued ≡ is → IsClearedForRecovery port outstanding queued before after old d →
+    IsClearedForRecovery at outstanding is before after old d
 resumes_at port at outstanding queued is before after old d names same r =
-    let P : Port → Type 0 = λ p. IsQuietedForRecovery p outstanding is before after old d in
-    subst P (sym names) (subst (λ (q : Bool). IsQuietedForRecovery port outstanding q before after old d) same r)
+    let P : Port → Type 0 = λ p. IsClearedForRecovery p outstanding is before after old d in
+    subst P (sym names) (subst (λ (q : Bool). IsClearedForRecovery port outstanding q before after old d) same r)
 
 pub recovers_at : (port at : Port) (outstanding : ℕ) (queued is : Bool) (result : recovered.Recovered) (old new : Device) → at ≡ port → queued ≡ is → Recovers at outstanding is result old new →
     Recovers port outstanding queued result old new
@@ -88,34 +88,34 @@ recovers_at port at outstanding queued is result old new names same r =
 module _ (laws : Laws) where
   -- the log was read, and named none
   pub log_room : (port : Port) (outstanding : ℕ) (start log : Device) → IsOn log → ReadsLog port outstanding None start log → HasDriverMemory port.0 start → HasDriverMemory port.0 log
-  log_room port outstanding start log on (inl (count, a)) room = room_after laws (IsPageAccess port) port.0 start log a.followed.driven on room
-  log_room port outstanding start log on (inr (page, (brings, a), why)) room = room_after laws (IsPageAccess port) port.0 start log a.driven on room
+  log_room port outstanding start log on (inl (count, a)) room = room_after laws (IsPageAccess port) port.0 start log a.followed.is_driven on room
+  log_room port outstanding start log on (inr (page, (brings, a), why)) room = room_after laws (IsPageAccess port) port.0 start log a.is_driven on room
 
   -- ---- the port wasn't even stopped
 
   pub mends_stuck : (port : Port) (outstanding : ℕ) (queued : Bool) (old new : Device) → IsOn old → StopGetsStuck port old new →
       RecoversOrStops port outstanding queued (record { failed = None; again = outstanding; next = Dead }) old new
   mends_stuck port outstanding queued old new on g =
-      let made = g.told.followed.driven in
-      let went : Goes port old new = goes_over laws port made.accesses old new on made.only made.all in
+      let made = g.is_simulated.followed.is_driven in
+      let went : Goes port old new = goes_over laws port made.accesses old new on made.accesses_are_of_kind made.all_are_done in
       record {
         accesses = made.accesses;
-        does = record { only = made.only; slots = inl (laws.fragments.one (Recovering AnyUses port) (λ uses. uses) old new g.told.followed); engine = g.told.tells };
-        tells = record { parts = all_go_again outstanding; rests = tt; dead = λ e. refl; unnamed = λ token is run. absurd cc };
+        does = record { only = made.accesses_are_of_kind; slots = inl (laws.fragments.one (Recovering AnyUses port) (λ uses. uses) old new g.is_simulated.followed); engine = g.is_simulated.tells };
+        tells = record { splits_outstanding = all_go_again outstanding; failure_is_backed = tt; dead_names_none = λ e. refl; reboot_names_none = λ token is run. absurd cc };
         leaves = record {
-          ends = (g.st, g.stuck);
-          det = went.det;
-          written = went.written;
-          enabled = went.enabled;
-          silent = g.silent;
-          others = λ q o apart own (uses, none, agreed).
-              laws.fragments.silent (Recovering AnyUses port) (λ uses. uses) uses q o old new tt (spares_other laws port q Ci apart) (spares_other laws port q Sact apart) own none g.told.followed agreed;
+          ends_as_next = (g.st, g.stuck_is_backed);
+          sctl_det_is_kept = went.det;
+          sctl_time_is_kept = went.written;
+          ie_is_kept = went.enabled;
+          no_identify_moves = g.no_identify_moves;
+          no_other_page_moves = λ q o apart own (uses, none, agreed).
+              laws.fragments.silent (Recovering AnyUses port) (λ uses. uses) uses q o old new tt (spares_other laws port q Ci apart) (spares_other laws port q Sact apart) own none g.is_simulated.followed agreed;
         };
       }
 
   -- and its accesses are those by which it got stuck
   pub accesses_stuck : (port : Port) (outstanding : ℕ) (queued : Bool) (old new : Device) (on : IsOn old) (g : StopGetsStuck port old new) →
-      (mends_stuck port outstanding queued old new on g).accesses ≡ g.told.followed.driven.accesses
+      (mends_stuck port outstanding queued old new on g).accesses ≡ g.is_simulated.followed.is_driven.accesses
   unfolding mends_stuck
   accesses_stuck port outstanding queued old new on g = refl
 
@@ -123,21 +123,21 @@ module _ (laws : Laws) where
       Recovers port outstanding queued (record { failed = None; again = outstanding; next = Dead }) old new
   is_stuck port outstanding queued old new on may g = record {
     handling = mends_stuck port outstanding queued old new on g;
-    tells = record { named = λ token is run. absurd cc; told = λ is set alive. absurd (alive refl); restarts = λ token run. absurd cc };
+    tells = record { running_names_one = λ token is run. absurd cc; plain_is_named = λ is set alive. absurd (alive refl); reboot_is_explained = λ token run. absurd cc };
   }
 
-  module _ (port : Port) (outstanding : ℕ) (queued : Bool) (before after : ℕ) (old d : Device) (r : IsQuietedForRecovery port outstanding queued before after old d) where
+  module _ (port : Port) (outstanding : ℕ) (queued : Bool) (before after : ℕ) (old d : Device) (r : IsClearedForRecovery port outstanding queued before after old d) where
     went : Goes port old d
     went = goes laws port outstanding queued before after old d r (λ uses. uses) d (quieted laws port outstanding queued before after old d r)
 
     -- what a recovery leaves, however it ends
     leaves : (next : Next) (new : Device) → Goes port old new → EndsAsNext queued port next old new → (RelatesWith (λ uses. uses port.0 0 ≡ Own Identify → ⊥) old → GainsNoMove port.0 Identify old new) →
         ((q : Port) (o : Operation) → q.0 ≢ port.0 → op_of o ≡ None → RelatesWith (λ uses. uses q.0 0 ≡ Own o → ⊥) old → GainsNoMove q.0 o old new) → LeavesRecovery port queued next old new
-    leaves next new w ends silent others = record { ends = ends; det = w.det; written = w.written; enabled = w.enabled; silent = silent; others = others }
+    leaves next new w ends silent others = record { ends_as_next = ends; sctl_det_is_kept = w.det; sctl_time_is_kept = w.written; ie_is_kept = w.enabled; no_identify_moves = silent; no_other_page_moves = others }
 
     -- ---- its disk is busy
 
-    pub is_busy : (failed : Option FailedSlot) (again : ℕ) (token : stopped_token.Stopped) → token.port ≡ port → bit after 7 || bit after 3 ≡ true → Parts outstanding failed again →
+    pub is_busy : (failed : Option FailedSlot) (again : ℕ) (token : stopped_token.Stopped) → token.port ≡ port → bit after 7 || bit after 3 ≡ true → SplitsOutstanding outstanding failed again →
         (BacksFailure queued port outstanding (total laws port outstanding queued before after old d r (λ uses. uses) d (quieted laws port outstanding queued before after old d r)) old d failed) →
         (queued ≡ false → bit outstanding 0 ≡ true → failed ≢ None) → (queued ≡ true → failed ≡ None) → Recovers port outstanding queued (record { failed = failed; again = again; next = Restart token }) old d
     is_busy failed again token names occupied parts rests named unnamed =
@@ -151,19 +151,19 @@ module _ (laws : Laws) where
               engine = stops laws port outstanding queued before after old d r (λ uses. uses) d b;
             };
             tells = record {
-              parts = parts;
-              rests = rests;
-              dead = λ e. absurd cc;
-              unnamed = λ at is run. unnamed is;
+              splits_outstanding = parts;
+              failure_is_backed = rests;
+              dead_names_none = λ e. absurd cc;
+              reboot_names_none = λ at is run. unnamed is;
             };
-            leaves = leaves (Restart token) d went (names, r.quiets.receives.stopped) r.quiets.silent (silent_others laws port outstanding queued before after old d r (λ uses. uses) d b);
+            leaves = leaves (Restart token) d went (names, r.quiets.receives.stopped) r.quiets.no_identify_moves (silent_others laws port outstanding queued before after old d r (λ uses. uses) d b);
           };
           tells = record {
-            named = λ at is run. absurd cc;
-            told = λ is set alive. named is set;
-            restarts = λ at run. inl (
-              All-append (DoesNotWrite (Px port Ci)) r.quiets.stops.followed.driven.accesses b.driven.accesses r.quiets.stops.tells.2 (quieted_told laws port outstanding queued before after old d r).tells,
-              λ idle. absurd (true≢false (sym occupied ∙ (ap (λ (v : ℕ). bit v 7 || bit v 3) (sym r.quiets.file) ∙ idle))),
+            running_names_one = λ at is run. absurd cc;
+            plain_is_named = λ is set alive. named is set;
+            reboot_is_explained = λ at run. inl (
+              All-append (DoesNotWrite (Px port Ci)) r.quiets.stops.followed.is_driven.accesses b.is_driven.accesses r.quiets.stops.tells.2 (quieted_told laws port outstanding queued before after old d r).tells,
+              λ idle. absurd (true≢false (sym occupied ∙ (ap (λ (v : ℕ). bit v 7 || bit v 3) (sym r.quiets.last_tfd_is) ∙ idle))),
             );
           };
         }
@@ -178,13 +178,13 @@ module _ (laws : Laws) where
       goes_start = goes laws port outstanding queued before after old d r (λ uses. uses) start b_start
 
       starting : Goes port d start
-      starting = let made = (followed_commands laws PortUnused port d start s.starts).driven in goes_over laws port made.accesses d start went.on made.only made.all
+      starting = let made = (followed_commands laws PortUnused port d start s.starts).is_driven in goes_over laws port made.accesses d start went.on made.accesses_are_of_kind made.all_are_done
 
       silent_start : RelatesWith (λ uses. uses port.0 0 ≡ Own Identify → ⊥) old → GainsNoMove port.0 Identify old start
-      silent_start a = laws.silent_more port.0 Identify old d start (r.quiets.silent a) (starting_silent laws port d start s.starts r.quiets.agreed)
+      silent_start a = laws.silent_more port.0 Identify old d start (r.quiets.no_identify_moves a) (starting_silent laws port d start s.starts r.quiets.machine_is_related)
 
       -- a plain command failed
-      pub goes_again : (failed : Option FailedSlot) (again : ℕ) (token : running_token.Running) → token.port ≡ port → queued ≡ false → Parts outstanding failed again →
+      pub goes_again : (failed : Option FailedSlot) (again : ℕ) (token : running_token.Running) → token.port ≡ port → queued ≡ false → SplitsOutstanding outstanding failed again →
           BacksFailure queued port outstanding (total laws port outstanding queued before after old d r (λ uses. uses) start b_start) old start failed →
           (bit outstanding 0 ≡ true → failed ≢ None) → Recovers port outstanding queued (record { failed = failed; again = again; next = Running token }) old start
       goes_again failed again token names is parts rests named = record {
@@ -196,17 +196,17 @@ module _ (laws : Laws) where
             engine = stops laws port outstanding queued before after old d r (λ uses. uses) start b_start;
           };
           tells = record {
-            parts = parts;
-            rests = rests;
-            dead = λ e. absurd cc;
-            unnamed = λ at on run. absurd cc;
+            splits_outstanding = parts;
+            failure_is_backed = rests;
+            dead_names_none = λ e. absurd cc;
+            reboot_names_none = λ at on run. absurd cc;
           };
           leaves = leaves (Running token) start goes_start (names, runs_plain laws port outstanding queued before after old d r went start s starting goes_start is) silent_start (silent_others laws port outstanding queued before after old d r (λ uses. uses) start b_start);
         };
         tells = record {
-          named = λ at on run. absurd (true≢false (sym on ∙ is));
-          told = λ off set alive. named set;
-          restarts = λ at run. absurd cc;
+          running_names_one = λ at on run. absurd (true≢false (sym on ∙ is));
+          plain_is_named = λ off set alive. named set;
+          reboot_is_explained = λ at run. absurd cc;
         };
       }
 
@@ -222,20 +222,20 @@ module _ (laws : Laws) where
         b_log : IsSimulated (IsPageAccess port) (IsUnused port.0 0) start log → IsSimulated (IsRecoveryAccess port) (λ uses. AllFree uses port.0) r.quiets.stopped log
         b_log a = (asked laws port outstanding queued before after old d r (λ made. Unit {0}) (λ early late is. is) (λ uses. uses) start log s (record { followed = a; tells = tt })).followed
 
-        b_vain : IsSimulatedAlongTo (WaitsInVain port) (IsPageAccess port) (IsUnused port.0 0) (λ uses. put uses port.0 0 (Own ReadLog)) start log →
-            IsSimulatedAlongTo (WaitsInVain port) (IsRecoveryAccess port) (λ uses. AllFree uses port.0) (λ uses. put uses port.0 0 (Own ReadLog)) r.quiets.stopped log
-        b_vain a = asked laws port outstanding queued before after old d r (WaitsInVain port) (λ early late is. laws.vain_since port early late is) (λ uses. put uses port.0 0 (Own ReadLog)) start log s a
+        b_vain : IsSimulatedAlongChangingUses (WaitsInVain port) (IsPageAccess port) (IsUnused port.0 0) (λ uses. set_slot_state uses port.0 0 (Own ReadLog)) start log →
+            IsSimulatedAlongChangingUses (WaitsInVain port) (IsRecoveryAccess port) (λ uses. AllFree uses port.0) (λ uses. set_slot_state uses port.0 0 (Own ReadLog)) r.quiets.stopped log
+        b_vain a = asked laws port outstanding queued before after old d r (WaitsInVain port) (λ early late is. laws.vain_since port early late is) (λ uses. set_slot_state uses port.0 0 (Own ReadLog)) start log s a
 
-        asking : (next : SlotStates → SlotStates) → IsSimulatedTo (IsPageAccess port) (IsUnused port.0 0) next start log → Asks port start log
-        asking next a = asks_over laws port a.driven.accesses start log goes_start.on a.driven.only a.driven.all
+        asking : (next : SlotStates → SlotStates) → IsSimulatedChangingUses (IsPageAccess port) (IsUnused port.0 0) next start log → Asks port start log
+        asking next a = asks_over laws port a.is_driven.accesses start log goes_start.on a.is_driven.accesses_are_of_kind a.is_driven.all_are_done
 
-        recovers_asked : (next : SlotStates → SlotStates) → IsSimulatedTo (IsPageAccess port) (IsUnused port.0 0) next start log → Goes port start log
+        recovers_asked : (next : SlotStates → SlotStates) → IsSimulatedChangingUses (IsPageAccess port) (IsUnused port.0 0) next start log → Goes port start log
         recovers_asked next a =
-            goes_over laws port a.driven.accesses start log goes_start.on (All-weaker (IsPageAccess port) (IsRecoveryAccess port) (λ access is. inr is) a.driven.accesses a.driven.only) a.driven.all
+            goes_over laws port a.is_driven.accesses start log goes_start.on (All-weaker (IsPageAccess port) (IsRecoveryAccess port) (λ access is. inr is) a.is_driven.accesses a.is_driven.accesses_are_of_kind) a.is_driven.all_are_done
 
         -- and names one
         pub names_one : (failed : FailedSlot) (again : ℕ) (token : running_token.Running) → token.port ≡ port → (log.port port.0).halt ≡ NotHalted → ReadsLog port outstanding (Some failed) start log →
-            Parts outstanding (Some failed) again → Recovers port outstanding queued (record { failed = Some failed; again = again; next = Running token }) old log
+            SplitsOutstanding outstanding (Some failed) again → Recovers port outstanding queued (record { failed = Some failed; again = again; next = Running token }) old log
         names_one failed again token names running (page, (brings, a), tells, among) parts =
             let b = b_log a in
             let w = goes laws port outstanding queued before after old d r (λ uses. uses) log b in
@@ -251,26 +251,26 @@ module _ (laws : Laws) where
                   engine = stops laws port outstanding queued before after old d r (λ uses. uses) log b;
                 };
                 tells = record {
-                  parts = parts;
-                  rests = subst Q (sym on) (record {
-                    small = tag_is_small page failed.slot.0 failed.status failed.error tells;
-                    among = among;
+                  splits_outstanding = parts;
+                  failure_is_backed = subst Q (sym on) (record {
+                    slot_in_range = tag_is_small page failed.slot.0 failed.status failed.error tells;
+                    is_outstanding = among;
                     fault = t.fault;
                     has_failed = t.has_failed;
-                    page = page;
+                    last_log_page = page;
                     brings = came;
                     tells = tells;
                   });
-                  dead = λ e. absurd cc;
-                  unnamed = λ at is run. absurd cc;
+                  dead_names_none = λ e. absurd cc;
+                  reboot_names_none = λ at is run. absurd cc;
                 };
                 leaves = leaves (Running token) log w
-                    (names, runs_queued laws port outstanding queued before after old d r went start log s starting l (asking (λ uses. uses) a) (recovers_asked (λ uses. uses) a) brings.clear.over running on) silent_now (silent_others laws port outstanding queued before after old d r (λ uses. uses) log b);
+                    (names, runs_queued laws port outstanding queued before after old d r went start log s starting l (asking (λ uses. uses) a) (recovers_asked (λ uses. uses) a) brings.slot_is_clear.over running on) silent_now (silent_others laws port outstanding queued before after old d r (λ uses. uses) log b);
               };
               tells = record {
-                named = λ at is run e. absurd cc;
-                told = λ off. absurd (true≢false (sym on ∙ off));
-                restarts = λ at run. absurd cc;
+                running_names_one = λ at is run e. absurd cc;
+                plain_is_named = λ off. absurd (true≢false (sym on ∙ off));
+                reboot_is_explained = λ at run. absurd cc;
               };
             }
 
@@ -278,35 +278,35 @@ module _ (laws : Laws) where
 
         module _ (new : Device) where
           page_free : IsSimulated (IsPageAccess port) (IsUnused port.0 0) start log → RelatesWith (λ uses. AllFree uses port.0) log
-          page_free a = let g = s.agreed in (g.0, g.1, laws.fragments.agreed (Asking port) (λ uses. uses) g.0 start log (g.1 0) a g.2)
+          page_free a = let g = s.machine_is_related in (g.0, g.1, laws.fragments.agreed (Asking port) (λ uses. uses) g.0 start log (g.1 0) a g.2)
 
           -- no page of IDENTIFY DEVICE comes meanwhile
-          stop_silent : (uses : SlotStates) → IsRelated uses log → (uses port.0 0 ≡ Own Identify → ⊥) → IsSimulated (OnPortWriting IsCommandRegister port) AnyUse log new →
+          stop_silent : (uses : SlotStates) → IsRelated uses log → (uses port.0 0 ≡ Own Identify → ⊥) → IsSimulated (IsPortAccessWriting IsCommandRegister port) AnyUse log new →
               RelatesWith (λ uses. uses port.0 0 ≡ Own Identify → ⊥) old → GainsNoMove port.0 Identify old new
           stop_silent uses agreed none a o = laws.silent_more port.0 Identify old log new (silent_now o) (commands_silent laws port uses log new a agreed none)
 
-          page_silent : IsSimulated (IsPageAccess port) (IsUnused port.0 0) start log → IsSimulated (OnPortWriting IsCommandRegister port) AnyUse log new →
+          page_silent : IsSimulated (IsPageAccess port) (IsUnused port.0 0) start log → IsSimulated (IsPortAccessWriting IsCommandRegister port) AnyUse log new →
               RelatesWith (λ uses. uses port.0 0 ≡ Own Identify → ⊥) old → GainsNoMove port.0 Identify old new
           page_silent a c = let g = page_free a in stop_silent g.0 g.2 (λ own. let e : Free ≡ Own Identify = sym (g.1 0) ∙ own in absurd cc) c
 
-          vain_silent : IsSimulatedTo (IsPageAccess port) (IsUnused port.0 0) (λ uses. put uses port.0 0 (Own ReadLog)) start log → IsSimulated (OnPortWriting IsCommandRegister port) AnyUse log new →
+          vain_silent : IsSimulatedChangingUses (IsPageAccess port) (IsUnused port.0 0) (λ uses. set_slot_state uses port.0 0 (Own ReadLog)) start log → IsSimulated (IsPortAccessWriting IsCommandRegister port) AnyUse log new →
               RelatesWith (λ uses. uses port.0 0 ≡ Own Identify → ⊥) old → GainsNoMove port.0 Identify old new
           vain_silent a c =
-              let g = s.agreed in
-              let agreed = laws.fragments.agreed (Asking port) (λ uses. put uses port.0 0 (Own ReadLog)) g.0 start log (g.1 0) a g.2 in
-              stop_silent (put g.0 port.0 0 (Own ReadLog)) agreed (λ own. let e : Own ReadLog ≡ Own Identify = sym (laws.put_here g.0 port.0 0 ReadLog) ∙ own in absurd cc) c
+              let g = s.machine_is_related in
+              let agreed = laws.fragments.agreed (Asking port) (λ uses. set_slot_state uses port.0 0 (Own ReadLog)) g.0 start log (g.1 0) a g.2 in
+              stop_silent (set_slot_state g.0 port.0 0 (Own ReadLog)) agreed (λ own. let e : Own ReadLog ≡ Own Identify = sym (laws.put_here g.0 port.0 0 ReadLog) ∙ own in absurd cc) c
 
           -- the page that came is the last one still
-          still_last : (page : List ℕ) → BringsLastPage port.0 ReadLog (length start.tape) page log → IsSimulated (IsPageAccess port) (IsUnused port.0 0) start log → IsDrivenBy (OnPortWriting IsCommandRegister port) log new →
+          still_last : (page : List ℕ) → BringsLastPage port.0 ReadLog (length start.tape) page log → IsSimulated (IsPageAccess port) (IsUnused port.0 0) start log → IsDrivenBy (IsPortAccessWriting IsCommandRegister port) log new →
               BringsLog port old new page
           still_last page brings a c =
               let w = goes laws port outstanding queued before after old d r (λ uses. uses) log (b_log a) in
-              let runs = asked_running laws port.0 start log s.runs l brings.clear.over in
+              let runs = asked_running laws port.0 start log s.runs l brings.slot_is_clear.over in
               let others : (q : PortReg) → IsCommandRegister q → q ≢ Ci = λ q is same. let e : Cmd ≡ Ci = sym is ∙ same in absurd cc in
-              let unissued : IsDrivenBy (OnPortWriting (λ q. q ≢ Ci) port) log new = record {
+              let unissued : IsDrivenBy (IsPortAccessWriting (λ q. q ≢ Ci) port) log new = record {
                 accesses = c.accesses;
-                all = c.all;
-                only = All-weaker (OnPortWriting IsCommandRegister port) (OnPortWriting (λ q. q ≢ Ci) port) (laws.control_wider Commanding ButIssued port others) c.accesses c.only;
+                all_are_done = c.all_are_done;
+                accesses_are_of_kind = All-weaker (IsPortAccessWriting IsCommandRegister port) (IsPortAccessWriting (λ q. q ≢ Ci) port) (laws.control_wider Commanding ButIssued port others) c.accesses c.accesses_are_of_kind;
               } in
               brings_log port old start log new page goes_start.grows w.grows brings (laws.controls_unmoving port ReadLog log new unissued (no_command port.0 (log.port port.0) runs)).0
 
@@ -324,17 +324,17 @@ module _ (laws : Laws) where
                 engine = stops laws port outstanding queued before after old d r (λ uses. uses) new b;
               };
               tells = record {
-                parts = all_go_again outstanding;
-                rests = tt;
-                dead = λ e. absurd cc;
-                unnamed = λ at is run. refl;
+                splits_outstanding = all_go_again outstanding;
+                failure_is_backed = tt;
+                dead_names_none = λ e. absurd cc;
+                reboot_names_none = λ at is run. refl;
               };
               leaves = leaves (Restart token) new (goes laws port outstanding queued before after old d r (λ uses. uses) new b) (names, halts.stopped) silent (silent_others laws port outstanding queued before after old d r (λ uses. uses) new b);
             };
             tells = record {
-              named = λ at is run. absurd cc;
-              told = λ off. absurd (true≢false (sym on ∙ off));
-              restarts = λ at run. inr (on, why);
+              running_names_one = λ at is run. absurd cc;
+              plain_is_named = λ off. absurd (true≢false (sym on ∙ off));
+              reboot_is_explained = λ at run. inr (on, why);
             };
           }
 
@@ -342,32 +342,32 @@ module _ (laws : Laws) where
               Recovers port outstanding queued (record { failed = None; again = outstanding; next = Restart token }) old new
           restarts token names has halts (inl (count, a)) =
               let t = told_both laws (WaitsInVain port) (Stops port) (WaitsInVain port) (λ early late w is. laws.vain_then port early late w) (Recovering PortUnused port) (Controlling Commanding AnyUses port)
-              (λ uses. put uses port.0 0 (Own ReadLog)) (λ uses. uses) (commands_recover laws port) (λ uses free. tt) r.quiets.stopped log new (b_vain a) halts.told in
+              (λ uses. set_slot_state uses port.0 0 (Own ReadLog)) (λ uses. uses) (commands_recover laws port) (λ uses free. tt) r.quiets.stopped log new (b_vain a) halts.is_simulated in
               let o = laws.fragments.over (Recovering PortUnused port) port ReadLog 1 r.quiets.stopped new (inr (refl, refl)) (λ uses free. free 0)
               (record { issued = halts.stopped.halted.ci 0; free = halts.stopped.halted.taken 0 }) t.followed in
               let b = o.followed in
               stopped token names b halts
               (inl (record {
-                early = r.quiets.stops.followed.driven.accesses;
-                late = b.driven.accesses;
-                here = refl;
+                early = r.quiets.stops.followed.is_driven.accesses;
+                late = b.is_driven.accesses;
+                accesses_are = refl;
                 stopped = r.quiets.stops.tells.1;
-                vain = subst (WaitsInVain port) (sym o.tells) t.tells;
-                still = ap (λ (n : Notes). n.command_count) has.notes ∙ count;
-              })) (vain_silent a.followed halts.told.followed)
+                waits_in_vain = subst (WaitsInVain port) (sym o.tells) t.tells;
+                wait_is_in_vain = ap (λ (n : Notes). n.command_count) has.notes ∙ count;
+              })) (vain_silent a.followed halts.is_simulated.followed)
           restarts token names has halts (inr (page, (brings, a), why)) =
               let b = (told_both laws (λ made. Unit {0}) (Stops port) (λ made. Unit {0}) (λ early late w is. tt) (Recovering PortUnused port) (Controlling Commanding AnyUses port)
-              (λ uses. uses) (λ uses. uses) (commands_recover laws port) (λ uses free. tt) r.quiets.stopped log new (record { followed = b_log a; tells = tt }) halts.told).followed in
-              stopped token names b halts (inr (page, still_last page brings a halts.told.followed.driven, why)) (page_silent a halts.told.followed)
+              (λ uses. uses) (λ uses. uses) (commands_recover laws port) (λ uses free. tt) r.quiets.stopped log new (record { followed = b_log a; tells = tt }) halts.is_simulated).followed in
+              stopped token names b halts (inr (page, still_last page brings a halts.is_simulated.followed.is_driven, why)) (page_silent a halts.is_simulated.followed)
 
           -- or it is stuck
           module _ (has : HasStCleared (log.port port.0) (new.port port.0)) (fails : FailsToStopPort port log new) where
-            failing : (First : List Access → Type 0) (next : SlotStates → SlotStates) → IsSimulatedAlongTo First (IsRecoveryAccess port) (λ uses. AllFree uses port.0) next r.quiets.stopped log →
-                IsSimulatedAlongTo (EngineSticks port) (IsRecoveryAccess port) (λ uses. AllFree uses port.0) next r.quiets.stopped new
+            failing : (First : List Access → Type 0) (next : SlotStates → SlotStates) → IsSimulatedAlongChangingUses First (IsRecoveryAccess port) (λ uses. AllFree uses port.0) next r.quiets.stopped log →
+                IsSimulatedAlongChangingUses (EngineSticks port) (IsRecoveryAccess port) (λ uses. AllFree uses port.0) next r.quiets.stopped new
             failing First next t = told_both laws First (FailsToStop port) (EngineSticks port) (λ early late w is. laws.sticks_since early late port (laws.failing_sticks port late is)) (Recovering PortUnused port)
-                (Controlling Commanding AnyUses port) next (λ uses. uses) (commands_recover laws port) (λ uses free. tt) r.quiets.stopped log new t fails.told
+                (Controlling Commanding AnyUses port) next (λ uses. uses) (commands_recover laws port) (λ uses free. tt) r.quiets.stopped log new t fails.is_simulated
 
-            stuck : (next : SlotStates → SlotStates) (t : IsSimulatedAlongTo (EngineSticks port) (IsRecoveryAccess port) (λ uses. AllFree uses port.0) next r.quiets.stopped new) →
+            stuck : (next : SlotStates → SlotStates) (t : IsSimulatedAlongChangingUses (EngineSticks port) (IsRecoveryAccess port) (λ uses. AllFree uses port.0) next r.quiets.stopped new) →
                 SlotsAfterRecovery port.0 Dead (total laws port outstanding queued before after old d r next new t.followed) old new →
                 (RelatesWith (λ uses. uses port.0 0 ≡ Own Identify → ⊥) old → GainsNoMove port.0 Identify old new) →
                 Recovers port outstanding queued (record { failed = None; again = outstanding; next = Dead }) old new
@@ -377,28 +377,28 @@ module _ (laws : Laws) where
                 does = record {
                   only = only laws port outstanding queued before after old d r next new t.followed;
                   slots = slots;
-                  engine = laws.sticks_since r.quiets.stops.followed.driven.accesses t.followed.driven.accesses port t.tells;
+                  engine = laws.sticks_since r.quiets.stops.followed.is_driven.accesses t.followed.is_driven.accesses port t.tells;
                 };
                 tells = record {
-                  parts = all_go_again outstanding;
-                  rests = tt;
-                  dead = λ e. refl;
-                  unnamed = λ at is run. absurd cc;
+                  splits_outstanding = all_go_again outstanding;
+                  failure_is_backed = tt;
+                  dead_names_none = λ e. refl;
+                  reboot_names_none = λ at is run. absurd cc;
                 };
-                leaves = leaves Dead new (goes laws port outstanding queued before after old d r next new t.followed) (has.st, fails.stuck) silent (silent_others laws port outstanding queued before after old d r next new t.followed);
+                leaves = leaves Dead new (goes laws port outstanding queued before after old d r next new t.followed) (has.st, fails.stuck_is_backed) silent (silent_others laws port outstanding queued before after old d r next new t.followed);
               };
               tells = record {
-                named = λ at is run. absurd cc;
-                told = λ off set alive. absurd (alive refl);
-                restarts = λ at run. absurd cc;
+                running_names_one = λ at is run. absurd cc;
+                plain_is_named = λ off set alive. absurd (alive refl);
+                reboot_is_explained = λ at run. absurd cc;
               };
             }
 
             pub gets_stuck : ReadsLog port outstanding None start log → Recovers port outstanding queued (record { failed = None; again = outstanding; next = Dead }) old new
             gets_stuck (inl (count, a)) =
-                let t = failing (WaitsInVain port) (λ uses. put uses port.0 0 (Own ReadLog)) (b_vain a) in
-                stuck (λ uses. put uses port.0 0 (Own ReadLog)) t
-                (inr (inr (performs laws port outstanding queued before after old d r (λ uses. put uses port.0 0 (Own ReadLog)) new t.followed))) (vain_silent a.followed fails.told.followed)
+                let t = failing (WaitsInVain port) (λ uses. set_slot_state uses port.0 0 (Own ReadLog)) (b_vain a) in
+                stuck (λ uses. set_slot_state uses port.0 0 (Own ReadLog)) t
+                (inr (inr (performs laws port outstanding queued before after old d r (λ uses. set_slot_state uses port.0 0 (Own ReadLog)) new t.followed))) (vain_silent a.followed fails.is_simulated.followed)
             gets_stuck (inr (page, (brings, a), why)) =
                 let t = failing (λ made. Unit {0}) (λ uses. uses) (record { followed = b_log a; tells = tt }) in
-                stuck (λ uses. uses) t (inr (inl (performs laws port outstanding queued before after old d r (λ uses. uses) new t.followed))) (page_silent a fails.told.followed)
+                stuck (λ uses. uses) t (inr (inl (performs laws port outstanding queued before after old d r (λ uses. uses) new t.followed))) (page_silent a fails.is_simulated.followed)

@@ -11,12 +11,12 @@ use Rattle.adapter.specs.Access.{Access, Does, DoesAll}
 use Rattle.adapter.specs.Access.Access.{Reading, Writing, Loading, Storing}
 use Rattle.adapter.specs.Device.{Device, DevicePort}
 use Rattle.adapter.specs.Rules.{IsOn}
-use Rattle.refinement.specs.Driven.{TapeGrows, SparesOtherPorts}
+use Rattle.refinement.specs.Fragments.{TapeGrows, SparesOtherPorts}
 use Rattle.refinement.specs.Errors.{ChangesByDisks, NoneFails, NoneFatal}
 use Rattle.refinement.specs.Links.{NoPlugEvents, DoesNotWrite}
-use Rattle.refinement.specs.Recovering.{IsLinked, RunsLinked}
-use Rattle.refinement.specs.Started.{ClearsNoStart}
-use Rattle.disk_page.specs.Asking.{IsPageAccess}
+use Rattle.refinement.specs.HaltRecovery.{IsLinked, RunsLinked}
+use Rattle.refinement.specs.StartedPort.{ClearsNoStart}
+use Rattle.disk_page.specs.PageRequests.{IsPageAccess}
 use Rattle.error_recovery.specs.Laws.{Laws}
 use Rattle.error_recovery.specs.Laws.RegisterSet.{Recovered}
 use Rattle.error_recovery.specs.Recovery.{IsRecoveryRegister, IsRecoveryAccess}

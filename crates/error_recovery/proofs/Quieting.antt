@@ -9,9 +9,9 @@ use Rattle.adapter.specs.Access.{Access, Reads}
 use Rattle.adapter.specs.Access.Access.{Reading}
 use Rattle.adapter.specs.Device.{Device, Notes}
 use Rattle.adapter.specs.declared.command.Operation.TheVariants.{Identify}
-use Rattle.refinement.specs.Driven.{RelatesWith, AnyUse, IsRelated, OnPortWriting, IsSimulated, IsSimulatedAlong, NoneWrites, GainsNoMove, IsDrivenBy}
+use Rattle.refinement.specs.Fragments.{RelatesWith, AnyUse, IsRelated, IsPortAccessWriting, IsSimulated, IsSimulatedAlong, NoneWrites, GainsNoMove, IsDrivenBy}
 use Rattle.refinement.specs.Driver.{AllFree}
-use Rattle.refinement.specs.Recovering.{WorksPlainly}
+use Rattle.refinement.specs.HaltRecovery.{WorksPlainly}
 use Rattle.refinement.specs.Slots.{Free, Own, SlotStates}
 use Rattle.port_control.specs.Engines.{FailsToStop, EngineSticks, Stops}
 use Rattle.port_control.specs.Ports.{FailsToStopPort, ClearsErrorState, PortStops, HasStCleared, IsErrorRegister, ReceivesFises, IsCommandRegister}
@@ -19,32 +19,32 @@ use Rattle.error_recovery.specs.Laws.{Laws}
 use Rattle.error_recovery.specs.Laws.RegisterSet.{Commanding, Clearing}
 use Rattle.error_recovery.specs.Laws.AccessPurpose.{Controlling, Recovering}
 use Rattle.error_recovery.specs.Laws.SlotCondition.{AnyUses, PortUnused}
-use Rattle.error_recovery.specs.Parts.{StopGetsStuck, HasDriverMemory, Quiets, ReadsAndStops}
-use Rattle.error_recovery.specs.Recovery.{IsRecoveryAccess, IssueNone, MayRecover}
+use Rattle.error_recovery.specs.RecoveryParts.{StopGetsStuck, HasDriverMemory, StopsAndClears, ReadsTfdAndStops}
+use Rattle.error_recovery.specs.Recovery.{IsRecoveryAccess, IssueNoCommand, MayRecover}
 use Rattle.error_recovery.proofs.Going.{Goes, goes_over, plugs_in_parts, spares_active}
 use Rattle.error_recovery.proofs.Stretching.{agreed_free, room_after, told_both, told_commands, told_wider, clears_recover}
 
-reads_and_stops : (port : Port) (v : ℕ) (early late : List Access) → early ≡ Reading (Px port Tfd) v ∷ [] → (Stops port late → Stops port (early ++ late)) → Stops port late → IssueNone port late → ReadsAndStops port v (early ++ late)
+reads_and_stops : (port : Port) (v : ℕ) (early late : List Access) → early ≡ Reading (Px port Tfd) v ∷ [] → (Stops port late → Stops port (early ++ late)) → Stops port late → IssueNoCommand port late → ReadsTfdAndStops port v (early ++ late)
 reads_and_stops port v early late is since stops none = (
-  record { rest = late; here = ap (λ (made : List Access). made ++ late) is },
+  record { rest = late; accesses_are = ap (λ (made : List Access). made ++ late) is },
   since stops,
-  subst (λ (made : List Access). IssueNone port (made ++ late)) (sym is) (All-cons (DoesNotWrite (Px port Ci)) (Reading (Px port Tfd) v) late tt none),
+  subst (λ (made : List Access). IssueNoCommand port (made ++ late)) (sym is) (All-cons (DoesNotWrite (Px port Ci)) (Reading (Px port Tfd) v) late tt none),
 )
 
 module _ (laws : Laws) where
   -- neither PxCI nor PxSACT is written while PxCMD, PxSERR and PxIS are
-  commanding_issues : (port : Port) → NoneWrites (OnPortWriting IsCommandRegister port) (Px port Ci)
+  commanding_issues : (port : Port) → NoneWrites (IsPortAccessWriting IsCommandRegister port) (Px port Ci)
   commanding_issues port = laws.control_spares Commanding port Ci (λ e. absurd (let k : Ci ≡ Cmd = e in cc))
 
-  commanding_arms : (port : Port) → NoneWrites (OnPortWriting IsCommandRegister port) (Px port Sact)
+  commanding_arms : (port : Port) → NoneWrites (IsPortAccessWriting IsCommandRegister port) (Px port Sact)
   commanding_arms port = laws.control_spares Commanding port Sact (λ e. absurd (let k : Sact ≡ Cmd = e in cc))
 
   -- PxCMD alone is written, and no page comes by a command that isn't there
-  pub commands_silent : (port : Port) (uses : SlotStates) (old new : Device) → IsSimulated (OnPortWriting IsCommandRegister port) AnyUse old new → IsRelated uses old → (uses port.0 0 ≡ Own Identify → ⊥) → GainsNoMove port.0 Identify old new
+  pub commands_silent : (port : Port) (uses : SlotStates) (old new : Device) → IsSimulated (IsPortAccessWriting IsCommandRegister port) AnyUse old new → IsRelated uses old → (uses port.0 0 ≡ Own Identify → ⊥) → GainsNoMove port.0 Identify old new
   commands_silent port uses old new a agreed none =
       laws.fragments.silent (Controlling Commanding AnyUses port) (λ uses. uses) uses port Identify old new tt (commanding_issues port) (commanding_arms port) refl none a agreed
 
-  clearing_issues : (port : Port) → NoneWrites (OnPortWriting IsErrorRegister port) (Px port Ci)
+  clearing_issues : (port : Port) → NoneWrites (IsPortAccessWriting IsErrorRegister port) (Px port Ci)
   clearing_issues port = laws.control_spares Clearing port Ci no_issue
     where
       no_issue : IsErrorRegister Ci → ⊥
@@ -52,10 +52,10 @@ module _ (laws : Laws) where
       no_issue (inr e) = absurd cc
 
   -- so no command is issued
-  unissued : {port : Port} (May : Access → Type 0) → NoneWrites May (Px port Ci) → {old new : Device} (made : IsDrivenBy May old new) → IssueNone port made.accesses
-  unissued {port} May none made = All-weaker May (DoesNotWrite (Px port Ci)) none made.accesses made.only
+  unissued : {port : Port} (May : Access → Type 0) → NoneWrites May (Px port Ci) → {old new : Device} (made : IsDrivenBy May old new) → IssueNoCommand port made.accesses
+  unissued {port} May none made = All-weaker May (DoesNotWrite (Px port Ci)) none made.accesses made.accesses_are_of_kind
 
-  clears_silent : (port : Port) (uses : SlotStates) (old new : Device) → IsSimulated (OnPortWriting IsErrorRegister port) AnyUse old new → IsRelated uses old → (uses port.0 0 ≡ Own Identify → ⊥) → GainsNoMove port.0 Identify old new
+  clears_silent : (port : Port) (uses : SlotStates) (old new : Device) → IsSimulated (IsPortAccessWriting IsErrorRegister port) AnyUse old new → IsRelated uses old → (uses port.0 0 ≡ Own Identify → ⊥) → GainsNoMove port.0 Identify old new
   clears_silent port uses old new a agreed none =
       laws.fragments.silent (Controlling Clearing AnyUses port) (λ uses. uses) uses port Identify old new tt
       (clearing_issues port) (laws.control_spares Clearing port Sact no_arm) refl none a agreed
@@ -70,28 +70,28 @@ module _ (laws : Laws) where
       laws.fragments.plain (Recovering AnyUses port) (λ uses. uses) uses port old new tt (spares_active laws port) a agreed
 
   -- also while it is started
-  pub commands_plain : (port : Port) (old new : Device) → IsSimulated (OnPortWriting IsCommandRegister port) (λ uses. AllFree uses port.0) old new → RelatesWith (λ uses. AllFree uses port.0) old →
+  pub commands_plain : (port : Port) (old new : Device) → IsSimulated (IsPortAccessWriting IsCommandRegister port) (λ uses. AllFree uses port.0) old new → RelatesWith (λ uses. AllFree uses port.0) old →
       WorksPlainly (old.port port.0) → WorksPlainly (new.port port.0)
   commands_plain port old new a (uses, free, agreed) = laws.fragments.plain (Controlling Commanding PortUnused port) (λ uses. uses) uses port old new free (commanding_arms port) a agreed
 
-  pub starting_silent : (port : Port) (old new : Device) → IsSimulated (OnPortWriting IsCommandRegister port) (λ uses. AllFree uses port.0) old new → RelatesWith (λ uses. AllFree uses port.0) old →
+  pub starting_silent : (port : Port) (old new : Device) → IsSimulated (IsPortAccessWriting IsCommandRegister port) (λ uses. AllFree uses port.0) old new → RelatesWith (λ uses. AllFree uses port.0) old →
       GainsNoMove port.0 Identify old new
   starting_silent port old new a (uses, free, agreed) =
       laws.fragments.silent (Controlling Commanding PortUnused port) (λ uses. uses) uses port Identify old new free (commanding_issues port) (commanding_arms port) refl
       (λ own. let e : Free ≡ Own Identify = sym (free 0) ∙ own in absurd cc) a agreed
 
   module _ (port : Port) (v : ℕ) (old at : Device) (room : HasDriverMemory port.0 old) (may : MayRecover port.0 old) (agreed : RelatesWith AnyUse old) (read : Reads (Px port Tfd) v old at) where
-    reading : IsSimulatedAlong (λ made. made ≡ Reading (Px port Tfd) v ∷ []) (OnPortWriting IsCommandRegister port) AnyUse old at
+    reading : IsSimulatedAlong (λ made. made ≡ Reading (Px port Tfd) v ∷ []) (IsPortAccessWriting IsCommandRegister port) AnyUse old at
     reading = laws.fragments.reads (Controlling Commanding AnyUses port) (Px port Tfd) v old at refl read
 
     wide : IsSimulatedAlong (λ made. made ≡ Reading (Px port Tfd) v ∷ []) (IsRecoveryAccess port) AnyUse old at
     wide = told_commands laws (λ made. made ≡ Reading (Px port Tfd) v ∷ []) AnyUses port old at reading
 
     goes : Goes port old at
-    goes = goes_over laws port wide.followed.driven.accesses old at room.on wide.followed.driven.only wide.followed.driven.all
+    goes = goes_over laws port wide.followed.is_driven.accesses old at room.adapter_is_on wide.followed.is_driven.accesses_are_of_kind wide.followed.is_driven.all_are_done
 
     pub read_room : HasDriverMemory port.0 at
-    read_room = room_after laws (IsRecoveryAccess port) port.0 old at wide.followed.driven goes.on room
+    read_room = room_after laws (IsRecoveryAccess port) port.0 old at wide.followed.is_driven goes.on room
 
     pub read_agreed : RelatesWith AnyUse at
     read_agreed = (agreed.0, tt, laws.fragments.agreed (Recovering AnyUses port) (λ uses. uses) agreed.0 old at tt wide.followed agreed.2)
@@ -106,33 +106,33 @@ module _ (laws : Laws) where
 
     pub read_stuck : (new : Device) → HasStCleared (at.port port.0) (new.port port.0) → FailsToStopPort port at new → StopGetsStuck port old new
     read_stuck new has fails = record {
-      told = told_commands laws (EngineSticks port) AnyUses port old new both;
+      is_simulated = told_commands laws (EngineSticks port) AnyUses port old new both;
       st = has.st;
-      stuck = fails.stuck;
-      silent = λ (uses, none, agreed). commands_silent port uses old new both.followed agreed none;
+      stuck_is_backed = fails.stuck_is_backed;
+      no_identify_moves = λ (uses, none, agreed). commands_silent port uses old new both.followed agreed none;
     }
       where
-        both : IsSimulatedAlong (EngineSticks port) (OnPortWriting IsCommandRegister port) AnyUse old new
+        both : IsSimulatedAlong (EngineSticks port) (IsPortAccessWriting IsCommandRegister port) AnyUse old new
         both = told_both laws (λ made. made ≡ Reading (Px port Tfd) v ∷ []) (FailsToStop port) (EngineSticks port) (λ early late is late_is. laws.sticks_since early late port (laws.failing_sticks port late late_is))
-            (Controlling Commanding AnyUses port) (Controlling Commanding AnyUses port) (λ uses. uses) (λ uses. uses) (λ access is. is) (λ uses fits. fits) old at new reading fails.told
+            (Controlling Commanding AnyUses port) (Controlling Commanding AnyUses port) (λ uses. uses) (λ uses. uses) (λ access is. is) (λ uses fits. fits) old at new reading fails.is_simulated
 
     -- ---- or it was stopped
 
     module _ (mid : Device) (has : HasStCleared (at.port port.0) (mid.port port.0)) (halts : PortStops port at mid) where
-      stopping : IsSimulatedAlong (ReadsAndStops port v) (OnPortWriting IsCommandRegister port) AnyUse old mid
-      stopping = told_both laws (λ made. made ≡ Reading (Px port Tfd) v ∷ []) (λ made. Stops port made × IssueNone port made) (ReadsAndStops port v)
+      stopping : IsSimulatedAlong (ReadsTfdAndStops port v) (IsPortAccessWriting IsCommandRegister port) AnyUse old mid
+      stopping = told_both laws (λ made. made ≡ Reading (Px port Tfd) v ∷ []) (λ made. Stops port made × IssueNoCommand port made) (ReadsTfdAndStops port v)
           (λ early late is stops. reads_and_stops port v early late is (laws.falls_since early late 0 15 port) stops.0 stops.1)
           (Controlling Commanding AnyUses port) (Controlling Commanding AnyUses port) (λ uses. uses) (λ uses. uses) (λ access is. is) (λ uses fits. fits) old at mid reading
-          (record { followed = halts.told.followed; tells = (halts.told.tells, unissued (OnPortWriting IsCommandRegister port) (commanding_issues port) halts.told.followed.driven) })
+          (record { followed = halts.is_simulated.followed; tells = (halts.is_simulated.tells, unissued (IsPortAccessWriting IsCommandRegister port) (commanding_issues port) halts.is_simulated.followed.is_driven) })
 
-      stops : IsSimulatedAlong (ReadsAndStops port v) (IsRecoveryAccess port) AnyUse old mid
-      stops = told_commands laws (ReadsAndStops port v) AnyUses port old mid stopping
+      stops : IsSimulatedAlong (ReadsTfdAndStops port v) (IsRecoveryAccess port) AnyUse old mid
+      stops = told_commands laws (ReadsTfdAndStops port v) AnyUses port old mid stopping
 
       goes_mid : Goes port old mid
-      goes_mid = goes_over laws port stops.followed.driven.accesses old mid room.on stops.followed.driven.only stops.followed.driven.all
+      goes_mid = goes_over laws port stops.followed.is_driven.accesses old mid room.adapter_is_on stops.followed.is_driven.accesses_are_of_kind stops.followed.is_driven.all_are_done
 
       pub stopped_room : HasDriverMemory port.0 mid
-      stopped_room = room_after laws (IsRecoveryAccess port) port.0 old mid stops.followed.driven goes_mid.on room
+      stopped_room = room_after laws (IsRecoveryAccess port) port.0 old mid stops.followed.is_driven goes_mid.on room
 
       stopped_uses : IsRelated agreed.0 mid
       stopped_uses = laws.fragments.agreed (Recovering AnyUses port) (λ uses. uses) agreed.0 old mid tt stops.followed agreed.2
@@ -142,53 +142,53 @@ module _ (laws : Laws) where
 
       pub stopped_receives : ReceivesFises port.0 (mid.port port.0)
       stopped_receives =
-          let s = laws.seen port Tfd v old at read room.on.no_reset in
+          let s = laws.seen port Tfd v old at read room.adapter_is_on.no_reset in
           record {
             stopped = halts.stopped;
-            fre = has.fre ∙ ((s.keeps.on.controls port.0).fre ∙ may.fre);
-            bases = has.bases ∙ ((s.keeps.port port.0).bases ∙ may.bases);
+            fre = has.fre ∙ ((s.keeps.keeps_outside_reset.controls port.0).fre ∙ may.fre);
+            bases = has.bases ∙ ((s.keeps.ports_are_kept port.0).bases ∙ may.bases);
           }
 
       pub stopped_undue : (mid.port port.0).link_due ≡ false
-      stopped_undue = goes_mid.undue may.recorded.linked
+      stopped_undue = goes_mid.undue may.faults_are_on_record.no_link_is_due
 
       pub stopped_det : (mid.port port.0).sctl_det ≡ 0
-      stopped_det = goes_mid.det ∙ may.det
+      stopped_det = goes_mid.det ∙ may.no_comreset
 
-      module _ (after : ℕ) (new : Device) (followed : IsSimulated (OnPortWriting IsErrorRegister port) AnyUse mid new) (f : ClearsErrorState port after mid new) where
-        forgets : IsSimulatedAlong (IssueNone port) (IsRecoveryAccess port) AnyUse mid new
-        forgets = told_wider laws (IssueNone port) (Controlling Clearing AnyUses port) (Recovering AnyUses port) (λ uses. uses) mid new (clears_recover laws port) (λ uses fits. fits)
-            (record { followed = followed; tells = unissued (OnPortWriting IsErrorRegister port) (clearing_issues port) followed.driven })
+      module _ (after : ℕ) (new : Device) (followed : IsSimulated (IsPortAccessWriting IsErrorRegister port) AnyUse mid new) (f : ClearsErrorState port after mid new) where
+        forgets : IsSimulatedAlong (IssueNoCommand port) (IsRecoveryAccess port) AnyUse mid new
+        forgets = told_wider laws (IssueNoCommand port) (Controlling Clearing AnyUses port) (Recovering AnyUses port) (λ uses. uses) mid new (clears_recover laws port) (λ uses fits. fits)
+            (record { followed = followed; tells = unissued (IsPortAccessWriting IsErrorRegister port) (clearing_issues port) followed.is_driven })
 
         goes_new : Goes port mid new
-        goes_new = goes_over laws port forgets.followed.driven.accesses mid new goes_mid.on forgets.followed.driven.only forgets.followed.driven.all
+        goes_new = goes_over laws port forgets.followed.is_driven.accesses mid new goes_mid.on forgets.followed.is_driven.accesses_are_of_kind forgets.followed.is_driven.all_are_done
 
         free : RelatesWith (λ uses. (slot : ℕ) → uses port.0 slot ≡ Free) new
         free =
             let g = agreed_free laws agreed.0 port.0 mid halts.stopped.halted stopped_uses in
             (g.0, g.1, laws.fragments.agreed (Recovering AnyUses port) (λ uses. uses) g.0 mid new tt forgets.followed g.2)
 
-        pub quiets : Quiets port v after old new
+        pub quiets : StopsAndClears port v after old new
         quiets = record {
-          room = room_after laws (IsRecoveryAccess port) port.0 mid new forgets.followed.driven goes_new.on stopped_room;
+          driver_memory_fits = room_after laws (IsRecoveryAccess port) port.0 mid new forgets.followed.is_driven goes_new.on stopped_room;
           stopped = mid;
           stops = stops;
-          stands = halts.stopped.halted;
-          forgets = forgets;
+          engine_is_stopped = halts.stopped.halted;
+          clears_errors = forgets;
           receives = f.receives;
-          det = goes_new.det ∙ stopped_det;
-          file = f.file;
-          linked = ap (λ (n : ℕ). n % 16) (f.seen ∙ (ap (λ (n : Notes). n.last_ssts) has.notes ∙ same_link.0)) ∙ may.linked;
-          count = f.count ∙ (ap (λ (n : Notes). n.link_count) has.notes ∙ same_link.1);
-          calm = f.calm;
-          clear = record {
-            serr_n = λ none. f.clear.serr_n (plugs_in_parts laws port.0 old mid new goes_mid.grows goes_new.grows none).1;
-            serr_x = λ none. f.clear.serr_x (laws.tape.comes_parts port.0 old mid new goes_mid.grows.0 goes_new.grows.0 goes_mid.grows.1 goes_new.grows.1 none).1;
+          no_comreset = goes_new.det ∙ stopped_det;
+          last_tfd_is = f.last_tfd_is;
+          link_was_seen = ap (λ (n : ℕ). n % 16) (f.last_ssts_is_kept ∙ (ap (λ (n : Notes). n.last_ssts) has.notes ∙ same_link.0)) ∙ may.link_was_seen;
+          link_count_is_kept = f.link_count_is_kept ∙ (ap (λ (n : Notes). n.link_count) has.notes ∙ same_link.1);
+          no_cause_is_set = f.no_cause_is_set;
+          errors_are_clear = record {
+            serr_n = λ none. f.errors_are_clear.serr_n (plugs_in_parts laws port.0 old mid new goes_mid.grows goes_new.grows none).1;
+            serr_x = λ none. f.errors_are_clear.serr_x (laws.tape.comes_parts port.0 old mid new goes_mid.grows.0 goes_new.grows.0 goes_mid.grows.1 goes_new.grows.1 none).1;
           };
-          quiet = f.quiet;
-          agreed = free;
-          plain = λ plain. plain_over port agreed.0 mid new forgets.followed stopped_uses (plain_over port agreed.0 old mid stops.followed agreed.2 plain);
-          silent = λ (uses, none, here).
+          is_clean_to_start = f.is_clean_to_start;
+          machine_is_related = free;
+          works_plainly = λ plain. plain_over port agreed.0 mid new forgets.followed stopped_uses (plain_over port agreed.0 old mid stops.followed agreed.2 plain);
+          no_identify_moves = λ (uses, none, here).
               laws.silent_more port.0 Identify old mid new (commands_silent port uses old mid stopping.followed here none)
               (clears_silent port uses mid new followed (laws.fragments.agreed (Recovering AnyUses port) (λ uses. uses) uses old mid tt stops.followed here) none);
         }

@@ -13,15 +13,15 @@ use Rattle.adapter.specs.declared.command.Operation.TheVariants.{ReadLog}
 use Rattle.adapter.specs.declared.tape.Entry.{Entry}
 use Rattle.adapter.specs.declared.tape.Entry.TheVariants as entry
 use Rattle.adapter.specs.declared.tape.Fault as tape_fault
-use Rattle.refinement.specs.Driven.{TapeGrows, GainsNoMove}
+use Rattle.refinement.specs.Fragments.{TapeGrows, GainsNoMove}
 use Rattle.refinement.specs.Links.{DoesNotWrite}
 use Rattle.refinement.specs.Slots.{IsMove}
-use Rattle.disk_page.specs.Asking.{BringsLastPage}
+use Rattle.disk_page.specs.PageRequests.{BringsLastPage}
 use Rattle.error_recovery.specs.Evidence.{BringsLog, HasFailed}
 use Rattle.error_recovery.specs.Laws.{Laws}
 use Rattle.error_recovery.specs.Laws.SlotCondition.{AnyUses}
 use Rattle.error_recovery.specs.Laws.AccessPurpose.{Recovering}
-use Rattle.error_recovery.specs.Parts.{IsQuietedForRecovery}
+use Rattle.error_recovery.specs.RecoveryParts.{IsClearedForRecovery}
 use Rattle.error_recovery.proofs.Lists.{behind, stands}
 
 -- A fault that is told of the port, in its slot, with status and error as PxTFD showed them.
@@ -30,7 +30,7 @@ pub record IsTold (port : Port) (queued : Bool) (shown : ℕ) (accesses : List A
   pub has_failed : HasFailed port accesses old new fault
   pub status_is : fault.status ≡ shown % 256
   pub error_is : fault.error ≡ shown / 256 % 256
-  pub at : queued ≡ false → fault.slot.0 ≡ 0
+  pub fault_slot_is : queued ≡ false → fault.slot.0 ≡ 0
 
 longer : (old new : Device) → TapeGrows old new → length old.tape ≤ length new.tape
 longer old new (gained, is) = let n = ap (λ (es : List Entry). length es) is ∙ length-append old.tape gained in omega (arith, n)
@@ -39,50 +39,50 @@ longer old new (gained, is) = let n = ap (λ (es : List Entry). length es) is �
 pub brings_log : (port : Port) (old start asked new : Device) (page : List ℕ) → TapeGrows old start → TapeGrows old asked → BringsLastPage port.0 ReadLog (length start.tape) page asked → GainsNoMove port.0 ReadLog asked new →
     BringsLog port old new page
 brings_log port old start asked new page early whole b (gained, later, none) =
-    let w = b.brought in
+    let w = b.page_stands in
     let le = longer old start early in
-    let after = w.after in
-    let split = behind old.tape whole.0 w.before (entry.Move w.move) w.later (sym whole.1 ∙ w.here) (omega (arith, le, after)) in
+    let after = w.came_since in
+    let split = behind old.tape whole.0 w.before (entry.Move w.move) w.later (sym whole.1 ∙ w.tape_is_split) (omega (arith, le, after)) in
     record {
-      gained = whole.0 ++ gained;
-      tape = later ∙ (ap (λ (es : List Entry). es ++ gained) whole.1 ∙ append_assoc old.tape whole.0 gained);
+      new_entries = whole.0 ++ gained;
+      tape_grows = later ∙ (ap (λ (es : List Entry). es ++ gained) whole.1 ∙ append_assoc old.tape whole.0 gained);
       before = split.0;
       move = w.move;
       later = w.later ++ gained;
-      here = ap (λ (es : List Entry). es ++ gained) split.1 ∙ append_assoc split.0 (entry.Move w.move ∷ w.later) gained;
+      entries_are = ap (λ (es : List Entry). es ++ gained) split.1 ∙ append_assoc split.0 (entry.Move w.move ∷ w.later) gained;
       is_move = w.is_move;
-      last = All-append (λ e. IsMove port.0 ReadLog e → ⊥) w.later gained w.last none;
-      bytes = b.same;
+      no_later_page = All-append (λ e. IsMove port.0 ReadLog e → ⊥) w.later gained w.last none;
+      bytes_are = b.page_bytes_are;
     }
 
-module _ (laws : Laws) (port : Port) (outstanding : ℕ) (queued : Bool) (before after : ℕ) (old d : Device) (r : IsQuietedForRecovery port outstanding queued before after old d) where
+module _ (laws : Laws) (port : Port) (outstanding : ℕ) (queued : Bool) (before after : ℕ) (old d : Device) (r : IsClearedForRecovery port outstanding queued before after old d) where
   told_by : (rest : List Access) (new : Device) → DoesAll (Reading (Px port Tfd) before ∷ rest) old new → IsTold port queued before (Reading (Px port Tfd) before ∷ rest) old new
   told_by rest new (at, read, more) =
-      let off = r.on.no_reset in
-      let s = laws.fault_shown port before old at off r.may.st (λ _. r.may.recorded) r.may.halted read in
+      let off = r.adapter_is_on.no_reset in
+      let s = laws.fault_shown port before old at off r.may_recover.st (λ _. r.may_recover.faults_are_on_record) r.may_recover.halted read in
       let set = ((laws.access_controls port (Reading (Px port Tfd) before) old at off read).command tt).2 in
       let F : ℕ → Type 0 = λ n. Contains (drop n at.tape) (entry.Fault s.0.fault) in
       let E : List Entry → Type 0 = λ es. Contains es (entry.Fault s.0.fault) in
       let followed = (laws.fragments.reads (Recovering AnyUses port) (Px port Tfd) before old at (inl refl) read).followed in
-      let a = laws.fragments.agreed (Recovering AnyUses port) (λ uses. uses) r.agreed.0 old at tt followed r.agreed.2 in
+      let a = laws.fragments.agreed (Recovering AnyUses port) (λ uses. uses) r.machine_is_related.0 old at tt followed r.machine_is_related.2 in
       record {
         fault = s.0.fault;
         has_failed = record {
-          at = at;
-          running = record {
+          device_before_stop = at;
+          cmd_is_unwritten = record {
             early = Reading (Px port Tfd) before ∷ [];
             late = rest;
-            here = refl;
-            running = All-cons (DoesNotWrite (Px port Cmd)) (Reading (Px port Tfd) before) [] tt (All-nil (DoesNotWrite (Px port Cmd)));
-            first = (at, read, refl);
-            rest = more;
+            accesses_are = refl;
+            cmd_is_unwritten = All-cons (DoesNotWrite (Px port Cmd)) (Reading (Px port Tfd) before) [] tt (All-nil (DoesNotWrite (Px port Cmd)));
+            does_early = (at, read, refl);
+            does_late = more;
           };
-          here = subst F set (subst E (sym s.0.here) (stands s.0.before (entry.Fault s.0.fault) s.0.later));
+          fault_is_told = subst F set (subst E (sym s.0.entries_are_split) (stands s.0.before (entry.Fault s.0.fault) s.0.later));
           port_is = s.0.port_is;
         };
         status_is = sym s.1;
         error_is = sym s.2;
-        at = λ plain. laws.fault_sole r.agreed.0 a.machine at port.0 0 _ a.knows.agrees s.0 (λ other differs. r.agreed.1 plain other differs);
+        fault_slot_is = λ plain. laws.fault_sole r.machine_is_related.0 a.machine at port.0 0 _ a.driver_relation.state_relation s.0 (λ other differs. r.machine_is_related.1 plain other differs);
       }
 
   -- so it is told of each list of accesses that begins with the reading

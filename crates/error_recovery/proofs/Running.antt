@@ -9,16 +9,16 @@ use Rattle.adapter.specs.Device.{Device, Notes, DevicePort}
 use Rattle.adapter.specs.Device.Halt.{LogOnly, NotHalted}
 use Rattle.adapter.specs.Steps.{halt_after_start}
 use Rattle.adapter.specs.declared.tape.Entry.{Entry}
-use Rattle.refinement.specs.Driven.{TapeGrows, HasNoCommand}
+use Rattle.refinement.specs.Fragments.{TapeGrows, HasNoCommand}
 use Rattle.refinement.specs.Errors.{IsFatalOf, NoneFatal}
 use Rattle.refinement.specs.PortFacts.{RecordsFaults, IsFaultOf, IsFaulted}
 use Rattle.refinement.specs.Links.{IsPlugEvent}
 use Rattle.refinement.specs.Slots.{IsOver}
-use Rattle.disk_page.specs.Asking.{LeavesRunning}
+use Rattle.disk_page.specs.PageRequests.{LeavesRunning}
 use Rattle.port_control.specs.Ports.{IsRunning}
 use Rattle.error_recovery.specs.Evidence.{GainsSinceStart, ShowsFatal, HidesNoTrouble}
 use Rattle.error_recovery.specs.Laws.{Laws}
-use Rattle.error_recovery.specs.Parts.{StartsAgain, IsQuietedForRecovery}
+use Rattle.error_recovery.specs.RecoveryParts.{StartsAgain, IsClearedForRecovery}
 use Rattle.error_recovery.specs.Recovery.{RunsAgain}
 use Rattle.error_recovery.proofs.Going.{Asks, Goes, plugs_in_parts}
 use Rattle.error_recovery.proofs.Lists.{behind, stands}
@@ -30,10 +30,10 @@ gained_since : (Is : Entry → Type 0) (port : ℕ) (old start new : Device) →
 gained_since Is port old start new set gained is none g =
     let at : start.tape ++ gained ≡ (old.tape ++ g.before) ++ (g.entry ∷ g.later) = sym is ∙ (g.tape ∙ sym (append_assoc old.tape g.before (g.entry ∷ g.later))) in
     let long = length-append old.tape g.before in
-    let since = g.since in
+    let since = g.came_since_start in
     let split = behind start.tape gained (old.tape ++ g.before) g.entry g.later at (omega (arith, set, long, since)) in
     let here : Contains gained g.entry = subst (λ (es : List Entry). Contains es g.entry) (sym split.1) (stands split.0 g.entry g.later) in
-    All-contains (λ e. Is e → ⊥) gained g.entry none here g.is
+    All-contains (λ e. Is e → ⊥) gained g.entry none here g.is_of_kind
 
 -- and what hasn't come since ST was set, a stretch from then on hasn't gained
 none_since : (Is : Entry → Type 0) (port : ℕ) (old start new : Device) → TapeGrows old start → (new.port port).notes.st_set_at ≡ length start.tape → (GainsSinceStart Is port old new → ⊥) → (before later : List Entry) →
@@ -49,8 +49,8 @@ none_since Is port old start new grows set none before (e ∷ later) tape =
       later = later;
       tape = tape ∙ ap (λ (es : List Entry). es ++ (before ++ e ∷ later)) grows.1 ∙ append_assoc old.tape grows.0 (before ++ e ∷ later)
           ∙ ap (λ (es : List Entry). old.tape ++ es) (sym (append_assoc grows.0 before (e ∷ later)));
-      is = is;
-      since = omega (arith, set, long, more);
+      is_of_kind = is;
+      came_since_start = omega (arith, set, long, more);
     }))
     (none_since Is port old start new grows set none (before ++ e ∷ []) later (tape ∙ ap (λ (es : List Entry). start.tape ++ es) (sym (append_assoc before (e ∷ []) later))))
 
@@ -64,9 +64,9 @@ pub fatal_unless_clear : (p : DevicePort) → (((place : ℕ) → 27 ≤ place �
 fatal_unless_clear p not = by (p.is 27) (p.is 28) (p.is 29) refl refl refl
   where
     by : (a b c : Bool) → p.is 27 ≡ a → p.is 28 ≡ b → p.is 29 ≡ c → ShowsFatal p
-    by true b c x y z = record { place = 27; from = omega arith; to = omega arith; set = x }
-    by false true c x y z = record { place = 28; from = omega arith; to = omega arith; set = y }
-    by false false true x y z = record { place = 29; from = omega arith; to = omega arith; set = z }
+    by true b c x y z = record { place = 27; from = omega arith; to = omega arith; cause_is_set = x }
+    by false true c x y z = record { place = 28; from = omega arith; to = omega arith; cause_is_set = y }
+    by false false true x y z = record { place = 29; from = omega arith; to = omega arith; cause_is_set = z }
     by false false false x y z = absurd (not (λ place from to. at place from to))
       where
         at : (place : ℕ) → 27 ≤ place → place ≤ 29 → p.is place ≡ false
@@ -77,9 +77,9 @@ fatal_unless_clear p not = by (p.is 27) (p.is 28) (p.is 29) refl refl refl
 -- trouble since ST was set is shown, where what isn't shown hasn't come
 shows_trouble : (port : Port) (old start new : Device) → (new.port port.0).notes.st_set_at ≡ length start.tape → Asks port start new → HidesNoTrouble port.0 old new
 shows_trouble port old start new set a = record {
-  fault = λ g. set_unless_clear ((new.port port.0).is 30) (λ clear. let n = (a.fault clear).1 in gained_since (IsFaultOf port.0) port.0 old start new set n.gained n.tape n.none g);
-  fatal = λ g. fatal_unless_clear (new.port port.0) (λ clear. let n = (a.fatal clear).1 in gained_since (IsFatalOf port.0) port.0 old start new set n.gained n.tape n.none g);
-  disk = λ g. set_unless_clear (new.port port.0).serr_n (λ clear. let n = (a.disk clear).1 in gained_since (IsPlugEvent port.0) port.0 old start new set n.gained n.tape n.none g);
+  fault_is_shown = λ g. set_unless_clear ((new.port port.0).is 30) (λ clear. let n = (a.fault clear).1 in gained_since (IsFaultOf port.0) port.0 old start new set n.new_entries n.tape_is n.no_such_entry g);
+  fatal_is_shown = λ g. fatal_unless_clear (new.port port.0) (λ clear. let n = (a.fatal clear).1 in gained_since (IsFatalOf port.0) port.0 old start new set n.new_entries n.tape_is n.no_such_entry g);
+  plug_is_shown = λ g. set_unless_clear (new.port port.0).serr_n (λ clear. let n = (a.disk clear).1 in gained_since (IsPlugEvent port.0) port.0 old start new set n.new_entries n.tape_is n.no_such_entry g);
 }
 
 pub no_command : (port : ℕ) (p : DevicePort) → IsRunning port p → HasNoCommand p
@@ -96,7 +96,7 @@ asked_running laws port start new runs l over =
     let none = laws.asked_none port start new l (no_command port (start.port port) runs) over in
     record {
       st = l.controls.st ∙ runs.st;
-      cr = l.controls.runs runs.st runs.cr;
+      cr = l.controls.engine_stays_running runs.st runs.cr;
       fre = l.controls.fre ∙ runs.fre;
       bases = l.bases ∙ runs.bases;
       ci = λ slot. (none slot).issued;
@@ -104,7 +104,7 @@ asked_running laws port start new runs l over =
       taken = λ slot. (none slot).free;
     }
 
-module _ (laws : Laws) (port : Port) (outstanding : ℕ) (queued : Bool) (before after : ℕ) (old d : Device) (r : IsQuietedForRecovery port outstanding queued before after old d) (first : Goes port old d) where
+module _ (laws : Laws) (port : Port) (outstanding : ℕ) (queued : Bool) (before after : ℕ) (old d : Device) (r : IsClearedForRecovery port outstanding queued before after old d) (first : Goes port old d) where
   -- ---- that was started, and no more
 
   module _ (new : Device) (s : StartsAgain port d new) (then : Goes port d new) (whole : Goes port old new) where
@@ -112,34 +112,34 @@ module _ (laws : Laws) (port : Port) (outstanding : ℕ) (queued : Bool) (before
     nothing_came Is g =
         let n = ap (λ (es : List Entry). length es) g.tape ∙ length-append old.tape (g.before ++ g.entry ∷ g.later) in
         let m = length-append g.before (g.entry ∷ g.later) in
-        let set = s.set in
-        let since = g.since in
+        let set = s.st_set_is_last in
+        let since = g.came_since_start in
         omega (arith, n, m, set, since)
 
     pub runs_plain : queued ≡ false → RunsAgain queued port.0 old new
     runs_plain is = record {
       runs = s.runs;
-      recorded = s.recorded;
-      since = since_set port old new new whole.grows (s.set);
-      count = ap (λ (n : Notes). n.link_count) s.same.1 ∙ r.quiets.count;
-      ended = λ on. absurd (true≢false (sym on ∙ is));
-      plain = λ _ plain. commands_plain laws port d new s.starts r.quiets.agreed (r.quiets.plain plain);
-      unhalted = λ plain log.
-          let w = commands_plain laws port d new s.starts r.quiets.agreed (r.quiets.plain (plain is)) in
-          let e : LogOnly ≡ NotHalted = ap halt_after_start (sym log) ∙ w.restarts in absurd cc;
-      shows = record {
-        fault = λ g. absurd (nothing_came (IsFaultOf port.0) g);
-        fatal = λ g. absurd (nothing_came (IsFatalOf port.0) g);
-        disk = λ g. absurd (nothing_came (IsPlugEvent port.0) g);
+      faults_are_on_record = s.faults_are_on_record;
+      st_set_in_call = since_set port old new new whole.grows (s.st_set_is_last);
+      link_count_is_kept = ap (λ (n : Notes). n.link_count) s.other_notes_are_kept.1 ∙ r.quiets.link_count_is_kept;
+      queued_halt_ends = λ on. absurd (true≢false (sym on ∙ is));
+      works_plainly = λ _ plain. commands_plain laws port d new s.starts r.quiets.machine_is_related (r.quiets.works_plainly plain);
+      is_not_log_only = λ plain log.
+          let w = commands_plain laws port d new s.starts r.quiets.machine_is_related (r.quiets.works_plainly (plain is)) in
+          let e : LogOnly ≡ NotHalted = ap halt_after_start (sym log) ∙ w.start_ends_halt in absurd cc;
+      hides_no_trouble = record {
+        fault_is_shown = λ g. absurd (nothing_came (IsFaultOf port.0) g);
+        fatal_is_shown = λ g. absurd (nothing_came (IsFatalOf port.0) g);
+        plug_is_shown = λ g. absurd (nothing_came (IsPlugEvent port.0) g);
       };
-      well = λ none calm linked plain.
+      port_runs_well = λ none calm linked plain.
           let n = plugs_in_parts laws port.0 old d new first.grows then.grows none in
-          let up = laws.up_of (d.port port.0) (first.linked n.0 linked) (r.quiets.plain (plain is)) in
-          laws.well_of (new.port port.0) (s.well up n.1)
+          let up = laws.up_of (d.port port.0) (first.linked n.0 linked) (r.quiets.works_plainly (plain is)) in
+          laws.well_of (new.port port.0) (s.port_is_started up n.1)
           (record {
-            serr_n = s.changes.serr_n n.1 (r.quiets.clear.serr_n n.0);
-            serr_x = s.changes.serr_x (laws.tape.plugs_come port.0 d new n.1) (r.quiets.clear.serr_x (laws.tape.plugs_come port.0 old d n.0));
-            quiet = λ place from to. s.calm place (r.quiets.calm place (omega (arith, to)));
+            serr_n = s.errors_change_by_disks.serr_n n.1 (r.quiets.errors_are_clear.serr_n n.0);
+            serr_x = s.errors_change_by_disks.serr_x (laws.tape.plugs_come port.0 d new n.1) (r.quiets.errors_are_clear.serr_x (laws.tape.plugs_come port.0 old d n.0));
+            no_error_bit_is_set = λ place from to. s.no_cause_rises place (r.quiets.no_cause_is_set place (omega (arith, to)));
           });
     }
 
@@ -151,7 +151,7 @@ module _ (laws : Laws) (port : Port) (outstanding : ℕ) (queued : Bool) (before
     runs = asked_running laws port.0 start new s.runs l over
 
     recorded : RecordsFaults new.tape (new.port port.0) port.0
-    recorded = l.recorded (λ _. s.recorded) runs.st
+    recorded = l.faults_are_on_record (λ _. s.faults_are_on_record) runs.st
 
     -- no fault halts it, so TFES is clear
     unflagged : (new.port port.0).is 30 ≡ false
@@ -165,33 +165,33 @@ module _ (laws : Laws) (port : Port) (outstanding : ℕ) (queued : Bool) (before
             not_faulted (inr e) = absurd cc
 
         by : (b : Bool) → (new.port port.0).is 30 ≡ b → (new.port port.0).is 30 ≡ false
-        by true is = absurd (unhalted (recorded.flag is))
+        by true is = absurd (unhalted (recorded.tfes_tells_fault is))
         by false is = is
 
     undue : (d.port port.0).link_due ≡ false
-    undue = r.quiets.quiet.linked
+    undue = r.quiets.is_clean_to_start.no_link_is_due
 
     pub runs_queued : queued ≡ true → RunsAgain queued port.0 old new
     runs_queued is = record {
       runs = runs;
-      recorded = recorded;
-      since = since_set port old start new (laws.tape.grows_more old d start first.grows then.grows) (ap (λ (n : Notes). n.st_set_at) l.notes ∙ s.set);
-      count = ap (λ (n : Notes). n.link_count) l.notes ∙ (ap (λ (n : Notes). n.link_count) s.same.1 ∙ r.quiets.count);
-      ended = λ _. running;
-      plain = λ off. absurd (true≢false (sym is ∙ off));
-      unhalted = λ plain log. let e : LogOnly ≡ NotHalted = sym log ∙ running in absurd cc;
-      shows = shows_trouble port old start new (ap (λ (n : Notes). n.st_set_at) l.notes ∙ s.set) a;
-      well = λ none calm linked plain.
+      faults_are_on_record = recorded;
+      st_set_in_call = since_set port old start new (laws.tape.grows_more old d start first.grows then.grows) (ap (λ (n : Notes). n.st_set_at) l.notes ∙ s.st_set_is_last);
+      link_count_is_kept = ap (λ (n : Notes). n.link_count) l.notes ∙ (ap (λ (n : Notes). n.link_count) s.other_notes_are_kept.1 ∙ r.quiets.link_count_is_kept);
+      queued_halt_ends = λ _. running;
+      works_plainly = λ off. absurd (true≢false (sym is ∙ off));
+      is_not_log_only = λ plain log. let e : LogOnly ≡ NotHalted = sym log ∙ running in absurd cc;
+      hides_no_trouble = shows_trouble port old start new (ap (λ (n : Notes). n.st_set_at) l.notes ∙ s.st_set_is_last) a;
+      port_runs_well = λ none calm linked plain.
           let n = plugs_in_parts laws port.0 old d new first.grows (laws.tape.grows_more d start new then.grows later.grows) none in
           let m = plugs_in_parts laws port.0 d start new then.grows later.grows n.1 in
           let unbroken : NoneFatal port.0 start new = record {
-            gained = later.grows.0;
-            tape = later.grows.1;
-            none = none_since (IsFatalOf port.0) port.0 old start new (laws.tape.grows_more old d start first.grows then.grows) (ap (λ (n : Notes). n.st_set_at) l.notes ∙ s.set) calm [] later.grows.0 later.grows.1;
+            new_entries = later.grows.0;
+            tape_is = later.grows.1;
+            no_such_entry = none_since (IsFatalOf port.0) port.0 old start new (laws.tape.grows_more old d start first.grows then.grows) (ap (λ (n : Notes). n.st_set_at) l.notes ∙ s.st_set_is_last) calm [] later.grows.0 later.grows.1;
           } in
           let c = later.changes (then.undue undue) in
-          laws.runs_well (new.port port.0) (a.runs m.1 unbroken (s.linked (first.linked n.0 linked) m.0)) running unflagged
-          (c.serr_n m.1 (s.changes.serr_n m.0 (r.quiets.clear.serr_n n.0)))
-          (c.serr_x (laws.tape.plugs_come port.0 start new m.1) (s.changes.serr_x (laws.tape.plugs_come port.0 d start m.0) (r.quiets.clear.serr_x (laws.tape.plugs_come port.0 old d n.0))))
-          (a.raises unbroken (λ place from to. s.calm place (r.quiets.calm place (omega (arith, to)))));
+          laws.runs_well (new.port port.0) (a.runs m.1 unbroken (s.link_stays_up (first.linked n.0 linked) m.0)) running unflagged
+          (c.serr_n m.1 (s.errors_change_by_disks.serr_n m.0 (r.quiets.errors_are_clear.serr_n n.0)))
+          (c.serr_x (laws.tape.plugs_come port.0 start new m.1) (s.errors_change_by_disks.serr_x (laws.tape.plugs_come port.0 d start m.0) (r.quiets.errors_are_clear.serr_x (laws.tape.plugs_come port.0 old d n.0))))
+          (a.raises unbroken (λ place from to. s.no_cause_rises place (r.quiets.no_cause_is_set place (omega (arith, to)))));
     }

@@ -12,7 +12,7 @@ use Rattle.adapter.specs.declared.command.Operation.TheVariants.{ReadLog}
 use Rattle.adapter.specs.declared.tape.Entry.{Entry}
 use Rattle.adapter.specs.declared.tape.Entry.TheVariants as entry
 use Rattle.adapter.specs.declared.tape.Fault as tape_fault
-use Rattle.refinement.specs.Driven.{TapeGrows, GainsNoMove}
+use Rattle.refinement.specs.Fragments.{TapeGrows, GainsNoMove}
 use Rattle.refinement.specs.Links.{DoesNotWrite}
 use Rattle.refinement.specs.Slots.{IsMove}
 use Rattle.error_recovery.specs.Evidence.{BringsLog, HasFailed}
@@ -34,35 +34,35 @@ module _ (laws : Laws) where
       (port : Port) (early part late : List Access) (start old new end : Device) (fault : tape_fault.Fault) → IsOn start → All (DoesNotWrite Ghc) early → All (DoesNotWrite (Px port Cmd)) early →
       DoesAll early start old → DoesAll late new end → HasFailed port part old new fault → HasFailed port (early ++ (part ++ late)) start end fault
   failed_stays append port early part late start old new end fault on hosts commands first last h =
-      let r = h.running in
-      let F : ℕ → Type 0 = λ n. Contains (drop n h.at.tape) (entry.Fault fault) in
+      let r = h.cmd_is_unwritten in
+      let F : ℕ → Type 0 = λ n. Contains (drop n h.device_before_stop.tape) (entry.Fault fault) in
       record {
-        at = h.at;
-        running = record {
+        device_before_stop = h.device_before_stop;
+        cmd_is_unwritten = record {
           early = early ++ r.early;
           late = r.late ++ late;
-          here = ap (λ (made : List Access). early ++ (made ++ late)) r.here
+          accesses_are = ap (λ (made : List Access). early ++ (made ++ late)) r.accesses_are
               ∙ (ap (λ (made : List Access). early ++ made) (append_assoc r.early r.late late) ∙ sym (append_assoc early r.early (r.late ++ late)));
-          running = All-append (DoesNotWrite (Px port Cmd)) early r.early commands r.running;
-          first = append early r.early start old h.at first r.first;
-          rest = append r.late late h.at new end r.rest last;
+          cmd_is_unwritten = All-append (DoesNotWrite (Px port Cmd)) early r.early commands r.cmd_is_unwritten;
+          does_early = append early r.early start old h.device_before_stop first r.does_early;
+          does_late = append r.late late h.device_before_stop new end r.does_late last;
         };
-        here = subst F (set_still port early start old on hosts commands first) h.here;
+        fault_is_told = subst F (set_still port early start old on hosts commands first) h.fault_is_told;
         port_is = h.port_is;
       }
 
 pub log_stays : (port : Port) (start old new end : Device) (page : List ℕ) → TapeGrows start old → GainsNoMove port.0 ReadLog new end → BringsLog port old new page → BringsLog port start end page
 log_stays port start old new end page (early, first) (late, last, none) b = record {
-  gained = early ++ (b.gained ++ late);
-  tape = last
-      ∙ (ap (λ (es : List Entry). es ++ late) (b.tape ∙ ap (λ (es : List Entry). es ++ b.gained) first)
-      ∙ (append_assoc (start.tape ++ early) b.gained late ∙ append_assoc start.tape early (b.gained ++ late)));
+  new_entries = early ++ (b.new_entries ++ late);
+  tape_grows = last
+      ∙ (ap (λ (es : List Entry). es ++ late) (b.tape_grows ∙ ap (λ (es : List Entry). es ++ b.new_entries) first)
+      ∙ (append_assoc (start.tape ++ early) b.new_entries late ∙ append_assoc start.tape early (b.new_entries ++ late)));
   before = early ++ b.before;
   move = b.move;
   later = b.later ++ late;
-  here = ap (λ (es : List Entry). early ++ (es ++ late)) b.here
+  entries_are = ap (λ (es : List Entry). early ++ (es ++ late)) b.entries_are
       ∙ (ap (λ (es : List Entry). early ++ es) (append_assoc b.before (entry.Move b.move ∷ b.later) late) ∙ sym (append_assoc early b.before (entry.Move b.move ∷ (b.later ++ late))));
   is_move = b.is_move;
-  last = All-append (λ e. IsMove port.0 ReadLog e → ⊥) b.later late b.last none;
-  bytes = b.bytes;
+  no_later_page = All-append (λ e. IsMove port.0 ReadLog e → ⊥) b.later late b.no_later_page none;
+  bytes_are = b.bytes_are;
 }

@@ -5,24 +5,24 @@ use Rattle.std.proofs.lemmas.List.Elements.{All-append}
 use Rattle.ata_types.specs.declared.Port.{Port}
 use Rattle.adapter.specs.Access.{Access}
 use Rattle.adapter.specs.Device.{Device}
-use Rattle.refinement.specs.Acts.{AnySlots, ByDeviceAlone, Performs}
+use Rattle.refinement.specs.Acts.{AnySlots, ActsByDeviceAlone, Performs}
 use Rattle.adapter.specs.declared.command.Operation.{Operation}
 use Rattle.hba_regs.specs.declared.reg.PortReg.{PortReg}
 use Rattle.hba_regs.specs.declared.reg.PortReg.TheVariants.{Ci, Sact}
 use Rattle.hba_regs.specs.declared.reg.Reg.TheVariants.{Px}
-use Rattle.refinement.specs.Driven.{known, RelatesWith, IsSimulated, IsSimulatedTo, IsSimulatedAlongTo, NoneWrites, GainsNoMove}
+use Rattle.refinement.specs.Fragments.{driver_state_of, RelatesWith, IsSimulated, IsSimulatedChangingUses, IsSimulatedAlongChangingUses, NoneWrites, GainsNoMove}
 use Rattle.refinement.specs.Driver.{AllFree, DriverState}
-use Rattle.refinement.specs.GivingUp.{given_up, with_all_parked}
+use Rattle.refinement.specs.GivingUp.{with_all_given_up, with_all_parked}
 use Rattle.refinement.specs.Slots.{Own, SlotState, SlotStates, op_of}
-use Rattle.disk_page.specs.Asking.{IsPageAccess}
-use Rattle.command_table.specs.Written.{IsUnused}
+use Rattle.disk_page.specs.PageRequests.{IsPageAccess}
+use Rattle.command_table.specs.TableStores.{IsUnused}
 use Rattle.port_control.specs.Engines.{Stops}
 use Rattle.error_recovery.specs.Laws.{Laws}
 use Rattle.error_recovery.specs.Laws.SlotCondition.{AnyUses, PortUnused}
 use Rattle.error_recovery.specs.Laws.RegisterSet.{Recovered}
 use Rattle.error_recovery.specs.Laws.AccessPurpose.{Asking, Recovering}
-use Rattle.error_recovery.specs.Parts.{StartsAgain, IsQuietedForRecovery}
-use Rattle.error_recovery.specs.Recovery.{IsRecoveryAccess, IssueNone}
+use Rattle.error_recovery.specs.RecoveryParts.{StartsAgain, IsClearedForRecovery}
+use Rattle.error_recovery.specs.Recovery.{IsRecoveryAccess, IssueNoCommand}
 use Rattle.error_recovery.proofs.Going.{Goes, goes_over}
 use Rattle.error_recovery.proofs.Resting.{IsTold, is_told}
 use Rattle.error_recovery.proofs.Stretching.{followed_commands, told_both, told_wider}
@@ -31,14 +31,14 @@ use Rattle.error_recovery.proofs.Stretching.{followed_commands, told_both, told_
 pub spares_other : Laws → (port q : Port) (r : PortReg) → q.0 ≢ port.0 → NoneWrites (IsRecoveryAccess port) (Px q r)
 spares_other laws port q r apart access is = laws.of_spares port q r apart access (⊎_elim (laws.control_of Recovered port access) (laws.asking_is_of port access) is)
 
-module _ (laws : Laws) (port : Port) (outstanding : ℕ) (queued : Bool) (before after : ℕ) (old d : Device) (r : IsQuietedForRecovery port outstanding queued before after old d) where
+module _ (laws : Laws) (port : Port) (outstanding : ℕ) (queued : Bool) (before after : ℕ) (old d : Device) (r : IsClearedForRecovery port outstanding queued before after old d) where
   abbrev first : List Access
-  first = r.quiets.stops.followed.driven.accesses
+  first = r.quiets.stops.followed.is_driven.accesses
 
   -- ---- what came since the port was stopped
 
-  pub quieted_told : IsSimulatedAlongTo (IssueNone port) (IsRecoveryAccess port) (λ uses. AllFree uses port.0) (λ uses. uses) r.quiets.stopped d
-  quieted_told = told_wider laws (IssueNone port) (Recovering AnyUses port) (Recovering PortUnused port) (λ uses. uses) r.quiets.stopped d (λ access is. is) (λ uses free. tt) r.quiets.forgets
+  pub quieted_told : IsSimulatedAlongChangingUses (IssueNoCommand port) (IsRecoveryAccess port) (λ uses. AllFree uses port.0) (λ uses. uses) r.quiets.stopped d
+  quieted_told = told_wider laws (IssueNoCommand port) (Recovering AnyUses port) (Recovering PortUnused port) (λ uses. uses) r.quiets.stopped d (λ access is. is) (λ uses free. tt) r.quiets.clears_errors
 
   abbrev pub quieted : IsSimulated (IsRecoveryAccess port) (λ uses. AllFree uses port.0) r.quiets.stopped d
   quieted = quieted_told.followed
@@ -50,7 +50,7 @@ module _ (laws : Laws) (port : Port) (outstanding : ℕ) (queued : Bool) (before
 
   -- and asked for the log
   pub asked : (Tells : List Access → Type 0) → ((early late : List Access) → Tells late → Tells (early ++ late)) → (next : SlotStates → SlotStates) (start new : Device) → StartsAgain port d start →
-      IsSimulatedAlongTo Tells (IsPageAccess port) (IsUnused port.0 0) next start new → IsSimulatedAlongTo Tells (IsRecoveryAccess port) (λ uses. AllFree uses port.0) next r.quiets.stopped new
+      IsSimulatedAlongChangingUses Tells (IsPageAccess port) (IsUnused port.0 0) next start new → IsSimulatedAlongChangingUses Tells (IsRecoveryAccess port) (λ uses. AllFree uses port.0) next r.quiets.stopped new
   asked Tells since next start new s a =
       told_both laws (λ made. Unit {0}) Tells Tells (λ early late any is. since early late is) (Recovering PortUnused port) (Recovering PortUnused port) (λ uses. uses) next
       (λ access is. is) (λ uses free. free) r.quiets.stopped start new (record { followed = started start s; tells = tt })
@@ -58,35 +58,35 @@ module _ (laws : Laws) (port : Port) (outstanding : ℕ) (queued : Bool) (before
 
   -- ---- the whole
 
-  module _ (next : SlotStates → SlotStates) (new : Device) (b : IsSimulatedTo (IsRecoveryAccess port) (λ uses. AllFree uses port.0) next r.quiets.stopped new) where
+  module _ (next : SlotStates → SlotStates) (new : Device) (b : IsSimulatedChangingUses (IsRecoveryAccess port) (λ uses. AllFree uses port.0) next r.quiets.stopped new) where
     abbrev pub total : List Access
-    total = first ++ b.driven.accesses
+    total = first ++ b.is_driven.accesses
 
-    pub performs : Performs total AnySlots (λ s. record (given_up port.0 s) { uses = next (given_up port.0 s).uses }) ByDeviceAlone old new
-    performs = laws.fragments.giving_up (Recovering AnyUses port) (Recovering PortUnused port) next port.0 old r.quiets.stopped new r.quiets.stops.followed r.quiets.stands (λ uses free. free) b
+    pub performs : Performs total AnySlots (λ s. record (with_all_given_up port.0 s) { uses = next (with_all_given_up port.0 s).uses }) ActsByDeviceAlone old new
+    performs = laws.fragments.giving_up (Recovering AnyUses port) (Recovering PortUnused port) next port.0 old r.quiets.stopped new r.quiets.stops.followed r.quiets.engine_is_stopped (λ uses free. free) b
 
     pub only : All (IsRecoveryAccess port) total
-    only = All-append (IsRecoveryAccess port) first b.driven.accesses r.quiets.stops.followed.driven.only b.driven.only
+    only = All-append (IsRecoveryAccess port) first b.is_driven.accesses r.quiets.stops.followed.is_driven.accesses_are_of_kind b.is_driven.accesses_are_of_kind
 
     pub goes : Goes port old new
-    goes = goes_over laws port total old new r.on only performs.does
+    goes = goes_over laws port total old new r.adapter_is_on only performs.accesses_are_done
 
     pub stops : Stops port total
-    stops = laws.falls_then first b.driven.accesses 0 15 port r.quiets.stops.tells.1
+    stops = laws.falls_then first b.is_driven.accesses 0 15 port r.quiets.stops.tells.1
 
     pub told : IsTold port queued before total old new
     told =
         let begins = r.quiets.stops.tells.0 in
-        is_told laws port outstanding queued before after old d r total (begins.rest ++ b.driven.accesses) new (ap (λ (made : List Access). made ++ b.driven.accesses) begins.here) performs.does
+        is_told laws port outstanding queued before after old d r total (begins.rest ++ b.is_driven.accesses) new (ap (λ (made : List Access). made ++ b.is_driven.accesses) begins.accesses_are) performs.accesses_are_done
 
     -- another port's disk sends no page for a command that its slot 0 hasn't
     pub silent_others : (q : Port) (o : Operation) → q.0 ≢ port.0 → op_of o ≡ None → RelatesWith (λ uses. uses q.0 0 ≡ Own o → ⊥) old → GainsNoMove q.0 o old new
     silent_others q o apart own (uses, none, agreed) =
         let stopped = laws.fragments.agreed (Recovering AnyUses port) (λ uses. uses) uses old r.quiets.stopped tt r.quiets.stops.followed agreed in
-        let k : DriverState = known uses stopped.parked r.quiets.stopped in
+        let k : DriverState = driver_state_of uses stopped.parked r.quiets.stopped in
         let left : (with_all_parked k port.0).uses q.0 ≡ uses q.0 = (laws.given_up_others k port.0 q.0 apart).0 in
         laws.silent_more q.0 o old r.quiets.stopped new
         (laws.fragments.silent (Recovering AnyUses port) (λ uses. uses) uses q o old r.quiets.stopped tt (spares_other laws port q Ci apart) (spares_other laws port q Sact apart) own none r.quiets.stops.followed agreed)
         (laws.fragments.silent (Recovering PortUnused port) next (with_all_parked k port.0).uses q o r.quiets.stopped new (laws.given_up_free k port.0) (spares_other laws port q Ci apart) (spares_other laws port q Sact apart) own
         (λ is. none (ap (λ (slots : ℕ → SlotState). slots 0) (sym left) ∙ is)) b
-        (record { machine = stopped.machine; parked = (with_all_parked k port.0).parked; reached = stopped.reached; knows = laws.given_up_halted k stopped.machine port.0 stopped.knows r.quiets.stands }))
+        (record { machine = stopped.machine; parked = (with_all_parked k port.0).parked; reached = stopped.reached; driver_relation = laws.given_up_halted k stopped.machine port.0 stopped.driver_relation r.quiets.engine_is_stopped }))

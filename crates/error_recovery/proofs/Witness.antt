@@ -10,19 +10,19 @@ use Rattle.adapter.specs.Device.Halt.{HaltedPlain, HaltedQueued}
 use Rattle.adapter.specs.FirstRead.{first_read_device}
 use Rattle.adapter.specs.Memory.{changed}
 use Rattle.refinement.specs.Relation.{port_at}
-use Rattle.refinement.specs.Driven.{IsRelated}
+use Rattle.refinement.specs.Fragments.{IsRelated}
 use Rattle.refinement.specs.PortFacts.{RecordsFaults, IsFaulted}
-use Rattle.refinement.specs.Recovered.{FaultIsSeen}
-use Rattle.refinement.specs.TwoReads.{TwoReadsWitness, armed_uses, second_id, two_issued, two_known}
-use Rattle.refinement.specs.Slots.{Free, Serves, SlotState, SlotStates, put}
-use Rattle.refinement.specs.Witness.{FirstReadWitness, first_id, first_uses}
+use Rattle.refinement.specs.RecoveryWitness.{FaultIsSeen}
+use Rattle.refinement.specs.TwoReads.{TwoReadsWitness, armed_uses, second_id, two_issued, two_reads_driver_state}
+use Rattle.refinement.specs.Slots.{Free, Serves, SlotState, SlotStates, set_slot_state}
+use Rattle.refinement.specs.ReadWitness.{FirstReadWitness, first_id, first_uses}
 use Rattle.port_control.specs.Ports.{programmed}
 use Rattle.error_recovery.specs.Laws.{Laws}
 use Rattle.error_recovery.specs.Laws.SlotCondition.{AnyUses}
 use Rattle.error_recovery.specs.Laws.AccessPurpose.{Recovering}
-use Rattle.error_recovery.specs.Parts.{HasDriverMemory}
+use Rattle.error_recovery.specs.RecoveryParts.{HasDriverMemory}
 use Rattle.error_recovery.specs.Recovery.{PlainIsSlot0, IsRecoveryAccess, MayRecover}
-use Rattle.error_recovery.specs.Witness.{RecoverWitness}
+use Rattle.error_recovery.specs.Witness.{MayRecoverWitness}
 use Rattle.error_recovery.proofs.Going.{goes_over}
 use Rattle.error_recovery.proofs.Stretching.{room_after}
 
@@ -41,8 +41,8 @@ record RunsPlaced (d : Device) : Type 0 where
 module _ (laws : Laws) (old : Device) (slot : ℕ) (halt : Halt) (runs : RunsPlaced old) (f : FaultIsSeen old slot halt) where
   seen_room : HasDriverMemory 0 f.seen
   seen_room =
-      let a = (laws.fragments.reads (Recovering AnyUses (port_at 0)) (Px (port_at 0) Ssts) 3 old f.seen (inl refl) f.sees).followed.driven in
-      room_after laws (IsRecoveryAccess (port_at 0)) 0 old f.seen a (goes_over laws (port_at 0) a.accesses old f.seen runs.room.on a.only a.all).on runs.room
+      let a = (laws.fragments.reads (Recovering AnyUses (port_at 0)) (Px (port_at 0) Ssts) 3 old f.seen (inl refl) f.sees).followed.is_driven in
+      room_after laws (IsRecoveryAccess (port_at 0)) 0 old f.seen a (goes_over laws (port_at 0) a.accesses old f.seen runs.room.adapter_is_on a.accesses_are_of_kind a.all_are_done).on runs.room
 
   seen_agreed : (uses : SlotStates) → IsRelated uses old → IsRelated uses f.seen
   seen_agreed uses agreed =
@@ -51,16 +51,16 @@ module _ (laws : Laws) (old : Device) (slot : ℕ) (halt : Halt) (runs : RunsPla
 
   seen_may : IsFaulted halt → MayRecover 0 f.seen
   seen_may faulted =
-      let s = laws.seen (port_at 0) Ssts 3 old f.seen f.sees runs.room.on.no_reset in
-      let c = s.keeps.on.controls 0 in
+      let s = laws.seen (port_at 0) Ssts 3 old f.seen f.sees runs.room.adapter_is_on.no_reset in
+      let c = s.keeps.keeps_outside_reset.controls 0 in
       record {
         st = c.st ∙ runs.st;
-        cr = c.runs runs.st runs.cr;
+        cr = c.engine_stays_running runs.st runs.cr;
         fre = c.fre ∙ runs.fre;
-        bases = (s.keeps.port 0).bases ∙ runs.bases;
-        det = c.sctl_det ∙ runs.det;
-        linked = ap (λ (n : Notes). n.last_ssts % 16) s.notes;
-        recorded = laws.access_recorded 0 (Px (port_at 0) Ssts) 3 old f.seen f.sees (λ _. runs.recorded) (c.st ∙ runs.st);
+        bases = (s.keeps.ports_are_kept 0).bases ∙ runs.bases;
+        no_comreset = c.sctl_det ∙ runs.det;
+        link_was_seen = ap (λ (n : Notes). n.last_ssts % 16) s.notes;
+        faults_are_on_record = laws.access_recorded 0 (Px (port_at 0) Ssts) 3 old f.seen f.sees (λ _. runs.recorded) (c.st ∙ runs.st);
         halted = subst IsFaulted (sym f.halted) faulted;
       }
 
@@ -69,25 +69,25 @@ module _ (laws : Laws) (old : Device) (slot : ℕ) (halt : Halt) (runs : RunsPla
 first_runs : RunsPlaced first_read_device
 unfolding changed
 first_runs = record {
-  room = record { on = record { ae = refl; no_reset = refl }; there = (omega arith, refl); room = omega arith };
+  room = record { adapter_is_on = record { ae = refl; no_reset = refl }; has_port = (omega arith, refl); driver_memory_fits = omega arith };
   st = refl;
   cr = refl;
   fre = refl;
   bases = refl;
   det = refl;
-  recorded = record { known = omega arith; linked = refl; flag = λ h. absurd (false≢true h); fault = λ h. absurd (⊎_elim (λ e. cc) (λ e. cc) h) };
+  recorded = record { st_set_is_on_tape = omega arith; no_link_is_due = refl; tfes_tells_fault = λ h. absurd (false≢true h); shows_last_fault = λ h. absurd (⊎_elim (λ e. cc) (λ e. cc) h) };
 }
 
 two_run : RunsPlaced two_issued
 unfolding changed
 two_run = record {
-  room = record { on = record { ae = refl; no_reset = refl }; there = (omega arith, refl); room = omega arith };
+  room = record { adapter_is_on = record { ae = refl; no_reset = refl }; has_port = (omega arith, refl); driver_memory_fits = omega arith };
   st = refl;
   cr = refl;
   fre = refl;
   bases = refl;
   det = refl;
-  recorded = record { known = omega arith; linked = refl; flag = λ h. absurd (false≢true h); fault = λ h. absurd (⊎_elim (λ e. cc) (λ e. cc) h) };
+  recorded = record { st_set_is_on_tape = omega arith; no_link_is_due = refl; tfes_tells_fault = λ h. absurd (false≢true h); shows_last_fault = λ h. absurd (⊎_elim (λ e. cc) (λ e. cc) h) };
 }
 
 -- 1 has the bit of slot 0 alone
@@ -98,51 +98,51 @@ first_alone plain slot low set = ⊎_elim
     (cases_eq slot 0)
 
 module _ (laws : Laws)
-    (here : (uses : SlotStates) (port slot : ℕ) (u : SlotState) → put uses port slot u port slot ≡ u)
-    (others : (uses : SlotStates) (port slot : ℕ) (u : SlotState) (other_port other_slot : ℕ) → (other_port ≡ port → other_slot ≡ slot → ⊥) → put uses port slot u other_port other_slot ≡ uses other_port other_slot) where
-  pub plain_may_be_asked : FaultIsSeen first_read_device 0 HaltedPlain → FirstReadWitness → RecoverWitness false
+    (here : (uses : SlotStates) (port slot : ℕ) (u : SlotState) → set_slot_state uses port slot u port slot ≡ u)
+    (others : (uses : SlotStates) (port slot : ℕ) (u : SlotState) (other_port other_slot : ℕ) → (other_port ≡ port → other_slot ≡ slot → ⊥) → set_slot_state uses port slot u other_port other_slot ≡ uses other_port other_slot) where
+  pub plain_may_be_asked : FaultIsSeen first_read_device 0 HaltedPlain → FirstReadWitness → MayRecoverWitness false
   plain_may_be_asked f k = record {
     device = f.seen;
-    on = (seen_room laws first_read_device 0 HaltedPlain first_runs f).on;
-    there = (seen_room laws first_read_device 0 HaltedPlain first_runs f).there;
-    room = (seen_room laws first_read_device 0 HaltedPlain first_runs f).room;
-    agreed = (
+    adapter_is_on = (seen_room laws first_read_device 0 HaltedPlain first_runs f).adapter_is_on;
+    has_port = (seen_room laws first_read_device 0 HaltedPlain first_runs f).has_port;
+    driver_memory_fits = (seen_room laws first_read_device 0 HaltedPlain first_runs f).driver_memory_fits;
+    machine_is_related = (
       first_uses,
       λ plain slot other. others (λ port at. Free) 0 0 (Serves first_id) 0 slot (λ same z. other z),
-      seen_agreed laws first_read_device 0 HaltedPlain first_runs f first_uses (record { machine = k.machine; parked = λ port. []; reached = k.reached; knows = k.knows }),
+      seen_agreed laws first_read_device 0 HaltedPlain first_runs f first_uses (record { machine = k.machine; parked = λ port. []; reached = k.reached; driver_relation = k.driver_relation }),
     );
-    may = seen_may laws first_read_device 0 HaltedPlain first_runs f (inl refl);
+    may_recover = seen_may laws first_read_device 0 HaltedPlain first_runs f (inl refl);
     outstanding = 1;
-    alone = first_alone;
+    plain_is_slot_0 = first_alone;
     fault = f.fault;
-    here = f.here;
-    of = f.of;
-    halts = f.halted;
+    fault_is_on_tape = f.here;
+    fault_is_of_slot = f.of;
+    halt_is = f.halted;
     serves = (first_id, ap (λ (slot : ℕ). first_uses 0 slot) f.of.1 ∙ here (λ port at. Free) 0 0 (Serves first_id));
-    among = ap (λ (slot : ℕ). bit 1 slot) f.of.1;
+    is_outstanding = ap (λ (slot : ℕ). bit 1 slot) f.of.1;
   }
 
-  pub queued_may_be_asked : FaultIsSeen two_issued 1 HaltedQueued → TwoReadsWitness → RecoverWitness true
+  pub queued_may_be_asked : FaultIsSeen two_issued 1 HaltedQueued → TwoReadsWitness → MayRecoverWitness true
   queued_may_be_asked f k = record {
     device = f.seen;
-    on = (seen_room laws two_issued 1 HaltedQueued two_run f).on;
-    there = (seen_room laws two_issued 1 HaltedQueued two_run f).there;
-    room = (seen_room laws two_issued 1 HaltedQueued two_run f).room;
-    agreed = (
+    adapter_is_on = (seen_room laws two_issued 1 HaltedQueued two_run f).adapter_is_on;
+    has_port = (seen_room laws two_issued 1 HaltedQueued two_run f).has_port;
+    driver_memory_fits = (seen_room laws two_issued 1 HaltedQueued two_run f).driver_memory_fits;
+    machine_is_related = (
       uses,
       λ plain. absurd (true≢false plain),
-      seen_agreed laws two_issued 1 HaltedQueued two_run f uses (record { machine = k.machine; parked = λ port. []; reached = k.reached; knows = k.issued }),
+      seen_agreed laws two_issued 1 HaltedQueued two_run f uses (record { machine = k.machine; parked = λ port. []; reached = k.reached; driver_relation = k.issued }),
     );
-    may = seen_may laws two_issued 1 HaltedQueued two_run f (inr refl);
+    may_recover = seen_may laws two_issued 1 HaltedQueued two_run f (inr refl);
     outstanding = 3;
-    alone = λ plain. absurd (true≢false plain);
+    plain_is_slot_0 = λ plain. absurd (true≢false plain);
     fault = f.fault;
-    here = f.here;
-    of = f.of;
-    halts = f.halted;
-    serves = (second_id, ap (λ (slot : ℕ). uses 0 slot) f.of.1 ∙ here (put armed_uses 0 0 (Serves first_id)) 0 1 (Serves second_id));
-    among = ap (λ (slot : ℕ). bit 3 slot) f.of.1;
+    fault_is_on_tape = f.here;
+    fault_is_of_slot = f.of;
+    halt_is = f.halted;
+    serves = (second_id, ap (λ (slot : ℕ). uses 0 slot) f.of.1 ∙ here (set_slot_state armed_uses 0 0 (Serves first_id)) 0 1 (Serves second_id));
+    is_outstanding = ap (λ (slot : ℕ). bit 3 slot) f.of.1;
   }
     where
       uses : SlotStates
-      uses = (two_known two_issued).uses
+      uses = (two_reads_driver_state two_issued).uses

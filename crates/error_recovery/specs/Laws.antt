@@ -17,18 +17,18 @@ use Rattle.adapter.specs.declared.tape.Entry.{Entry}
 use Rattle.block_machine.specs.State.{Machine}
 use Rattle.refinement.specs.Laws.{FragmentLaws, TapeLaws}
 use Rattle.refinement.specs.Relation.{StateRelation}
-use Rattle.refinement.specs.Driven.{AnyAccess, AnyUse, HasNoCommand, OnPortWriting, IsDrivenBy, SparesOtherPorts, GainsNoMove}
+use Rattle.refinement.specs.Fragments.{AnyAccess, AnyUse, HasNoCommand, IsPortAccessWriting, IsDrivenBy, SparesOtherPorts, GainsNoMove}
 use Rattle.refinement.specs.Driver.{AllFree, DriverState, DriverRelation}
 use Rattle.refinement.specs.Errors.{ChangesByErrors, NoneFails, NoneFatal}
 use Rattle.refinement.specs.PortFacts.{IsFaulted, IsEngineStopped, FaultsOnRecord, RunsWell, ShowsFault, ShowsNoTrouble}
 use Rattle.refinement.specs.GivingUp.{with_all_parked}
 use Rattle.refinement.specs.Links.{LeavesControls, NoPlugEvents, SameAdapter, DoesNotWrite}
-use Rattle.refinement.specs.Noted.{LeavesNotes}
-use Rattle.refinement.specs.Recovering.{IsLinked, RunsLinked, WorksPlainly}
-use Rattle.refinement.specs.Slots.{Free, IsOver, Own, SlotStates, put}
-use Rattle.refinement.specs.Started.{ClearsNoStart, IsStarted, IsUp}
-use Rattle.command_table.specs.Written.{IsUnused}
-use Rattle.disk_page.specs.Asking.{IsPageAccess, LeavesRunning, WaitsInVain}
+use Rattle.refinement.specs.PortNotes.{LeavesNotes}
+use Rattle.refinement.specs.HaltRecovery.{IsLinked, RunsLinked, WorksPlainly}
+use Rattle.refinement.specs.Slots.{Free, IsOver, Own, SlotStates, set_slot_state}
+use Rattle.refinement.specs.StartedPort.{ClearsNoStart, IsStarted, IsUp}
+use Rattle.command_table.specs.TableStores.{IsUnused}
+use Rattle.disk_page.specs.PageRequests.{IsPageAccess, LeavesRunning, WaitsInVain}
 use Rattle.port_control.specs.Engines.{FailsToStop, EngineFalls, EngineSticks}
 use Rattle.port_control.specs.Ports.{IsErrorRegister, IsCommandRegister}
 use Rattle.error_recovery.specs.Recovery.{IsRecoveryRegister, IsRecoveryAccess}
@@ -64,7 +64,7 @@ pub data AccessPurpose : Type 0 where
   Recovering : SlotCondition → Port → AccessPurpose
 
 abbrev pub accesses_for : AccessPurpose → Access → Type 0
-accesses_for (Controlling set fitting port) = OnPortWriting (registers_of set) port
+accesses_for (Controlling set fitting port) = IsPortAccessWriting (registers_of set) port
 accesses_for (Asking port) = IsPageAccess port
 accesses_for (Recovering fitting port) = IsRecoveryAccess port
 
@@ -126,7 +126,7 @@ pub record Laws : Type 0 where
   pub silent_more : (port : ℕ) (o : Operation) (old mid new : Device) → GainsNoMove port o old mid
       → GainsNoMove port o mid new → GainsNoMove port o old new
   pub controls_unmoving : (port : Port) (o : Operation) (old new : Device)
-      → IsDrivenBy (OnPortWriting (λ r. r ≢ Ci) port) old new → HasNoCommand (old.port port.0)
+      → IsDrivenBy (IsPortAccessWriting (λ r. r ≢ Ci) port) old new → HasNoCommand (old.port port.0)
       → GainsNoMove port.0 o old new
       × HasNoCommand (new.port port.0)
   pub given_up_halted : (k : DriverState) (m : Machine) (port : ℕ) → DriverRelation m k
@@ -136,7 +136,8 @@ pub record Laws : Type 0 where
   pub given_up_others : (k : DriverState) (port other : ℕ) → other ≢ port
       → ((with_all_parked k port).uses other ≡ k.uses other)
       × ((with_all_parked k port).parked other ≡ k.parked other)
-  pub put_here : (uses : SlotStates) (port slot : ℕ) (o : Operation) → put uses port slot (Own o) port slot ≡ Own o
+  pub put_here : (uses : SlotStates) (port slot : ℕ) (o : Operation) → set_slot_state uses port slot (Own o) port slot
+      ≡ Own o
   -- fragments
   pub same_any : (old new : Device) → IsDrivenBy AnyAccess old new → SameAdapter old new
   pub of_spares_ghc : (port : Port) (access : Access) → SparesOtherPorts port access → DoesNotWrite Ghc access
@@ -156,11 +157,12 @@ pub record Laws : Type 0 where
   pub vain_then : (port : Port) (early late : List Access) → WaitsInVain port early → WaitsInVain port (early ++ late)
   pub vain_since : (port : Port) (early late : List Access) → WaitsInVain port late → WaitsInVain port (early ++ late)
   -- this crate's kinds of accesses
-  pub control_of : (set : RegisterSet) (port : Port) (access : Access) → OnPortWriting (registers_of set) port access
+  pub control_of : (set : RegisterSet) (port : Port) (access : Access)
+      → IsPortAccessWriting (registers_of set) port access
       → SparesOtherPorts port access
   pub control_spares : (set : RegisterSet) (port : Port) (r : PortReg) → (registers_of set r → ⊥) → (access : Access)
-      → OnPortWriting (registers_of set) port access → DoesNotWrite (Px port r) access
+      → IsPortAccessWriting (registers_of set) port access → DoesNotWrite (Px port r) access
   pub control_wider : (set more : RegisterSet) (port : Port)
       → ((r : PortReg) → registers_of set r → registers_of more r) → (access : Access)
-      → OnPortWriting (registers_of set) port access → OnPortWriting (registers_of more) port access
+      → IsPortAccessWriting (registers_of set) port access → IsPortAccessWriting (registers_of more) port access
   pub fragments : FragmentLaws AccessPurpose accesses_for slot_uses_for

@@ -1,6 +1,6 @@
 pub mod Evidence
 pub mod Recovery
-pub mod Parts
+pub mod RecoveryParts
 pub mod Laws
 pub mod Witness
 pub mod Costs

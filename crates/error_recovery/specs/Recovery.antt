@@ -14,15 +14,15 @@ use Rattle.adapter.specs.Rules.{IsOn, HasPort}
 use Rattle.adapter.specs.declared.command.Operation.{Operation}
 use Rattle.adapter.specs.declared.command.Operation.TheVariants.{Identify, ReadLog}
 use Rattle.adapter.specs.declared.tape.Fault as tape_fault
-use Rattle.refinement.specs.Acts.{AnySlots, ByDeviceAlone, DriverSlots, Performs}
-use Rattle.refinement.specs.Driven.{RelatesWith, OnPortWriting, GainsNoMove}
+use Rattle.refinement.specs.Acts.{AnySlots, ActsByDeviceAlone, DriverSlots, Performs}
+use Rattle.refinement.specs.Fragments.{RelatesWith, IsPortAccessWriting, GainsNoMove}
 use Rattle.refinement.specs.Errors.{IsFatalOf}
 use Rattle.refinement.specs.PortFacts.{RecordsFaults, IsFaulted, RunsWell}
-use Rattle.refinement.specs.GivingUp.{given_up}
+use Rattle.refinement.specs.GivingUp.{with_all_given_up}
 use Rattle.refinement.specs.Links.{NoPlugEvents, DoesNotWrite}
-use Rattle.refinement.specs.Recovering.{IsLinked, WorksPlainly}
-use Rattle.refinement.specs.Slots.{Free, Own, SlotStates, op_of, put}
-use Rattle.disk_page.specs.Asking.{IsPageAccess, WaitsInVain}
+use Rattle.refinement.specs.HaltRecovery.{IsLinked, WorksPlainly}
+use Rattle.refinement.specs.Slots.{Free, Own, SlotStates, op_of, set_slot_state}
+use Rattle.disk_page.specs.PageRequests.{IsPageAccess, WaitsInVain}
 use Rattle.identify.specs.Log.{TellsError, TellsNoError}
 use Rattle.identify.specs.declared.error_log.FailedSlot.{FailedSlot}
 use Rattle.port_control.specs.Engines.{EngineSticks, Stops}
@@ -48,11 +48,11 @@ PlainIsSlot0 queued outstanding = queued ≡ false → (slot : ℕ) → slot < 3
 -- An error of the port may be handled while these commands are outstanding, queued ones or a plain one in slot 0: the
 -- adapter is on, and has the port and the driver's memory; and what its slots are used for is known.
 pub record MayHandleError (port : Port) (outstanding : ℕ) (queued : Bool) (d : Device) : Type 0 where
-  pub on : IsOn d
-  pub there : HasPort d port.0
-  pub room : DRIVER_BYTES ≤ d.size
-  pub agreed : RelatesWith (PlainUsesSlot0 queued port.0) d
-  pub alone : PlainIsSlot0 queued outstanding
+  pub adapter_is_on : IsOn d
+  pub has_port : HasPort d port.0
+  pub driver_memory_fits : DRIVER_BYTES ≤ d.size
+  pub machine_is_related : RelatesWith (PlainUsesSlot0 queued port.0) d
+  pub plain_is_slot_0 : PlainIsSlot0 queued outstanding
 
 -- A fault has halted the port, which runs with its areas in their places; a device with a link was seen last, no
 -- COMRESET is being sent, and the faults since ST was set are on record.
@@ -61,9 +61,9 @@ pub record MayRecover (port : ℕ) (d : Device) : Type 0 where
   pub cr : (d.port port).cr ≡ true
   pub fre : (d.port port).fre ≡ true
   pub bases : (d.port port).bases ≡ programmed port
-  pub det : (d.port port).sctl_det ≡ 0
-  pub linked : (d.port port).notes.last_ssts % 16 ≡ 3
-  pub recorded : RecordsFaults d.tape (d.port port) port
+  pub no_comreset : (d.port port).sctl_det ≡ 0
+  pub link_was_seen : (d.port port).notes.last_ssts % 16 ≡ 3
+  pub faults_are_on_record : RecordsFaults d.tape (d.port port) port
   pub halted : IsFaulted (d.port port).halt
 
 -- ---- what is done
@@ -75,20 +75,21 @@ IsRecoveryRegister r = IsCommandRegister r ⊎ IsErrorRegister r
 -- it reads a register of the port, writes one of these three, or asks for the log: by slot 0's header and table, bit 0
 -- of PxCI, and a load of the scratch frame
 abbrev pub IsRecoveryAccess : Port → Access → Type 0
-IsRecoveryAccess port access = OnPortWriting IsRecoveryRegister port access ⊎ IsPageAccess port access
+IsRecoveryAccess port access = IsPortAccessWriting IsRecoveryRegister port access ⊎ IsPageAccess port access
 
 -- slot 0 has a command of the driver's own
 abbrev pub with_own : ℕ → Operation → DriverSlots → DriverSlots
-with_own port o s = record s { uses = put s.uses port 0 (Own o) }
+with_own port o s = record s { uses = set_slot_state s.uses port 0 (Own o) }
 
 -- Each slot of the port was given up once the port had stopped, and the requests that they served are parked; the
 -- device alone made steps. Of a dead port the slots are as they were, or READ LOG EXT may be in slot 0 still.
 abbrev pub SlotsAfterRecovery : ℕ → Next → List Access → Device → Device → Type 0
 SlotsAfterRecovery port Dead accesses old new =
-    Performs accesses AnySlots (λ s. s) ByDeviceAlone old new
-    ⊎ (Performs accesses AnySlots (given_up port) ByDeviceAlone old new
-    ⊎ Performs accesses AnySlots (λ s. with_own port ReadLog (given_up port s)) ByDeviceAlone old new)
-SlotsAfterRecovery port _ accesses old new = Performs accesses AnySlots (given_up port) ByDeviceAlone old new
+    Performs accesses AnySlots (λ s. s) ActsByDeviceAlone old new
+    ⊎ (Performs accesses AnySlots (with_all_given_up port) ActsByDeviceAlone old new
+    ⊎ Performs accesses AnySlots (λ s. with_own port ReadLog (with_all_given_up port s)) ActsByDeviceAlone old new)
+SlotsAfterRecovery port _ accesses old new =
+    Performs accesses AnySlots (with_all_given_up port) ActsByDeviceAlone old new
 
 -- the accesses tell that the port was stopped; or that its engine is stuck
 abbrev pub TellsEngine : Port → Next → List Access → Type 0
@@ -103,32 +104,33 @@ IsNamedSlot None slot = ⊥
 IsNamedSlot (Some failed) slot = slot ≡ failed.slot.0
 
 -- The outstanding slots are the one that is named and those that go again, and no slot is both.
-pub record Parts (outstanding : ℕ) (failed : Option FailedSlot) (again : ℕ) : Type 0 where
-  pub split : (slot : ℕ) → slot < 32 → bit outstanding slot ≡ true → IsNamedSlot failed slot ⊎ (bit again slot ≡ true)
-  pub apart : (slot : ℕ) → slot < 32 → bit again slot ≡ true → (bit outstanding slot ≡ true)
+pub record SplitsOutstanding (outstanding : ℕ) (failed : Option FailedSlot) (again : ℕ) : Type 0 where
+  pub each_is_in_one : (slot : ℕ) → slot < 32 → bit outstanding slot ≡ true → IsNamedSlot failed slot
+      ⊎ (bit again slot ≡ true)
+  pub none_is_in_both : (slot : ℕ) → slot < 32 → bit again slot ≡ true → (bit outstanding slot ≡ true)
       × (IsNamedSlot failed slot → ⊥)
 
 -- A plain command that is named rests on a fault of its slot, with this status and error.
 pub record RestsOnFault (port : Port) (outstanding : ℕ) (accesses : List Access) (old new : Device)
     (failed : FailedSlot) : Type 0 where
   pub slot_is : failed.slot.0 ≡ 0
-  pub among : bit outstanding 0 ≡ true
+  pub is_outstanding : bit outstanding 0 ≡ true
   pub fault : tape_fault.Fault
   pub has_failed : HasFailed port accesses old new fault
-  pub at : fault.slot.0 ≡ 0
+  pub fault_slot_is : fault.slot.0 ≡ 0
   pub status_is : fault.status ≡ failed.status
   pub error_is : fault.error ≡ failed.error
 
 -- A queued one rests on a fault of the port, and on the last page of the log that the call brought, which names it.
 pub record RestsOnLog (port : Port) (outstanding : ℕ) (accesses : List Access) (old new : Device)
     (failed : FailedSlot) : Type 0 where
-  pub small : failed.slot.0 < 32
-  pub among : bit outstanding failed.slot.0 ≡ true
+  pub slot_in_range : failed.slot.0 < 32
+  pub is_outstanding : bit outstanding failed.slot.0 ≡ true
   pub fault : tape_fault.Fault
   pub has_failed : HasFailed port accesses old new fault
-  pub page : List ℕ
-  pub brings : BringsLog port old new page
-  pub tells : TellsError page failed.slot.0 failed.status failed.error
+  pub last_log_page : List ℕ
+  pub brings : BringsLog port old new last_log_page
+  pub tells : TellsError last_log_page failed.slot.0 failed.status failed.error
 
 abbrev pub BacksFailure : Bool → Port → ℕ → List Access → Device → Device → Option FailedSlot → Type 0
 BacksFailure queued port outstanding accesses old new None = Unit {0}
@@ -142,11 +144,11 @@ pub record NamesUnknownSlot (outstanding : ℕ) (page : List ℕ) : Type 0 where
   pub status : ℕ
   pub error : ℕ
   pub tells : TellsError page tag status error
-  pub foreign : bit outstanding tag ≡ false
+  pub is_not_outstanding : bit outstanding tag ≡ false
 
 -- they issue no command of the port
-abbrev pub IssueNone : Port → List Access → Type 0
-IssueNone port accesses = All (DoesNotWrite (Px port Ci)) accesses
+abbrev pub IssueNoCommand : Port → List Access → Type 0
+IssueNoCommand port accesses = All (DoesNotWrite (Px port Ci)) accesses
 
 -- The port was stopped, which clears PxCI; and then 64 readings in a row showed slot 0's bit, of a command that was
 -- issued since. No later reading showed it clear: the count of these readings, which stands beside the device's state,
@@ -154,17 +156,17 @@ IssueNone port accesses = All (DoesNotWrite (Px port Ci)) accesses
 pub record StopsThenWaits (port : Port) (accesses : List Access) (new : Device) : Type 0 where
   pub early : List Access
   pub late : List Access
-  pub here : accesses ≡ early ++ late
+  pub accesses_are : accesses ≡ early ++ late
   pub stopped : Stops port early
-  pub vain : WaitsInVain port late
-  pub still : (new.port port.0).notes.command_count ≡ MOST_READINGS
+  pub waits_in_vain : WaitsInVain port late
+  pub wait_is_in_vain : (new.port port.0).notes.command_count ≡ MOST_READINGS
 
 -- Why a port has to be booted: BSY or DRQ is what was read last of PxTFD, and no command was issued of which they could
 -- be. Or, where queued commands are outstanding, the log named none of them: once the port had stopped, the last 64
 -- readings showed READ LOG EXT issued, or its page names no command, or one that isn't outstanding.
 abbrev pub ExplainsReboot : Bool → Port → ℕ → List Access → Device → Device → Type 0
 ExplainsReboot queued port outstanding accesses old new =
-    (IssueNone port accesses × (ShowsIdle (new.port port.0).notes.last_tfd → ⊥))
+    (IssueNoCommand port accesses × (ShowsIdle (new.port port.0).notes.last_tfd → ⊥))
     ⊎ ((queued ≡ true) × (StopsThenWaits port accesses new
     ⊎ ((page : List ℕ) × BringsLog port old new page × (TellsNoError page ⊎ NamesUnknownSlot outstanding page))))
 
@@ -177,14 +179,15 @@ ExplainsReboot queued port outstanding accesses old new =
 -- without queued commands, if it worked on plain ones alone.
 pub record RunsAgain (queued : Bool) (port : ℕ) (old new : Device) : Type 0 where
   pub runs : IsRunning port (new.port port)
-  pub recorded : RecordsFaults new.tape (new.port port) port
-  pub since : length old.tape ≤ (new.port port).notes.st_set_at
-  pub count : (new.port port).notes.link_count ≡ (old.port port).notes.link_count
-  pub ended : queued ≡ true → (new.port port).halt ≡ NotHalted
-  pub plain : queued ≡ false → WorksPlainly (old.port port) → WorksPlainly (new.port port)
-  pub unhalted : (queued ≡ false → WorksPlainly (old.port port)) → (new.port port).halt ≢ LogOnly
-  pub shows : HidesNoTrouble port old new
-  pub well : NoPlugEvents port old new → (GainsSinceStart (IsFatalOf port) port old new → ⊥) → IsLinked (old.port port)
+  pub faults_are_on_record : RecordsFaults new.tape (new.port port) port
+  pub st_set_in_call : length old.tape ≤ (new.port port).notes.st_set_at
+  pub link_count_is_kept : (new.port port).notes.link_count ≡ (old.port port).notes.link_count
+  pub queued_halt_ends : queued ≡ true → (new.port port).halt ≡ NotHalted
+  pub works_plainly : queued ≡ false → WorksPlainly (old.port port) → WorksPlainly (new.port port)
+  pub is_not_log_only : (queued ≡ false → WorksPlainly (old.port port)) → (new.port port).halt ≢ LogOnly
+  pub hides_no_trouble : HidesNoTrouble port old new
+  pub port_runs_well : NoPlugEvents port old new → (GainsSinceStart (IsFatalOf port) port old new → ⊥)
+      → IsLinked (old.port port)
       → (queued ≡ false → WorksPlainly (old.port port)) → RunsWell (new.port port)
 
 -- It is as `next` says: it runs; it is stopped, so that it can be booted; or its engine was awaited in vain.
@@ -206,30 +209,33 @@ pub record DoesRecovery (port : Port) (result : Recovered) (accesses : List Acce
 -- booted.
 pub record TellsOutstanding (port : Port) (outstanding : ℕ) (queued : Bool) (result : Recovered)
     (accesses : List Access) (old new : Device) : Type 0 where
-  pub parts : Parts outstanding result.failed result.again
-  pub rests : BacksFailure queued port outstanding accesses old new result.failed
-  pub dead : result.next ≡ Dead → result.failed ≡ None
-  pub unnamed : (token : stopped_token.Stopped) → queued ≡ true → result.next ≡ Restart token → result.failed ≡ None
+  pub splits_outstanding : SplitsOutstanding outstanding result.failed result.again
+  pub failure_is_backed : BacksFailure queued port outstanding accesses old new result.failed
+  pub dead_names_none : result.next ≡ Dead → result.failed ≡ None
+  pub reboot_names_none : (token : stopped_token.Stopped) → queued ≡ true → result.next ≡ Restart token → result.failed
+      ≡ None
 
 -- What a recovery tells besides: whom it names, and why the port has to be booted. Where queued commands are
 -- outstanding, it runs only with one of them named; an outstanding plain one is named unless the port is dead.
 pub record TellsRecovery (port : Port) (outstanding : ℕ) (queued : Bool) (result : Recovered) (accesses : List Access)
     (old new : Device) : Type 0 where
-  pub named : (token : running_token.Running) → queued ≡ true → result.next ≡ Running token → result.failed ≢ None
-  pub told : queued ≡ false → bit outstanding 0 ≡ true → result.next ≢ Dead → result.failed ≢ None
-  pub restarts : (token : stopped_token.Stopped) → result.next ≡ Restart token
+  pub running_names_one : (token : running_token.Running) → queued ≡ true → result.next ≡ Running token
+      → result.failed ≢ None
+  pub plain_is_named : queued ≡ false → bit outstanding 0 ≡ true → result.next ≢ Dead → result.failed ≢ None
+  pub reboot_is_explained : (token : stopped_token.Stopped) → result.next ≡ Restart token
       → ExplainsReboot queued port outstanding accesses old new
 
 -- What it leaves: the port as `next` says; DET of PxSCTL and when it was written, and PxIE, as they were. And where
 -- slot 0 had no IDENTIFY DEVICE, the disk has sent no page of it; nor has another port's disk sent a page for a command
 -- that its slot 0 hadn't.
 pub record LeavesRecovery (port : Port) (queued : Bool) (next : Next) (old new : Device) : Type 0 where
-  pub ends : EndsAsNext queued port next old new
-  pub det : (new.port port.0).sctl_det ≡ (old.port port.0).sctl_det
-  pub written : (new.port port.0).notes.sctl_written_at ≡ (old.port port.0).notes.sctl_written_at
-  pub enabled : (new.port port.0).ie ≡ (old.port port.0).ie
-  pub silent : RelatesWith (λ uses. uses port.0 0 ≡ Own Identify → ⊥) old → GainsNoMove port.0 Identify old new
-  pub others : (q : Port) (o : Operation) → q.0 ≢ port.0 → op_of o ≡ None
+  pub ends_as_next : EndsAsNext queued port next old new
+  pub sctl_det_is_kept : (new.port port.0).sctl_det ≡ (old.port port.0).sctl_det
+  pub sctl_time_is_kept : (new.port port.0).notes.sctl_written_at ≡ (old.port port.0).notes.sctl_written_at
+  pub ie_is_kept : (new.port port.0).ie ≡ (old.port port.0).ie
+  pub no_identify_moves : RelatesWith (λ uses. uses port.0 0 ≡ Own Identify → ⊥) old
+      → GainsNoMove port.0 Identify old new
+  pub no_other_page_moves : (q : Port) (o : Operation) → q.0 ≢ port.0 → op_of o ≡ None
       → RelatesWith (λ uses. uses q.0 0 ≡ Own o → ⊥) old → GainsNoMove q.0 o old new
 
 -- What becomes of a port that had trouble: by one list of accesses it was stopped, and runs again, or has to be booted,
@@ -252,6 +258,6 @@ pub record Recovers (port : Port) (outstanding : ℕ) (queued : Bool) (result : 
 pub record StopsForReset (port : Port) (outstanding : ℕ) (queued : Bool) (result : Recovered)
     (old new : Device) : Type 0 where
   pub handling : RecoversOrStops port outstanding queued result old new
-  pub only : All (OnPortWriting IsCommandRegister port) handling.accesses
-  pub nobody : result.failed ≡ None
-  pub halts : (token : running_token.Running) → result.next ≢ Running token
+  pub only : All (IsPortAccessWriting IsCommandRegister port) handling.accesses
+  pub none_is_named : result.failed ≡ None
+  pub is_not_running : (token : running_token.Running) → result.next ≢ Running token

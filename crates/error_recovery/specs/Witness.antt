@@ -10,7 +10,7 @@ use Rattle.adapter.specs.Steps.{halted}
 use Rattle.adapter.specs.declared.tape.Entry.TheVariants as entry
 use Rattle.adapter.specs.declared.tape.Fault as tape_fault
 use Rattle.refinement.specs.Relation.{port_at}
-use Rattle.refinement.specs.Driven.{RelatesWith, AnyUse}
+use Rattle.refinement.specs.Fragments.{RelatesWith, AnyUse}
 use Rattle.refinement.specs.Slots.{Serves}
 use Rattle.port_control.specs.declared.Stopped as stopped_token
 use Rattle.error_recovery.specs.Evidence.{ShowsFatal}
@@ -19,34 +19,34 @@ use Rattle.error_recovery.specs.declared.Next.TheVariants.{Restart}
 
 -- Of port 0 all is so that recovery asks. A command has failed on it, a plain one in slot 0, or a queued one in slot 1,
 -- and has halted the port. Its slot serves a request, and is outstanding.
-pub record RecoverWitness (queued : Bool) : Type 0 where
+pub record MayRecoverWitness (queued : Bool) : Type 0 where
   pub device : Device
-  pub on : IsOn device
-  pub there : HasPort device 0
-  pub room : DRIVER_BYTES ≤ device.size
-  pub agreed : RelatesWith (PlainUsesSlot0 queued 0) device
-  pub may : MayRecover 0 device
+  pub adapter_is_on : IsOn device
+  pub has_port : HasPort device 0
+  pub driver_memory_fits : DRIVER_BYTES ≤ device.size
+  pub machine_is_related : RelatesWith (PlainUsesSlot0 queued 0) device
+  pub may_recover : MayRecover 0 device
   pub outstanding : ℕ
-  pub alone : PlainIsSlot0 queued outstanding
+  pub plain_is_slot_0 : PlainIsSlot0 queued outstanding
   pub fault : tape_fault.Fault
-  pub here : Contains device.tape (entry.Fault fault)
-  pub of : (fault.port.0 ≡ 0) × (fault.slot.0 ≡ (if queued then 1 else 0))
-  pub halts : (device.port 0).halt ≡ halted NotHalted queued
-  pub serves : (id : RequestId) × (agreed.0 0 fault.slot.0 ≡ Serves id)
-  pub among : bit outstanding fault.slot.0 ≡ true
+  pub fault_is_on_tape : Contains device.tape (entry.Fault fault)
+  pub fault_is_of_slot : (fault.port.0 ≡ 0) × (fault.slot.0 ≡ (if queued then 1 else 0))
+  pub halt_is : (device.port 0).halt ≡ halted NotHalted queued
+  pub serves : (id : RequestId) × (machine_is_related.0 0 fault.slot.0 ≡ Serves id)
+  pub is_outstanding : bit outstanding fault.slot.0 ≡ true
 
 -- Of port 0 all is so that is asked where a port is given up: a fatal error has broken it, and slot 0 serves a request,
 -- which is outstanding. And what is promised then can come: ST is cleared, CR falls, and the port has to be booted.
 pub record StopWitness : Type 0 where
   pub device : Device
-  pub on : IsOn device
-  pub there : HasPort device 0
-  pub agreed : RelatesWith AnyUse device
+  pub adapter_is_on : IsOn device
+  pub has_port : HasPort device 0
+  pub machine_is_related : RelatesWith AnyUse device
   pub fatal : ShowsFatal (device.port 0)
   pub broken : (device.port 0).broken ≡ true
-  pub serves : (id : RequestId) × (agreed.0 0 0 ≡ Serves id)
+  pub serves : (id : RequestId) × (machine_is_related.0 0 0 ≡ Serves id)
   pub outstanding : ℕ
-  pub among : bit outstanding 0 ≡ true
+  pub is_outstanding : bit outstanding 0 ≡ true
   pub stopped : Device
   pub token : stopped_token.Stopped
   pub gives_up : (queued : Bool)

@@ -10,11 +10,11 @@ ghost use Rattle.adapter.specs.Device.{Device, DevicePort};
 ghost use Rattle.adapter.specs.Rules.{IsOn};
 ghost use Rattle.adapter.specs.declared.command.Operation.TheVariants.{ReadLog};
 ghost use Rattle.adapter.specs.declared.tape.Fault.{Fault};
-ghost use Rattle.refinement.specs.Driven.{TapeGrows, SparesOtherPorts, GainsNoMove};
+ghost use Rattle.refinement.specs.Fragments.{TapeGrows, SparesOtherPorts, GainsNoMove};
 ghost use Rattle.refinement.specs.Links.{DoesNotWrite};
 ghost use Rattle.error_recovery.specs.Evidence.{BringsLog, HasFailed, ShowsFatal};
 ghost use Rattle.error_recovery.specs.Recovery.{IsRecoveryAccess};
-ghost use Rattle.error_recovery.specs.Witness.{RecoverWitness, StopWitness};
+ghost use Rattle.error_recovery.specs.Witness.{MayRecoverWitness, StopWitness};
 
 use super::prerequisites::law_prerequisites;
 use adapter::laws::law_accesses_compose;
@@ -29,13 +29,15 @@ use refinement::recovery_witnesses::law_a_fault_is_seen;
 /// but PxCMD, PxSERR, PxIS and PxCI: neither PxSCTL nor PxIE nor PxSACT. What they load and store lies in the driver's
 /// frames.
 pub fn law_recovery_is_of_its_port()
-    ensures of { (port : Port) (access : Access) → IsRecoveryAccess port access → SparesOtherPorts port access }
-    ensures host { (port : Port) (access : Access) → IsRecoveryAccess port access → DoesNotWrite Ghc access }
-    ensures link { (port : Port) (access : Access) → IsRecoveryAccess port access
+    ensures of_its_port { (port : Port) (access : Access) → IsRecoveryAccess port access
+        → SparesOtherPorts port access }
+    ensures ghc_is_unwritten { (port : Port) (access : Access) → IsRecoveryAccess port access
+        → DoesNotWrite Ghc access }
+    ensures sctl_is_unwritten { (port : Port) (access : Access) → IsRecoveryAccess port access
         → DoesNotWrite (Px port Sctl) access }
-    ensures interrupts { (port : Port) (access : Access) → IsRecoveryAccess port access
+    ensures ie_is_unwritten { (port : Port) (access : Access) → IsRecoveryAccess port access
         → DoesNotWrite (Px port Ie) access }
-    ensures active { (port : Port) (access : Access) → IsRecoveryAccess port access
+    ensures sact_is_unwritten { (port : Port) (access : Access) → IsRecoveryAccess port access
         → DoesNotWrite (Px port Sact) access }
     ensures loads { (port : Port) (at : ℕ) (bytes : List ℕ) → port.0 < 4 → IsRecoveryAccess port (Loading at bytes)
         → at + length bytes ≤ DRIVER_BYTES }
@@ -66,8 +68,8 @@ pub fn law_fatal_errors_show_unless_clear()
 
 /// What `recover` asks can be met: there is a port with a plain read that failed, and one with a queued read that did.
 pub fn law_a_port_may_be_recovered()
-    ensures plain { RecoverWitness false }
-    ensures queued { RecoverWitness true }
+    ensures plain { MayRecoverWitness false }
+    ensures queued { MayRecoverWitness true }
 {
     law_a_fault_is_seen();
     law_a_first_read_agrees();

@@ -11,15 +11,15 @@ ghost use Rattle.std.specs.Prelude.{ℕ, Bool, true, false, None, Some, ◌≡�
 ghost use Rattle.hba_regs.specs.Bits.{bit};
 ghost use Rattle.adapter.specs.Device.{Device};
 ghost use Rattle.adapter.specs.Rules.{IsOn, HasPort};
-ghost use Rattle.refinement.specs.Driven.{RelatesWith, AnyUse};
+ghost use Rattle.refinement.specs.Fragments.{RelatesWith, AnyUse};
 ghost use Rattle.refinement.specs.Driver.{AllFree};
-ghost use Rattle.disk_page.specs.Asking.{MayAsk};
-ghost use Rattle.error_recovery.specs.Parts.{AsksLog, StopGetsStuck, StartsAgain, HasDriverMemory, MayStartAgain, Quiets, IsQuietedForRecovery};
-ghost use Rattle.error_recovery.specs.Recovery.{StopsForReset, IsNamedSlot, MayHandleError, MayRecover, Parts, Recovers};
-ghost use Rattle.adapter.specs.Counted.{MakesAtMost};
+ghost use Rattle.disk_page.specs.PageRequests.{MayAskForPage};
+ghost use Rattle.error_recovery.specs.RecoveryParts.{AsksForLog, StopGetsStuck, StartsAgain, HasDriverMemory, MayStartAgain, StopsAndClears, IsClearedForRecovery};
+ghost use Rattle.error_recovery.specs.Recovery.{StopsForReset, IsNamedSlot, MayHandleError, MayRecover, SplitsOutstanding, Recovers};
+ghost use Rattle.adapter.specs.AccessBounds.{MakesAtMost};
 ghost use Rattle.disk_page.specs.Costs.{PAGE_ACCESSES};
 ghost use Rattle.port_control.specs.Costs.{START_ACCESSES, STOP_ACCESSES};
-ghost use Rattle.error_recovery.specs.Costs.{FINISH_QUEUED_ACCESSES, QUIET_ACCESSES, RECOVER_ACCESSES};
+ghost use Rattle.error_recovery.specs.Costs.{FINISH_QUEUED_ACCESSES, STOP_AND_CLEAR_ACCESSES, RECOVER_ACCESSES};
 
 pub mod laws;
 mod prerequisites;
@@ -68,15 +68,15 @@ struct StoppedAndCleared {
 }
 
 /// Reads PxTFD, stops the port, has it forget its errors, and reads PxTFD again. `None` where the engine is stuck.
-fn quiet<A: Adapter>(adapter: &mut A, port: Port) -> Option<StoppedAndCleared>
+fn stop_and_clear<A: Adapter>(adapter: &mut A, port: Port) -> Option<StoppedAndCleared>
     requires room { HasDriverMemory port.0 (A.device adapter.old) }
     requires may { MayRecover port.0 (A.device adapter.old) }
     requires agreed { RelatesWith AnyUse (A.device adapter.old) }
     ensures on { IsOn (A.device adapter.new) }
     ensures quiets { IfSome result (λ q. (q.stopped.port ≡ port)
-        × Quiets port q.fault.0 q.shown.0 (A.device adapter.old) (A.device adapter.new)) }
+        × StopsAndClears port q.fault.0 q.shown.0 (A.device adapter.old) (A.device adapter.new)) }
     ensures sticks { IfNone result (StopGetsStuck port (A.device adapter.old) (A.device adapter.new)) }
-    ensures cost { MakesAtMost QUIET_ACCESSES (A.access_count adapter.old) (A.access_count adapter.new) }
+    ensures cost { MakesAtMost STOP_AND_CLEAR_ACCESSES (A.access_count adapter.old) (A.access_count adapter.new) }
 {
     law_prerequisites();
     let fault = TaskFile(adapter.read(Reg::Px(port, PortReg::Tfd)));
@@ -92,7 +92,7 @@ fn quiet<A: Adapter>(adapter: &mut A, port: Port) -> Option<StoppedAndCleared>
 }
 
 /// Has a port that was quieted, and is idle, work on its command list again.
-fn go_on<A: Adapter>(adapter: &mut A, stopped: Stopped) -> Running
+fn start_again<A: Adapter>(adapter: &mut A, stopped: Stopped) -> Running
     requires may { MayStartAgain stopped.port.0 (A.device adapter.old) }
     ensures names { result.port ≡ stopped.port }
     ensures goes { StartsAgain stopped.port (A.device adapter.old) (A.device adapter.new) }
@@ -106,14 +106,14 @@ fn go_on<A: Adapter>(adapter: &mut A, stopped: Stopped) -> Running
 /// Which of the outstanding queued commands failed, as the disk's log tells.
 fn read_log<A: Adapter>(adapter: &mut A, port: Port, outstanding: u32) -> Option<FailedSlot>
     requires room { HasDriverMemory port.0 (A.device adapter.old) }
-    requires may { MayAsk port.0 (A.device adapter.old) }
+    requires may { MayAskForPage port.0 (A.device adapter.old) }
     requires agreed { RelatesWith (λ uses. AllFree uses port.0) (A.device adapter.old) }
     ensures on { IsOn (A.device adapter.new) }
     ensures agreed { RelatesWith AnyUse (A.device adapter.new) }
-    ensures asks { AsksLog port outstanding result (A.device adapter.old) (A.device adapter.new) }
+    ensures asks { AsksForLog port outstanding result (A.device adapter.old) (A.device adapter.new) }
     ensures cost { MakesAtMost PAGE_ACCESSES (A.access_count adapter.old) (A.access_count adapter.new) }
 {
-    let Some(page) = read_page(adapter, port, Page::Errors) else {
+    let Some(page) = read_page(adapter, port, Page::ErrorLog) else {
         return None;
     };
     let Some(failed) = parse_log(&page) else {
@@ -146,7 +146,7 @@ fn fault_of(outstanding: u32, fault: TaskFile) -> Option<FailedSlot>
 fn others(outstanding: u32, failed: &Option<FailedSlot>) -> u32
     requires small { (slot : ℕ) → IsNamedSlot failed.now slot → slot < 32 }
     requires named { (slot : ℕ) → IsNamedSlot failed.now slot → bit outstanding slot ≡ true }
-    ensures { Parts outstanding failed.now result }
+    ensures { SplitsOutstanding outstanding failed.now result }
 {
     match failed {
         Some(named) => without_bit(outstanding, u32::from(named.slot.0)),
@@ -162,11 +162,11 @@ fn finish_plain<A: Adapter>(
     outstanding: u32,
 ) -> Recovered
     requires resumes { (old : Device)
-        × IsQuietedForRecovery quieted.stopped.port outstanding false quieted.fault.0 quieted.shown.0
+        × IsClearedForRecovery quieted.stopped.port outstanding false quieted.fault.0 quieted.shown.0
         old (A.device adapter.old) }
     ensures on { IsOn (A.device adapter.new) }
     ensures recovers { (old : Device)
-        → IsQuietedForRecovery quieted.stopped.port outstanding false quieted.fault.0 quieted.shown.0
+        → IsClearedForRecovery quieted.stopped.port outstanding false quieted.fault.0 quieted.shown.0
         old (A.device adapter.old)
         → Recovers quieted.stopped.port outstanding false result old (A.device adapter.new) }
     ensures cost { MakesAtMost START_ACCESSES (A.access_count adapter.old) (A.access_count adapter.new) }
@@ -182,7 +182,7 @@ fn finish_plain<A: Adapter>(
             next,
         };
     }
-    let next = Next::Running(go_on(adapter, quieted.stopped));
+    let next = Next::Running(start_again(adapter, quieted.stopped));
     Recovered {
         failed,
         again,
@@ -198,11 +198,11 @@ fn finish_queued<A: Adapter>(
     outstanding: u32,
 ) -> Recovered
     requires resumes { (old : Device)
-        × IsQuietedForRecovery quieted.stopped.port outstanding true quieted.fault.0 quieted.shown.0
+        × IsClearedForRecovery quieted.stopped.port outstanding true quieted.fault.0 quieted.shown.0
         old (A.device adapter.old) }
     ensures on { IsOn (A.device adapter.new) }
     ensures recovers { (old : Device)
-        → IsQuietedForRecovery quieted.stopped.port outstanding true quieted.fault.0 quieted.shown.0
+        → IsClearedForRecovery quieted.stopped.port outstanding true quieted.fault.0 quieted.shown.0
         old (A.device adapter.old)
         → Recovers quieted.stopped.port outstanding true result old (A.device adapter.new) }
     ensures cost { MakesAtMost FINISH_QUEUED_ACCESSES (A.access_count adapter.old) (A.access_count adapter.new) }
@@ -211,7 +211,7 @@ fn finish_queued<A: Adapter>(
     if is_bsy_or_drq(quieted.shown) {
         return unnamed(outstanding, Next::Restart(quieted.stopped));
     }
-    let running = go_on(adapter, quieted.stopped);
+    let running = start_again(adapter, quieted.stopped);
     let port = running.port();
     if let Some(failed) = read_log(adapter, port, outstanding) {
         let failed = Some(failed);
@@ -259,7 +259,7 @@ pub fn recover<A: Adapter>(adapter: &mut A, port: Port, outstanding: u32, queued
     ensures cost { MakesAtMost RECOVER_ACCESSES (A.access_count adapter.old) (A.access_count adapter.new) }
 {
     law_prerequisites();
-    let Some(quieted) = quiet(adapter, port) else {
+    let Some(quieted) = stop_and_clear(adapter, port) else {
         return unnamed(outstanding, Next::Dead);
     };
     if queued {

@@ -4,11 +4,11 @@ ghost use Rattle.error_recovery.specs.Laws.{Laws};
 use adapter::laws::law_port_register_accesses;
 use disk_page::laws::{law_asking_is_of_one_port, law_what_is_told_of_waits_stays};
 use port_control::laws::law_what_is_told_of_engines_stays;
+use refinement::access_kinds::{law_controls_are_of_a_port, law_fragment_prerequisites};
 use refinement::fragments::{
     law_other_ports_are_left, law_tape_prerequisites, law_unused_slots_are_silent,
 };
 use refinement::giving_up::{law_fault_is_outstanding, law_slots_are_given_up};
-use refinement::kinds::{law_controls_are_of_a_port, law_fragment_prerequisites};
 use refinement::laws::law_putting_is_of_one_slot;
 use refinement::port_facts::{
     law_adapter_stays, law_cleared_stays, law_controls_stay, law_errors_are_shown,

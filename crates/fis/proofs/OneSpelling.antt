@@ -76,7 +76,7 @@ twenty a b size size' h n z z' = same_number_lists a b (size ∙ sym size') (λ 
 pub command_is_one : (v : Command) (a b : List ℕ) → AreBytes a → AreBytes b → EncodesCommand a v → EncodesCommand b v → a ≡ b
 command_is_one v a b p q s t = twenty a b s.size t.size
     (record {
-      at_0 = s.kind ∙ sym t.kind;
+      at_0 = s.fis_type ∙ sym t.fis_type;
       at_1 = s.c_bit ∙ sym t.c_bit;
       at_2 = s.code ∙ sym t.code;
       at_3 = omega (arith, s.features, t.features, p 3, q 3, p 11, q 11);
@@ -102,7 +102,7 @@ command_is_one v a b p q s t = twenty a b s.size t.size
 pub registers_are_one : (v : DeviceToHost) (a b : List ℕ) → AreBytes a → AreBytes b → EncodesDeviceToHost a v → EncodesDeviceToHost b v → a ≡ b
 registers_are_one v a b p q s t = twenty a b s.size t.size
     (record {
-      at_0 = s.kind ∙ sym t.kind;
+      at_0 = s.fis_type ∙ sym t.fis_type;
       at_1 = s.i_bit ∙ sym t.i_bit;
       at_2 = s.status ∙ sym t.status;
       at_3 = s.error ∙ sym t.error;
@@ -127,7 +127,7 @@ registers_are_one v a b p q s t = twenty a b s.size t.size
 
 pub tags_are_one : (v : SetDeviceBits) (a b : List ℕ) → AreBytes a → AreBytes b → EncodesSetDeviceBits a v → EncodesSetDeviceBits b v → a ≡ b
 tags_are_one v a b p q s t = eight a b s.size t.size (record {
-  at_0 = s.kind ∙ sym t.kind;
+  at_0 = s.fis_type ∙ sym t.fis_type;
   at_1 = s.i_bit ∙ sym t.i_bit;
   at_2 = s.status ∙ sym t.status;
   at_3 = s.error ∙ sym t.error;
@@ -140,7 +140,7 @@ tags_are_one v a b p q s t = eight a b s.size t.size (record {
 pub setup_is_one : (v : PioSetup) (a b : List ℕ) → AreBytes a → AreBytes b → EncodesPioSetup a v → EncodesPioSetup b v → a ≡ b
 setup_is_one v a b p q s t = twenty a b s.size t.size
     (record {
-      at_0 = s.kind ∙ sym t.kind;
+      at_0 = s.fis_type ∙ sym t.fis_type;
       at_1 = s.bits ∙ sym t.bits;
       at_2 = s.status ∙ sym t.status;
       at_3 = s.error ∙ sym t.error;

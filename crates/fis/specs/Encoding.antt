@@ -23,7 +23,7 @@ lba_at bytes = little_from 4 3 bytes + 2 ^ 24 * little_from 8 3 bytes
 -- A Register FIS from device to host: I in bit 6 of byte 1
 pub record EncodesDeviceToHost (bytes : List ℕ) (d : DeviceToHost) : Type 0 where
   pub size : length bytes ≡ 20
-  pub kind : slice_index bytes 0 ≡ 0x34
+  pub fis_type : slice_index bytes 0 ≡ 0x34
   pub i_bit : slice_index bytes 1 ≡ placed_bit d.interrupt 6
   pub status : slice_index bytes 2 ≡ d.status
   pub error : slice_index bytes 3 ≡ d.error
@@ -36,7 +36,7 @@ pub record EncodesDeviceToHost (bytes : List ℕ) (d : DeviceToHost) : Type 0 wh
 -- A Set Device Bits FIS: I in bit 6 of byte 1, and a status without bits 7 and 3
 pub record EncodesSetDeviceBits (bytes : List ℕ) (s : SetDeviceBits) : Type 0 where
   pub size : length bytes ≡ 8
-  pub kind : slice_index bytes 0 ≡ 0xa1
+  pub fis_type : slice_index bytes 0 ≡ 0xa1
   pub i_bit : slice_index bytes 1 ≡ placed_bit s.interrupt 6
   pub status : slice_index bytes 2 ≡ s.status
   pub status_bits : bit_and s.status 0x88 ≡ 0
@@ -46,7 +46,7 @@ pub record EncodesSetDeviceBits (bytes : List ℕ) (s : SetDeviceBits) : Type 0 
 -- A PIO Setup FIS: I and D in bits 6 and 5 of byte 1
 pub record EncodesPioSetup (bytes : List ℕ) (p : PioSetup) : Type 0 where
   pub size : length bytes ≡ 20
-  pub kind : slice_index bytes 0 ≡ 0x5f
+  pub fis_type : slice_index bytes 0 ≡ 0x5f
   pub bits : slice_index bytes 1 ≡ placed_bit p.interrupt 6 + placed_bit p.to_host 5
   pub status : slice_index bytes 2 ≡ p.status
   pub error : slice_index bytes 3 ≡ p.error

@@ -5,12 +5,12 @@ use Rattle.hba_regs.specs.declared.reg.Reg.{Reg}
 use Rattle.hba_regs.specs.declared.reg.Reg.TheVariants.{Cap, Ghc, Is, Pi, Vs, Cap2, Bohc, Px}
 use Rattle.adapter.specs.Access.{Reads, Writes}
 use Rattle.adapter.specs.Device.{Device}
-use Rattle.adapter.specs.Kept.{Keeps}
+use Rattle.adapter.specs.KeptBySteps.{Keeps}
 use Rattle.adapter.specs.Rules.{HasPort, IsOn, MayRead, IsStable}
 use Rattle.adapter.specs.Steps.{Steps}
 
 on_stays : (old mid : Device) → Keeps old mid → IsOn old → IsOn mid
-on_stays old mid kept on = let still = kept.on on.no_reset in record { ae = still.ae ∙ on.ae; no_reset = still.no_reset }
+on_stays old mid kept on = let still = kept.keeps_outside_reset on.no_reset in record { ae = still.ae ∙ on.ae; no_reset = still.no_reset }
 
 port_stays : (port : ℕ) (old mid : Device) → Keeps old mid → HasPort old port → HasPort mid port
 port_stays port old mid kept has = (has.0, subst (λ (pi : ℕ). bit pi port ≡ true) (sym kept.pi) has.1)

@@ -1,2 +1,2 @@
-pub mod Compared
-pub mod NotedDifferences
+pub mod ComparedBits
+pub mod DifferingSlots

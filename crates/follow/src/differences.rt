@@ -1,6 +1,6 @@
 // Which bits of a register are compared, and which differences are known.
 ghost use Rattle.std.specs.Prelude.{◌≡◌, ◌↔◌, ◌<◌, IsTrue, false, slice_index_or, slice_set, true};
-ghost use Rattle.follow.specs.Compared.{MatchesUpToKnown, difference_bits, compared_bits, difference_of, named_bits, named_port_bits, difference_index, shown_difference};
+ghost use Rattle.follow.specs.ComparedBits.{MatchesUpToKnown, difference_bits, compared_bits, difference_of, named_bits, named_port_bits, difference_index, shown_difference};
 
 use hba_regs::{PortReg, Reg};
 use std::fmt;
@@ -142,7 +142,7 @@ fn compared(r: Reg, slots: u32) -> u32
 
 /// Whether two values of a register agree, where these slots of its port are known to differ: those whose commands
 /// failed, of PxTFD the plain ones of these, and of PxSACT those that were not taken before a queued one failed.
-pub fn agree(r: Reg, slots: u32, shown: u32, said: u32) -> bool
+pub fn matches_up_to_known(r: Reg, slots: u32, shown: u32, said: u32) -> bool
     ensures { IsTrue result ↔ MatchesUpToKnown r slots shown said }
 {
     let bits = compared(r, slots);
@@ -150,7 +150,7 @@ pub fn agree(r: Reg, slots: u32, shown: u32, said: u32) -> bool
 }
 
 /// The known difference that two values of a register show, if they show one.
-pub fn shown_by(r: Reg, slots: u32, shown: u32, said: u32) -> Option<KnownDifference>
+pub fn shown_difference_of(r: Reg, slots: u32, shown: u32, said: u32) -> Option<KnownDifference>
     ensures { result ≡ shown_difference r slots shown said }
 {
     let known = KnownDifference::of(r)?;
@@ -163,14 +163,14 @@ pub fn shown_by(r: Reg, slots: u32, shown: u32, said: u32) -> Option<KnownDiffer
 
 /// Which known differences were met, and passed over.
 #[derive(Clone, Copy, Debug, PartialEq, Eq)]
-pub struct MetDifferences {
+pub struct SeenDifferences {
     /// By the place of each.
     met: [bool; KNOWN],
 }
 
-impl MetDifferences {
+impl SeenDifferences {
     /// None was.
-    pub const NONE: MetDifferences = MetDifferences {
+    pub const NONE: SeenDifferences = SeenDifferences {
         met: [false; KNOWN],
     };
 
@@ -189,7 +189,7 @@ impl MetDifferences {
     }
 }
 
-impl fmt::Display for MetDifferences {
+impl fmt::Display for SeenDifferences {
     /// Their names, parted by spaces; `none` where there are none.
     fn fmt<W: fmt::Write>(&self, f: &mut fmt::Formatter<W>) -> fmt::Result {
         let mut is_first = true;

@@ -2,10 +2,10 @@
 ghost use Rattle.std.specs.Prelude.{◌≡◌, ◌+◌, ◌<◌, ◌||◌, IfSome, None, is_some, slice_index, true};
 ghost use Rattle.adapter.specs.Access.{Reads};
 ghost use Rattle.adapter.specs.Rules.{MayRead};
-ghost use Rattle.follow.specs.Compared.{MatchesUpToKnown, shown_difference};
-ghost use Rattle.follow.specs.NotedDifferences.{NotesSlot, GoesOnBySteps, NotesFailed, with_difference_met, differing_slots};
+ghost use Rattle.follow.specs.ComparedBits.{MatchesUpToKnown, shown_difference};
+ghost use Rattle.follow.specs.DifferingSlots.{NotesSlot, GoesOnBySteps, NotesFailed, with_difference_met, differing_slots};
 
-use crate::differences::{MetDifferences, agree, shown_by};
+use crate::differences::{SeenDifferences, matches_up_to_known, shown_difference_of};
 use crate::divergence::Divergence;
 use crate::peer::{Peer, PeerFault};
 use adapter::laws::{law_step_lists_keep_what_steps_keep, law_steps_compose};
@@ -100,7 +100,7 @@ pub struct Followed<A, P> {
     /// What the peer showed last of the register that was read last.
     said: u32,
     /// The known differences that were met.
-    met_differences: MetDifferences,
+    met_differences: SeenDifferences,
     divergence: Option<Divergence>,
     counts: AccessCounts,
 }
@@ -118,7 +118,7 @@ impl<A: Inspectable, P: Peer> Followed<A, P> {
             differing: Differing::NONE,
             commands: [0; PORTS],
             said: 0,
-            met_differences: MetDifferences::NONE,
+            met_differences: SeenDifferences::NONE,
             divergence: None,
             counts: AccessCounts {
                 accesses: 0,
@@ -143,7 +143,7 @@ impl<A: Inspectable, P: Peer> Followed<A, P> {
 
     /// The known differences that readings of registers met, and that were passed over. (No clause says that they are
     /// kept from one access to the next.)
-    pub fn met_differences(&self) -> MetDifferences
+    pub fn met_differences(&self) -> SeenDifferences
         ensures { result ≡ self.now.met_differences }
     {
         self.met_differences
@@ -471,7 +471,7 @@ impl<A: Inspectable, P: Peer> Followed<A, P> {
             PortReg::Tfd => self.follow_task_file(port, TaskFile(shown), TaskFile(said)),
             PortReg::Cmd => {
                 self.commands[usize::from(port.0)] = said;
-                if !agree(Reg::Px(port, r), 0, shown, said) {
+                if !matches_up_to_known(Reg::Px(port, r), 0, shown, said) {
                     // An engine fell: the model's falls before its reading.
                     let _released = self.go(DeviceStep::Release(port));
                 }
@@ -603,13 +603,13 @@ impl<A: Inspectable, P: Peer> Followed<A, P> {
             return;
         }
         let slots = self.differing.of(r);
-        if !agree(r, slots, shown, said) {
+        if !matches_up_to_known(r, slots, shown, said) {
             self.divergence = Some(Divergence::Register {
                 register: r,
                 shown,
                 said,
             });
-        } else if let Some(known) = shown_by(r, slots, shown, said) {
+        } else if let Some(known) = shown_difference_of(r, slots, shown, said) {
             self.met_differences.add(known);
         }
     }

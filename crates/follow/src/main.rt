@@ -12,25 +12,25 @@
 //! peer. (`lines` reaches it by lines of text, and `differences` has those that are passed over.)
 #![tactic(auto)]
 
+mod args;
 mod differences;
 mod divergence;
 mod error;
 mod followed;
-mod lines;
 mod peer;
-mod words;
+mod qtest_peer;
 
+use args::FollowArgs;
 use device_model::{Disks, Model, ModelDisk, PortDisks};
 use error::{FollowError, no_memory_or};
 use followed::Followed;
-use lines::QtestPeer;
-use play::{PlayError, model_with, parse_inputs, play_adapter};
+use play::{PlayError, new_model_of_disks, parse_inputs, play_adapter};
+use qtest_peer::QtestPeer;
 use sector_store::{DiskStore, FileStore, MemStore};
 use std::fs::{self, File, Files, OpenOptions};
 use std::io::{self, BufReader, BufWriter, Write};
 use std::process::ExitCode;
 use std::rt::Env;
-use words::FollowArgs;
 
 /// The adapter that is followed, over files.
 type Adapter = Followed<Model<DiskStore>, QtestPeer<BufReader<File>, File>>;
@@ -131,7 +131,7 @@ fn run(
     let config = fs::read(rt, words.config.as_str()).map_err(unread)?;
     let script = fs::read(rt, words.script.as_str()).map_err(unread)?;
     let values = parse_inputs(rt.alloc(), config.as_slice(), script.as_slice())?;
-    let Ok(model) = model_with(rt.alloc(), &values, disks(rt, &words)?) else {
+    let Ok(model) = new_model_of_disks(rt.alloc(), &values, disks(rt, &words)?) else {
         return Err(FollowError::NoMemory);
     };
     let followed = Followed::new(model, open_peer(rt, &words)?);

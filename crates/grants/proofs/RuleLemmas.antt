@@ -14,7 +14,7 @@ use Rattle.ata_types.specs.declared.refusal.FrameFault.TheVariants.{FrameForeign
 use Rattle.ata_types.specs.declared.refusal.Rule.{Rule}
 use Rattle.ata_types.specs.declared.refusal.Rule.TheVariants.{NoGrant, NoRight, BadCount, OutsideGrant, FrameCount, Frames}
 use Rattle.ata_types.specs.declared.refusal.Refusal.TheVariants as refused
-use Rattle.block_machine.specs.Rules.{IsNamed, IsAllowedCount, frame_count_for, Breaks, RanksBefore, rank, HasNoFault, IsFirstFault, BreaksNone, IsFirstBroken}
+use Rattle.block_machine.specs.Rules.{IsNamed, IsAllowedCount, frame_count_for, Breaks, RanksBefore, refusal_rank, HasNoFault, IsFirstFault, BreaksNone, IsFirstBroken}
 use Rattle.block_machine.proofs.RuleLemmas.{same_rule, number, place, fault_number}
 
 -- the faults of frames come after the other rules
@@ -52,7 +52,7 @@ module _ (rows : List GrantRow) (owner : Frame → Option ClientId) (lent : Fram
   first_broken : (rule : Rule) → number rule < 6 → KeptBelow (number rule) → Breaks rows owner lent r rule → IsFirstBroken rows owner lent r rule
   first_broken rule early kept broken = (broken, none_before)
     where
-      none_before : (other : Rule) → RanksBefore (rank (refused.Rule other)) (rank (refused.Rule rule)) → Breaks rows owner lent r other → ⊥
+      none_before : (other : Rule) → RanksBefore (refusal_rank (refused.Rule other)) (refusal_rank (refused.Rule rule)) → Breaks rows owner lent r other → ⊥
       none_before other before = elim before [
         | inl lower ↦ kept other lower
         | inr same ↦ absurd (omega (arith, same.1, early_place rule early))
@@ -61,7 +61,7 @@ module _ (rows : List GrantRow) (owner : Frame → Option ClientId) (lent : Fram
   first_fault : (fault : FrameFault) → KeptBelow 6 → IsFirstFault owner lent r.client r.frames.items fault → IsFirstBroken rows owner lent r (Frames fault)
   first_fault fault kept first = (first.0, none_before)
     where
-      none_before : (other : Rule) → RanksBefore (rank (refused.Rule other)) (rank (refused.Rule (Frames fault))) → Breaks rows owner lent r other → ⊥
+      none_before : (other : Rule) → RanksBefore (refusal_rank (refused.Rule other)) (refusal_rank (refused.Rule (Frames fault))) → Breaks rows owner lent r other → ⊥
       none_before (Frames other) before = first.1 other before
       none_before NoGrant before = kept NoGrant (omega arith)
       none_before NoRight before = kept NoRight (omega arith)
@@ -105,9 +105,9 @@ module _ (rows : List GrantRow) (owner : Frame → Option ClientId) (lent : Fram
       pub bad_count : (IsAllowedCount r.op r.count → ⊥) → IsFirstBroken rows owner lent r BadCount
       bad_count not = first_broken BadCount (omega arith) kept_right not
 
-      module _ (is_count : IsAllowedCount r.op r.count) where
+      module _ (is_allowed_count : IsAllowedCount r.op r.count) where
         kept_count : KeptBelow 4
-        kept_count = kept_more BadCount (omega arith) kept_right (λ not. not is_count)
+        kept_count = kept_more BadCount (omega arith) kept_right (λ not. not is_allowed_count)
 
         pub outside : Leaves → IsFirstBroken rows owner lent r OutsideGrant
         outside leaves = first_broken OutsideGrant (omega arith) kept_count (leaves.0, (row, named, leaves.1))

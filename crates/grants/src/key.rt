@@ -1,7 +1,7 @@
 // The keys by which rows are sorted and found, and how many of them were compared.
 
 ghost use Rattle.std.specs.Prelude.{◌≡◌, ◌+◌, ◌<◌, ◌^◌};
-ghost use Rattle.grants.specs.Names.{IsOrderOf};
+ghost use Rattle.grants.specs.NamedRows.{IsOrderOf};
 
 use ata_types::ClientId;
 use std::cmp::Ordering;
@@ -46,9 +46,9 @@ pub struct GrantKey {
 
 impl Model for GrantKey {
     ghost use Rattle.std.specs.Prelude.{◌<◌};
-    ghost use Rattle.grants.specs.Names.{Name};
+    ghost use Rattle.grants.specs.NamedRows.{RowName};
 
-    ghost Value = { Name };
+    ghost Value = { RowName };
 
     ghost view = { λ k. (k.client, k.number) };
 

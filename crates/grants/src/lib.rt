@@ -8,15 +8,15 @@ ghost use Rattle.std.specs.Prelude.{◌≡◌, ◌≢◌, ◌≤◌, ◌<◌, �
 ghost use Rattle.ata_types.specs.SectorGrants.{CoversSectors};
 ghost use Rattle.ata_types.specs.declared.grant.GrantRow.{GrantRow};
 ghost use Rattle.ata_types.specs.declared.request.Op.TheVariants.{Flush};
-ghost use Rattle.block_machine.specs.Rules.{Names, DifferInName, HasRow, without_row, BreaksNone, IsFirstBroken};
-ghost use Rattle.dma_frames.specs.Table.{owner_of, lent_to};
-ghost use Rattle.grants.specs.Names.{AreInOrder, IsPlaceOf, IsRowAt, name_of};
+ghost use Rattle.block_machine.specs.Rules.{HasGrantName, DifferInName, HasRow, without_row, BreaksNone, IsFirstBroken};
+ghost use Rattle.dma_frames.specs.FrameTables.{owner_of, lent_to};
+ghost use Rattle.grants.specs.NamedRows.{AreInOrder, IsPlaceOf, IsRowAt, row_name_of};
 ghost use Rattle.grants.specs.Rows.{SameRows};
 
 mod key;
 
 use ata_types::{ClientId, GrantRow, Op, Request, Rule};
-use block_machine::{frame_count, is_count};
+use block_machine::{frame_count, is_allowed_count};
 use dma_frames::FrameTable;
 pub use key::Comparisons;
 use key::GrantKey;
@@ -35,7 +35,7 @@ pub struct Grants {
 impl Model for Grants {
     ghost use Rattle.std.specs.Prelude.{List};
     ghost use Rattle.ata_types.specs.declared.grant.GrantRow.{GrantRow as Row};
-    ghost use Rattle.grants.specs.Names.{IsIndexed};
+    ghost use Rattle.grants.specs.NamedRows.{IsIndexed};
 
     ghost Value = { List Row };
 
@@ -71,7 +71,7 @@ impl Grants {
 
     /// The client's row under this number, if there is one.
     pub fn row(&self, client: ClientId, number: u8) -> Option<GrantRow>
-        ensures { (row : GrantRow) → (result ≡ Some row) ↔ (Contains self.now row × Names client number row) }
+        ensures { (row : GrantRow) → (result ≡ Some row) ↔ (Contains self.now row × HasGrantName client number row) }
     {
         let mut compared = Comparisons::none();
         match self.find(client, number, &mut compared) {
@@ -83,7 +83,7 @@ impl Grants {
     /// Takes the client's row under this number out, and gives it. There may be none: then nothing changes. The others
     /// stay in their order. No memory is taken.
     pub fn revoke(&mut self, client: ClientId, number: u8) -> Option<GrantRow>
-        ensures found { IfSome result (λ row. Contains self.old row × Names client number row
+        ensures found { IfSome result (λ row. Contains self.old row × HasGrantName client number row
             × (self.new ≡ without_row client number self.old)) }
         ensures none { result ≡ None → (self.new ≡ self.old) × (HasRow client number self.old → ⊥) }
     {
@@ -104,7 +104,7 @@ fn name_rank(client: u8, number: u8) -> u32
 
 /// The rows' keys.
 fn keys_of(alloc: Global, rows: &[GrantRow]) -> Result<Vec<GrantKey>, AllocError>
-    ensures keys { IfOk result (λ keys. keys.items ≡ map name_of rows.now) }
+    ensures keys { IfOk result (λ keys. keys.items ≡ map row_name_of rows.now) }
     ensures bytes { IfOk result (λ keys. All (λ name. name.1 < 256) keys.items) }
 {
     let mut keys = Vec::with_capacity(alloc, rows.len())?;
@@ -156,10 +156,10 @@ pub fn decide(request: &Request, grants: &Grants, table: &FrameTable) -> Result<
     if !row.rights.allows(request.op) {
         return Err(Rule::NoRight);
     }
-    if !is_count(request.op, request.count) {
+    if !is_allowed_count(request.op, request.count) {
         return Err(Rule::BadCount);
     }
-    if leaves(&row, request) {
+    if leaves_row(&row, request) {
         return Err(Rule::OutsideGrant);
     }
     if request.frames.len() != frame_count(request.op, request.count) {
@@ -172,7 +172,7 @@ pub fn decide(request: &Request, grants: &Grants, table: &FrameTable) -> Result<
 }
 
 /// Whether the request has sectors and they leave the row's.
-fn leaves(row: &GrantRow, request: &Request) -> bool
+fn leaves_row(row: &GrantRow, request: &Request) -> bool
     ensures { IsTrue result ↔ ((request.now.op ≢ Flush) × (CoversSectors row.now request.now.first.0 request.now.count →
         ⊥)) }
 {

@@ -196,21 +196,21 @@ impl PortCommand {
     }
 
     /// Whether FISes are to be received into memory: FRE (AHCI 1.3.1, 3.3.7).
-    pub fn receives(self) -> bool
+    pub fn is_receive_enabled(self) -> bool
         ensures { result ≡ bit self.0 4 }
     {
         has(self.0, Self::FRE.0)
     }
 
     /// Whether FISes are being received: FR (AHCI 1.3.1, 3.3.7).
-    pub fn receive_running(self) -> bool
+    pub fn is_receive_running(self) -> bool
         ensures { result ≡ bit self.0 14 }
     {
         has(self.0, Self::FR.0)
     }
 
     /// Whether the command list is being worked on: CR (AHCI 1.3.1, 3.3.7).
-    pub fn list_running(self) -> bool
+    pub fn is_list_running(self) -> bool
         ensures { result ≡ bit self.0 15 }
     {
         has(self.0, Self::CR.0)

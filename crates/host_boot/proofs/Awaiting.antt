@@ -9,9 +9,9 @@ use Rattle.hba_regs.specs.declared.reg.Reg.TheVariants.{Ghc}
 use Rattle.adapter.specs.Access.{Access, Reads, Writes}
 use Rattle.adapter.specs.Access.Access.{Reading, Writing}
 use Rattle.adapter.specs.Device.{Device}
-use Rattle.refinement.specs.Driven.{AnyUse, IsSimulatedAlong}
+use Rattle.refinement.specs.Fragments.{AnyUse, IsSimulatedAlong}
 use Rattle.refinement.specs.Links.{SameAdapter}
-use Rattle.host_boot.specs.Resets.{ReadsGlobalControl, AwaitsHr, AwaitsReset, IsOfReset, Resets, ResetStaysPending}
+use Rattle.host_boot.specs.Resets.{ReadsGlobalControl, AwaitsHr, AwaitsResetInVain, IsResetAccess, Resets, ResetStaysPending}
 use Rattle.host_boot.specs.Laws.{Laws}
 use Rattle.host_boot.specs.Laws.AccessPurpose.{Resetting}
 use Rattle.host_boot.proofs.Stretching.{told_both, told_more}
@@ -22,11 +22,11 @@ pub record AsksAgain (n : ℕ) (accesses : List Access) : Type 0 where
   pub here : accesses ≡ Writing Ghc 0x80000001 ∷ asked
   pub only : All ReadsGlobalControl asked
   pub long : length asked ≡ n
-  pub last : 0 < n → AwaitsReset accesses
+  pub last : 0 < n → AwaitsResetInVain accesses
 
 -- the reset is pending after so many readings
 pub record IsResetting (start : Device) (n : ℕ) (d : Device) : Type 0 where
-  pub told : IsSimulatedAlong (AsksAgain n) IsOfReset AnyUse start d
+  pub told : IsSimulatedAlong (AsksAgain n) IsResetAccess AnyUse start d
   pub pending : d.hr ≡ true
   pub same : SameAdapter start d
 
@@ -39,7 +39,7 @@ module _ (n v : ℕ) (early late : List Access) (a : AsksAgain n early) (is : la
   joined = ap (λ (l : List Access). l ++ late) a.here ∙ ap (λ (l : List Access). Writing Ghc 0x80000001 ∷ (a.asked ++ l)) is
 
   asks_shown : (hr : Bool) → bit v 0 ≡ hr → AwaitsHr hr (early ++ late)
-  asks_shown hr shows = record { asked = a.asked; shown = v; here = joined; only = a.only; pending = shows }
+  asks_shown hr shows = record { polls = a.asked; last_ghc = v; accesses_are = joined; only_reads_ghc = a.only; hr_is = shows }
 
   asked_few : n < MOST_READINGS → length (early ++ late) ≤ MOST_READINGS + 1
   asked_few few =
@@ -59,7 +59,7 @@ module _ (laws : Laws) (start : Device) where
   -- HR is set
   pub resetting_begins : (d : Device) → Writes Ghc 0x80000001 start d → IsResetting start 0 d
   resetting_begins d call = record {
-    told = told_more (λ accesses. accesses ≡ Writing Ghc 0x80000001 ∷ []) (AsksAgain 0) IsOfReset AnyUse (λ uses. uses) start d asks_none
+    told = told_more (λ accesses. accesses ≡ Writing Ghc 0x80000001 ∷ []) (AsksAgain 0) IsResetAccess AnyUse (λ uses. uses) start d asks_none
         (laws.fragments.writes Resetting Ghc 0x80000001 start d refl (λ mid steps. tt) (λ uses is. tt) call);
     pending = laws.hr_begins 0x80000001 start d refl call;
     same = laws.access_same (Writing Ghc 0x80000001) start d call;
@@ -70,7 +70,7 @@ module _ (laws : Laws) (start : Device) where
     same = laws.same_more start d e w.same (laws.access_same (Reading Ghc v) d e call)
 
     -- what is told with one more reading
-    with_reading : (Tells : List Access → Type 0) → ((early late : List Access) → AsksAgain n early → late ≡ Reading Ghc v ∷ [] → Tells (early ++ late)) → IsSimulatedAlong Tells IsOfReset AnyUse start e
+    with_reading : (Tells : List Access → Type 0) → ((early late : List Access) → AsksAgain n early → late ≡ Reading Ghc v ∷ [] → Tells (early ++ late)) → IsSimulatedAlong Tells IsResetAccess AnyUse start e
     with_reading Tells join =
         told_both laws (AsksAgain n) (λ accesses. accesses ≡ Reading Ghc v ∷ []) Tells join Resetting Resetting (λ uses. uses) (λ uses. uses) (λ access may. may) (λ uses any. tt) start d e w.told
         (laws.fragments.reads Resetting Ghc v d e tt call)
@@ -86,14 +86,14 @@ module _ (laws : Laws) (start : Device) where
     resetting_ends few clear =
         let told = with_reading (λ accesses. AwaitsHr false accesses × (length accesses ≤ 65))
         (λ early late a is. (asks_shown n v early late a is false clear, asked_few n v early late a is few)) in
-        record { followed = told.followed; awaited = told.tells.0; often = told.tells.1; idle = laws.reset_idle v d e w.pending call clear; same = same }
+        record { followed = told.followed; awaited = told.tells.0; count_is = told.tells.1; idle = laws.reset_idle v d e w.pending call clear; adapter_is_kept = same }
 
   -- it was read 64 times
   pub resetting_sticks : (n : ℕ) (d : Device) → n ≡ MOST_READINGS → IsResetting start n d → ResetStaysPending start d
   resetting_sticks n d all w = record {
     followed = w.told.followed;
     awaited = w.told.tells.last (omega (arith, all));
-    often = let here = ap length w.told.tells.here in let long = w.told.tells.long in omega (arith, here, long, all);
-    pending = w.pending;
-    same = w.same;
+    count_is = let here = ap length w.told.tells.here in let long = w.told.tells.long in omega (arith, here, long, all);
+    hr_is_set = w.pending;
+    adapter_is_kept = w.same;
   }

@@ -6,7 +6,7 @@ use Rattle.adapter.specs.Idle.{IsIdle}
 use Rattle.adapter.specs.Rules.{HasPort}
 use Rattle.refinement.specs.Relation.{port_at}
 use Rattle.refinement.specs.PortFacts.{FaultsOnRecord, RunsWell, Undisturbed}
-use Rattle.refinement.specs.Places.{list_of}
+use Rattle.refinement.specs.MemoryLayout.{list_of}
 use Rattle.identify.specs.declared.DiskInfo.{DiskInfo}
 use Rattle.identify.specs.declared.wanted.Wanted.{Wanted}
 use Rattle.host_boot.specs.TakeOver.{BacksProbeResult, TakesOver, probe_result_of, wanted_of}
@@ -26,16 +26,16 @@ module _ (wanted : Wanted) (port : ℕ) (d : Device) where
 
 module _ (wanted : List Wanted) (host : Host) (port : ℕ) (old new : Device) (taken : TakesOver wanted host old new) where
   pub taken_there : port < 4 → probe_result_of host.ports port ≢ Unserved → HasPort new port
-  taken_there below other = still_has (wanted_of wanted port) port new (probe_result_of host.ports port) below other (taken.stands port below)
+  taken_there below other = still_has (wanted_of wanted port) port new (probe_result_of host.ports port) below other (taken.results_are_backed port below)
 
   pub taken_ready : (info : DiskInfo) → port < 4 → probe_result_of host.ports port ≡ Ready info → ((new.port port).st ≡ true) × ((new.port port).bases.clb ≡ list_of port) × HasPort new port
   taken_ready info below is =
-      let may = may_begin (wanted_of wanted port) port new info (subst (λ (f : ProbeResult). BacksProbeResult (wanted_of wanted port) f port new) is (taken.stands port below)) in
+      let may = may_begin (wanted_of wanted port) port new info (subst (λ (f : ProbeResult). BacksProbeResult (wanted_of wanted port) f port new) is (taken.results_are_backed port below)) in
       (may.0, may.1, taken_there below (λ e. absurd (let k : Ready info ≡ Unserved = sym is ∙ e in cc)))
 
 module _ (laws : Laws) (wanted : List Wanted) (host : Host) (port : ℕ) (old new : Device) (taken : TakesOver wanted host old new) where
   pub taken_runs : (info : DiskInfo) → IsIdle old → probe_result_of host.ports port ≡ Ready info → Undisturbed port old new → RunsWell (new.port port)
-  taken_runs info idle is = taken_well laws (port_at port) info host.ports old new idle is taken.way
+  taken_runs info idle is = taken_well laws (port_at port) info host.ports old new idle is taken.switches_on_and_boots
 
   pub taken_faults : (info : DiskInfo) → IsIdle old → probe_result_of host.ports port ≡ Ready info → FaultsOnRecord new.tape (new.port port) port
-  taken_faults info idle is = taken_recorded laws (port_at port) info host.ports old new idle is taken.way
+  taken_faults info idle is = taken_recorded laws (port_at port) info host.ports old new idle is taken.switches_on_and_boots

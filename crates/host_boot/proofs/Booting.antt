@@ -9,15 +9,15 @@ use Rattle.adapter.specs.Access.{Access, Reads}
 use Rattle.adapter.specs.Access.Access.{Reading, Writing, Loading, Storing}
 use Rattle.adapter.specs.Device.{Device, DevicePort}
 use Rattle.adapter.specs.Rules.{HasPort, IsOn}
-use Rattle.refinement.specs.Driven.{AnyUse, OnPortWriting, IsDrivenBy, IsSimulated, IsSimulatedAlong, LeavesPort}
+use Rattle.refinement.specs.Fragments.{AnyUse, IsPortAccessWriting, IsDrivenBy, IsSimulated, IsSimulatedAlong, LeavesPort}
 use Rattle.refinement.specs.Driver.{AllFree}
 use Rattle.identify.specs.declared.wanted.Wanted.{Wanted}
 use Rattle.identify.specs.declared.wanted.Wanted.TheVariants.{Nothing}
 use Rattle.port_control.specs.Engines.{Stops, StopsBoth}
 use Rattle.port_control.specs.Ports.{IsErrorRegister, IsStopped, BacksFault, IsCommandRegister}
 use Rattle.port_control.specs.declared.PortFault.TheVariants.{NoDevice}
-use Rattle.port_boot.specs.States.{IsBootTo, IsBootable, IsOfBoot}
-use Rattle.host_boot.specs.Again.{RebootsPort, RebootsIfPresent, BootsStopped, IsCapPiOrBootAccess}
+use Rattle.port_boot.specs.States.{IsBootTo, IsBootable, IsBootAccess}
+use Rattle.host_boot.specs.Reboots.{RebootsPort, RebootsIfPresent, BootsStopped, IsCapPiOrBootAccess}
 use Rattle.host_boot.specs.Laws.{Laws}
 use Rattle.host_boot.specs.Laws.AccessPurpose.{Clearing, Starting, Surveying}
 use Rattle.host_boot.specs.TakeOver.{Boots, StopsAndBootsPort, ReadyHaltOfTaken, ReadsCapOrPi, BacksProbeResult, WroteSctl}
@@ -36,17 +36,17 @@ stopped_on old new l is = record {
     st = l.keeps.st is.halted.st;
     cr = l.keeps.cr is.halted.cr;
     ci = λ slot. l.keeps.ci slot (is.halted.ci slot);
-    taken = l.keeps.idle is.halted.cr is.halted.taken;
+    taken = l.keeps.stays_without_commands is.halted.cr is.halted.taken;
   };
   sact = λ slot. l.keeps.sact slot (is.sact slot);
 }
 
 -- what halts a port that is ready then
 pub found_halts : (wanted : Wanted) (port : Port) (old new : Device) (found : ProbeResult) → BootsStopped wanted port found old new → ReadyHaltOfTaken found port.0 new
-found_halts wanted port old new found b info is = (subst (λ (f : ProbeResult). BootsStopped wanted port f old new) is b).halts
+found_halts wanted port old new found b info is = (subst (λ (f : ProbeResult). BootsStopped wanted port f old new) is b).halt_is_of_taken
 
 -- looking at a port is of its boot
-clearing_of_start : (port : Port) (access : Access) → OnPortWriting IsErrorRegister port access → IsCapPiOrBootAccess port access
+clearing_of_start : (port : Port) (access : Access) → IsPortAccessWriting IsErrorRegister port access → IsCapPiOrBootAccess port access
 clearing_of_start port (Reading (Px at r) v) is = inr (inl is)
 clearing_of_start port (Writing (Px at r) v) (here, kind) = inr (inl (here, inr (inl (inr kind))))
 clearing_of_start port (Reading r v) is = absurd is
@@ -58,8 +58,8 @@ clearing_of_start port (Storing at bytes) is = absurd is
 abbrev boots_again : (port : Port) (v : ℕ) (booted : Booted) (wanted : Wanted) (old asked new : Device) → IsSimulated (IsCapPiOrBootAccess port) (λ uses. AllFree uses port.0) old asked →
     BootsStopped wanted port booted.found asked new → booted.slots ≡ field v 8 5 + 1 → booted.queued ≡ bit v 30 → v ≡ new.cap → RebootsPort wanted port booted old new
 boots_again port v booted wanted old asked new asks boots slots queued cap = record {
-  asked = asked;
-  asks = asks;
+  surveyed = asked;
+  surveys = asks;
   boots = boots;
   slots = slots ∙ ap (λ (k : ℕ). field k 8 5 + 1) cap;
   queued = queued ∙ ap (λ (k : ℕ). bit k 30) cap;
@@ -67,14 +67,14 @@ boots_again port v booted wanted old asked new asks boots slots queued cap = rec
 
 module _ (laws : Laws) where
   -- the accesses of a boot
-  pub booted_driven : (wanted : Wanted) (port : Port) (found : ProbeResult) (old new : Device) → BootsStopped wanted port found old new → IsDrivenBy (IsOfBoot port) old new
+  pub booted_driven : (wanted : Wanted) (port : Port) (found : ProbeResult) (old new : Device) → BootsStopped wanted port found old new → IsDrivenBy (IsBootAccess port) old new
   booted_driven wanted port Unserved old new b = absurd b
-  booted_driven wanted port (Ready info) old new b = b.boots.followed.driven
+  booted_driven wanted port (Ready info) old new b = b.boots.followed.is_driven
   booted_driven wanted port (Unready state) old new b = laws.boots_driven port state old new b.boots
 
   -- ---- when the adapter is taken over: the port was stopped before
 
-  module _ (port : Port) (old mid : Device) (stops : IsSimulatedAlong (Stops port) (OnPortWriting IsCommandRegister port) AnyUse old mid) (wanted : Wanted) (new : Device) where
+  module _ (port : Port) (old mid : Device) (stops : IsSimulatedAlong (Stops port) (IsPortAccessWriting IsCommandRegister port) AnyUse old mid) (wanted : Wanted) (new : Device) where
     pub found_boots : (found : ProbeResult) → BootsStopped wanted port found mid new → Boots port found old new
     found_boots Unserved b = absurd b
     found_boots (Ready info) b = then_boot laws port old mid stops new b.boots
@@ -83,22 +83,22 @@ module _ (laws : Laws) where
     pub found_stands : (found : ProbeResult) → BootsStopped wanted port found mid new → wanted ≢ Nothing → HasPort old port.0 → BacksProbeResult wanted found port.0 new
     found_stands Unserved b wants there = absurd b
     found_stands (Ready info) b wants there = ((wants, (still_there port old new (boots_same laws port old new (Ready info) (found_boots (Ready info) b)) there).1), b.ready)
-    found_stands (Unready state) b wants there = ((wants, (still_there port old new (boots_same laws port old new (Unready state) (found_boots (Unready state) b)) there).1), b.ended)
+    found_stands (Unready state) b wants there = ((wants, (still_there port old new (boots_same laws port old new (Unready state) (found_boots (Unready state) b)) there).1), b.state_is_backed)
 
     pub found_reset : (found : ProbeResult) → BootsStopped wanted port found mid new → WroteSctl found port.0 (length old.tape) new
     found_reset Unserved b = absurd b
-    found_reset (Ready info) b = since_stop laws port old mid stops _ b.since
-    found_reset (Unready state) b = ended_since laws port old mid stops new state b.since
+    found_reset (Ready info) b = since_stop laws port old mid stops _ b.sctl_written_in_boot
+    found_reset (Unready state) b = ended_since laws port old mid stops new state b.sctl_written_in_boot
 
     pub found_way : (found : ProbeResult) → BootsStopped wanted port found mid new → StopsAndBootsPort port found old new
     found_way Unserved b = absurd b
-    found_way (Ready info) b = (mid, stops.followed.driven, b.boots.followed.driven, b.way, b.news)
+    found_way (Ready info) b = (mid, stops.followed.is_driven, b.boots.followed.is_driven, b.brings_ready, b.shows_only_new_errors)
     found_way (Unready state) b = (
       mid,
-      stops.followed.driven,
+      stops.followed.is_driven,
       laws.boots_driven port state mid new b.boots,
-      b.early,
-      b.late,
+      b.ends_before_start,
+      b.ends_after_start,
       λ dead. boot_sticks (StopsBoth port) port old new (subst (λ (s : ShownState). IsBootTo (StopsBoth port) port s old new) dead (then_boot_to laws port old mid stops new state b.boots)),
     )
 
@@ -117,7 +117,7 @@ module _ (laws : Laws) where
       asked_starts = (laws.fragments.wider Surveying (Starting port) (λ uses. uses) (λ access is. inl is) (λ uses free. tt) old asked asked_followed).followed
 
       pub asked_bootable : IsBootable port old → IsBootable port asked
-      asked_bootable b = bootable_over laws Surveying port old asked (λ uses free. tt) asked_followed b.there b.room b.agreed (cap_on laws v old asked b.on asks)
+      asked_bootable b = bootable_over laws Surveying port old asked (λ uses free. tt) asked_followed b.has_port b.driver_memory_fits b.machine_is_related (cap_on laws v old asked b.adapter_is_on asks)
 
       pub asked_stopped : LeavesPort (old.port port.0) (asked.port port.0) → IsStopped (old.port port.0) → IsStopped (asked.port port.0)
       asked_stopped = stopped_on (old.port port.0) (asked.port port.0)
@@ -125,22 +125,22 @@ module _ (laws : Laws) where
       pub asked_boots : (booted : Booted) (wanted : Wanted) (new : Device) → BootsStopped wanted port booted.found asked new → booted.slots ≡ field v 8 5 + 1 → booted.queued ≡ bit v 30 →
           RebootsPort wanted port booted old new
       asked_boots booted wanted new boots slots queued =
-          boots_again port v booted wanted old asked new asked_starts boots slots queued (asked_cap (IsOfBoot port) new (booted_driven wanted port booted.found asked new boots))
+          boots_again port v booted wanted old asked new asked_starts boots slots queued (asked_cap (IsBootAccess port) new (booted_driven wanted port booted.found asked new boots))
 
       -- and then the port is looked at
-      module _ (seen : Device) (looks : IsSimulated (OnPortWriting IsErrorRegister port) AnyUse asked seen) where
+      module _ (seen : Device) (looks : IsSimulated (IsPortAccessWriting IsErrorRegister port) AnyUse asked seen) where
         pub seen_starts : IsSimulated (IsCapPiOrBootAccess port) (λ uses. AllFree uses port.0) old seen
         seen_starts = (laws.fragments.both (Starting port) (Clearing port) (λ uses. uses) (λ uses. uses) (clearing_of_start port) (λ uses free. tt) old asked seen asked_starts looks).followed
 
         pub seen_bootable : IsOn seen → IsBootable port asked → IsBootable port seen
-        seen_bootable on b = bootable_over laws (Clearing port) port asked seen (λ uses free. tt) looks b.there b.room b.agreed on
+        seen_bootable on b = bootable_over laws (Clearing port) port asked seen (λ uses free. tt) looks b.has_port b.driver_memory_fits b.machine_is_related on
 
         -- it shows a device, and is booted
         pub seen_boots : (booted : Booted) (wanted : Wanted) (new : Device) → (seen.port port.0).ssts_det ≡ 3 → BootsStopped wanted port booted.found seen new →
             booted.slots ≡ field v 8 5 + 1 → booted.queued ≡ bit v 30 → RebootsIfPresent wanted port booted old new
         seen_boots booted wanted new there boots slots queued =
-            let its : IsDrivenBy (IsCapPiOrBootAccess port) seen new = driven_as (IsOfBoot port) (IsCapPiOrBootAccess port) seen new (λ access is. inr is) (booted_driven wanted port booted.found seen new boots) in
-            let all : IsDrivenBy (IsCapPiOrBootAccess port) asked new = by_then laws (driven_as (OnPortWriting IsErrorRegister port) (IsCapPiOrBootAccess port) asked seen (clearing_of_start port) looks.driven) its in
+            let its : IsDrivenBy (IsCapPiOrBootAccess port) seen new = driven_as (IsBootAccess port) (IsCapPiOrBootAccess port) seen new (λ access is. inr is) (booted_driven wanted port booted.found seen new boots) in
+            let all : IsDrivenBy (IsCapPiOrBootAccess port) asked new = by_then laws (driven_as (IsPortAccessWriting IsErrorRegister port) (IsCapPiOrBootAccess port) asked seen (clearing_of_start port) looks.is_driven) its in
             inl (boots_again port v booted wanted old seen new seen_starts boots slots queued (asked_cap (IsCapPiOrBootAccess port) new all), there)
 
         -- or it shows none, and is absent

@@ -5,9 +5,9 @@ use Rattle.adapter.specs.Access.{Reads, Writes}
 use Rattle.adapter.specs.Access.Access.{Reading, Writing}
 use Rattle.adapter.specs.Device.{Device}
 use Rattle.adapter.specs.Rules.{IsOn}
-use Rattle.refinement.specs.Driven.{AnyUse, IsSimulated}
+use Rattle.refinement.specs.Fragments.{AnyUse, IsSimulated}
 use Rattle.refinement.specs.Links.{SameAdapter}
-use Rattle.host_boot.specs.TakeOver.{IsOfHost}
+use Rattle.host_boot.specs.TakeOver.{IsHostAccess}
 use Rattle.host_boot.specs.Laws.{Laws}
 use Rattle.host_boot.specs.Laws.AccessPurpose.{Hosting}
 
@@ -15,18 +15,18 @@ pub pi_is : (w : ℕ) (old new : Device) → Reads Pi w old new → w ≡ new.pi
 pi_is w old new call = call.shows ∙ sym (ap (λ (d : Device). d.pi) call.effect)
 
 module _ (laws : Laws) where
-  pub ghc_followed : (v : ℕ) (old new : Device) → IsOfHost (Writing Ghc v) → Writes Ghc v old new → IsSimulated IsOfHost AnyUse old new
+  pub ghc_followed : (v : ℕ) (old new : Device) → IsHostAccess (Writing Ghc v) → Writes Ghc v old new → IsSimulated IsHostAccess AnyUse old new
   ghc_followed v old new kind call = (laws.fragments.writes Hosting Ghc v old new kind (λ mid steps. tt) (λ uses is. tt) call).followed
 
   -- and another after it
-  pub hosted_then : (old mid new : Device) → IsSimulated IsOfHost AnyUse old mid → IsSimulated IsOfHost AnyUse mid new → IsSimulated IsOfHost AnyUse old new
+  pub hosted_then : (old mid new : Device) → IsSimulated IsHostAccess AnyUse old mid → IsSimulated IsHostAccess AnyUse mid new → IsSimulated IsHostAccess AnyUse old new
   hosted_then old mid new a b = (laws.fragments.both Hosting Hosting (λ uses. uses) (λ uses. uses) (λ access may. may) (λ uses any. tt) old mid new a b).followed
 
   -- a reading of CAP or PI
-  pub cap_followed : (v : ℕ) (old new : Device) → Reads Cap v old new → IsSimulated IsOfHost AnyUse old new
+  pub cap_followed : (v : ℕ) (old new : Device) → Reads Cap v old new → IsSimulated IsHostAccess AnyUse old new
   cap_followed v old new call = (laws.fragments.reads Hosting Cap v old new tt call).followed
 
-  pub pi_followed : (v : ℕ) (old new : Device) → Reads Pi v old new → IsSimulated IsOfHost AnyUse old new
+  pub pi_followed : (v : ℕ) (old new : Device) → Reads Pi v old new → IsSimulated IsHostAccess AnyUse old new
   pi_followed v old new call = (laws.fragments.reads Hosting Pi v old new tt call).followed
 
   pub cap_on : (v : ℕ) (old new : Device) → IsOn old → Reads Cap v old new → IsOn new

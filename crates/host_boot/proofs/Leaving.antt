@@ -7,10 +7,10 @@ use Rattle.adapter.specs.Access.{Reads, Writes}
 use Rattle.adapter.specs.Device.{Notes, Device}
 use Rattle.adapter.specs.Device as device
 use Rattle.adapter.specs.Idle.{IsIdlePort}
-use Rattle.adapter.specs.Kept.{Keeps, KeepsOutsideReset}
+use Rattle.adapter.specs.KeptBySteps.{Keeps, KeepsOutsideReset}
 use Rattle.adapter.specs.Steps.{Steps}
 use Rattle.adapter.specs.declared.command.Operation.TheVariants.{Identify}
-use Rattle.refinement.specs.Driven.{LeavesPort, GainsNoMove}
+use Rattle.refinement.specs.Fragments.{LeavesPort, GainsNoMove}
 use Rattle.refinement.specs.Links.{SameAdapter}
 use Rattle.identify.specs.Wanted.{serial_of}
 use Rattle.identify.specs.declared.wanted.Wanted.{Wanted}
@@ -28,7 +28,7 @@ module _ (old new : device.DevicePort) (l : LeavesPort old new) where
     fr = l.keeps.fr i.fr;
     ci = λ slot. l.keeps.ci slot (i.ci slot);
     sact = λ slot. l.keeps.sact slot (i.sact slot);
-    taken = l.keeps.idle i.cr i.taken;
+    taken = l.keeps.stays_without_commands i.cr i.taken;
   }
 
 module _ (port : ℕ) (old new : Device) (same : SameAdapter old new) (wanted : Wanted) where
@@ -46,7 +46,7 @@ is_served wanted port d (Unready state) other h = h.0
 
 pub boots_begin : (wanted : Wanted) (found : ProbeResult) (port : ℕ) (d : Device) → BacksProbeResult wanted found port d → StillBacksProbeResult wanted found port d
 boots_begin wanted Unserved port d h = h
-boots_begin wanted (Ready info) port d (is, ready) = (is, ready.disk)
+boots_begin wanted (Ready info) port d (is, ready) = (is, ready.has_fit_disk)
 boots_begin wanted (Unready state) port d h = h
 
 module _ (port : ℕ) (old new : Device) (l : LeavesPort (old.port port) (new.port port)) where
@@ -87,8 +87,8 @@ module _ (laws : Laws) where
     pub steps_leave : (mid : Device) → Steps old mid → LeavesPort (old.port port) (mid.port port)
     steps_leave mid s =
         let k : Keeps old mid = laws.law_step_lists_keep_what_steps_keep _ _ s in
-        let c : KeepsOutsideReset old mid = k.on off in
-        record { keeps = k.port port; controls = c.controls port; notes = k.notes port }
+        let c : KeepsOutsideReset old mid = k.keeps_outside_reset off in
+        record { keeps = k.ports_are_kept port; controls = c.controls port; notes = k.notes_are_kept port }
 
     pub cap_leaves : (v : ℕ) (new : Device) → Reads Cap v old new → LeavesPort (old.port port) (new.port port)
     cap_leaves v new call = subst (λ (d : Device). LeavesPort (old.port port) (d.port port)) (sym call.effect) (steps_leave call.mid call.steps)

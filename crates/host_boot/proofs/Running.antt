@@ -11,11 +11,11 @@ use Rattle.adapter.specs.Device.{Device}
 use Rattle.adapter.specs.Idle.{IsIdle}
 use Rattle.adapter.specs.Rules.{IsOn}
 use Rattle.refinement.specs.Relation.{port_at}
-use Rattle.refinement.specs.Driven.{IsDrivenBy, SparesOtherPorts, NoneWrites}
+use Rattle.refinement.specs.Fragments.{IsDrivenBy, SparesOtherPorts, NoneWrites}
 use Rattle.refinement.specs.PortFacts.{FaultsOnRecord, RunsWell, Undisturbed}
-use Rattle.refinement.specs.Driven.{TapeGrows}
+use Rattle.refinement.specs.Fragments.{TapeGrows}
 use Rattle.identify.specs.declared.DiskInfo.{DiskInfo}
-use Rattle.port_boot.specs.States.{IsOfBoot, RunsOn, HasDiskIfShown}
+use Rattle.port_boot.specs.States.{IsBootAccess, StaysRunning, ShownDiskIsIn}
 use Rattle.host_boot.specs.TakeOver.{SwitchesOnAndBoots, StopsAndBootsPort, FindsEachPort, ReadsCapOrPi, probe_result_of}
 use Rattle.host_boot.specs.declared.ProbeResult.{ProbeResult}
 use Rattle.host_boot.specs.declared.ProbeResult.TheVariants.{Unserved, Ready, Unready}
@@ -43,10 +43,10 @@ module _ (laws : Laws) where
   pub other_spares : (port : Port) (r : PortReg) → NoneWrites (IsOfOther port.0) (Px port r)
   other_spares port r access (at, other, is) = laws.of_spares at port r other access is
 
-  others_run : (port : Port) (old new : Device) → IsOn old → IsDrivenBy (IsOfOther port.0) old new → RunsOn port.0 old new
+  others_run : (port : Port) (old new : Device) → IsOn old → IsDrivenBy (IsOfOther port.0) old new → StaysRunning port.0 old new
   others_run port old new on driven =
-      let spares = λ (r : Reg) (each : NoneWrites (IsOfOther port.0) r). All-weaker (IsOfOther port.0) (DoesNotWrite r) each driven.accesses driven.only in
-      laws.runs_on port driven.accesses old new on driven.all (spares Ghc (λ access (at, other, is). laws.of_spares_ghc at access is)) (spares (Px port Sctl) (other_spares port Sctl)) (spares (Px port Cmd) (other_spares port Cmd))
+      let spares = λ (r : Reg) (each : NoneWrites (IsOfOther port.0) r). All-weaker (IsOfOther port.0) (DoesNotWrite r) each driven.accesses driven.accesses_are_of_kind in
+      laws.runs_on port driven.accesses old new on driven.all_are_done (spares Ghc (λ access (at, other, is). laws.of_spares_ghc at access is)) (spares (Px port Sctl) (other_spares port Sctl)) (spares (Px port Cmd) (other_spares port Cmd))
 
   pub others_well : (port : Port) (old new : Device) → IsOn old → IsDrivenBy (IsOfOther port.0) old new → Undisturbed port.0 old new → RunsWell (old.port port.0) → RunsWell (new.port port.0)
   others_well port old new on driven = laws.well_on port.0 old new (others_run port old new on driven)
@@ -59,13 +59,13 @@ module _ (laws : Laws) where
   through_driven : (port : Port) (found : ProbeResult) (old new : Device) → StopsAndBootsPort port found old new → IsDrivenBy (SparesOtherPorts port) old new
   through_driven port Unserved old new same = subst (λ (d : Device). IsDrivenBy (SparesOtherPorts port) old d) (sym same) (by_none (SparesOtherPorts port) old)
   through_driven port (Ready info) old new (stopped, stop, boot, ready, news) =
-      by_then laws (stop_driven laws port old stopped stop) (driven_as (IsOfBoot port) (SparesOtherPorts port) stopped new (laws.of_boot port) boot)
+      by_then laws (stop_driven laws port old stopped stop) (driven_as (IsBootAccess port) (SparesOtherPorts port) stopped new (laws.of_boot port) boot)
   through_driven port (Unready state) old new (stopped, stop, boot, early, late, sticks) =
-      by_then laws (stop_driven laws port old stopped stop) (driven_as (IsOfBoot port) (SparesOtherPorts port) stopped new (laws.of_boot port) boot)
+      by_then laws (stop_driven laws port old stopped stop) (driven_as (IsBootAccess port) (SparesOtherPorts port) stopped new (laws.of_boot port) boot)
 
   through_well : (port : Port) (info : DiskInfo) (old new : Device) → StopsAndBootsPort port (Ready info) old new → Undisturbed port.0 old new → RunsWell (new.port port.0)
   through_well port info old new (stopped, stop, boot, ready, news) calm =
-      news.well (calm_in_parts laws port.0 old stopped new (tape_over laws (SparesOtherPorts port) old stopped (stop_driven laws port old stopped stop)) (tape_over laws (IsOfBoot port) stopped new boot) calm).1
+      news.port_runs_well (calm_in_parts laws port.0 old stopped new (tape_over laws (SparesOtherPorts port) old stopped (stop_driven laws port old stopped stop)) (tape_over laws (IsBootAccess port) stopped new boot) calm).1
 
   -- of ports one after another
   go_driven : (n first : ℕ) (ports : List ProbeResult) (old new : Device) → n ≤ first → FindsEachPort first ports old new → IsDrivenBy (IsOfFrom n) old new
@@ -123,7 +123,7 @@ module _ (laws : Laws) where
       let booted : IsOn way.booted = on_over laws (IsOfFrom 0) way.surveyed way.booted driven (from_spares_ghc 0) surveyed in
       let before : TapeGrows old way.surveyed = laws.tape.grows_more old way.switched way.surveyed (laws.tape.access_grows (Writing Ghc 0x80000000) old way.switched way.switches) (tape_over laws ReadsCapOrPi way.switched way.surveyed way.surveys) in
       let boots : TapeGrows way.surveyed way.booted = tape_over laws (IsOfFrom 0) way.surveyed way.booted driven in
-      let last : RunsOn port.0 way.booted new = laws.runs_over port (Writing Ghc 0x80000002) way.booted new booted (λ (e : Ghc ≡ Px port Sctl). absurd cc) (λ (e : Ghc ≡ Px port Cmd). absurd cc) way.enables in
+      let last : StaysRunning port.0 way.booted new = laws.runs_over port (Writing Ghc 0x80000002) way.booted new booted (λ (e : Ghc ≡ Px port Sctl). absurd cc) (λ (e : Ghc ≡ Px port Cmd). absurd cc) way.enables in
       let ending : TapeGrows way.booted new = laws.tape.access_grows (Writing Ghc 0x80000002) way.booted new way.enables in
       let parts = calm_in_parts laws port.0 old way.booted new (laws.tape.grows_more old way.surveyed way.booted before boots) ending calm in
       let within = calm_in_parts laws port.0 old way.surveyed way.booted before boots parts.0 in
@@ -143,14 +143,14 @@ module _ (laws : Laws) where
   pub taken_recorded : (port : Port) (info : DiskInfo) (ports : List ProbeResult) (old new : Device) → IsIdle old → probe_result_of ports port.0 ≡ Ready info → SwitchesOnAndBoots ports old new → FaultsOnRecord new.tape (new.port port.0) port.0
   taken_recorded port info =
       taken_last (λ d. FaultsOnRecord d.tape (d.port port.0) port.0) port (Ready info) (λ e. absurd (let z : Ready info ≡ Unserved = e in cc))
-      (λ old new on its. its.4.recorded)
-      (λ old new on driven h. (others_run port old new on driven).recorded h)
-      (λ old new on does h. (laws.runs_over port (Writing Ghc 0x80000002) old new on (λ (e : Ghc ≡ Px port Sctl). absurd cc) (λ (e : Ghc ≡ Px port Cmd). absurd cc) does).recorded h)
+      (λ old new on its. its.4.faults_are_on_record)
+      (λ old new on driven h. (others_run port old new on driven).faults_are_on_record h)
+      (λ old new on does h. (laws.runs_over port (Writing Ghc 0x80000002) old new on (λ (e : Ghc ≡ Px port Sctl). absurd cc) (λ (e : Ghc ≡ Px port Cmd). absurd cc) does).faults_are_on_record h)
 
   -- where it shows a device, a disk is in
-  pub taken_own : (port : Port) (info : DiskInfo) (ports : List ProbeResult) (old new : Device) → IsIdle old → probe_result_of ports port.0 ≡ Ready info → SwitchesOnAndBoots ports old new → HasDiskIfShown (new.port port.0)
+  pub taken_own : (port : Port) (info : DiskInfo) (ports : List ProbeResult) (old new : Device) → IsIdle old → probe_result_of ports port.0 ≡ Ready info → SwitchesOnAndBoots ports old new → ShownDiskIsIn (new.port port.0)
   taken_own port info =
-      taken_last (λ d. HasDiskIfShown (d.port port.0)) port (Ready info) (λ e. absurd (let z : Ready info ≡ Unserved = e in cc))
+      taken_last (λ d. ShownDiskIsIn (d.port port.0)) port (Ready info) (λ e. absurd (let z : Ready info ≡ Unserved = e in cc))
       (λ old new on its. laws.own_begins port its.0 new its.3)
-      (λ old new on driven h. laws.own_all port.0 driven.accesses old new driven.all h)
+      (λ old new on driven h. laws.own_all port.0 driven.accesses old new driven.all_are_done h)
       (λ old new on does h. laws.own_access port.0 (Writing Ghc 0x80000002) old new does h)

@@ -10,12 +10,12 @@ use Rattle.adapter.specs.Access.{Access}
 use Rattle.adapter.specs.Access.Access.{Reading, Writing, Loading, Storing}
 use Rattle.adapter.specs.Device.{Device}
 use Rattle.adapter.specs.Rules.{IsOn}
-use Rattle.refinement.specs.Driven.{OnPortWriting, IsDrivenBy, SparesOtherPorts}
+use Rattle.refinement.specs.Fragments.{IsPortAccessWriting, IsDrivenBy, SparesOtherPorts}
 use Rattle.refinement.specs.Links.{ShowsDiskIfIn}
 use Rattle.identify.specs.declared.wanted.Wanted.{Wanted}
 use Rattle.port_control.specs.Ports.{IsCommandRegister}
-use Rattle.port_boot.specs.States.{IsBootTo, IsOfBoot, StopsOnWay}
-use Rattle.host_boot.specs.Again.{RebootsPort, RebootsIfPresent, BootsStopped, IsCapPiOrBootAccess}
+use Rattle.port_boot.specs.States.{IsBootTo, IsBootAccess, StopsOnWay}
+use Rattle.host_boot.specs.Reboots.{RebootsPort, RebootsIfPresent, BootsStopped, IsCapPiOrBootAccess}
 use Rattle.host_boot.specs.Laws.{Laws}
 use Rattle.host_boot.specs.TakeOver.{FoundBadDisk, IsServed, ReadsCapOrPi, BacksProbeResult}
 use Rattle.host_boot.specs.declared.Booted.{Booted}
@@ -48,11 +48,11 @@ module _ (laws : Laws) where
   served_over wanted port old new driven served = (served.0, ap (λ (pi : ℕ). bit pi port.0) (same_over laws (SparesOtherPorts port) old new driven).pi ∙ served.1)
 
   module _ (wanted : Wanted) (port : Port) (booted : Booted) (old new : Device) (b : RebootsPort wanted port booted old new) where
-    surveyed : IsDrivenBy (SparesOtherPorts port) old b.asked
-    surveyed = start_driven port old b.asked b.asks.driven
+    surveyed : IsDrivenBy (SparesOtherPorts port) old b.surveyed
+    surveyed = start_driven port old b.surveyed b.surveys.is_driven
 
-    its : IsDrivenBy (SparesOtherPorts port) b.asked new
-    its = driven_as (IsOfBoot port) (SparesOtherPorts port) b.asked new (laws.of_boot port) (booted_driven laws wanted port booted.found b.asked new b.boots)
+    its : IsDrivenBy (SparesOtherPorts port) b.surveyed new
+    its = driven_as (IsBootAccess port) (SparesOtherPorts port) b.surveyed new (laws.of_boot port) (booted_driven laws wanted port booted.found b.surveyed new b.boots)
 
     pub again_driven : IsDrivenBy (SparesOtherPorts port) old new
     again_driven = by_then laws surveyed its
@@ -63,22 +63,22 @@ module _ (laws : Laws) where
         still : IsServed wanted port.0 new
         still = served_over wanted port old new again_driven served
 
-        by : (found : ProbeResult) → BootsStopped wanted port found b.asked new → BacksProbeResult wanted found port.0 new
+        by : (found : ProbeResult) → BootsStopped wanted port found b.surveyed new → BacksProbeResult wanted found port.0 new
         by Unserved none = absurd none
         by (Ready info) is = (still, is.ready)
-        by (Unready state) is = (still, is.ended)
+        by (Unready state) is = (still, is.state_is_backed)
 
     pub again_shown : (state : PortState) → IsOn old → FoundBadDisk state → booted.found ≡ Unready state → ShowsDiskIfIn (new.port port.0)
     again_shown state on bad is =
-        let boots : BootsStopped wanted port (Unready state) b.asked new = subst (λ (found : ProbeResult). BootsStopped wanted port found b.asked new) is b.boots in
-        let asked : IsOn b.asked = on_over laws (SparesOtherPorts port) old b.asked surveyed (laws.of_spares_ghc port) on in
-        way_shown laws port state b.asked new bad asked (
-          b.asked,
-          by_none (OnPortWriting IsCommandRegister port) b.asked,
-          booted_driven laws wanted port (Unready state) b.asked new boots,
-          boots.early,
-          boots.late,
-          λ dead. boot_sticks (StopsOnWay port Dead) port b.asked new (subst (λ (s : PortState). IsBootTo (StopsOnWay port s) port s b.asked new) dead boots.boots),
+        let boots : BootsStopped wanted port (Unready state) b.surveyed new = subst (λ (found : ProbeResult). BootsStopped wanted port found b.surveyed new) is b.boots in
+        let asked : IsOn b.surveyed = on_over laws (SparesOtherPorts port) old b.surveyed surveyed (laws.of_spares_ghc port) on in
+        way_shown laws port state b.surveyed new bad asked (
+          b.surveyed,
+          by_none (IsPortAccessWriting IsCommandRegister port) b.surveyed,
+          booted_driven laws wanted port (Unready state) b.surveyed new boots,
+          boots.ends_before_start,
+          boots.ends_after_start,
+          λ dead. boot_sticks (StopsOnWay port Dead) port b.surveyed new (subst (λ (s : PortState). IsBootTo (StopsOnWay port s) port s b.surveyed new) dead boots.boots),
         )
 
   -- ---- or it is booted only if a device shows
@@ -86,12 +86,12 @@ module _ (laws : Laws) where
   module _ (wanted : Wanted) (port : Port) (booted : Booted) (old new : Device) where
     pub there_driven : RebootsIfPresent wanted port booted old new → IsDrivenBy (SparesOtherPorts port) old new
     there_driven (inl is) = again_driven wanted port booted old new is.0
-    there_driven (inr is) = start_driven port old new is.1.driven
+    there_driven (inr is) = start_driven port old new is.1.is_driven
 
     pub there_stands : RebootsIfPresent wanted port booted old new → IsServed wanted port.0 old → BacksProbeResult wanted booted.found port.0 new
     there_stands (inl is) served = again_stands wanted port booted old new is.0 served
     there_stands (inr is) served =
-        subst (λ (found : ProbeResult). BacksProbeResult wanted found port.0 new) (sym is.0) (served_over wanted port old new (start_driven port old new is.1.driven) served, is.2)
+        subst (λ (found : ProbeResult). BacksProbeResult wanted found port.0 new) (sym is.0) (served_over wanted port old new (start_driven port old new is.1.is_driven) served, is.2)
 
     pub there_shown : (state : PortState) → IsOn old → RebootsIfPresent wanted port booted old new → FoundBadDisk state → booted.found ≡ Unready state → ShowsDiskIfIn (new.port port.0)
     there_shown state on (inl is) bad found = again_shown wanted port booted old new is.0 state on bad found

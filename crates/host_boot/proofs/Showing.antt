@@ -13,9 +13,9 @@ use Rattle.adapter.specs.Access.Access.{Reading, Writing, Loading, Storing}
 use Rattle.adapter.specs.Device.{Device}
 use Rattle.adapter.specs.Idle.{IsIdle}
 use Rattle.adapter.specs.Rules.{IsOn}
-use Rattle.refinement.specs.Driven.{OnPortWriting, IsDrivenBy, SparesOtherPorts}
+use Rattle.refinement.specs.Fragments.{IsPortAccessWriting, IsDrivenBy, SparesOtherPorts}
 use Rattle.refinement.specs.Links.{ShowsDiskIfIn, DoesNotWrite}
-use Rattle.disk_page.specs.Asking.{IsPageAccess}
+use Rattle.disk_page.specs.PageRequests.{IsPageAccess}
 use Rattle.port_control.specs.Ports.{FindsLink, FindsSignature, HasLink, IsPlacingRegister, SeesResetFault, IsVainReading, ReadsUntil, ReadsInVain, ShowsIdle, SendsComresetThen, IsCommandRegister}
 use Rattle.port_control.specs.declared.PortFault.{PortFault}
 use Rattle.port_control.specs.declared.PortFault.TheVariants.{NoDevice, Busy, EngineStuck, NotAta}
@@ -65,7 +65,7 @@ module _ (laws : Laws) where
         gently_over accesses mid new later (All-tail (IsGentle port) access accesses all) rest (laws.keeps_device port access old mid on.no_reset gentle.1 does h)
 
     pub gently : (old new : Device) → IsOn old → IsDrivenBy (IsGentle port) old new → Shown old → Shown new
-    gently old new on driven = gently_over driven.accesses old new on driven.only driven.all
+    gently old new on driven = gently_over driven.accesses old new on driven.accesses_are_of_kind driven.all_are_done
 
     still_on : (old new : Device) → IsOn old → IsDrivenBy (IsGentle port) old new → IsOn new
     still_on old new on driven = on_over laws (IsGentle port) old new driven (λ access is. is.0) on
@@ -105,17 +105,17 @@ module _ (laws : Laws) where
         (by_then laws (by_one (SparesOtherPorts port) (Writing (Px port Sctl) 1) old w.sent refl w.sends) (by_one (SparesOtherPorts port) (Writing (Px port Sctl) 0) w.sent w.ended refl w.ends))
         (laws.of_spares_ghc port) on
 
-    placing_on : (old new : Device) → IsOn old → IsDrivenBy (OnPortWriting IsPlacingRegister port) old new → IsOn new
+    placing_on : (old new : Device) → IsOn old → IsDrivenBy (IsPortAccessWriting IsPlacingRegister port) old new → IsOn new
     placing_on old new on driven = on_over laws (SparesOtherPorts port) old new (placing_driven laws port old new driven) (laws.of_spares_ghc port) on
 
     early_shown : (state : PortState) (old new : Device) → state ≢ Absent → IsOn old → EndsBeforeStart port state old new → Shown new
     early_shown state old new other on e =
-        looks_shown e.fault e.resets.ended new (λ none. other (subst (IsStateOfFault state) none e.told))
-        (reset_on (SeesResetFault port e.fault) e.placed new (placing_on old e.placed on e.places) e.resets) e.resets.rest
+        looks_shown e.fault e.resets.ended new (λ none. other (subst (IsStateOfFault state) none e.state_is))
+        (reset_on (SeesResetFault port e.fault) e.placed new (placing_on old e.placed on e.places) e.resets) e.resets.does_rest
 
-    stop_gentle : (old new : Device) → IsDrivenBy (OnPortWriting IsCommandRegister port) old new → IsDrivenBy (IsGentle port) old new
+    stop_gentle : (old new : Device) → IsDrivenBy (IsPortAccessWriting IsCommandRegister port) old new → IsDrivenBy (IsGentle port) old new
     stop_gentle old new driven =
-        driven_as (OnPortWriting IsCommandRegister port) (IsGentle port) old new
+        driven_as (IsPortAccessWriting IsCommandRegister port) (IsGentle port) old new
         (λ access is. let c = laws.commanding port access is in (laws.of_spares_ghc port access c.0, c.1)) driven
 
     asking_gentle : (access : Access) → IsPageAccess port access → IsGentle port access
@@ -127,13 +127,13 @@ module _ (laws : Laws) where
 
     late_shown : (old new : Device) → IsOn old → EndsAfterStart port old new → Shown new
     late_shown old new on e =
-        let up = e.first in
+        let up = e.brings_up in
         let ended : IsOn up.resets.ended = reset_on (FindsSignature port 0x101) up.placed up.found (placing_on old up.placed on up.places) up.resets in
-        let found : IsOn up.found = signature_on up.resets.ended up.found ended up.resets.rest in
+        let found : IsOn up.found = signature_on up.resets.ended up.found ended up.resets.does_rest in
         gently up.found new found
         (by_then laws (stop_gentle up.found e.up up.starts)
-        (by_then laws (driven_as (IsPageAccess port) (IsGentle port) e.up e.then.asked asking_gentle e.then.asks) (stop_gentle e.then.asked new e.then.stops)))
-        (signature_shown 0x101 up.resets.ended up.found ended up.resets.rest)
+        (by_then laws (driven_as (IsPageAccess port) (IsGentle port) e.up e.asks_then_stops.asked asking_gentle e.asks_then_stops.asks) (stop_gentle e.asks_then_stops.asked new e.asks_then_stops.stops)))
+        (signature_shown 0x101 up.resets.ended up.found ended up.resets.does_rest)
       where
         signature_on : (a b : Device) → IsOn a → FindsSignature port 0x101 a b → IsOn b
         signature_on a b on_a f =

@@ -10,13 +10,13 @@ use Rattle.adapter.specs.Access.{Access}
 use Rattle.adapter.specs.Device.{Device}
 use Rattle.adapter.specs.Rules.{IsOn, HasPort}
 use Rattle.adapter.specs.declared.command.Operation.TheVariants.{Identify}
-use Rattle.refinement.specs.Driven.{RelatesWith, AnyUse, OnPortWriting, IsSimulated, IsSimulatedAlong, IsSimulatedAlongTo}
+use Rattle.refinement.specs.Fragments.{RelatesWith, AnyUse, IsPortAccessWriting, IsSimulated, IsSimulatedAlong, IsSimulatedAlongChangingUses}
 use Rattle.refinement.specs.Driver.{AllFree}
-use Rattle.refinement.specs.Slots.{Own, SlotStates, put}
+use Rattle.refinement.specs.Slots.{Own, SlotStates, set_slot_state}
 use Rattle.refinement.specs.Links.{SameAdapter}
 use Rattle.port_control.specs.Engines.{FailsToStop, Stops, StopsBoth, StopsReceiving, EngineSticks}
 use Rattle.port_control.specs.Ports.{IsCommandRegister}
-use Rattle.port_boot.specs.States.{IsBoot, IsBootTo, IsBootable, IsOfBoot, StopsOnWay}
+use Rattle.port_boot.specs.States.{IsBoot, IsBootTo, IsBootable, IsBootAccess, StopsOnWay}
 use Rattle.host_boot.specs.TakeOver.{SticksOnWay, TellsEngines, WroteSctl}
 use Rattle.host_boot.specs.declared.ProbeResult.{ProbeResult}
 use Rattle.host_boot.specs.declared.ProbeResult.TheVariants.{Unserved, Ready, Unready}
@@ -30,36 +30,36 @@ still_there port old new same there = (there.0, ap (λ (pi : ℕ). bit pi port.0
 
 -- a boot to a dead port tells of the engine that is stuck
 pub boot_sticks : (TapeTells : List Access → Type 0) (port : Port) (old new : Device) → IsBootTo TapeTells port Dead old new → SticksOnWay port old new
-boot_sticks TapeTells port old new (inl b) = record { driven = b.followed.driven; sticks = b.tells }
-boot_sticks TapeTells port old new (inr b) = record { driven = b.followed.driven; sticks = b.tells }
+boot_sticks TapeTells port old new (inl b) = record { driven = b.followed.is_driven; sticks = b.tells }
+boot_sticks TapeTells port old new (inr b) = record { driven = b.followed.is_driven; sticks = b.tells }
 
 module _ (laws : Laws) where
   -- a port may be booted after accesses that leave its slots as they are
   pub bootable_over : (kind : AccessPurpose) (port : Port) (old new : Device) → ((uses : SlotStates) → AllFree uses port.0 → slot_uses_for kind uses) → IsSimulated (accesses_for kind) (slot_uses_for kind) old new →
       HasPort old port.0 → DRIVER_BYTES ≤ old.size → RelatesWith (λ uses. AllFree uses port.0) old → IsOn new → IsBootable port new
   bootable_over kind port old new fits f there room a on =
-      let same = same_over laws (accesses_for kind) old new f.driven in
+      let same = same_over laws (accesses_for kind) old new f.is_driven in
       record {
-        on = on;
-        there = still_there port old new same there;
-        room = let size = same.size in omega (arith, size, room);
-        agreed = (a.0, a.1, laws.fragments.agreed kind (λ uses. uses) a.0 old new (fits a.0 a.1) f a.2);
+        adapter_is_on = on;
+        has_port = still_there port old new same there;
+        driver_memory_fits = let size = same.size in omega (arith, size, room);
+        machine_is_related = (a.0, a.1, laws.fragments.agreed kind (λ uses. uses) a.0 old new (fits a.0 a.1) f a.2);
       }
 
-  stop_boots : (TapeTells : List Access → Type 0) (port : Port) (old mid : Device) → IsSimulatedAlong TapeTells (OnPortWriting IsCommandRegister port) AnyUse old mid → IsBoot TapeTells port old mid
+  stop_boots : (TapeTells : List Access → Type 0) (port : Port) (old mid : Device) → IsSimulatedAlong TapeTells (IsPortAccessWriting IsCommandRegister port) AnyUse old mid → IsBoot TapeTells port old mid
   stop_boots TapeTells port old mid stops = told_wider laws TapeTells (Commanding port) (Booting port) (λ uses. uses) old mid (laws.command_of_boot port) (λ uses free. tt) stops
 
   -- where it didn't stop, its engine is stuck
-  pub stuck_boots : (port : Port) (old mid : Device) → IsSimulatedAlong (FailsToStop port) (OnPortWriting IsCommandRegister port) AnyUse old mid → IsBoot (EngineSticks port) port old mid
-  stuck_boots port old mid f = told_more (FailsToStop port) (EngineSticks port) (IsOfBoot port) (λ uses. AllFree uses port.0) (λ uses. uses) old mid (laws.failing_sticks port) (stop_boots (FailsToStop port) port old mid f)
+  pub stuck_boots : (port : Port) (old mid : Device) → IsSimulatedAlong (FailsToStop port) (IsPortAccessWriting IsCommandRegister port) AnyUse old mid → IsBoot (EngineSticks port) port old mid
+  stuck_boots port old mid f = told_more (FailsToStop port) (EngineSticks port) (IsBootAccess port) (λ uses. AllFree uses port.0) (λ uses. uses) old mid (laws.failing_sticks port) (stop_boots (FailsToStop port) port old mid f)
 
-  module _ (port : Port) (old mid : Device) (stops : IsSimulatedAlong (Stops port) (OnPortWriting IsCommandRegister port) AnyUse old mid) where
+  module _ (port : Port) (old mid : Device) (stops : IsSimulatedAlong (Stops port) (IsPortAccessWriting IsCommandRegister port) AnyUse old mid) where
     pub bootable : HasPort old port.0 → DRIVER_BYTES ≤ old.size → RelatesWith (λ uses. AllFree uses port.0) old → IsOn mid → IsBootable port mid
     bootable there room agreed on = bootable_over (Commanding port) port old mid (λ uses free. tt) stops.followed there room agreed on
 
     pub since_stop : (since : ℕ) → length mid.tape ≤ since → length old.tape ≤ since
     since_stop since is =
-        let g = tape_over laws (OnPortWriting IsCommandRegister port) old mid stops.followed.driven in
+        let g = tape_over laws (IsPortAccessWriting IsCommandRegister port) old mid stops.followed.is_driven in
         let n : length mid.tape ≡ length old.tape + length g.0 = ap (λ es. length es) g.1 ∙ length-append old.tape g.0 in
         omega (arith, n, is)
 
@@ -70,7 +70,7 @@ module _ (laws : Laws) where
           (Booting port) (Booting port) (λ uses. uses) (λ uses. uses) (λ access may. may) (λ uses free. free) old mid new (stop_boots (Stops port) port old mid stops) f
 
       -- or one is stuck
-      dies : (next : SlotStates → SlotStates) → IsSimulatedAlongTo (EngineSticks port) (IsOfBoot port) (λ uses. AllFree uses port.0) next mid new → IsSimulatedAlongTo (EngineSticks port) (IsOfBoot port) (λ uses. AllFree uses port.0) next old new
+      dies : (next : SlotStates → SlotStates) → IsSimulatedAlongChangingUses (EngineSticks port) (IsBootAccess port) (λ uses. AllFree uses port.0) next mid new → IsSimulatedAlongChangingUses (EngineSticks port) (IsBootAccess port) (λ uses. AllFree uses port.0) next old new
       dies next f = told_both laws (Stops port) (EngineSticks port) (EngineSticks port) (λ early late any is. laws.sticks_since early late port is) (Booting port) (Booting port) (λ uses. uses) next
           (λ access may. may) (λ uses free. free) old mid new (stop_boots (Stops port) port old mid stops) f
 
@@ -79,7 +79,7 @@ module _ (laws : Laws) where
 
       pub then_boot_to : (state : PortState) → IsBootTo (StopsOnWay port state) port state mid new → IsBootTo (StopsBoth port) port state old new
       then_boot_to Dead (inl f) = inl (dies (λ uses. uses) f)
-      then_boot_to Dead (inr f) = inr (dies (λ uses. put uses port.0 0 (Own Identify)) f)
+      then_boot_to Dead (inr f) = inr (dies (λ uses. set_slot_state uses port.0 0 (Own Identify)) f)
       then_boot_to Absent f = both (StopsOnWay port Absent) (λ accesses is. is.0) f
       then_boot_to ReadyState f = both (StopsOnWay port ReadyState) (λ accesses is. is.0) f
       then_boot_to Foreign f = both (StopsOnWay port Foreign) (λ accesses is. is.0) f

@@ -20,16 +20,16 @@ use Rattle.adapter.specs.Rules.{IsOn}
 use Rattle.adapter.specs.declared.command.Operation.{Operation}
 use Rattle.adapter.specs.declared.command.Operation.TheVariants.{Identify}
 use Rattle.refinement.specs.Relation.{port_at}
-use Rattle.refinement.specs.Driven.{AnyUse, IsRelated, IsDrivenBy, IsSimulated, IsSimulatedTo, SparesOtherPorts, IsSimulatedAlongTo, SameUses, LeavesPort, NoneWrites, GainsNoMove, OnlyDeviceActs}
+use Rattle.refinement.specs.Fragments.{AnyUse, IsRelated, IsDrivenBy, IsSimulated, IsSimulatedChangingUses, SparesOtherPorts, IsSimulatedAlongChangingUses, SameUses, LeavesPort, NoneWrites, GainsNoMove, OnlyDeviceActs}
 use Rattle.refinement.specs.Driver.{AllFree}
 use Rattle.refinement.specs.Halting.{HaltOfTakenIfSt}
 use Rattle.refinement.specs.Links.{SameAdapter, DoesNotWrite}
-use Rattle.refinement.specs.Slots.{Free, Own, SlotStates, put}
+use Rattle.refinement.specs.Slots.{Free, Own, SlotStates, set_slot_state}
 use Rattle.identify.specs.declared.wanted.Wanted.{Wanted}
 use Rattle.identify.specs.declared.wanted.Wanted.TheVariants.{Nothing}
 use Rattle.port_control.specs.Engines.{StopsBoth}
-use Rattle.port_boot.specs.States.{IsBoot, IsBootTo, IsOfBoot}
-use Rattle.host_boot.specs.TakeOver.{Boots, SwitchesOnAndBoots, ReadyHaltOfTaken, IsUnusedOrDead, IsOfHost, IsOfTakeOver, LeavesPorts, BacksProbeResult, TakesOver, TellsEngines, WroteSctl, probe_result_of, unused_slots, wanted_of}
+use Rattle.port_boot.specs.States.{IsBoot, IsBootTo, IsBootAccess}
+use Rattle.host_boot.specs.TakeOver.{Boots, SwitchesOnAndBoots, ReadyHaltOfTaken, IsUnusedOrDead, IsHostAccess, IsTakeOverAccess, LeavesPorts, BacksProbeResult, TakesOver, TellsEngines, WroteSctl, probe_result_of, unused_slots, wanted_of}
 use Rattle.host_boot.specs.declared.Host.{Host}
 use Rattle.host_boot.specs.declared.ProbeResult.{ProbeResult}
 use Rattle.host_boot.specs.declared.ProbeResult.TheVariants.{Unserved, Ready, Unready}
@@ -37,7 +37,6 @@ use Rattle.host_boot.proofs.Stopping.{tells_then, tells_since}
 use Rattle.host_boot.proofs.Leaving.{idle_on, is_served, stands_on, reset_on}
 use Rattle.refinement.specs.Acts.{ActsReach, DriverSlots, driver_state}
 use Rattle.host_boot.specs.Laws.{Laws, SlotCondition, slot_uses_meeting}
-use Rattle.block_machine.specs.Steps.{May}
 use Rattle.refinement.specs.Tape.{TapeTells}
 use Rattle.host_boot.proofs.Stretching.{driven_as, same_over, tape_over, told_both, told_more, told_wider}
 use Rattle.host_boot.specs.Laws.SlotCondition.{AnyUses, PortUnused, Only}
@@ -45,7 +44,7 @@ use Rattle.host_boot.specs.Laws.AccessPurpose.{Booting, Hosting, Taking}
 
 -- the uses are these at last
 abbrev GoesTo : (Access → Type 0) → SlotStates → SlotStates → Device → Device → Type 0
-GoesTo May first uses old new = IsSimulatedTo May (SameUses first) (λ _. uses) old new
+GoesTo May first uses old new = IsSimulatedChangingUses May (SameUses first) (λ _. uses) old new
 
 -- what they tell of the first ports
 abbrev TellsFirst : List ProbeResult → ℕ → List Access → Type 0
@@ -59,14 +58,14 @@ pub record IsUnderway (wanted : List Wanted) (ports : List ProbeResult) (n : ℕ
   pub uses : SlotStates
   pub left : (port slot : ℕ) → IsUnusedOrDead ports uses port slot
   pub free : (port slot : ℕ) → n ≤ port → uses port slot ≡ Free
-  pub told : IsSimulatedAlongTo (TellsFirst ports n) (IsOfTakeOver wanted) (SameUses unused_slots) (λ _. uses) start d
+  pub told : IsSimulatedAlongChangingUses (TellsFirst ports n) (IsTakeOverAccess wanted) (SameUses unused_slots) (λ _. uses) start d
   pub agreed : IsRelated uses d
   pub stands : (port : ℕ) → port < n → BacksProbeResult (wanted_of wanted port) (probe_result_of ports port) port d
   pub reset : (port : ℕ) → port < n → WroteSctl (probe_result_of ports port) port (length start.tape) d
   pub halts : (port : ℕ) → port < n → ReadyHaltOfTaken (probe_result_of ports port) port d
   pub idle : (port : ℕ) → n ≤ port → IsIdlePort (d.port port)
 
-host_spares : (q : Port) (r : PortReg) → NoneWrites IsOfHost (Px q r)
+host_spares : (q : Port) (r : PortReg) → NoneWrites IsHostAccess (Px q r)
 host_spares q r (Reading x v) is = tt
 host_spares q r (Loading driver_state bytes) is = absurd is
 host_spares q r (Storing driver_state bytes) is = absurd is
@@ -82,28 +81,28 @@ host_spares q r (Writing (Px p x) v) is = absurd is
 module _ (laws : Laws) where
   -- what halts a port is of a taken command still, over what was followed without a write of its PxCMD, where it was found ready
   still_halts : (May : Access → Type 0) (Fits : SlotStates → Type 0) (next : SlotStates → SlotStates) (uses : SlotStates) (q : ℕ) (old new : Device) → NoneWrites May (Px (port_at q) Cmd) → Fits uses
-      → IsSimulatedTo May Fits next old new → IsRelated uses old → (wanted : Wanted) (found : ProbeResult) → BacksProbeResult wanted found q new → ReadyHaltOfTaken found q old → ReadyHaltOfTaken found q new
+      → IsSimulatedChangingUses May Fits next old new → IsRelated uses old → (wanted : Wanted) (found : ProbeResult) → BacksProbeResult wanted found q new → ReadyHaltOfTaken found q old → ReadyHaltOfTaken found q new
   still_halts May Fits next uses q old new spares fits f a wanted found stands halts info is =
       let slots : DriverSlots = record { uses = uses; parked = a.parked } in
-      let c = f.comes slots a.machine a.reached a.knows fits in
+      let c = f.acts_reach slots a.machine a.reached a.driver_relation fits in
       let then : HaltOfTakenIfSt (new.port q) =
-      laws.halts_acts (port_at q) c.acts (driver_state slots old) (driver_state (record slots { uses = next uses }) new) a.machine a.reached a.knows c.done
-      (subst (All (DoesNotWrite (Px (port_at q) Cmd))) (sym c.accesses_are) (All-weaker May (DoesNotWrite (Px (port_at q) Cmd)) spares f.driven.accesses f.driven.only)) (λ _. halts info is) in
+      laws.halts_acts (port_at q) c.acts (driver_state slots old) (driver_state (record slots { uses = next uses }) new) a.machine a.reached a.driver_relation c.acts_are_done
+      (subst (All (DoesNotWrite (Px (port_at q) Cmd))) (sym c.accesses_are) (All-weaker May (DoesNotWrite (Px (port_at q) Cmd)) spares f.is_driven.accesses f.is_driven.accesses_are_of_kind)) (λ _. halts info is) in
       then (subst (λ (x : ProbeResult). BacksProbeResult wanted x q new) is stands).1.runs.st
 
   module _ (wanted : List Wanted) (first : SlotStates) where
     -- nothing is put to use
-    pub goes_on : (old new : Device) → IsSimulated (IsOfTakeOver wanted) AnyUse old new → GoesTo (IsOfTakeOver wanted) first first old new
+    pub goes_on : (old new : Device) → IsSimulated (IsTakeOverAccess wanted) AnyUse old new → GoesTo (IsTakeOverAccess wanted) first first old new
     goes_on old new a = record {
-      driven = a.driven;
-      comes = λ s m reached x is.
-          subst (λ (u : SlotStates). ActsReach a.driven.accesses (driver_state s old) m (driver_state (record s { uses = u }) new) (OnlyDeviceActs (IsOfTakeOver wanted) s.uses)) is (a.comes s m reached x tt);
+      is_driven = a.is_driven;
+      acts_reach = λ s m reached x is.
+          subst (λ (u : SlotStates). ActsReach a.is_driven.accesses (driver_state s old) m (driver_state (record s { uses = u }) new) (OnlyDeviceActs (IsTakeOverAccess wanted) s.uses)) is (a.acts_reach s m reached x tt);
     }
 
     -- and then others, with what is told of both
     pub then_told : (Before Here TapeTells : List Access → Type 0) → ((early late : List Access) → Before early → Here late → TapeTells (early ++ late)) → (fitting : SlotCondition) (next : SlotStates → SlotStates) (uses : SlotStates)
-        (old mid new : Device) → slot_uses_meeting fitting uses → IsSimulatedAlongTo Before (IsOfTakeOver wanted) (SameUses first) (λ _. uses) old mid → IsSimulatedAlongTo Here (IsOfTakeOver wanted) (slot_uses_meeting fitting) next mid new →
-        IsSimulatedAlongTo TapeTells (IsOfTakeOver wanted) (SameUses first) (λ _. next uses) old new
+        (old mid new : Device) → slot_uses_meeting fitting uses → IsSimulatedAlongChangingUses Before (IsTakeOverAccess wanted) (SameUses first) (λ _. uses) old mid → IsSimulatedAlongChangingUses Here (IsTakeOverAccess wanted) (slot_uses_meeting fitting) next mid new →
+        IsSimulatedAlongChangingUses TapeTells (IsTakeOverAccess wanted) (SameUses first) (λ _. next uses) old new
     then_told Before Here TapeTells join fitting next uses old mid new fits a b =
         told_both laws Before Here TapeTells join (Taking wanted (Only first)) (Taking wanted fitting) (λ _. uses) next (λ access may. may) (λ were is. fits) old mid new a b
 
@@ -130,19 +129,19 @@ module _ (laws : Laws) where
     wants : found ≢ Unserved → wanted_of wanted port.0 ≢ Nothing
     wants other = (is_served (wanted_of wanted port.0) port.0 new found other stands).0
 
-    module _ (driven : IsDrivenBy (IsOfBoot port) old new)
+    module _ (driven : IsDrivenBy (IsBootAccess port) old new)
         (quiet : (q : Port) → q.0 ≢ port.0 → (u.uses q.0 0 ≡ Own Identify → ⊥) → GainsNoMove q.0 Identify old new) where
       alone : (q : ℕ) → q ≢ port.0 → LeavesPort (old.port q) (new.port q)
-      alone q other = laws.left port q old new other u.on (driven_as (IsOfBoot port) (SparesOtherPorts port) old new (laws.of_boot port) driven)
+      alone q other = laws.left port q old new other u.on (driven_as (IsBootAccess port) (SparesOtherPorts port) old new (laws.of_boot port) driven)
 
       pub later_same : SameAdapter start new
-      later_same = laws.same_more start old new u.same (same_over laws (IsOfBoot port) old new driven)
+      later_same = laws.same_more start old new u.same (same_over laws (IsBootAccess port) old new driven)
 
       at_other : (q : ℕ) → q ≢ port.0 → q < port.0 → BacksProbeResult (wanted_of wanted q) (probe_result_of (slice_set ports port.0 found) q) q new
       at_other q other less =
           let P : ProbeResult → Type 0 = λ f. BacksProbeResult (wanted_of wanted q) f q new in
           subst P (sym (other_is q other))
-          (stands_on laws.found q old new (alone q other) (same_over laws (IsOfBoot port) old new driven) (wanted_of wanted q) (probe_result_of ports q)
+          (stands_on laws.found q old new (alone q other) (same_over laws (IsBootAccess port) old new driven) (wanted_of wanted q) (probe_result_of ports q)
           (λ alive. quiet (port_at q) other (λ own. elim (u.left q 0) [
             | inl free ↦ absurd (let e : Own Identify ≡ Free = sym own ∙ free in cc)
             | inr (head, is, dead) ↦ alive dead
@@ -161,7 +160,7 @@ module _ (laws : Laws) where
       -- the tape only grew before it
       longer : length start.tape ≤ length old.tape
       longer =
-          let g = tape_over laws (IsOfTakeOver wanted) start old u.told.followed.driven in
+          let g = tape_over laws (IsTakeOverAccess wanted) start old u.told.followed.is_driven in
           let n : length old.tape ≡ length start.tape + length g.0 = ap (λ es. length es) g.1 ∙ length-append start.tape g.0 in
           omega (arith, n)
 
@@ -190,7 +189,7 @@ module _ (laws : Laws) where
           let other : q ≢ port.0 = λ (e : q ≡ port.0). absurd (omega (arith, e, more)) in
           idle_on (old.port q) (new.port q) (alone q other) (u.idle q (omega (arith, more)))
 
-      taking : found ≢ Unserved → (access : Access) → IsOfBoot port access → IsOfTakeOver wanted access
+      taking : found ≢ Unserved → (access : Access) → IsBootAccess port access → IsTakeOverAccess wanted access
       taking served access is = inr (port, wants served, is)
 
     -- ---- what is told of engines
@@ -225,7 +224,7 @@ module _ (laws : Laws) where
     unused_here slot = u.free port.0 slot (omega arith)
 
     -- what halts the ports
-    later_halts : (next : SlotStates → SlotStates) → IsSimulatedTo (IsOfBoot port) (λ uses. AllFree uses port.0) next old new
+    later_halts : (next : SlotStates → SlotStates) → IsSimulatedChangingUses (IsBootAccess port) (λ uses. AllFree uses port.0) next old new
         → ((q : ℕ) → q < port.0 + 1 → BacksProbeResult (wanted_of wanted q) (probe_result_of (slice_set ports port.0 found) q) q new)
         → (q : ℕ) → q < port.0 + 1 → ReadyHaltOfTaken (probe_result_of (slice_set ports port.0 found) q) q new
     later_halts next f stand q less = elim (cases_eq q port.0) [
@@ -235,20 +234,20 @@ module _ (laws : Laws) where
           subst P (sym e) (subst Q (sym here_is) halts)
       | inr other ↦
           let Q : ProbeResult → Type 0 = λ f. ReadyHaltOfTaken f q old in
-          still_halts (IsOfBoot port) (λ uses. AllFree uses port.0) next u.uses q old new (λ access may. laws.of_spares port (port_at q) Cmd other access (laws.of_boot port access may)) unused_here f u.agreed
+          still_halts (IsBootAccess port) (λ uses. AllFree uses port.0) next u.uses q old new (λ access may. laws.of_spares port (port_at q) Cmd other access (laws.of_boot port access may)) unused_here f u.agreed
           (wanted_of wanted q) (probe_result_of (slice_set ports port.0 found) q) (stand q less) (subst Q (sym (other_is q other)) (u.halts q (omega (arith, less, other))))
     ]
 
     pub booted : found ≢ Unserved → IsBoot (TellsEngines port found) port old new → Later
     booted served told =
-        let f : IsSimulated (IsOfBoot port) (λ uses. AllFree uses port.0) old new = told.followed in
+        let f : IsSimulated (IsBootAccess port) (λ uses. AllFree uses port.0) old new = told.followed in
         let quiet : (q : Port) → q.0 ≢ port.0 → (u.uses q.0 0 ≡ Own Identify → ⊥) → GainsNoMove q.0 Identify old new =
         λ (q : Port) (other : q.0 ≢ port.0) (not : u.uses q.0 0 ≡ Own Identify → ⊥).
         laws.fragments.silent (Booting port) (λ uses. uses) u.uses q Identify old new unused_here (λ access may. laws.of_spares port q Ci other access (laws.of_boot port access may))
         (λ access may. laws.of_spares port q Sact other access (laws.of_boot port access may)) refl not f u.agreed in
         record {
           on = on;
-          same = later_same f.driven quiet;
+          same = later_same f.is_driven quiet;
           long = length-set ports port.0 found ∙ u.long;
           uses = u.uses;
           left = λ q slot. elim (cases_eq q port.0) [
@@ -258,22 +257,22 @@ module _ (laws : Laws) where
           free = λ q slot more. u.free q slot (omega (arith, more));
           told = then_told wanted unused_slots (TellsFirst ports port.0) (TellsEngines port found) (TellsFirst (slice_set ports port.0 found) (port.0 + 1)) later_engines (PortUnused port) (λ uses. uses)
               u.uses start old new unused_here u.told
-              (told_wider laws (TellsEngines port found) (Booting port) (Taking wanted (PortUnused port)) (λ uses. uses) old new (taking f.driven quiet served) (λ uses free. free) told);
+              (told_wider laws (TellsEngines port found) (Booting port) (Taking wanted (PortUnused port)) (λ uses. uses) old new (taking f.is_driven quiet served) (λ uses free. free) told);
           agreed = laws.fragments.agreed (Booting port) (λ uses. uses) u.uses old new unused_here f u.agreed;
-          stands = later_stands f.driven quiet;
-          halts = later_halts (λ uses. uses) f (later_stands f.driven quiet);
-          reset = later_reset f.driven quiet;
-          idle = later_idle f.driven quiet;
+          stands = later_stands f.is_driven quiet;
+          halts = later_halts (λ uses. uses) f (later_stands f.is_driven quiet);
+          reset = later_reset f.is_driven quiet;
+          idle = later_idle f.is_driven quiet;
         }
 
     -- ---- or it is dead, and its disk may yet send its page
 
     abbrev Asked : SlotStates → SlotStates
-    Asked uses = put uses port.0 0 (Own Identify)
+    Asked uses = set_slot_state uses port.0 0 (Own Identify)
 
-    pub died : found ≡ Unready Dead → IsSimulatedAlongTo (TellsEngines port found) (IsOfBoot port) (λ uses. AllFree uses port.0) Asked old new → Later
+    pub died : found ≡ Unready Dead → IsSimulatedAlongChangingUses (TellsEngines port found) (IsBootAccess port) (λ uses. AllFree uses port.0) Asked old new → Later
     died dead told =
-        let f : IsSimulatedTo (IsOfBoot port) (λ uses. AllFree uses port.0) Asked old new = told.followed in
+        let f : IsSimulatedChangingUses (IsBootAccess port) (λ uses. AllFree uses port.0) Asked old new = told.followed in
         let served : found ≢ Unserved = λ (e : found ≡ Unserved). absurd (let k : Unready Dead ≡ Unserved = sym dead ∙ e in cc) in
         let quiet : (q : Port) → q.0 ≢ port.0 → (u.uses q.0 0 ≡ Own Identify → ⊥) → GainsNoMove q.0 Identify old new =
         λ (q : Port) (other : q.0 ≢ port.0) (not : u.uses q.0 0 ≡ Own Identify → ⊥).
@@ -284,7 +283,7 @@ module _ (laws : Laws) where
         laws.put_other u.uses port.0 0 (Own Identify) q 0 (λ driver_state head. absurd (let k : Own o ≡ Free = sym e ∙ u.free q 0 (omega (arith, driver_state)) in cc)) ∙ e in
         record {
           on = on;
-          same = later_same f.driven quiet;
+          same = later_same f.is_driven quiet;
           long = length-set ports port.0 found ∙ u.long;
           uses = Asked u.uses;
           left = λ q slot. elim (cases_eq q port.0) [
@@ -304,12 +303,12 @@ module _ (laws : Laws) where
           free = λ q slot more. laws.put_other u.uses port.0 0 (Own Identify) q slot (λ driver_state head. absurd (omega (arith, driver_state, more))) ∙ u.free q slot (omega (arith, more));
           told = then_told wanted unused_slots (TellsFirst ports port.0) (TellsEngines port found) (TellsFirst (slice_set ports port.0 found) (port.0 + 1)) later_engines (PortUnused port) Asked
               u.uses start old new unused_here u.told
-              (told_wider laws (TellsEngines port found) (Booting port) (Taking wanted (PortUnused port)) Asked old new (taking f.driven quiet served) (λ uses free. free) told);
+              (told_wider laws (TellsEngines port found) (Booting port) (Taking wanted (PortUnused port)) Asked old new (taking f.is_driven quiet served) (λ uses free. free) told);
           agreed = laws.fragments.agreed (Booting port) Asked u.uses old new unused_here f u.agreed;
-          stands = later_stands f.driven quiet;
-          halts = later_halts Asked f (later_stands f.driven quiet);
-          reset = later_reset f.driven quiet;
-          idle = later_idle f.driven quiet;
+          stands = later_stands f.is_driven quiet;
+          halts = later_halts Asked f (later_stands f.is_driven quiet);
+          reset = later_reset f.is_driven quiet;
+          idle = later_idle f.is_driven quiet;
         }
 
     -- ---- or it isn't served
@@ -327,7 +326,7 @@ module _ (laws : Laws) where
             | inr other ↦ was_left q slot other
           ];
           free = λ q slot more. u.free q slot (omega (arith, more));
-          told = told_more (TellsFirst ports port.0) (TellsFirst (slice_set ports port.0 found) (port.0 + 1)) (IsOfTakeOver wanted) (SameUses unused_slots) (λ _. u.uses) start old (same_engines is) u.told;
+          told = told_more (TellsFirst ports port.0) (TellsFirst (slice_set ports port.0 found) (port.0 + 1)) (IsTakeOverAccess wanted) (SameUses unused_slots) (λ _. u.uses) start old (same_engines is) u.told;
           agreed = u.agreed;
           stands = λ q less. elim (cases_eq q port.0) [
             | inl e ↦
@@ -369,7 +368,7 @@ module _ (laws : Laws) where
 
         by_state : (state : PortState) → found ≡ Unready state → IsBootTo (StopsBoth port) port state old new → Later
         by_state Dead is (inl b) = booted_as (Unready Dead) is (λ e. absurd cc) b
-        by_state Dead is (inr b) = died is (subst (λ (x : ProbeResult). IsSimulatedAlongTo (TellsEngines port x) (IsOfBoot port) (λ uses. AllFree uses port.0) Asked old new) (sym is) b)
+        by_state Dead is (inr b) = died is (subst (λ (x : ProbeResult). IsSimulatedAlongChangingUses (TellsEngines port x) (IsBootAccess port) (λ uses. AllFree uses port.0) Asked old new) (sym is) b)
         by_state Absent is b = booted_as (Unready Absent) is (λ e. absurd cc) b
         by_state ReadyState is b = booted_as (Unready ReadyState) is (λ e. absurd cc) b
         by_state Foreign is b = booted_as (Unready Foreign) is (λ e. absurd cc) b
@@ -383,19 +382,19 @@ module _ (laws : Laws) where
   -- the adapter is what it was
   pub boots_same : (port : Port) (old new : Device) (found : ProbeResult) → Boots port found old new → SameAdapter old new
   boots_same port old new Unserved is = subst (SameAdapter old) (sym is) (laws.same_refl old)
-  boots_same port old new (Ready info) f = same_over laws (IsOfBoot port) old new f.followed.driven
-  boots_same port old new (Unready state) f = same_over laws (IsOfBoot port) old new (laws.stops_driven port state old new f)
+  boots_same port old new (Ready info) f = same_over laws (IsBootAccess port) old new f.followed.is_driven
+  boots_same port old new (Unready state) f = same_over laws (IsBootAccess port) old new (laws.stops_driven port state old new f)
 
-  hosting : (wanted : List Wanted) (old new : Device) → IsSimulated IsOfHost AnyUse old new → IsSimulated (IsOfTakeOver wanted) AnyUse old new
+  hosting : (wanted : List Wanted) (old new : Device) → IsSimulated IsHostAccess AnyUse old new → IsSimulated (IsTakeOverAccess wanted) AnyUse old new
   hosting wanted old new f = (laws.fragments.wider Hosting (Taking wanted AnyUses) (λ uses. uses) (λ access may. inl may) (λ uses is. is) old new f).followed
 
   module _ (wanted : List Wanted) (start : Device) where
     -- no port was booted yet
-    pub begins : (ports : List ProbeResult) (d : Device) → length ports ≡ 4 → IsIdle start → IsRelated unused_slots start → IsOn d → LeavesPorts start d → IsSimulated IsOfHost AnyUse start d →
+    pub begins : (ports : List ProbeResult) (d : Device) → length ports ≡ 4 → IsIdle start → IsRelated unused_slots start → IsOn d → LeavesPorts start d → IsSimulated IsHostAccess AnyUse start d →
         IsUnderway wanted ports 0 start d
     begins ports d long idle agreed on leaves f = record {
       on = on;
-      same = same_over laws IsOfHost start d f.driven;
+      same = same_over laws IsHostAccess start d f.is_driven;
       long = long;
       uses = unused_slots;
       left = λ port slot. inl refl;
@@ -405,11 +404,11 @@ module _ (laws : Laws) where
       stands = λ port less. absurd (omega (arith, less));
       reset = λ port less. absurd (omega (arith, less));
       halts = λ port less. absurd (omega (arith, less));
-      idle = λ port more. idle_on (start.port port) (d.port port) (leaves port) (idle.port port);
+      idle = λ port more. idle_on (start.port port) (d.port port) (leaves port) (idle.ports_are_idle port);
     }
 
     -- all were
-    module _ (ports : List ProbeResult) (d new : Device) (u : IsUnderway wanted ports 4 start d) (leaves : LeavesPorts d new) (f : IsSimulated IsOfHost AnyUse d new) where
+    module _ (ports : List ProbeResult) (d new : Device) (u : IsUnderway wanted ports 4 start d) (leaves : LeavesPorts d new) (f : IsSimulated IsHostAccess AnyUse d new) where
       abbrev Silent : ℕ → Type 0
       Silent port = GainsNoMove port Identify d new
 
@@ -420,31 +419,31 @@ module _ (laws : Laws) where
             | inr (head, is, dead) ↦ alive dead
           ]) f u.agreed
 
-      all_told : IsSimulatedAlongTo (TellsFirst ports 4) (IsOfTakeOver wanted) (SameUses unused_slots) (λ _. u.uses) start new
+      all_told : IsSimulatedAlongChangingUses (TellsFirst ports 4) (IsTakeOverAccess wanted) (SameUses unused_slots) (λ _. u.uses) start new
       all_told = then_told wanted unused_slots (TellsFirst ports 4) (λ late. Unit {0}) (TellsFirst ports 4) (λ early late is any port less. tells_then laws (port_at port) (probe_result_of ports port) early late (is port less))
           AnyUses (λ uses. uses) u.uses start d new tt u.told (record { followed = hosting wanted d new f; tells = tt })
 
       pub ends : (host : Host) → host.ports ≡ ports → host.slots ≡ new.cap / 256 % 32 + 1 → host.queued ≡ bit new.cap 30 → IsOn new → new.ie ≡ true → SwitchesOnAndBoots ports start new → TakesOver wanted host start new
       ends host is slots queued on tells way = record {
-        on = on;
-        interrupts = tells;
-        same = laws.same_more start d new u.same (same_over laws IsOfHost d new f.driven);
+        adapter_is_on = on;
+        ie_is_set = tells;
+        adapter_is_kept = laws.same_more start d new u.same (same_over laws IsHostAccess d new f.is_driven);
         slots = slots;
         queued = queued;
-        stands = λ port less.
+        results_are_backed = λ port less.
             let P : List ProbeResult → Type 0 = λ ps. BacksProbeResult (wanted_of wanted port) (probe_result_of ps port) port new in
-            subst P (sym is) (stands_on laws.found port d new (leaves port) (same_over laws IsOfHost d new f.driven) (wanted_of wanted port) (probe_result_of ports port) (silent port) (u.stands port less));
-        reset = λ port less.
+            subst P (sym is) (stands_on laws.found port d new (leaves port) (same_over laws IsHostAccess d new f.is_driven) (wanted_of wanted port) (probe_result_of ports port) (silent port) (u.stands port less));
+        sctl_was_written = λ port less.
             let P : List ProbeResult → Type 0 = λ ps. WroteSctl (probe_result_of ps port) port (length start.tape) new in
             subst P (sym is) (reset_on port d new (leaves port) (probe_result_of ports port) (length start.tape) (u.reset port less));
-        halts = λ port less.
+        halt_is_of_taken = λ port less.
             let P : List ProbeResult → Type 0 = λ ps. ReadyHaltOfTaken (probe_result_of ps port) port new in
-            subst P (sym is) (still_halts IsOfHost AnyUse (λ uses. uses) u.uses port d new (host_spares (port_at port) Cmd) tt f u.agreed (wanted_of wanted port) (probe_result_of ports port)
-            (stands_on laws.found port d new (leaves port) (same_over laws IsOfHost d new f.driven) (wanted_of wanted port) (probe_result_of ports port) (silent port) (u.stands port less)) (u.halts port less));
-        way = let P : List ProbeResult → Type 0 = λ ps. SwitchesOnAndBoots ps start new in subst P (sym is) way;
+            subst P (sym is) (still_halts IsHostAccess AnyUse (λ uses. uses) u.uses port d new (host_spares (port_at port) Cmd) tt f u.agreed (wanted_of wanted port) (probe_result_of ports port)
+            (stands_on laws.found port d new (leaves port) (same_over laws IsHostAccess d new f.is_driven) (wanted_of wanted port) (probe_result_of ports port) (silent port) (u.stands port less)) (u.halts port less));
+        switches_on_and_boots = let P : List ProbeResult → Type 0 = λ ps. SwitchesOnAndBoots ps start new in subst P (sym is) way;
         uses = u.uses;
-        left = λ port slot. let P : List ProbeResult → Type 0 = λ ps. IsUnusedOrDead ps u.uses port slot in subst P (sym is) (u.left port slot);
+        slots_are_unused = λ port slot. let P : List ProbeResult → Type 0 = λ ps. IsUnusedOrDead ps u.uses port slot in subst P (sym is) (u.left port slot);
         followed = all_told.followed;
-        engines = let P : List ProbeResult → Type 0 = λ ps. TellsFirst ps 4 all_told.followed.driven.accesses in subst P (sym is) all_told.tells;
-        agreed = laws.fragments.agreed Hosting (λ uses. uses) u.uses d new tt f u.agreed;
+        engines_are_told = let P : List ProbeResult → Type 0 = λ ps. TellsFirst ps 4 all_told.followed.is_driven.accesses in subst P (sym is) all_told.tells;
+        machine_is_related = laws.fragments.agreed Hosting (λ uses. uses) u.uses d new tt f u.agreed;
       }

@@ -6,7 +6,7 @@ use Rattle.hba_regs.specs.declared.reg.Reg.TheVariants.{Ghc}
 use Rattle.adapter.specs.Access.{Writes}
 use Rattle.adapter.specs.Device.{Device}
 use Rattle.refinement.specs.Relation.{port_at}
-use Rattle.refinement.specs.Driven.{IsDrivenBy}
+use Rattle.refinement.specs.Fragments.{IsDrivenBy}
 use Rattle.host_boot.specs.TakeOver.{StopsAndBootsPort, FindsEachPort, SwitchesOnAndBoots, ReadsCapOrPi}
 use Rattle.host_boot.specs.declared.ProbeResult.{ProbeResult}
 

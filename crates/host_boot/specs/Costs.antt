@@ -5,20 +5,20 @@ use Rattle.port_boot.specs.Costs.{BOOT_ACCESSES}
 use Rattle.port_control.specs.Costs.{DETECT_ACCESSES, STOP_ACCESSES}
 
 -- a port is stopped, and booted
-abbrev pub FIRST_BOOT_ACCESSES : ℕ
-FIRST_BOOT_ACCESSES = STOP_ACCESSES + BOOT_ACCESSES
+abbrev pub STOP_AND_BOOT_ACCESSES : ℕ
+STOP_AND_BOOT_ACCESSES = STOP_ACCESSES + BOOT_ACCESSES
 
 -- GHC is written, CAP and PI are read, each port is stopped and booted, and GHC is written
 abbrev pub TAKE_OVER_ACCESSES : ℕ
-TAKE_OVER_ACCESSES = 4 + PORTS * FIRST_BOOT_ACCESSES
+TAKE_OVER_ACCESSES = 4 + PORTS * STOP_AND_BOOT_ACCESSES
 
 -- CAP is read, and the port is booted
-abbrev pub BOOT_AGAIN_ACCESSES : ℕ
-BOOT_AGAIN_ACCESSES = 1 + BOOT_ACCESSES
+abbrev pub REBOOT_ACCESSES : ℕ
+REBOOT_ACCESSES = 1 + BOOT_ACCESSES
 
 -- CAP is read, it is looked whether a device shows, and the port is booted
-abbrev pub BOOT_IF_THERE_ACCESSES : ℕ
-BOOT_IF_THERE_ACCESSES = 1 + DETECT_ACCESSES + BOOT_ACCESSES
+abbrev pub REBOOT_IF_PRESENT_ACCESSES : ℕ
+REBOOT_IF_PRESENT_ACCESSES = 1 + DETECT_ACCESSES + BOOT_ACCESSES
 
 -- GHC is written, and read until HR is 0
 abbrev pub RESET_ACCESSES : ℕ

@@ -5,15 +5,15 @@ use Rattle.ata_types.specs.declared.PortState.{PortState as ShownState}
 use Rattle.adapter.specs.Access.{Access, Does, DoesAll, Reads, Writes}
 use Rattle.refinement.specs.Laws.{FragmentLaws, TapeLaws}
 use Rattle.refinement.specs.Driver.{AllFree, DriverState, DriverRelation}
-use Rattle.refinement.specs.Driven.{AnyAccess, AnyUse, IsRelated, OnPortWriting, IsDrivenBy, SparesOtherPorts, SameUses, LeavesPort, GainsNoMove}
+use Rattle.refinement.specs.Fragments.{AnyAccess, AnyUse, IsRelated, IsPortAccessWriting, IsDrivenBy, SparesOtherPorts, SameUses, LeavesPort, GainsNoMove}
 use Rattle.hba_regs.specs.declared.reg.PortReg.TheVariants.{Cmd, Sctl, Ssts}
 use Rattle.ata_types.specs.declared.PortState.TheVariants.{Dead}
 use Rattle.adapter.specs.Device.{Device, DevicePort}
 use Rattle.identify.specs.declared.DiskInfo.{DiskInfo}
-use Rattle.port_boot.specs.States.{BacksState, BringsReady, HasFitDisk, IsBootTo, IsOfBoot, IsReady, RunsOn, HasDiskIfShown, StopsOnWay}
+use Rattle.port_boot.specs.States.{BacksState, BringsReady, HasFitDisk, IsBootTo, IsBootAccess, IsReady, StaysRunning, ShownDiskIsIn, StopsOnWay}
 use Rattle.adapter.specs.declared.tape.Entry.{Entry}
 use Rattle.port_control.specs.Engines.{FailsToStop, EngineFalls, EngineSticks, StopsBoth}
-use Rattle.refinement.specs.Slots.{Free, SlotState, SlotStates, put}
+use Rattle.refinement.specs.Slots.{Free, SlotState, SlotStates, set_slot_state}
 use Rattle.hba_regs.specs.declared.reg.Reg.TheVariants.{Ghc, Px}
 use Rattle.refinement.specs.Acts.{Act, AreActsDone, accesses_of}
 use Rattle.refinement.specs.Halting.{HaltOfTakenIfSt}
@@ -22,12 +22,12 @@ use Rattle.block_machine.specs.Histories.{IsReachable}
 use Rattle.block_machine.specs.State.{Machine}
 use Rattle.adapter.specs.declared.command.Operation.TheVariants.{Identify}
 use Rattle.adapter.specs.Idle.{IsIdle, TellsDisks}
-use Rattle.host_boot.specs.Again.{IsCapPiOrBootAccess}
-use Rattle.host_boot.specs.Resets.{IsOfReset}
-use Rattle.host_boot.specs.TakeOver.{IsOfHost, IsOfTakeOver, ReadsCapOrPi}
+use Rattle.host_boot.specs.Reboots.{IsCapPiOrBootAccess}
+use Rattle.host_boot.specs.Resets.{IsResetAccess}
+use Rattle.host_boot.specs.TakeOver.{IsHostAccess, IsTakeOverAccess, ReadsCapOrPi}
 use Rattle.adapter.specs.Rules.{IsOn}
 use Rattle.port_control.specs.Ports.{IsErrorRegister, IsPlacingRegister, IsCommandRegister}
-use Rattle.adapter.specs.Kept.{Keeps}
+use Rattle.adapter.specs.KeptBySteps.{Keeps}
 use Rattle.hba_regs.specs.declared.reg.PortReg.{PortReg}
 use Rattle.adapter.specs.Access.Access.{Writing}
 use Rattle.refinement.specs.PortFacts.{RunsWell, Undisturbed}
@@ -62,14 +62,14 @@ pub data AccessPurpose : Type 0 where
   Resetting : AccessPurpose
 
 abbrev pub accesses_for : AccessPurpose → Access → Type 0
-accesses_for (Commanding port) = OnPortWriting IsCommandRegister port
-accesses_for (Booting port) = IsOfBoot port
-accesses_for Hosting = IsOfHost
+accesses_for (Commanding port) = IsPortAccessWriting IsCommandRegister port
+accesses_for (Booting port) = IsBootAccess port
+accesses_for Hosting = IsHostAccess
 accesses_for Surveying = ReadsCapOrPi
-accesses_for (Clearing port) = OnPortWriting IsErrorRegister port
+accesses_for (Clearing port) = IsPortAccessWriting IsErrorRegister port
 accesses_for (Starting port) = IsCapPiOrBootAccess port
-accesses_for (Taking wanted fitting) = IsOfTakeOver wanted
-accesses_for Resetting = IsOfReset
+accesses_for (Taking wanted fitting) = IsTakeOverAccess wanted
+accesses_for Resetting = IsResetAccess
 
 abbrev pub slot_uses_for : AccessPurpose → SlotStates → Type 0
 slot_uses_for (Commanding port) = AnyUse
@@ -113,11 +113,11 @@ pub record Laws : Type 0 where
       → DoesNotWrite (Px port Sctl) access → Does access old new → ShowsDiskIfIn (old.port port.0)
       → ShowsDiskIfIn (new.port port.0)
   pub own_access : (port : ℕ) (access : Access) (old new : Device) → Does access old new
-      → HasDiskIfShown (old.port port)
-      → HasDiskIfShown (new.port port)
+      → ShownDiskIsIn (old.port port)
+      → ShownDiskIsIn (new.port port)
   pub own_all : (port : ℕ) (accesses : List Access) (old new : Device) → DoesAll accesses old new
-      → HasDiskIfShown (old.port port) → HasDiskIfShown (new.port port)
-  pub own_begins : (port : Port) (old new : Device) → BringsReady port old new → HasDiskIfShown (new.port port.0)
+      → ShownDiskIsIn (old.port port) → ShownDiskIsIn (new.port port)
+  pub own_begins : (port : Port) (old new : Device) → BringsReady port old new → ShownDiskIsIn (new.port port.0)
   pub shows_device : (port : Port) (v : ℕ) (old new : Device) → Reads (Px port Ssts) v old new → v % 16 ≡ 3
       → ShowsDiskIfIn (new.port port.0)
   -- fragments
@@ -138,15 +138,16 @@ pub record Laws : Type 0 where
   pub tape_any : (old new : Device) → IsDrivenBy AnyAccess old new → (gained : List Entry)
       × (new.tape ≡ old.tape ++ gained)
   pub idle_agrees : (d : Device) → IsIdle d → TellsDisks d → IsRelated (λ port slot. Free) d
-  pub put_same : (uses : SlotStates) (port slot : ℕ) (u : SlotState) → put uses port slot u port slot ≡ u
+  pub put_same : (uses : SlotStates) (port slot : ℕ) (u : SlotState) → set_slot_state uses port slot u port slot ≡ u
   pub put_other : (uses : SlotStates) (port slot : ℕ) (u : SlotState) (other_port other_slot : ℕ)
-      → (other_port ≡ port → other_slot ≡ slot → ⊥) → put uses port slot u other_port other_slot ≡ uses other_port
+      → (other_port ≡ port → other_slot ≡ slot → ⊥) → set_slot_state uses port slot u other_port other_slot
+      ≡ uses other_port
       other_slot
   -- a port
-  pub commanding : (port : Port) (access : Access) → OnPortWriting IsCommandRegister port access
+  pub commanding : (port : Port) (access : Access) → IsPortAccessWriting IsCommandRegister port access
       → SparesOtherPorts port access
       × DoesNotWrite (Px port Sctl) access
-  pub placing : (port : Port) (access : Access) → OnPortWriting IsPlacingRegister port access
+  pub placing : (port : Port) (access : Access) → IsPortAccessWriting IsPlacingRegister port access
       → SparesOtherPorts port access
       × DoesNotWrite (Px port Sctl) access
   pub failing_sticks : (port : Port) (accesses : List Access) → FailsToStop port accesses → EngineSticks port accesses
@@ -158,19 +159,19 @@ pub record Laws : Type 0 where
       → EngineSticks port (early ++ late)
   pub sticks_since : (early late : List Access) (port : Port) → EngineSticks port late
       → EngineSticks port (early ++ late)
-  pub of_boot : (port : Port) (access : Access) → IsOfBoot port access → SparesOtherPorts port access
+  pub of_boot : (port : Port) (access : Access) → IsBootAccess port access → SparesOtherPorts port access
   pub boots_driven : (port : Port) (state : ShownState) (old new : Device)
-      → IsBootTo (StopsOnWay port state) port state old new → IsDrivenBy (IsOfBoot port) old new
+      → IsBootTo (StopsOnWay port state) port state old new → IsDrivenBy (IsBootAccess port) old new
   pub stops_driven : (port : Port) (state : ShownState) (old new : Device)
-      → IsBootTo (StopsBoth port) port state old new → IsDrivenBy (IsOfBoot port) old new
-  pub command_of_boot : (port : Port) (access : Access) → OnPortWriting IsCommandRegister port access
-      → IsOfBoot port access
+      → IsBootTo (StopsBoth port) port state old new → IsDrivenBy (IsBootAccess port) old new
+  pub command_of_boot : (port : Port) (access : Access) → IsPortAccessWriting IsCommandRegister port access
+      → IsBootAccess port access
   pub runs_over : (port : Port) (access : Access) (old new : Device) → IsOn old → DoesNotWrite (Px port Sctl) access
-      → DoesNotWrite (Px port Cmd) access → Does access old new → RunsOn port.0 old new
+      → DoesNotWrite (Px port Cmd) access → Does access old new → StaysRunning port.0 old new
   pub runs_on : (port : Port) (accesses : List Access) (old new : Device) → IsOn old → DoesAll accesses old new
       → All (DoesNotWrite Ghc) accesses → All (DoesNotWrite (Px port Sctl)) accesses
-      → All (DoesNotWrite (Px port Cmd)) accesses → RunsOn port.0 old new
-  pub well_on : (port : ℕ) (old new : Device) → RunsOn port old new → Undisturbed port old new
+      → All (DoesNotWrite (Px port Cmd)) accesses → StaysRunning port.0 old new
+  pub well_on : (port : ℕ) (old new : Device) → StaysRunning port old new → Undisturbed port old new
       → RunsWell (old.port port) → RunsWell (new.port port)
   pub halts_acts : (port : Port) (acts : List Act) (k later : DriverState) (m : Machine) → IsReachable m
       → DriverRelation m k

@@ -1,5 +1,5 @@
 pub mod Laws
 pub mod TakeOver
-pub mod Again
+pub mod Reboots
 pub mod Resets
 pub mod Costs

@@ -6,7 +6,7 @@ use Rattle.adapter.specs.Access.{Access}
 use Rattle.adapter.specs.Access.Access.{Reading, Writing}
 use Rattle.adapter.specs.Device.{Device}
 use Rattle.adapter.specs.Idle.{IsIdle}
-use Rattle.refinement.specs.Driven.{AnyUse, IsSimulated}
+use Rattle.refinement.specs.Fragments.{AnyUse, IsSimulated}
 use Rattle.refinement.specs.Links.{SameAdapter}
 
 -- ---- accesses
@@ -17,44 +17,44 @@ ReadsGlobalControl (Reading Ghc v) = Unit {0}
 ReadsGlobalControl access = ⊥
 
 -- GHC is read, or written with AE and HR
-abbrev pub IsOfReset : Access → Type 0
-IsOfReset (Reading Ghc v) = Unit {0}
-IsOfReset (Writing Ghc v) = v ≡ 0x80000001
-IsOfReset access = ⊥
+abbrev pub IsResetAccess : Access → Type 0
+IsResetAccess (Reading Ghc v) = Unit {0}
+IsResetAccess (Writing Ghc v) = v ≡ 0x80000001
+IsResetAccess access = ⊥
 
 -- The adapter was reset first of all.
 pub record BeginsReset (accesses : List Access) : Type 0 where
   pub rest : List Access
-  pub here : accesses ≡ Writing Ghc 0x80000001 ∷ rest
+  pub accesses_are : accesses ≡ Writing Ghc 0x80000001 ∷ rest
 
 -- HR was set, and then GHC alone was read, at last with HR as it is here.
 pub record AwaitsHr (hr : Bool) (accesses : List Access) : Type 0 where
-  pub asked : List Access
-  pub shown : ℕ
-  pub here : accesses ≡ Writing Ghc 0x80000001 ∷ (asked ++ Reading Ghc shown ∷ [])
-  pub only : All ReadsGlobalControl asked
-  pub pending : bit shown 0 ≡ hr
+  pub polls : List Access
+  pub last_ghc : ℕ
+  pub accesses_are : accesses ≡ Writing Ghc 0x80000001 ∷ (polls ++ Reading Ghc last_ghc ∷ [])
+  pub only_reads_ghc : All ReadsGlobalControl polls
+  pub hr_is : bit last_ghc 0 ≡ hr
 
 -- It was reset, and then GHC alone was read, at last with HR still one.
-abbrev pub AwaitsReset : List Access → Type 0
-AwaitsReset accesses = AwaitsHr true accesses
+abbrev pub AwaitsResetInVain : List Access → Type 0
+AwaitsResetInVain accesses = AwaitsHr true accesses
 
 -- ---- the whole
 
 -- The adapter was reset: GHC was read 64 times at most, and HR was read 0 at last. It is idle: none of its slots has a
 -- command any more. A machine that agreed followed, by steps of the device alone.
 pub record Resets (old new : Device) : Type 0 where
-  pub followed : IsSimulated IsOfReset AnyUse old new
-  pub awaited : AwaitsHr false followed.driven.accesses
-  pub often : length followed.driven.accesses ≤ 65
+  pub followed : IsSimulated IsResetAccess AnyUse old new
+  pub awaited : AwaitsHr false followed.is_driven.accesses
+  pub count_is : length followed.is_driven.accesses ≤ 65
   pub idle : IsIdle new
-  pub same : SameAdapter old new
+  pub adapter_is_kept : SameAdapter old new
 
 -- The adapter didn't end its reset: GHC was read 64 times, at last with HR one, and it is one still. A machine that
 -- agreed followed.
 pub record ResetStaysPending (old new : Device) : Type 0 where
-  pub followed : IsSimulated IsOfReset AnyUse old new
-  pub awaited : AwaitsReset followed.driven.accesses
-  pub often : length followed.driven.accesses ≡ 65
-  pub pending : new.hr ≡ true
-  pub same : SameAdapter old new
+  pub followed : IsSimulated IsResetAccess AnyUse old new
+  pub awaited : AwaitsResetInVain followed.is_driven.accesses
+  pub count_is : length followed.is_driven.accesses ≡ 65
+  pub hr_is_set : new.hr ≡ true
+  pub adapter_is_kept : SameAdapter old new

@@ -14,7 +14,7 @@ use Rattle.adapter.specs.Idle.{IsIdlePort}
 use Rattle.adapter.specs.Rules.{IsOn}
 use Rattle.adapter.specs.declared.command.Operation.TheVariants.{Identify}
 use Rattle.refinement.specs.Relation.{port_at}
-use Rattle.refinement.specs.Driven.{RelatesWith, IsRelated, OnPortWriting, IsDrivenBy, IsSimulatedTo, SameUses, LeavesPort}
+use Rattle.refinement.specs.Fragments.{RelatesWith, IsRelated, IsPortAccessWriting, IsDrivenBy, IsSimulatedChangingUses, SameUses, LeavesPort}
 use Rattle.refinement.specs.Driver.{AllFree}
 use Rattle.refinement.specs.Halting.{HaltIsOfTaken}
 use Rattle.refinement.specs.Links.{SameAdapter}
@@ -25,7 +25,7 @@ use Rattle.identify.specs.declared.wanted.Wanted.{Wanted}
 use Rattle.identify.specs.declared.wanted.Wanted.TheVariants.{Nothing}
 use Rattle.port_control.specs.Engines.{StopsBoth, EngineSticks}
 use Rattle.port_control.specs.Ports.{IsCommandRegister}
-use Rattle.port_boot.specs.States.{BacksState, EndsBeforeStart, EndsAfterStart, BringsReady, HasFitDisk, IsBoot, IsBootTo, IsBeforeStart, IsAfterStart, IsOfBoot, IsReady, ShowsOnlyNewErrors}
+use Rattle.port_boot.specs.States.{BacksState, EndsBeforeStart, EndsAfterStart, BringsReady, HasFitDisk, IsBoot, IsBootTo, IsBeforeStart, IsAfterStart, IsBootAccess, IsReady, ShowsOnlyNewErrors}
 use Rattle.host_boot.specs.declared.ProbeResult.{ProbeResult}
 use Rattle.host_boot.specs.declared.ProbeResult.TheVariants.{Unserved, Ready, Unready}
 use Rattle.host_boot.specs.declared.Host.{Host}
@@ -96,11 +96,11 @@ Boots port (Unready state) old new = IsBootTo (StopsBoth port) port state old ne
 -- ---- accesses
 
 -- it reads CAP or PI, or writes GHC with AE alone, or with AE and IE
-abbrev pub IsOfHost : Access → Type 0
-IsOfHost (Reading Cap v) = Unit {0}
-IsOfHost (Reading Pi v) = Unit {0}
-IsOfHost (Writing Ghc v) = (v ≡ 0x80000000) ⊎ (v ≡ 0x80000002)
-IsOfHost access = ⊥
+abbrev pub IsHostAccess : Access → Type 0
+IsHostAccess (Reading Cap v) = Unit {0}
+IsHostAccess (Reading Pi v) = Unit {0}
+IsHostAccess (Writing Ghc v) = (v ≡ 0x80000000) ⊎ (v ≡ 0x80000002)
+IsHostAccess access = ⊥
 
 -- it reads CAP or PI
 abbrev pub ReadsCapOrPi : Access → Type 0
@@ -109,9 +109,9 @@ ReadsCapOrPi (Reading Pi v) = Unit {0}
 ReadsCapOrPi access = ⊥
 
 -- it is one of these, or one of the boot of a port in which a disk is wanted
-abbrev pub IsOfTakeOver : List Wanted → Access → Type 0
-IsOfTakeOver wanted access = IsOfHost access ⊎ ((port : Port) × (wanted_of wanted port.0 ≢ Nothing)
-    × IsOfBoot port access)
+abbrev pub IsTakeOverAccess : List Wanted → Access → Type 0
+IsTakeOverAccess wanted access = IsHostAccess access ⊎ ((port : Port) × (wanted_of wanted port.0 ≢ Nothing)
+    × IsBootAccess port access)
 
 -- every port is left to the device
 abbrev pub LeavesPorts : Device → Device → Type 0
@@ -122,7 +122,7 @@ LeavesPorts old new = (port : ℕ) → LeavesPort (old.port port) (new.port port
 -- By accesses of a boot of this port alone 64 readings in a row showed one of its engines that was cleared, and runs
 -- still.
 pub record SticksOnWay (port : Port) (old new : Device) : Type 0 where
-  pub driven : IsDrivenBy (IsOfBoot port) old new
+  pub driven : IsDrivenBy (IsBootAccess port) old new
   pub sticks : EngineSticks port driven.accesses
 
 -- The port was stopped, and then booted, by accesses of a boot of this port alone: it is ready, and each access of that
@@ -131,11 +131,11 @@ pub record SticksOnWay (port : Port) (old new : Device) : Type 0 where
 abbrev pub StopsAndBootsPort : Port → ProbeResult → Device → Device → Type 0
 StopsAndBootsPort port Unserved old new = new ≡ old
 StopsAndBootsPort port (Ready info) old new = (stopped : Device)
-    × IsDrivenBy (OnPortWriting IsCommandRegister port) old stopped
-    × IsDrivenBy (IsOfBoot port) stopped new × BringsReady port stopped new × ShowsOnlyNewErrors port.0 stopped new
+    × IsDrivenBy (IsPortAccessWriting IsCommandRegister port) old stopped
+    × IsDrivenBy (IsBootAccess port) stopped new × BringsReady port stopped new × ShowsOnlyNewErrors port.0 stopped new
 StopsAndBootsPort port (Unready state) old new = (stopped : Device)
-    × IsDrivenBy (OnPortWriting IsCommandRegister port) old stopped
-    × IsDrivenBy (IsOfBoot port) stopped new × (IsBeforeStart state → EndsBeforeStart port state stopped new)
+    × IsDrivenBy (IsPortAccessWriting IsCommandRegister port) old stopped
+    × IsDrivenBy (IsBootAccess port) stopped new × (IsBeforeStart state → EndsBeforeStart port state stopped new)
     × (IsAfterStart state → EndsAfterStart port stopped new) × (state ≡ Dead → SticksOnWay port old new)
 
 -- ---- one port
@@ -143,21 +143,21 @@ StopsAndBootsPort port (Unready state) old new = (stopped : Device)
 -- An idle port may be booted, if it is wanted and the adapter has it: the ports that it has are these, by bit; memory
 -- has the driver's areas; and no slot of the port is used.
 pub record MayBootIdle (port : Port) (implemented : ℕ) (d : Device) : Type 0 where
-  pub on : IsOn d
-  pub small : port.0 < 4
-  pub there : implemented ≡ d.pi
-  pub room : DRIVER_BYTES ≤ d.size
-  pub agreed : RelatesWith (λ uses. AllFree uses port.0) d
+  pub adapter_is_on : IsOn d
+  pub port_in_range : port.0 < 4
+  pub implemented_is_pi : implemented ≡ d.pi
+  pub driver_memory_fits : DRIVER_BYTES ≤ d.size
+  pub machine_is_related : RelatesWith (λ uses. AllFree uses port.0) d
   pub idle : IsIdlePort (d.port port.0)
 
 -- It was found to be this: what stands behind that; PxSCTL was written in it; what halts a ready one is of a command
 -- that is taken; what it is to a machine that agrees; and its way.
 pub record FindsPort (wanted : Wanted) (port : Port) (found : ProbeResult) (old new : Device) : Type 0 where
-  pub stands : BacksProbeResult wanted found port.0 new
-  pub reset : WroteSctl found port.0 (length old.tape) new
-  pub halts : ReadyHaltOfTaken found port.0 new
+  pub result_is_backed : BacksProbeResult wanted found port.0 new
+  pub sctl_was_written : WroteSctl found port.0 (length old.tape) new
+  pub halt_is_of_taken : ReadyHaltOfTaken found port.0 new
   pub boots : Boots port found old new
-  pub way : StopsAndBootsPort port found old new
+  pub stops_and_boots : StopsAndBootsPort port found old new
 
 -- ---- the whole way
 
@@ -193,19 +193,20 @@ IsUnusedOrDead ports uses port slot = (uses port slot ≡ Free)
 -- found, by a COMRESET of this very call; what halts a ready one is of a command that is taken; and the machine
 -- followed, by steps of the device alone, over accesses that tell of each port's engines.
 pub record TakesOver (wanted : List Wanted) (host : Host) (old new : Device) : Type 0 where
-  pub on : IsOn new
-  pub interrupts : new.ie ≡ true
-  pub same : SameAdapter old new
+  pub adapter_is_on : IsOn new
+  pub ie_is_set : new.ie ≡ true
+  pub adapter_is_kept : SameAdapter old new
   pub slots : host.slots ≡ new.cap / 256 % 32 + 1
   pub queued : host.queued ≡ bit new.cap 30
-  pub stands : (port : ℕ) → port < 4 → BacksProbeResult (wanted_of wanted port) (probe_result_of host.ports port) port
+  pub results_are_backed : (port : ℕ) → port < 4 → BacksProbeResult (wanted_of wanted port)
+      (probe_result_of host.ports port) port
       new
-  pub reset : (port : ℕ) → port < 4 → WroteSctl (probe_result_of host.ports port) port (length old.tape) new
-  pub halts : (port : ℕ) → port < 4 → ReadyHaltOfTaken (probe_result_of host.ports port) port new
-  pub way : SwitchesOnAndBoots host.ports old new
+  pub sctl_was_written : (port : ℕ) → port < 4 → WroteSctl (probe_result_of host.ports port) port (length old.tape) new
+  pub halt_is_of_taken : (port : ℕ) → port < 4 → ReadyHaltOfTaken (probe_result_of host.ports port) port new
+  pub switches_on_and_boots : SwitchesOnAndBoots host.ports old new
   pub uses : SlotStates
-  pub left : (port slot : ℕ) → IsUnusedOrDead host.ports uses port slot
-  pub followed : IsSimulatedTo (IsOfTakeOver wanted) (SameUses unused_slots) (λ _. uses) old new
-  pub engines : (port : ℕ) → port < 4
-      → TellsEngines (port_at port) (probe_result_of host.ports port) followed.driven.accesses
-  pub agreed : IsRelated uses new
+  pub slots_are_unused : (port slot : ℕ) → IsUnusedOrDead host.ports uses port slot
+  pub followed : IsSimulatedChangingUses (IsTakeOverAccess wanted) (SameUses unused_slots) (λ _. uses) old new
+  pub engines_are_told : (port : ℕ) → port < 4
+      → TellsEngines (port_at port) (probe_result_of host.ports port) followed.is_driven.accesses
+  pub machine_is_related : IsRelated uses new

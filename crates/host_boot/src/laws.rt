@@ -9,19 +9,19 @@ ghost use Rattle.adapter.specs.Idle.{IsIdle};
 ghost use Rattle.adapter.specs.Rules.{IsOn, HasPort};
 ghost use Rattle.adapter.specs.Steps.{Steps};
 ghost use Rattle.adapter.specs.declared.command.Operation.TheVariants.{Identify};
-ghost use Rattle.refinement.specs.Driven.{IsDrivenBy, SparesOtherPorts, GainsNoMove};
+ghost use Rattle.refinement.specs.Fragments.{IsDrivenBy, SparesOtherPorts, GainsNoMove};
 ghost use Rattle.refinement.specs.PortFacts.{FaultsOnRecord, RunsWell, Undisturbed};
 ghost use Rattle.refinement.specs.Links.{ShowsDiskIfIn, SameAdapter};
-ghost use Rattle.refinement.specs.Places.{list_of};
+ghost use Rattle.refinement.specs.MemoryLayout.{list_of};
 ghost use Rattle.identify.specs.declared.DiskInfo.{DiskInfo};
 ghost use Rattle.identify.specs.declared.wanted.Wanted.{Wanted};
-ghost use Rattle.host_boot.specs.Again.{RebootsPort, RebootsIfPresent, IsCapPiOrBootAccess};
+ghost use Rattle.host_boot.specs.Reboots.{RebootsPort, RebootsIfPresent, IsCapPiOrBootAccess};
 ghost use Rattle.host_boot.specs.TakeOver.{FoundBadDisk, IsServed, LeavesFoundPort, LeavesPorts, BacksProbeResult, StillBacksProbeResult, TakesOver, probe_result_of};
 ghost use Rattle.host_boot.specs.declared.Booted.{Booted};
 ghost use Rattle.host_boot.specs.declared.ProbeResult.{ProbeResult};
 ghost use Rattle.host_boot.specs.declared.ProbeResult.TheVariants.{Unserved, Ready, Unready};
 ghost use Rattle.host_boot.specs.declared.Host.{Host};
-ghost use Rattle.port_boot.specs.States.{HasDiskIfShown};
+ghost use Rattle.port_boot.specs.States.{ShownDiskIsIn};
 
 use super::prerequisites::law_prerequisites;
 
@@ -58,7 +58,8 @@ pub fn law_what_was_taken_over_may_be_served()
     ensures ready { (wanted : List Wanted) (host : Host) (port : ℕ) (info : DiskInfo) (old new : Device)
         → TakesOver wanted host old new → port < 4 → probe_result_of host.ports port ≡ Ready info
         → ((new.port port).st ≡ true) × ((new.port port).bases.clb ≡ list_of port) × HasPort new port }
-    ensures well { (wanted : List Wanted) (host : Host) (port : ℕ) (info : DiskInfo) (old new : Device) → IsIdle old
+    ensures healthy_port_runs_well { (wanted : List Wanted) (host : Host) (port : ℕ) (info : DiskInfo)
+        (old new : Device) → IsIdle old
         → TakesOver wanted host old new → probe_result_of host.ports port ≡ Ready info → Undisturbed port old new
         → RunsWell (new.port port) }
     ensures recorded { (wanted : List Wanted) (host : Host) (port : ℕ) (info : DiskInfo) (old new : Device) → IsIdle old
@@ -67,9 +68,10 @@ pub fn law_what_was_taken_over_may_be_served()
     ensures shown { (wanted : List Wanted) (host : Host) (port : ℕ) (state : PortState) (old new : Device) → IsIdle old
         → TakesOver wanted host old new → FoundBadDisk state → probe_result_of host.ports port ≡ Unready state
         → ShowsDiskIfIn (new.port port) }
-    ensures own { (wanted : List Wanted) (host : Host) (port : ℕ) (info : DiskInfo) (old new : Device) → IsIdle old
+    ensures disk_is_in_if_shown { (wanted : List Wanted) (host : Host) (port : ℕ) (info : DiskInfo) (old new : Device)
+        → IsIdle old
         → TakesOver wanted host old new → probe_result_of host.ports port ≡ Ready info
-        → HasDiskIfShown (new.port port) }
+        → ShownDiskIsIn (new.port port) }
 {
     law_prerequisites();
 }

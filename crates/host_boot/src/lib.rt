@@ -13,14 +13,14 @@ ghost use Rattle.hba_regs.specs.declared.reg.Reg.TheVariants.{Ghc};
 ghost use Rattle.adapter.specs.Access.{Writes};
 ghost use Rattle.adapter.specs.Idle.{IsIdle};
 ghost use Rattle.adapter.specs.Rules.{IsOn};
-ghost use Rattle.refinement.specs.Driven.{AnyUse, IsDrivenBy, IsSimulated};
+ghost use Rattle.refinement.specs.Fragments.{AnyUse, IsDrivenBy, IsSimulated};
 ghost use Rattle.port_boot.specs.States.{IsBootable};
 ghost use Rattle.port_control.specs.Ports.{IsStopped};
-ghost use Rattle.host_boot.specs.Again.{RebootsPort, RebootsIfPresent, BootsStopped};
-ghost use Rattle.host_boot.specs.TakeOver.{FindsPort, IsOfHost, ReadsCapOrPi, MayBootIdle, LeavesPorts, TakesOver};
-ghost use Rattle.adapter.specs.Counted.{MakesAtMost};
+ghost use Rattle.host_boot.specs.Reboots.{RebootsPort, RebootsIfPresent, BootsStopped};
+ghost use Rattle.host_boot.specs.TakeOver.{FindsPort, IsHostAccess, ReadsCapOrPi, MayBootIdle, LeavesPorts, TakesOver};
+ghost use Rattle.adapter.specs.AccessBounds.{MakesAtMost};
 ghost use Rattle.port_boot.specs.Costs.{BOOT_ACCESSES};
-ghost use Rattle.host_boot.specs.Costs.{BOOT_AGAIN_ACCESSES, BOOT_IF_THERE_ACCESSES, FIRST_BOOT_ACCESSES, TAKE_OVER_ACCESSES};
+ghost use Rattle.host_boot.specs.Costs.{REBOOT_ACCESSES, REBOOT_IF_PRESENT_ACCESSES, STOP_AND_BOOT_ACCESSES, TAKE_OVER_ACCESSES};
 
 use adapter::Adapter;
 use ata_types::{DRIVER_BYTES, MOST_READINGS, PORTS, Port, PortState};
@@ -30,11 +30,11 @@ use port_boot::boot;
 use port_control::{Stopped, clear_serr_and_detect, stop};
 use prerequisites::law_prerequisites;
 
+mod hba_reset;
 pub mod laws;
 mod prerequisites;
-mod resetting;
 
-pub use resetting::reset;
+pub use hba_reset::reset;
 
 /// What a port was found to be.
 #[derive(Clone, Copy, PartialEq, Eq, Debug)]
@@ -75,7 +75,7 @@ fn power_on<A: Adapter>(adapter: &mut A)
     ensures on { IsOn (A.device adapter.new) }
     ensures switches { Writes Ghc 0x80000000 (A.device adapter.old) (A.device adapter.new) }
     ensures leaves { LeavesPorts (A.device adapter.old) (A.device adapter.new) }
-    ensures followed { IsSimulated IsOfHost AnyUse (A.device adapter.old) (A.device adapter.new) }
+    ensures followed { IsSimulated IsHostAccess AnyUse (A.device adapter.old) (A.device adapter.new) }
     ensures cost { MakesAtMost 1 (A.access_count adapter.old) (A.access_count adapter.new) }
 {
     law_prerequisites();
@@ -87,7 +87,7 @@ fn survey<A: Adapter>(adapter: &mut A) -> (Capabilities, u32)
     requires on { IsOn (A.device adapter.old) }
     ensures on { IsOn (A.device adapter.new) }
     ensures leaves { LeavesPorts (A.device adapter.old) (A.device adapter.new) }
-    ensures followed { IsSimulated IsOfHost AnyUse (A.device adapter.old) (A.device adapter.new) }
+    ensures followed { IsSimulated IsHostAccess AnyUse (A.device adapter.old) (A.device adapter.new) }
     ensures surveys { IsDrivenBy ReadsCapOrPi (A.device adapter.old) (A.device adapter.new) }
     ensures told { (result.0.0 ≡ (A.device adapter.new).cap) × (result.1 ≡ (A.device adapter.new).pi) }
     ensures cost { MakesAtMost 2 (A.access_count adapter.old) (A.access_count adapter.new) }
@@ -122,7 +122,7 @@ fn boot_port<A: Adapter>(
     requires may { MayBootIdle port implemented (A.device adapter.old) }
     ensures on { IsOn (A.device adapter.new) }
     ensures finds { FindsPort wanted.now port result (A.device adapter.old) (A.device adapter.new) }
-    ensures cost { MakesAtMost FIRST_BOOT_ACCESSES (A.access_count adapter.old) (A.access_count adapter.new) }
+    ensures cost { MakesAtMost STOP_AND_BOOT_ACCESSES (A.access_count adapter.old) (A.access_count adapter.new) }
 {
     law_prerequisites();
     if *wanted == Wanted::Nothing || !is_set(implemented, u32::from(port.0)) {
@@ -141,7 +141,7 @@ fn enable_interrupts<A: Adapter>(adapter: &mut A)
     ensures tells { (A.device adapter.new).ie ≡ true }
     ensures enables { Writes Ghc 0x80000002 (A.device adapter.old) (A.device adapter.new) }
     ensures leaves { LeavesPorts (A.device adapter.old) (A.device adapter.new) }
-    ensures followed { IsSimulated IsOfHost AnyUse (A.device adapter.old) (A.device adapter.new) }
+    ensures followed { IsSimulated IsHostAccess AnyUse (A.device adapter.old) (A.device adapter.new) }
     ensures cost { MakesAtMost 1 (A.access_count adapter.old) (A.access_count adapter.new) }
 {
     law_prerequisites();
@@ -193,7 +193,7 @@ pub fn reboot_port<A: Adapter>(adapter: &mut A, stopped: Stopped, wanted: &Wante
     requires stopped { IsStopped ((A.device adapter.old).port stopped.port.0) }
     ensures on { IsOn (A.device adapter.new) }
     ensures boots { RebootsPort wanted.now stopped.port result (A.device adapter.old) (A.device adapter.new) }
-    ensures cost { MakesAtMost BOOT_AGAIN_ACCESSES (A.access_count adapter.old) (A.access_count adapter.new) }
+    ensures cost { MakesAtMost REBOOT_ACCESSES (A.access_count adapter.old) (A.access_count adapter.new) }
 {
     law_prerequisites();
     let capabilities = Capabilities(adapter.read(Reg::Cap));
@@ -210,7 +210,7 @@ pub fn reboot_if_present<A: Adapter>(adapter: &mut A, stopped: Stopped, wanted: 
     requires saw { ((A.device adapter.old).port stopped.port.0).notes.link_count ≡ MOST_READINGS }
     ensures on { IsOn (A.device adapter.new) }
     ensures boots { RebootsIfPresent wanted.now stopped.port result (A.device adapter.old) (A.device adapter.new) }
-    ensures cost { MakesAtMost BOOT_IF_THERE_ACCESSES (A.access_count adapter.old) (A.access_count adapter.new) }
+    ensures cost { MakesAtMost REBOOT_IF_PRESENT_ACCESSES (A.access_count adapter.old) (A.access_count adapter.new) }
 {
     law_prerequisites();
     let capabilities = Capabilities(adapter.read(Reg::Cap));

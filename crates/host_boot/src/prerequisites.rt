@@ -7,11 +7,11 @@ use port_boot::laws::{
     law_boots_are_driven, law_what_was_found_goes_on,
 };
 use port_control::laws::{law_calls_are_of_one_port, law_what_is_told_of_engines_stays};
+use refinement::access_kinds::law_fragment_prerequisites;
 use refinement::disks::{law_no_disk_comes_in, law_reset_is_idle};
 use refinement::fragments::{
     law_agreeing_goes_on, law_other_ports_are_left, law_tape_prerequisites,
 };
-use refinement::kinds::law_fragment_prerequisites;
 use refinement::laws::law_putting_is_of_one_slot;
 use refinement::port_facts::{
     law_adapter_stays, law_disk_in_stays_shown, law_reset_is_found, law_writing_ghc_switches_on,

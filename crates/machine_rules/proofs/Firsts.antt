@@ -11,8 +11,8 @@ use Rattle.ata_types.specs.declared.refusal.Rule.{Rule}
 use Rattle.ata_types.specs.declared.refusal.Rule.TheVariants.{NoGrant, NoRight, BadCount, OutsideGrant, FrameCount, Frames}
 use Rattle.ata_types.specs.declared.refusal.Refusal.{Refusal}
 use Rattle.ata_types.specs.declared.refusal.Refusal.TheVariants as refused
-use Rattle.block_machine.specs.Rules.{DifferInName, RanksBefore, IsFirstBroken, rank}
-use Rattle.block_machine.specs.Refusals.{Situation, Applies, IsFirstRefusal}
+use Rattle.block_machine.specs.Rules.{DifferInName, RanksBefore, IsFirstBroken, refusal_rank}
+use Rattle.block_machine.specs.Refusals.{AdmissionContext, RefusalApplies, IsFirstRefusal}
 use Rattle.block_machine.proofs.RuleLemmas.{one_row, late, same_rule, number}
 
 pub early : (rule : Rule) → number rule < 9
@@ -23,8 +23,8 @@ early OutsideGrant = omega arith
 early FrameCount = omega arith
 early (Frames fault) = (late fault).1
 
-same_refusal : (s : Situation) (r : Request) → AllPairs DifferInName s.rows → (a b : Refusal) → Applies s r a → Applies s r b
-    → (rank a).0 ≡ (rank b).0 → (rank a).1 ≡ (rank b).1 → a ≡ b
+same_refusal : (s : AdmissionContext) (r : Request) → AllPairs DifferInName s.rows → (a b : Refusal) → RefusalApplies s r a → RefusalApplies s r b
+    → (refusal_rank a).0 ≡ (refusal_rank b).0 → (refusal_rank a).1 ≡ (refusal_rank b).1 → a ≡ b
 same_refusal s r differ (refused.Rule a) (refused.Rule b) x y n p = ap refused.Rule (same_rule a b n p)
 same_refusal s r differ (refused.PortNotReady a) (refused.PortNotReady b) x y n p =
     ap refused.PortNotReady (sym x.1.2 ∙ ap (λ (row : GrantRow). s.state row.port)
@@ -51,12 +51,12 @@ same_rank a b below above = elim (cases_order a.0 b.0) [
 pub first_broken_is_one : (rows : List GrantRow) (owner : Frame → Option ClientId) (lent : Frame → Option RequestId) (r : Request) (one other : Rule)
     → IsFirstBroken rows owner lent r one → IsFirstBroken rows owner lent r other → one ≡ other
 first_broken_is_one rows owner lent r one other a b =
-    let n = same_rank (rank (refused.Rule one)) (rank (refused.Rule other)) (λ p. b.1 one p a.0) (λ p. a.1 other p b.0) in
+    let n = same_rank (refusal_rank (refused.Rule one)) (refusal_rank (refused.Rule other)) (λ p. b.1 one p a.0) (λ p. a.1 other p b.0) in
     same_rule one other n.0 n.1
 
 -- the first refusal is one
-pub law_first_refusal_is_one : (s : Situation) (r : Request) (one other : Refusal) → AllPairs DifferInName s.rows
+pub law_first_refusal_is_one : (s : AdmissionContext) (r : Request) (one other : Refusal) → AllPairs DifferInName s.rows
     → IsFirstRefusal s r one → IsFirstRefusal s r other → one ≡ other
 law_first_refusal_is_one s r one other differ a b =
-    let n = same_rank (rank one) (rank other) (λ p. b.1 one p a.0) (λ p. a.1 other p b.0) in
+    let n = same_rank (refusal_rank one) (refusal_rank other) (λ p. b.1 one p a.0) (λ p. a.1 other p b.0) in
     same_refusal s r differ one other a.0 b.0 n.0 n.1

@@ -8,13 +8,13 @@ use Rattle.ata_types.specs.declared.refusal.Rule.{Rule}
 use Rattle.ata_types.specs.declared.refusal.Rule.TheVariants.{NoGrant}
 use Rattle.ata_types.specs.declared.refusal.Refusal.{Refusal}
 use Rattle.ata_types.specs.declared.refusal.Refusal.TheVariants as refused
-use Rattle.block_machine.specs.Rules.{Breaks, IsFirstBroken, BreaksNone, rank}
-use Rattle.block_machine.specs.Refusals.{Situation, IsAcceptable, IsFirstRefusal}
-use Rattle.machine_rules.specs.Reference.{SomeRowTriggersCause}
+use Rattle.block_machine.specs.Rules.{Breaks, IsFirstBroken, BreaksNone, refusal_rank}
+use Rattle.block_machine.specs.Refusals.{AdmissionContext, IsAcceptable, IsFirstRefusal}
+use Rattle.machine_rules.specs.ReferenceSituations.{SomeRowTriggersCause}
 use Rattle.machine_rules.proofs.Firsts.{early}
 
 -- that no row is named is tested on the rows
-pub no_grant_test : (b : Bool) (s : Situation) (r : Request) (rule : Rule) → rule ≡ NoGrant → (IsTrue b ↔ SomeRowTriggersCause s r (refused.Rule rule))
+pub no_grant_test : (b : Bool) (s : AdmissionContext) (r : Request) (rule : Rule) → rule ≡ NoGrant → (IsTrue b ↔ SomeRowTriggersCause s r (refused.Rule rule))
     → IsTrue (not b) ↔ Breaks s.rows s.owner s.lent r rule
 no_grant_test b s r rule is test = subst (λ (x : Rule). IsTrue (not b) ↔ Breaks s.rows s.owner s.lent r x) (sym is) (go b (subst (λ (x : Rule). IsTrue b ↔ SomeRowTriggersCause s r (refused.Rule x)) is test))
   where
@@ -23,18 +23,18 @@ no_grant_test b s r rule is test = subst (λ (x : Rule). IsTrue (not b) ↔ Brea
     go false t = ((λ _ row named. false≢true (t.1 (row, named, tt))), λ _. refl)
 
 -- a rule that is the first cause is the first rule
-first_rule : (s : Situation) (r : Request) (rule : Rule) → IsFirstRefusal s r (refused.Rule rule) → IsFirstBroken s.rows s.owner s.lent r rule
+first_rule : (s : AdmissionContext) (r : Request) (rule : Rule) → IsFirstRefusal s r (refused.Rule rule) → IsFirstBroken s.rows s.owner s.lent r rule
 first_rule s r rule h = (h.0, λ other before broken. h.1 (refused.Rule other) before broken)
 
 -- where the first cause is no rule, or there is none, no rule is broken
-no_rule : (s : Situation) (r : Request) (cause : Refusal) → 8 < (rank cause).0 → IsFirstRefusal s r cause → BreaksNone s.rows s.owner s.lent r
+no_rule : (s : AdmissionContext) (r : Request) (cause : Refusal) → 8 < (refusal_rank cause).0 → IsFirstRefusal s r cause → BreaksNone s.rows s.owner s.lent r
 no_rule s r cause late h rule broken = let e = early rule in h.1 (refused.Rule rule) (inl (omega (arith, late, e))) broken
 
-pub acceptable_no_rule : (s : Situation) (r : Request) → IsAcceptable s r → BreaksNone s.rows s.owner s.lent r
+pub acceptable_no_rule : (s : AdmissionContext) (r : Request) → IsAcceptable s r → BreaksNone s.rows s.owner s.lent r
 acceptable_no_rule s r h rule broken = h (refused.Rule rule) broken
 
 -- what the first cause says of the rules
-pub rule_told : (s : Situation) (r : Request) (cause : Refusal) → IsFirstRefusal s r cause → (found : Option Rule) → IfSome found (λ rule. cause ≡ refused.Rule rule) → IfNone found (8 < (rank cause).0)
+pub rule_told : (s : AdmissionContext) (r : Request) (cause : Refusal) → IsFirstRefusal s r cause → (found : Option Rule) → IfSome found (λ rule. cause ≡ refused.Rule rule) → IfNone found (8 < (refusal_rank cause).0)
     → IfSome found (IsFirstBroken s.rows s.owner s.lent r) × IfNone found (BreaksNone s.rows s.owner s.lent r)
 rule_told s r cause first (Some rule) is late = (first_rule s r rule (subst (IsFirstRefusal s r) is first), tt)
 rule_told s r cause first None is late = (tt, no_rule s r cause late first)

@@ -1,2 +1,2 @@
-pub mod Reference
+pub mod ReferenceSituations
 pub mod ReferenceHistories

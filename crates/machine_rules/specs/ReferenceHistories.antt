@@ -4,7 +4,7 @@ use Rattle.ata_types.specs.declared.Port.{Port}
 use Rattle.machine_rules.specs.declared.history.HistoryRequest.{HistoryRequest}
 use Rattle.machine_rules.specs.declared.history.DiskEvent.{DiskEvent}
 use Rattle.machine_rules.specs.declared.history.DiskEvent.TheVariants.{Touched, Plugged}
-use Rattle.block_machine.specs.Due.{changes_sectors}
+use Rattle.block_machine.specs.DueRequests.{changes_sectors}
 use Rattle.block_machine.specs.State.{Accepted, Machine}
 use Rattle.block_machine.specs.Steps.{Step, Touch, Replace, newly_accepted}
 use Rattle.block_machine.specs.Expected.{IsTouch, Wrote}
@@ -26,7 +26,7 @@ accepted_of r = record {
     count = r.range.count;
     frames = record { items = [] };
   };
-  held = λ i b. fill_byte r.fill i;
+  held_blocks = λ i b. fill_byte r.fill i;
 }
 
 -- a happening as a step
@@ -45,22 +45,22 @@ start_filled fill = record {
   disk_ids = λ p. 0;
   sizes = λ p. 0;
   disks = λ p k b. fill_byte fill k;
-  aside = λ p k. [];
+  blocks_since_flush = λ p k. [];
   book = [];
   kept = [];
   lent = λ f. None;
   memory = λ f b. 0;
   rows = [];
   owner = λ f. None;
-  next = 1;
+  next_id = 1;
 }
 
 -- the step is a touch of sector k by this write or trim, of the read's port and accepted before it
 pub record IsTouchOfWriter (read : HistoryRequest) (k : ℕ) (step : Step) (w : HistoryRequest) : Type 0 where
   pub writes : changes_sectors w.op ≡ true
-  pub here : w.port ≡ read.port
-  pub earlier : w.id.0 < read.id.0
-  pub touched : IsTouch step (accepted_of w) k
+  pub port_is : w.port ≡ read.port
+  pub is_earlier : w.id.0 < read.id.0
+  pub is_touch : IsTouch step (accepted_of w) k
 
 -- the one accepted later, if there are two
 abbrev pub IsLaterOf : Option HistoryRequest → HistoryRequest → HistoryRequest → Type 0
@@ -70,6 +70,7 @@ IsLaterOf (Some old) new found = (new.id.0 ≤ found.id.0) × (old.id.0 ≤ foun
 -- the last in order of acceptance of those that wrote the sector, or none did
 pub record IsLastWriter (port : Port) (k n before : ℕ) (history : List Step)
     (found : Option HistoryRequest) : Type 0 where
-  pub wrote : IfSome found (λ w. Wrote port k n before history (accepted_of w))
-  pub last : IfSome found (λ w. (other : Accepted) → Wrote port k n before history other → other.id.0 ≤ w.id.0)
-  pub none : IfNone found ((other : Accepted) → Wrote port k n before history other → ⊥)
+  pub has_written : IfSome found (λ w. Wrote port k n before history (accepted_of w))
+  pub no_later_writer : IfSome found (λ w. (other : Accepted) → Wrote port k n before history other
+      → other.id.0 ≤ w.id.0)
+  pub none_has_written : IfNone found ((other : Accepted) → Wrote port k n before history other → ⊥)

@@ -1,7 +1,7 @@
 // Which requests are due, as a plain and slow program: each function is its definition in specs/Due.antt.
 ghost use Rattle.std.specs.Prelude.{◌≡◌, ◌≤◌, length, filter};
 ghost use Rattle.std.specs.List.{list_any};
-ghost use Rattle.block_machine.specs.Due as due;
+ghost use Rattle.block_machine.specs.DueRequests as due;
 
 use arrayvec::ArrayVec;
 use ata_types::Port;
@@ -28,7 +28,7 @@ pub fn is_unblocked(mode: QueueMode, book: &[Unanswered], r: &Unanswered) -> boo
 
 /// How many earlier requests of its port are clear to go.
 pub fn ahead(mode: QueueMode, book: &[Unanswered], r: &Unanswered) -> usize
-    ensures { result ≡ due.ahead mode book.now r.now }
+    ensures { result ≡ due.unblocked_ahead_count mode book.now r.now }
 {
     let mut count = 0;
     for other in book {

@@ -47,7 +47,7 @@ fn plug_count(port: Port, history: &[DiskEvent]) -> usize
 
 /// Whether this is a touch of the sector by the request.
 fn touches(read: &HistoryRequest, sector: u64, happened: &DiskEvent) -> bool
-    ensures { result ≡ expected_byte.touches read.now.id sector (step_of happened.now) }
+    ensures { result ≡ expected_byte.touches_sector read.now.id sector (step_of happened.now) }
 {
     match happened {
         DiskEvent::Touched(request, number) => {
@@ -152,7 +152,7 @@ fn last_writer(
 /// What a write or trim puts on the sector: its own byte, or zeros.
 fn written(writer: HistoryRequest, sector: u64) -> u8
     ensures { (b : ℕ)
-        → block_written writer.op (accepted_of writer).held (sector - writer.range.first.0) b ≡ result }
+        → block_written writer.op (accepted_of writer).held_blocks (sector - writer.range.first.0) b ≡ result }
 {
     match writer.op {
         Op::Write => fill_byte(writer.fill, sector.saturating_sub(writer.range.first.0)),

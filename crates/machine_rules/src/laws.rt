@@ -12,8 +12,8 @@ ghost use Rattle.ata_types.specs.declared.grant.GrantRow.{GrantRow};
 ghost use Rattle.ata_types.specs.declared.range.Range.{Range};
 ghost use Rattle.ata_types.specs.Range.{Overlaps};
 ghost use Rattle.block_machine.specs.Rules.{DifferInName, IsFirstBroken};
-ghost use Rattle.block_machine.specs.Refusals.{Situation, IsFirstRefusal};
-ghost use Rattle.block_machine.specs.Due.{overlap};
+ghost use Rattle.block_machine.specs.Refusals.{AdmissionContext, IsFirstRefusal};
+ghost use Rattle.block_machine.specs.DueRequests.{are_overlapping};
 
 /// One rule is the first that a request breaks.
 pub fn law_first_broken_rule_is_one()
@@ -25,11 +25,11 @@ pub fn law_first_broken_rule_is_one()
 
 /// One cause is the first that applies to a request.
 pub fn law_first_refusal_is_one()
-    ensures { (s : Situation) (r : Request) (one other : Refusal) → AllPairs DifferInName s.rows
+    ensures { (s : AdmissionContext) (r : Request) (one other : Refusal) → AllPairs DifferInName s.rows
         → IsFirstRefusal s r one → IsFirstRefusal s r other → one ≡ other }
 {}
 
 /// Two ranges overlap, by the test, where a sector is in both.
 pub fn law_overlap_is_tested()
-    ensures { (a b : Range) → IsTrue (overlap a b) ↔ Overlaps a b }
+    ensures { (a b : Range) → IsTrue (are_overlapping a b) ↔ Overlaps a b }
 {}

@@ -2,16 +2,16 @@
 // then the first that applies.
 ghost use Rattle.std.specs.Prelude.{false, ◌≡◌, ◌⊎◌, ◌<◌, ◌≤◌, ◌↔◌, IsTrue, IfSome, IfNone, slice_get, count_by, ◌==◌};
 ghost use Rattle.ata_types.specs.SectorGrants.{AllowsOp, CoversSectors};
-ghost use Rattle.block_machine.specs.Rules.{IsNamed, Names, Breaks, HasFault, BreaksNone, IsFirstBroken, rank};
-ghost use Rattle.block_machine.specs.Refusals.{Applies, IsAcceptable, IsFirstRefusal, MemFaultApplies, MayAccessFrame, IsFirstMemFault};
-ghost use Rattle.machine_rules.specs.Reference.{frame_or_none, port_or_absent, situation_in, RowTriggersCause, SomeRowTriggersCause, IsFirstOfNumber};
+ghost use Rattle.block_machine.specs.Rules.{IsNamed, HasGrantName, Breaks, HasFault, BreaksNone, IsFirstBroken, refusal_rank};
+ghost use Rattle.block_machine.specs.Refusals.{RefusalApplies, IsAcceptable, IsFirstRefusal, MemFaultApplies, MayAccessFrame, IsFirstMemFault};
+ghost use Rattle.machine_rules.specs.ReferenceSituations.{frame_or_none, port_or_absent, situation_in, RowTriggersCause, SomeRowTriggersCause, IsFirstOfNumber};
 
 use arrayvec::ArrayVec;
 use ata_types::{
     ClientId, FRAME_BYTES, Frame, FrameFault, GrantRow, MemFault, Op, Port, PortState, Refusal,
     Request, RequestId, Rule,
 };
-use block_machine::{frame_count, is_count};
+use block_machine::{frame_count, is_allowed_count};
 
 /// What a port shows of itself.
 #[derive(Clone, Copy, Debug, PartialEq, Eq)]
@@ -56,7 +56,7 @@ pub struct ReferenceSituation {
 fn fault_at(number: u8, place: usize) -> FrameFault
     requires low { 6 ≤ number }
     requires high { number ≤ 8 }
-    ensures { rank (Refusal.Rule (Rule.Frames result)) ≡ (number, place) }
+    ensures { refusal_rank (Refusal.Rule (Rule.Frames result)) ≡ (number, place) }
 {
     match number {
         6 => FrameFault::FrameForeign(place),
@@ -68,7 +68,7 @@ fn fault_at(number: u8, place: usize) -> FrameFault
 /// The rule, if the cause is one.
 fn rule_of(cause: Refusal) -> Option<Rule>
     ensures some { IfSome result (λ rule. cause ≡ Refusal.Rule rule) }
-    ensures none { IfNone result (8 < (rank cause).0) }
+    ensures none { IfNone result (8 < (refusal_rank cause).0) }
 {
     match cause {
         Refusal::Rule(rule) => Some(rule),
@@ -183,7 +183,7 @@ impl ReferenceSituation {
         match rule {
             Rule::NoGrant => !self.some_row_has(request, Refusal::Rule(rule)),
             Rule::NoRight => self.some_row_has(request, Refusal::Rule(rule)),
-            Rule::BadCount => !is_count(request.op, request.count),
+            Rule::BadCount => !is_allowed_count(request.op, request.count),
             Rule::OutsideGrant => {
                 request.op != Op::Flush && self.some_row_has(request, Refusal::Rule(rule))
             }
@@ -194,7 +194,7 @@ impl ReferenceSituation {
 
     /// Whether the cause applies to the request.
     pub fn applies(&self, request: &Request, cause: Refusal) -> bool
-        ensures { IsTrue result ↔ Applies (situation_in self.now) request.now cause }
+        ensures { IsTrue result ↔ RefusalApplies (situation_in self.now) request.now cause }
     {
         match cause {
             Refusal::Rule(rule) => self.breaks(request, rule),
@@ -210,9 +210,9 @@ impl ReferenceSituation {
 
     /// The cause, if it applies.
     fn if_applies(&self, request: &Request, cause: Refusal) -> Option<Refusal>
-        requires { ((rank cause).0 < 6) ⊎ (9 < (rank cause).0) }
+        requires { ((refusal_rank cause).0 < 6) ⊎ (9 < (refusal_rank cause).0) }
         ensures { IsFirstOfNumber (situation_in self.now) request.now
-            (rank cause).0 result }
+            (refusal_rank cause).0 result }
     {
         if self.applies(request, cause) {
             Some(cause)

@@ -7,9 +7,9 @@ use Rattle.ata_types.specs.declared.grant.GrantRow.{GrantRow}
 use Rattle.ata_types.specs.declared.request.Request.{Request}
 use Rattle.block_machine.specs.Ports.{Ports}
 use Rattle.block_machine.specs.State.{Accepted, Pending, Machine}
-use Rattle.block_machine.specs.Steps.{Step, Accept, Issue, Touch, End, Age, Again, Answer, Release, Revoke, Unplug, Replace, Store, Load, MayAccept, after_step, newly_issued, touch, mark_ended, requeued, older}
+use Rattle.block_machine.specs.Steps.{Step, Accept, Issue, Touch, End, Age, WaitAgain, Answer, Release, Revoke, Unplug, Replace, Store, Load, MayAccept, after_step, newly_issued, touch, mark_ended, requeued, aged_pending}
 use Rattle.block_machine.specs.Expected.{after, IsAccept}
-use Rattle.block_machine.specs.Events.{AbstractCall, Submit, StoreAt, LoadAt, Service, Tick, Reset, State, Device, RevokeOf, AllMay, IsByDevice, IsByServer, AreStepsOfCall, accepts_of, issues_it, IsIssuedIn}
+use Rattle.block_machine.specs.Events.{AbstractCall, Submit, StoreAt, LoadAt, Service, Tick, Reset, State, Device, RevokeOf, AllEnabled, IsByDevice, IsByServer, AreStepsOfCall, accepts_of, issues_id, IsIssuedIn}
 use Rattle.block_machine.proofs.Members.{contains_none, contains_here, contains_there, contains_cases, map_in, at_cases, without_in, append_in}
 use Rattle.block_machine.proofs.Keeps.{older_keeps, older_issued}
 use Rattle.block_machine.proofs.Counting.{count_cons}
@@ -22,8 +22,8 @@ ages_it port _ = false
 
 -- How an issued request got there: the step issued it, or it was issued before, and is a tick older at most.
 abbrev pub IsIssuedBy : Step → Pending → Pending → Type 0
-IsIssuedBy step old e = ((issues_it e.request.id step ≡ true) × (e.age ≡ 0))
-    ⊎ ((issues_it e.request.id step ≡ false) × (old.issued ≡ true) × (e.age ≤ old.age + cond (ages_it e.request.port step) 1 0))
+IsIssuedBy step old e = ((issues_id e.request.id step ≡ true) × (e.age ≡ 0))
+    ⊎ ((issues_id e.request.id step ≡ false) × (old.issued ≡ true) × (e.age ≤ old.age + cond (ages_it e.request.port step) 1 0))
 
 -- a request of the book was there before the step
 pub record Came (m : Machine) (step : Step) (e : Pending) : Type 0 where
@@ -33,7 +33,7 @@ pub record Came (m : Machine) (step : Step) (e : Pending) : Type 0 where
   pub issued : e.issued ≡ true → IsIssuedBy step old e
 
 -- the step neither issues nor ages the request
-stayed : (m : Machine) (step : Step) (e o : Pending) → Contains m.book o → o.request ≡ e.request → issues_it e.request.id step ≡ false → (e.issued ≡ true → (o.issued ≡ true) × (e.age ≡ o.age)) → Came m step e
+stayed : (m : Machine) (step : Step) (e o : Pending) → Contains m.book o → o.request ≡ e.request → issues_id e.request.id step ≡ false → (e.issued ≡ true → (o.issued ≡ true) × (e.age ≡ o.age)) → Came m step e
 stayed m step e o here same not f = record {
   old = o;
   here = here;
@@ -42,13 +42,13 @@ stayed m step e o here same not f = record {
 }
 
 -- the same request, as it was
-stayed_same : (m : Machine) (step : Step) (e o : Pending) → Contains m.book o → e ≡ o → issues_it e.request.id step ≡ false → Came m step e
+stayed_same : (m : Machine) (step : Step) (e o : Pending) → Contains m.book o → e ≡ o → issues_id e.request.id step ≡ false → Came m step e
 stayed_same m step e o here same not = stayed m step e e (subst (λ (y : Pending). Contains m.book y) (sym same) here) refl not (λ t. (t, refl))
 
 pending_request : {a b : Pending} → a ≡ b → b.request ≡ a.request
 pending_request e = ap (λ (y : Pending). y.request) (sym e)
 
-tick_older : (ready : Port → Bool) (o : Pending) → (older ready o).age ≤ o.age + cond (ready o.request.port) 1 0
+tick_older : (ready : Port → Bool) (o : Pending) → (aged_pending ready o).age ≤ o.age + cond (ready o.request.port) 1 0
 tick_older ready o = go o.issued (ready o.request.port)
   where
     go : (a b : Bool) → (cond (a && b) (record o { age = suc o.age }) o).age ≤ o.age + cond b 1 0
@@ -85,11 +85,11 @@ came m (End p) e h =
     (λ c. inl (stayed m (End p) e r.0 r.1 (pending_request (r.2 ∙ c.1)) refl (λ t. (ap (λ (y : Pending). y.issued) (sym (r.2 ∙ c.1)) ∙ t, ap (λ (y : Pending). y.age) (r.2 ∙ c.1)))))
     (λ c. inl (stayed_same m (End p) e r.0 r.1 (r.2 ∙ c.1) refl))
     (at_cases p.request.id mark_ended r.0)
-came m (Again p) e h =
+came m (WaitAgain p) e h =
     let r = map_in _ m.book e h in
     ⊎_elim
-    (λ c. inl (stayed m (Again p) e r.0 r.1 (pending_request (r.2 ∙ c.1)) refl (λ t. absurd (false≢true (ap (λ (y : Pending). y.issued) (sym (r.2 ∙ c.1)) ∙ t)))))
-    (λ c. inl (stayed_same m (Again p) e r.0 r.1 (r.2 ∙ c.1) refl))
+    (λ c. inl (stayed m (WaitAgain p) e r.0 r.1 (pending_request (r.2 ∙ c.1)) refl (λ t. absurd (false≢true (ap (λ (y : Pending). y.issued) (sym (r.2 ∙ c.1)) ∙ t)))))
+    (λ c. inl (stayed_same m (WaitAgain p) e r.0 r.1 (r.2 ∙ c.1) refl))
     (at_cases p.request.id requeued r.0)
 came m (Age ready) e h =
     let r = map_in _ m.book e h in
@@ -120,7 +120,7 @@ IsAnew steps e = IsIssuedIn e.request.id steps × (e.age ≤ count_by (ages_it e
 
 -- an issue from before these steps, older by their ticks
 abbrev IsKept : List Step → Pending → Pending → Type 0
-IsKept steps old e = (list_any (issues_it e.request.id) steps ≡ false) × (old.issued ≡ true) × (e.age ≤ old.age + count_by (ages_it e.request.port) steps)
+IsKept steps old e = (list_any (issues_id e.request.id) steps ≡ false) × (old.issued ≡ true) × (e.age ≤ old.age + count_by (ages_it e.request.port) steps)
 
 -- a request of the book was there before the steps
 pub record Since (m : Machine) (steps : List Step) (e : Pending) : Type 0 where
@@ -163,7 +163,7 @@ since m (step ∷ before) e h = ⊎_elim
           (λ was. ⊎_elim
           (λ anew. inl (anew_more step before c.old e c.same (inr was) (λ _. anew)))
           (λ kept.
-          let k = subst (λ (r : Accepted). (list_any (issues_it r.id) before ≡ false) × (s.old.issued ≡ true) × (c.old.age ≤ s.old.age + count_by (ages_it r.port) before)) c.same kept in
+          let k = subst (λ (r : Accepted). (list_any (issues_id r.id) before ≡ false) × (s.old.issued ≡ true) × (c.old.age ≤ s.old.age + count_by (ages_it r.port) before)) c.same kept in
           let age = was.2 in
           let more = k.2 in
           inr (or_from _ _ was.0 k.0, k.1, omega (arith, age, more, count_cons (ages_it e.request.port) step before)))
@@ -179,7 +179,7 @@ since m (step ∷ before) e h = ⊎_elim
     (came (after m before) step e h)
 
 -- a request that the steps accept was new to a machine whose rows are all of the first
-pub accepted_new : (m : Machine) (steps : List Step) (r : Accepted) → AllMay m steps → Contains (accepts_of steps) r → (n : Machine) × ((row : GrantRow) → Contains n.rows row → Contains m.rows row) × MayAccept n r
+pub accepted_new : (m : Machine) (steps : List Step) (r : Accepted) → AllEnabled m steps → Contains (accepts_of steps) r → (n : Machine) × ((row : GrantRow) → Contains n.rows row → Contains m.rows row) × MayAccept n r
 accepted_new m [] r may h = absurd (contains_none r h)
 accepted_new m (Accept new ∷ before) r may h = ⊎_elim
     (λ p. (after m before, rows_shrink m before, subst (λ (x : Accepted). MayAccept (after m before) x) (sym p) may.1))

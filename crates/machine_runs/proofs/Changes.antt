@@ -6,11 +6,11 @@ use Rattle.ata_types.specs.declared.request.Frame.{Frame}
 use Rattle.ata_types.specs.declared.request.Op.{Op}
 use Rattle.ata_types.specs.declared.request.Op.TheVariants.{Read, Write, Trim, Flush}
 use Rattle.ata_types.specs.declared.refusal.MemFault.TheVariants as fault
-use Rattle.block_machine.specs.Due.{changes_sectors}
+use Rattle.block_machine.specs.DueRequests.{changes_sectors}
 use Rattle.block_machine.specs.State.{Block, DiskBytes, Memory, Machine, frame_at, sector_of, is_reader, block_written}
 use Rattle.block_machine.specs.Steps.{Step, Touch, Replace, Store, after_step, put_bytes, put_sector, disks_after}
 use Rattle.block_machine.specs.Expected.{after, IsLegal, IsInitial}
-use Rattle.block_machine.specs.Confined.{MayChangeByte, MayChangeSector}
+use Rattle.block_machine.specs.Confinement.{MayChangeByte, MayChangeSector}
 use Rattle.block_machine.proofs.Trace.{runs_lives}
 use Rattle.block_machine.proofs.Reading.{open_unlent}
 use Rattle.block_machine.proofs.Runs.{traced}
@@ -63,18 +63,18 @@ law_sectors_change_by_touch_or_plug m (Touch e i block) port k b ne = by (change
   where
     by : (t : Bool) → changes_sectors e.request.asked.op ≡ t → MayChangeSector (Touch e i block) port k
     by false t = absurd (ne (ap (λ (d : Port → DiskBytes). d port k b)
-        (cond-false (changes_sectors e.request.asked.op) (put_sector e.request.port (sector_of e.request i) (block_written e.request.asked.op e.request.held i) m.disks) m.disks t)))
+        (cond-false (changes_sectors e.request.asked.op) (put_sector e.request.port (sector_of e.request i) (block_written e.request.asked.op e.request.held_blocks i) m.disks) m.disks t)))
     by true t = go ((port.0 == e.request.port.0) && (k == sector_of e.request i)) refl
       where
-        put : disks_after e.request i m.disks ≡ put_sector e.request.port (sector_of e.request i) (block_written e.request.asked.op e.request.held i) m.disks
-        put = cond-true (changes_sectors e.request.asked.op) (put_sector e.request.port (sector_of e.request i) (block_written e.request.asked.op e.request.held i) m.disks) m.disks t
+        put : disks_after e.request i m.disks ≡ put_sector e.request.port (sector_of e.request i) (block_written e.request.asked.op e.request.held_blocks i) m.disks
+        put = cond-true (changes_sectors e.request.asked.op) (put_sector e.request.port (sector_of e.request i) (block_written e.request.asked.op e.request.held_blocks i) m.disks) m.disks t
 
         go : (u : Bool) → ((port.0 == e.request.port.0) && (k == sector_of e.request i)) ≡ u → MayChangeSector (Touch e i block) port k
         go true u =
             let p = and_parts (port.0 == e.request.port.0) (k == sector_of e.request i) u in
             (t, sym (ap (λ (n : ℕ). record { 0 = n }) (eqb-true port.0 e.request.port.0 p.0)), sym (eqb-true k (sector_of e.request i) p.1))
         go false u = absurd (ne (ap (λ (d : Port → DiskBytes). d port k b) put
-            ∙ ap (λ (x : Block). x b) (cond-false ((port.0 == e.request.port.0) && (k == sector_of e.request i)) (block_written e.request.asked.op e.request.held i) (m.disks port k) u)))
+            ∙ ap (λ (x : Block). x b) (cond-false ((port.0 == e.request.port.0) && (k == sector_of e.request i)) (block_written e.request.asked.op e.request.held_blocks i) (m.disks port k) u)))
 law_sectors_change_by_touch_or_plug m (Replace p id size disk) port k b ne = go (port.0 == p.0) refl
   where
     go : (u : Bool) → (port.0 == p.0) ≡ u → p ≡ port

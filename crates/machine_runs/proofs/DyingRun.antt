@@ -12,7 +12,7 @@ use Rattle.ata_types.specs.declared.request.Outcome.TheVariants as outcome
 use Rattle.block_machine.specs.Ports.{Evidence}
 use Rattle.block_machine.specs.State.{Accepted, Pending, unanswered}
 use Rattle.block_machine.specs.Steps.{Accept, Issue, Answer, newly_accepted, newly_issued}
-use Rattle.block_machine.specs.Events.{Submit, Service, Submitted, Served, CallRecord, Happens, RepliesMatch, IsToldBefore, reply_of, abstract_after_all, situation_of}
+use Rattle.block_machine.specs.Events.{Submit, Service, Submitted, Served, CallRecord, Happens, RepliesMatch, IsToldBefore, reply_of, abstract_after_all, admission_context_of}
 use Rattle.machine_runs.specs.ExampleRuns.{DiesInAService}
 use Rattle.block_machine.proofs.Members.{contains_none, contains_here, contains_there, contains_cases}
 use Rattle.block_machine.proofs.Setting.{port, frame, empty_starts, acceptable, granted}
@@ -38,7 +38,7 @@ two = newly_issued (newly_accepted other)
 
 -- the port met a fatal error; it was stopped, and got stuck then
 abbrev seen : Evidence
-seen = record { faults = []; lost = []; gone = []; failed = port ∷ []; fatal = port ∷ []; stopped = port ∷ []; stuck = port ∷ [] }
+seen = record { faults = []; lost = []; link_changed = []; failed = port ∷ []; fatal = port ∷ []; stopped = port ∷ []; stuck = port ∷ [] }
 
 abbrev told : List (Pending × Outcome)
 told = (one, outcome.PortDead) ∷ (two, outcome.PortDead) ∷ []
@@ -57,21 +57,21 @@ second a b = contains_there a (b ∷ []) b (contains_here b [] b refl)
 
 happens2 : Happens (abstract_after_all first run1) submit
 happens2 = record {
-  may = ((tt, new 0 (abstract_after_all first run1) other quiet (write_at 0 (abstract_after_all first run1) 101 101 quiet (omega arith) (omega arith) refl refl) refl refl refl), (second one (newly_accepted other), record { here = second (unanswered one) (unanswered (newly_accepted other)); clear = refl; slot = λ _. omega arith }, λ e h. absurd (contains_none e h), granted 0 row_zero refl));
-  belong = ((tt, inr refl), inr (refl, refl));
-  last = ((tt, λ id h i. false≢true i), λ id h i. false≢true i);
-  lawful = tt;
-  fit = ports_fit Ready refl;
-  disks = λ e o h i same. (refl, refl);
-  answered = (acceptable 0 (situation_of (abstract_after_all first run1)) other.asked (write_at 0 (abstract_after_all first run1) 101 101 quiet (omega arith) (omega arith) refl refl), (other, refl, refl), λ p. (refl, refl, refl, refl, refl, refl), λ p _. none_waits _ refl p);
+  steps_are_enabled = ((tt, new 0 (abstract_after_all first run1) other quiet (write_at 0 (abstract_after_all first run1) 101 101 quiet (omega arith) (omega arith) refl refl) refl refl refl), (second one (newly_accepted other), record { is_in_book = second (unanswered one) (unanswered (newly_accepted other)); nothing_blocks = refl; slot_is_left = λ _. omega arith }, λ e h. absurd (contains_none e h), granted 0 row_zero refl));
+  steps_are_of_call = ((tt, inr refl), inr (refl, refl));
+  issues_are_last = ((tt, λ id h i. false≢true i), λ id h i. false≢true i);
+  answers_are_lawful = tt;
+  ports_are_well_formed = ports_fit Ready refl;
+  unanswered_keep_disk = λ e o h i same. (refl, refl);
+  is_answered = (acceptable 0 (admission_context_of (abstract_after_all first run1)) other.asked (write_at 0 (abstract_after_all first run1) 101 101 quiet (omega arith) (omega arith) refl refl), (other, refl, refl), λ p. (refl, refl, refl, refl, refl, refl), λ p _. none_waits _ refl p);
 }
 
 tells : RepliesMatch service.steps (map reply_of told)
 tells = record {
   answers = told;
-  same = IsPermutation-append_comm ((one, outcome.PortDead) ∷ []) ((two, outcome.PortDead) ∷ []);
+  is_permutation = IsPermutation-append_comm ((one, outcome.PortDead) ∷ []) ((two, outcome.PortDead) ∷ []);
   ordered = go;
-  told = refl;
+  replies_are = refl;
 }
   where
     go : (i j : ℕ) (d : Pending × Outcome) → i < j → j < 2 → IsToldBefore (slice_index_or told i d) (slice_index_or told j d)
@@ -80,21 +80,21 @@ tells = record {
 
 happens3 : Happens (abstract_after_all first run2) service
 happens3 = record {
-  may = ((tt, (contains_here one (two ∷ []) one refl, tt)), (contains_here two [] two refl, tt));
-  belong = ((tt, inr tt), inr tt);
-  last = ((tt, λ id h i. false≢true i), λ id h i. false≢true i);
-  lawful = ((tt, refl), refl);
-  fit = ports_fit Dead refl;
-  disks = λ e o h i same. (refl, refl);
-  answered = record {
-    tells = tells;
-    dead = λ e o h dead. none_dead e.request.port dead;
-    unplugs = none_unplugged service.steps (abstract_after_all first run3).machine refl;
-    issues = λ p ready. dead_not_ready p ready;
-    emptied = λ p ne e h. absurd (contains_none e h);
-    ended = λ p _. none_ended (abstract_after_all first run2).machine service.steps refl p;
-    becomes = λ p. (λ dead. none_dead p dead, λ _. (record { served = refl; stuck = (dead_here p, λ h. dies p h); keeps = λ _. (refl, refl) }, changed_here Ready Dead seen (inl (contains_here port [] port refl)) p));
-    disk = λ p. inr (λ shows. shows_none Dead (λ s. s) p shows);
+  steps_are_enabled = ((tt, (contains_here one (two ∷ []) one refl, tt)), (contains_here two [] two refl, tt));
+  steps_are_of_call = ((tt, inr tt), inr tt);
+  issues_are_last = ((tt, λ id h i. false≢true i), λ id h i. false≢true i);
+  answers_are_lawful = ((tt, refl), refl);
+  ports_are_well_formed = ports_fit Dead refl;
+  unanswered_keep_disk = λ e o h i same. (refl, refl);
+  is_answered = record {
+    replies_match = tells;
+    tells_dead = λ e o h dead. none_dead e.request.port dead;
+    answers_all_unplugged = none_unplugged service.steps (abstract_after_all first run3).machine refl;
+    none_is_due = λ p ready. dead_not_ready p ready;
+    empty_unless_ready = λ p ne e h. absurd (contains_none e h);
+    answers_ended = λ p _. none_ended (abstract_after_all first run2).machine service.steps refl p;
+    port_is_serviced = λ p. (λ dead. none_dead p dead, λ _. (record { served_is_kept = refl; dead_is_stuck = (dead_here p, λ h. dies p h); disk_is_kept = λ _. (refl, refl) }, changed_here Ready Dead seen (inl (contains_here port [] port refl)) p));
+    shown_disk_was_in_or_came = λ p. inr (λ shows. shows_none Dead (λ s. s) p shows);
   };
 }
   where
@@ -106,24 +106,24 @@ happens3 = record {
 
 pub dies_in_a_service : DiesInAService
 dies_in_a_service = record {
-  first = first;
+  initial_state = first;
   asked = run2;
   service = service;
   runs = ((((empty_starts, ports_fit Ready refl), happens1), happens2), happens3);
-  one = one;
-  two = two;
+  first_request = one;
+  second_request = two;
   book = refl;
   issued = (refl, refl);
   together = refl;
   ready = refl;
-  serves = refl;
+  asks_for_service = refl;
   fails = contains_here port [] port refl;
   stops = contains_here port [] port refl;
   sticks = contains_here port [] port refl;
   answers = refl;
   dies = refl;
-  stay = refl;
+  kept_is = refl;
   frame = frame 101;
-  its = refl;
+  frames_are = refl;
   lent = refl;
 }

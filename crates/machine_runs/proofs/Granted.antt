@@ -11,9 +11,9 @@ use Rattle.ata_types.specs.declared.request.RequestId.{RequestId}
 use Rattle.block_machine.specs.Ports.{Evidence, Ports}
 use Rattle.block_machine.specs.Rules.{HasRow, IsSameGrantName, is_same_grant_name}
 use Rattle.block_machine.specs.State.{Accepted, Pending, Machine}
-use Rattle.block_machine.specs.Steps.{Step, Accept, Issue, Touch, End, Age, Again, Answer, Revoke, HasGrant, May, MayStillMove, after_step, at, newly_issued, touch, mark_ended, requeued, older, newly_accepted}
+use Rattle.block_machine.specs.Steps.{Step, Accept, Issue, Touch, End, Age, WaitAgain, Answer, Revoke, HasGrant, IsEnabled, MayStillMove, after_step, update_pending, newly_issued, touch, mark_ended, requeued, aged_pending, newly_accepted}
 use Rattle.block_machine.specs.Expected.{after}
-use Rattle.block_machine.specs.Events.{AbstractState, AbstractCall, RevokeOf, CallResult, WasRevoked, CallRecord, AllMay, AreStepsOfCall, IsAnswered, IsByDevice, IsRun, IsByServer, abstract_after_all, steps_of}
+use Rattle.block_machine.specs.Events.{AbstractState, AbstractCall, RevokeOf, CallResult, WasRevoked, CallRecord, AllEnabled, AreStepsOfCall, IsAnswered, IsByDevice, IsRun, IsByServer, abstract_after_all, steps_of}
 use Rattle.block_machine.proofs.Accepts.{law_accepted_is_granted}
 use Rattle.block_machine.proofs.EventLemmas.{moment_is, run_legal, run_starts}
 use Rattle.block_machine.proofs.Keeps.{keeps, older_issued}
@@ -26,17 +26,17 @@ use Rattle.block_machine.proofs.Sound.{Sound}
 -- the step has a request wait that didn't
 abbrev IsNewer : Step → Type 0
 IsNewer (Accept r) = Unit {0}
-IsNewer (Again p) = Unit {0}
+IsNewer (WaitAgain p) = Unit {0}
 IsNewer _ = ⊥
 
 -- it was in the book as it is, or has its grant
 abbrev From : Machine → Step → Pending → Type 0
 From m step e = Contains m.book e ⊎ (IsNewer step × HasGrant m e)
 
-changed_or_was : (m : Machine) (step : Step) (id : RequestId) (f : Pending → Pending) (e : Pending) → Contains (map (at id f) m.book) e
+changed_or_was : (m : Machine) (step : Step) (id : RequestId) (f : Pending → Pending) (e : Pending) → Contains (map (update_pending id f) m.book) e
     → ((o : Pending) → Contains m.book o → o.request.id.0 ≡ id.0 → e ≡ f o → From m step e) → From m step e
 changed_or_was m step id f e h changed =
-    let r = map_in (at id f) m.book e h in
+    let r = map_in (update_pending id f) m.book e h in
     ⊎_elim (λ c. changed r.0 r.1 c.0 (r.2 ∙ c.1)) (λ c. inl (subst (λ (y : Pending). Contains m.book y) (sym (r.2 ∙ c.1)) r.1)) (at_cases id f r.0)
 
 -- a request that moves is issued
@@ -44,17 +44,17 @@ is_issued : (m : Machine) → Sound m → (p o : Pending) → MayStillMove m p �
 is_issued m s p o (inl moves) here same = ap (λ (y : Pending). y.issued) (s.one o p here moves.0 same) ∙ moves.1
 is_issued m s p o (inr kept) here same = absurd (s.apart o p here kept same)
 
-older_waits : (ready : Port → Bool) (o : Pending) → o.issued ≡ false → older ready o ≡ o
+older_waits : (ready : Port → Bool) (o : Pending) → o.issued ≡ false → aged_pending ready o ≡ o
 older_waits ready o waits = go o.issued (ready o.request.port) waits
   where
     go : (a b : Bool) → a ≡ false → cond (a && b) (record o { age = suc o.age }) o ≡ o
     go true b is = absurd (true≢false is)
     go false b is = refl
 
-waits_from : (m : Machine) (step : Step) (e : Pending) → May m step → Sound m → Contains (after_step m step).book e → e.issued ≡ false → From m step e
+waits_from : (m : Machine) (step : Step) (e : Pending) → IsEnabled m step → Sound m → Contains (after_step m step).book e → e.issued ≡ false → From m step e
 waits_from m (Accept r) e may s h waits = ⊎_elim
     (λ i. inl i)
-    (λ (is : e ≡ newly_accepted r). let g = law_accepted_is_granted m r may in inr (tt, subst (λ (y : Pending). HasGrant m y) (sym is) (g.row, g.named.0, g.named.1)))
+    (λ (is : e ≡ newly_accepted r). let g = law_accepted_is_granted m r may in inr (tt, subst (λ (y : Pending). HasGrant m y) (sym is) (g.row, g.is_named.0, g.is_named.1)))
     (append_in m.book (newly_accepted r) e h)
 waits_from m (Issue mode p) e may s h waits = changed_or_was m (Issue mode p) p.request.id newly_issued e h
     (λ o here same is. absurd (false≢true (sym waits ∙ ap (λ (y : Pending). y.issued) is)))
@@ -62,18 +62,18 @@ waits_from m (Touch p i block) e may s h waits = changed_or_was m (Touch p i blo
     (λ o here same is. absurd (false≢true (sym waits ∙ ap (λ (y : Pending). y.issued) is ∙ is_issued m s p o may.0 here same)))
 waits_from m (End p) e may s h waits = changed_or_was m (End p) p.request.id mark_ended e h
     (λ o here same is. absurd (false≢true (sym waits ∙ ap (λ (y : Pending). y.issued) is ∙ is_issued m s p o may.0 here same)))
-waits_from m (Again p) e may s h waits = changed_or_was m (Again p) p.request.id requeued e h
+waits_from m (WaitAgain p) e may s h waits = changed_or_was m (WaitAgain p) p.request.id requeued e h
     (λ o here same is.
     let its : e.request ≡ p.request = ap (λ (y : Pending). y.request) is ∙ ap (λ (y : Pending). y.request) (s.one o p here may.0 same) in
     inr (tt, subst (λ (x : Accepted). HasRow x.asked.client x.asked.grant m.rows) (sym its) may.3))
 waits_from m (Age ready) e may s h waits =
-    let r = map_in (older ready) m.book e h in
+    let r = map_in (aged_pending ready) m.book e h in
     let waited : r.0.issued ≡ false = sym (older_issued ready r.0) ∙ ap (λ (y : Pending). y.issued) (sym r.2) ∙ waits in
     inl (subst (λ (y : Pending). Contains m.book y) (sym (r.2 ∙ older_waits ready r.0 waited)) r.1)
 waits_from m (Answer p o) e may s h waits = inl (without_in p.request.id m.book e h).0
 waits_from m _ e may s h waits = inl h
 
-sound_after : (m : Machine) (steps : List Step) → Sound m → AllMay m steps → Sound (after m steps)
+sound_after : (m : Machine) (steps : List Step) → Sound m → AllEnabled m steps → Sound (after m steps)
 sound_after m [] s may = s
 sound_after m (step ∷ before) s may = keeps (after m before) step may.1 (sound_after m before s may.0)
 
@@ -94,7 +94,7 @@ still_granted : (m : Machine) (step : Step) (e : Pending) → LeavesRows step �
 still_granted m (Revoke client number) e leaves has = absurd leaves
 still_granted m _ e leaves has = has
 
-granted_after : (m : Machine) (steps : List Step) → Sound m → AllMay m steps → AllLeaveRows steps → IsGrantedAll m → IsGrantedAll (after m steps)
+granted_after : (m : Machine) (steps : List Step) → Sound m → AllEnabled m steps → AllLeaveRows steps → IsGrantedAll m → IsGrantedAll (after m steps)
 granted_after m [] s may leave g e h waits = g e h waits
 granted_after m (step ∷ before) s may leave g e h waits = ⊎_elim
     (λ i. still_granted (after m before) step e leave.1 (granted_after m before s may.0 leave.0 g e i waits))
@@ -127,22 +127,22 @@ module _ (D : Type 0) (client : ClientId) (number : ℕ) (ports : Ports) (m : Ma
   not_newer : (step : Step) → IsByDevice step ⊎ IsByServer {D = D} (RevokeOf client number) ports step → IsNewer step → ⊥
   not_newer (Accept r) (inl d) newer = d
   not_newer (Accept r) (inr h) newer = h
-  not_newer (Again p) (inl d) newer = d
-  not_newer (Again p) (inr h) newer = h
+  not_newer (WaitAgain p) (inl d) newer = d
+  not_newer (WaitAgain p) (inr h) newer = h
   not_newer _ b newer = newer
 
-  waited_before : (step : Step) (before : List Step) → AllMay m (step ∷ before) → Its (step ∷ before) → (e : Pending) → Contains (after m (step ∷ before)).book e → e.issued ≡ false → Contains (after m before).book e
+  waited_before : (step : Step) (before : List Step) → AllEnabled m (step ∷ before) → Its (step ∷ before) → (e : Pending) → Contains (after m (step ∷ before)).book e → e.issued ≡ false → Contains (after m before).book e
   waited_before step before may b e h waits = ⊎_elim
       (λ i. i)
       (λ n. absurd (not_newer step b.1 n.0))
       (waits_from (after m before) step e may.1 (sound_after m before s may.0) h waits)
 
-  waited : (steps : List Step) → AllMay m steps → Its steps → (e : Pending) → Contains (after m steps).book e → e.issued ≡ false → Contains m.book e
+  waited : (steps : List Step) → AllEnabled m steps → Its steps → (e : Pending) → Contains (after m steps).book e → e.issued ≡ false → Contains m.book e
   waited [] may b e h waits = h
   waited (step ∷ before) may b e h waits = waited before may.0 b.0 e (waited_before step before may b e h waits) waits
 
   -- one that is answered waits no more
-  answered_gone : (steps : List Step) → AllMay m steps → Its steps → (p e : Pending) (o : Outcome) → Contains steps (Answer p o) → Contains (after m steps).book e → e.issued ≡ false → e.request.id.0 ≢ p.request.id.0
+  answered_gone : (steps : List Step) → AllEnabled m steps → Its steps → (p e : Pending) (o : Outcome) → Contains steps (Answer p o) → Contains (after m steps).book e → e.issued ≡ false → e.request.id.0 ≢ p.request.id.0
   answered_gone [] may b p e o here h waits = absurd (contains_none (Answer p o) here)
   answered_gone (step ∷ before) may b p e o here h waits = ⊎_elim
       (λ (same : Answer p o ≡ step).
@@ -170,7 +170,7 @@ in_filter {A} passes (y ∷ ys) x h is = ⊎_elim
 -- ---- each call
 
 granted_event : {D : Type 0} (ask : AbstractCall D) (said : CallResult) (old : AbstractState) (evidence : Evidence) (steps : List Step) (ports : Ports) → IsAnswered ask said old evidence steps (record { machine = after old.machine steps; ports = ports })
-    → Sound old.machine → AllMay old.machine steps → AreStepsOfCall ask ports steps → IsGrantedAll old.machine → IsGrantedAll (after old.machine steps)
+    → Sound old.machine → AllEnabled old.machine steps → AreStepsOfCall ask ports steps → IsGrantedAll old.machine → IsGrantedAll (after old.machine steps)
 granted_event {D} (RevokeOf client number) (WasRevoked (Some replies)) old evidence steps ports a s may b g e h waits =
     let here = waited D client number ports old.machine s steps may b e h waits in
     let had = g e here waits in
@@ -181,7 +181,7 @@ granted_event {D} (RevokeOf client number) (WasRevoked (Some replies)) old evide
         let parts = and_parts (had.0.client.0 == client.0) (had.0.number == number) is in
         let its_client : had.0.client ≡ client = ap (λ (n : ℕ). record { 0 = n }) (eqb-true had.0.client.0 client.0 parts.0) in
         let under : IsSameGrantName client number e.request.asked.client e.request.asked.grant = (sym had.2.0 ∙ its_client, sym had.2.1 ∙ eqb-true had.0.number number parts.1) in
-        absurd (answered_gone D client number ports old.machine s steps may b e e Revoked ((a.told e).1 (here, waits, under)) h waits refl)
+        absurd (answered_gone D client number ports old.machine s steps may b e e Revoked ((a.waiting_are_revoked e).1 (here, waits, under)) h waits refl)
     by had false is here =
         (had.0, subst (λ (rows : List GrantRow). Contains rows had.0) (sym a.rows) (in_filter (λ (row : GrantRow). not (is_same_grant_name client number row.client row.number)) old.machine.rows had.0 had.1 (ap not is)), had.2)
 granted_event (RevokeOf client number) (WasRevoked None) old evidence steps ports a s may b g e h waits = subst (λ (list : List Step). IsGrantedAll (after old.machine list)) (sym a.1) g e h waits
@@ -192,4 +192,4 @@ pub law_what_waits_has_its_grant : {D : Type 0} (first : AbstractState) (run : L
 law_what_waits_has_its_grant first [] e r h waits = absurd (nobody first.machine r.0 e (inl h))
 law_what_waits_has_its_grant first (event ∷ past) e r h waits =
     let sound = subst Sound (sym (moment_is first past)) (traced first.machine (steps_of past) (run_starts first past r.0) (run_legal first past r.0)).sound in
-    granted_event event.ask event.said (abstract_after_all first past) event.evidence event.steps event.ports r.1.answered sound r.1.may r.1.belong (λ x i w. law_what_waits_has_its_grant first past x r.0 i w) e h waits
+    granted_event event.ask event.said (abstract_after_all first past) event.evidence event.steps event.ports r.1.is_answered sound r.1.steps_are_enabled r.1.steps_are_of_call (λ x i w. law_what_waits_has_its_grant first past x r.0 i w) e h waits

@@ -14,8 +14,8 @@ use Rattle.ata_types.specs.declared.grant.GrantRow.{GrantRow}
 use Rattle.ata_types.specs.SectorGrants.{AllowsOp}
 use Rattle.block_machine.specs.declared.due.QueueMode.{QueueMode}
 use Rattle.block_machine.specs.Rules.{IsAllowedCount, frame_count_for}
-use Rattle.block_machine.specs.Refusals.{Situation}
-use Rattle.block_machine.specs.Due.{is_flush, changes_sectors}
+use Rattle.block_machine.specs.Refusals.{AdmissionContext}
+use Rattle.block_machine.specs.DueRequests.{is_flush, changes_sectors}
 use Rattle.block_machine.specs.State.{Block, Memory, Accepted, Pending, Machine, block_of, is_reader, block_written}
 use Rattle.block_machine.specs.Steps.{Step, Accept, Issue, Touch, End, Answer, newly_accepted, newly_issued, touch, mark_ended, unanswered_count, MayAccept}
 use Rattle.block_machine.specs.Expected.{after, HoldsExpected, IsExpectedBlock, HasTouched, Wrote}
@@ -31,7 +31,7 @@ mode = record { queued = true; usable = 32 }
 
 -- request number n, of one sector, has frame 100 + n
 abbrev one_sector : ℕ → Op → Accepted
-one_sector n op = record { id = record { 0 = n }; port = port; asked = request 0 op 100 1 (frame (100 + n) ∷ []); held = block_of start.memory (frame (100 + n) ∷ []) }
+one_sector n op = record { id = record { 0 = n }; port = port; asked = request 0 op 100 1 (frame (100 + n) ∷ []); held_blocks = block_of start.memory (frame (100 + n) ∷ []) }
 
 abbrev one : Pending
 one = newly_issued (newly_accepted (one_sector 1 Write))
@@ -57,10 +57,10 @@ abbrev history : List Step
 history = Touch read 0 (λ b. 101) ∷ Issue mode (newly_accepted (one_sector 3 Read)) ∷ Accept (one_sector 3 Read) ∷ second_part
 
 -- what a request meets at a machine whose ports are ready
-abbrev meets : Machine → Situation
-meets m = record { rows = m.rows; owner = m.owner; lent = m.lent; state = λ p. Ready; sectors = λ p. 200; trims = λ p. true; unanswered = unanswered_count m.book; next = m.next }
+abbrev meets : Machine → AdmissionContext
+meets m = record { rows = m.rows; owner = m.owner; lent = m.lent; state = λ p. Ready; sectors = λ p. 200; trims = λ p. true; unanswered = unanswered_count m.book; next_id = m.next_id }
 
-fit : (m : Machine) (n : ℕ) (op : Op) → m.rows ≡ two_rows → m.owner (frame (100 + n)) ≡ Some client → m.lent (frame (100 + n)) ≡ None → unanswered_count m.book client ≡ 0 → m.next < 2 ^ 64
+fit : (m : Machine) (n : ℕ) (op : Op) → m.rows ≡ two_rows → m.owner (frame (100 + n)) ≡ Some client → m.lent (frame (100 + n)) ≡ None → unanswered_count m.book client ≡ 0 → m.next_id < 2 ^ 64
     → op ≢ Trim → op ≢ Flush → frame_count_for op 1 ≡ 1 → IsAllowedCount op 1 → AllowsOp (row 0).rights op → IsFit 0 (meets m) (one_sector n op).asked
 fit m n op same_rows own free none ids no_trim no_flush frames count allowed = record {
   rows = same_rows;
@@ -85,7 +85,7 @@ fit m n op same_rows own free none ids no_trim no_flush frames count allowed = r
     same f e = sym (get_or_from_slice_get (frame (100 + n) ∷ []) 0 f f e)
 
 -- such a request is new to a machine whose frames hold what they held
-new : (m : Machine) (n : ℕ) (op : Op) → IsFit 0 (meets m) (one_sector n op).asked → m.rows ≡ two_rows → n ≡ m.next → m.memory ≡ start.memory → MayAccept m (one_sector n op)
+new : (m : Machine) (n : ℕ) (op : Op) → IsFit 0 (meets m) (one_sector n op).asked → m.rows ≡ two_rows → n ≡ m.next_id → m.memory ≡ start.memory → MayAccept m (one_sector n op)
 new m n op fits same_rows next memory = record {
   id = next;
   id_left = fits.ids;
@@ -95,11 +95,11 @@ new m n op fits same_rows next memory = record {
   held = ap (λ (x : Memory). block_of x (frame (100 + n) ∷ [])) (sym memory);
 }
 
-write_fits : (m : Machine) (n : ℕ) → m.rows ≡ two_rows → m.owner (frame (100 + n)) ≡ Some client → m.lent (frame (100 + n)) ≡ None → unanswered_count m.book client ≡ 0 → m.next < 2 ^ 64
+write_fits : (m : Machine) (n : ℕ) → m.rows ≡ two_rows → m.owner (frame (100 + n)) ≡ Some client → m.lent (frame (100 + n)) ≡ None → unanswered_count m.book client ≡ 0 → m.next_id < 2 ^ 64
     → IsFit 0 (meets m) (one_sector n Write).asked
 write_fits m n same own free none ids = fit m n Write same own free none ids (λ e. false≢true (ap is_trim e)) (λ e. false≢true (ap is_flush e)) refl (omega arith, omega arith) refl
 
-read_fits : (m : Machine) (n : ℕ) → m.rows ≡ two_rows → m.owner (frame (100 + n)) ≡ Some client → m.lent (frame (100 + n)) ≡ None → unanswered_count m.book client ≡ 0 → m.next < 2 ^ 64
+read_fits : (m : Machine) (n : ℕ) → m.rows ≡ two_rows → m.owner (frame (100 + n)) ≡ Some client → m.lent (frame (100 + n)) ≡ None → unanswered_count m.book client ≡ 0 → m.next_id < 2 ^ 64
     → IsFit 0 (meets m) (one_sector n Read).asked
 read_fits m n same own free none ids = fit m n Read same own free none ids (λ e. false≢true (ap is_trim e)) (λ e. false≢true (ap is_flush e)) refl (omega arith, omega arith) refl
 
@@ -114,7 +114,7 @@ touched_only w op (inr (inr (inr (inr (inr (inr (inl t))))))) = inl (sym t.0.0)
 touched_only w op (inr (inr (inr (inr (inr (inr (inr t))))))) = absurd (elim t [ inl a ↦ a.0 | inr a ↦ elim a [ inl b ↦ b.0 | inr b ↦ elim b [ inl c ↦ c.0 | inr c ↦ elim c [ inl d ↦ d.0 | inr d ↦ elim d [ inl e ↦ e.0 | inr e ↦ e ] ] ] ] ])
 
 two_wrote : Wrote port 100 0 3 history (one_sector 2 Write)
-two_wrote = record { writes = refl; here = refl; earlier = omega arith; touched = inr (inr (inr (inr (inr (inr (inl ((refl, refl), refl))))))) }
+two_wrote = record { op_changes_sectors = refl; port_is = refl; earlier = omega arith; touched = inr (inr (inr (inr (inr (inr (inl ((refl, refl), refl))))))) }
 
 wrong : HoldsExpected start history (after start history).memory (one_sector 3 Read) → ⊥
 wrong h = go (h.sectors 0 (omega arith)).1
@@ -128,12 +128,12 @@ wrong h = go (h.sectors 0 (omega arith)).1
     differ : ◌≡◌ {A = ℕ} 101 102 → ⊥
     differ e = omega (arith, e)
 
-    last : (w : Accepted) → (w ≡ one_sector 2 Write) ⊎ (w ≡ one_sector 1 Write) → 2 ≤ w.id.0 → block ≡ block_written w.asked.op w.held (100 - w.asked.first.0) → ⊥
-    last w (inl p) le e = differ (finds ∙ ap (λ (f : Block). f 0) (e ∙ ap (λ (r : Accepted). block_written r.asked.op r.held (100 - r.asked.first.0)) p))
+    last : (w : Accepted) → (w ≡ one_sector 2 Write) ⊎ (w ≡ one_sector 1 Write) → 2 ≤ w.id.0 → block ≡ block_written w.asked.op w.held_blocks (100 - w.asked.first.0) → ⊥
+    last w (inl p) le e = differ (finds ∙ ap (λ (f : Block). f 0) (e ∙ ap (λ (r : Accepted). block_written r.asked.op r.held_blocks (100 - r.asked.first.0)) p))
     last w (inr p) le e = let id : w.id.0 ≡ 1 = ap (λ (r : Accepted). r.id.0) p in omega (arith, le, id)
 
     go : IsExpectedBlock start history (one_sector 3 Read) 100 block → ⊥
-    go (inl r) = last r.0 (touched_only r.0 r.1.writes r.1.touched) (r.2 (one_sector 2 Write) two_wrote) r.3
+    go (inl r) = last r.0 (touched_only r.0 r.1.op_changes_sectors r.1.touched) (r.2 (one_sector 2 Write) two_wrote) r.3
     go (inr r) = r.0 (one_sector 2 Write) two_wrote
 
 here : (e : Pending) → Contains (e ∷ []) e
@@ -143,7 +143,7 @@ one_touched : (i : ℕ) → i < 1 → ((i == 0) || false) ≡ true
 one_touched i lt = or_left _ _ (eq-eqb i 0 (omega arith))
 
 loose : AllMayWithoutKeptRule start history
-loose = ((((((((((((tt, new start 1 Write (write_fits start 1 refl refl refl refl (omega arith)) refl refl refl), (here (newly_accepted (one_sector 1 Write)), record { here = (0, omega arith, refl); clear = refl; slot = λ _. omega arith })), (here one, tt)), new (after start first_part) 2 Write (write_fits (after start first_part) 2 refl refl refl refl (omega arith)) refl refl refl), (here (newly_accepted (one_sector 2 Write)), record { here = (0, omega arith, refl); clear = refl; slot = λ _. omega arith })), (inl (here two, refl), omega arith, refl, omega arith, λ _ b lt. refl)), (inr (here one), omega arith, refl, omega arith, λ _ b lt. refl)), (inl (here (touch 0 two), refl), one_touched, refl)), (here (mark_ended (touch 0 two)), tt)), new (after start second_part) 3 Read (read_fits (after start second_part) 3 refl refl refl refl (omega arith)) refl refl refl), (here (newly_accepted (one_sector 3 Read)), record { here = (0, omega arith, refl); clear = refl; slot = λ _. omega arith })), (inl (here read, refl), omega arith, refl, omega arith, λ e. absurd (false≢true (sym (ap is_reader e)))))
+loose = ((((((((((((tt, new start 1 Write (write_fits start 1 refl refl refl refl (omega arith)) refl refl refl), (here (newly_accepted (one_sector 1 Write)), record { is_in_book = (0, omega arith, refl); nothing_blocks = refl; slot_is_left = λ _. omega arith })), (here one, tt)), new (after start first_part) 2 Write (write_fits (after start first_part) 2 refl refl refl refl (omega arith)) refl refl refl), (here (newly_accepted (one_sector 2 Write)), record { is_in_book = (0, omega arith, refl); nothing_blocks = refl; slot_is_left = λ _. omega arith })), (inl (here two, refl), omega arith, refl, omega arith, λ _ b lt. refl)), (inr (here one), omega arith, refl, omega arith, λ _ b lt. refl)), (inl (here (touch 0 two), refl), one_touched, refl)), (here (mark_ended (touch 0 two)), tt)), new (after start second_part) 3 Read (read_fits (after start second_part) 3 refl refl refl refl (omega arith)) refl refl refl), (here (newly_accepted (one_sector 3 Read)), record { is_in_book = (0, omega arith, refl); nothing_blocks = refl; slot_is_left = λ _. omega arith })), (inl (here read, refl), omega arith, refl, omega arith, λ e. absurd (false≢true (sym (ap is_reader e)))))
 
 pub goes_wrong : ReadsWrongWithoutKeptRule
 goes_wrong = record {
@@ -152,8 +152,8 @@ goes_wrong = record {
   read = touch 0 read;
   starts = filled_starts (λ f b. f.0);
   loose = loose;
-  told = ((((((((((((tt, tt), tt), tt), tt), tt), λ e. absurd (false≢true (ap is_reader e))), λ e. absurd (false≢true (ap is_reader e))), tt), tt), tt), tt), λ _ b lt. refl);
-  here = here (touch 0 read);
+  steps_are_faithful = ((((((((((((tt, tt), tt), tt), tt), tt), λ e. absurd (false≢true (ap is_reader e))), λ e. absurd (false≢true (ap is_reader e))), tt), tt), tt), tt), λ _ b lt. refl);
+  is_in_book = here (touch 0 read);
   whole = one_touched;
   reads = refl;
   wrong = wrong;

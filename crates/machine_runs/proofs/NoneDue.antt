@@ -8,20 +8,20 @@ use Rattle.ata_types.specs.declared.PortState.TheVariants.{Ready}
 use Rattle.ata_types.specs.declared.request.RequestId.{RequestId}
 use Rattle.block_machine.specs.declared.due.QueueMode.{QueueMode}
 use Rattle.block_machine.specs.declared.due.Unanswered.{Unanswered}
-use Rattle.block_machine.specs.Due.{NoneDue, ahead, waits_for, is_unblocked, is_earlier_on_port, is_plain, issued_count}
+use Rattle.block_machine.specs.DueRequests.{NoneDue, unblocked_ahead_count, waits_for, is_unblocked, is_earlier_on_port, is_plain, issued_count}
 use Rattle.block_machine.specs.Ports.{Ports, Evidence, PortsWellFormed, SamePorts, IsAfterStuckReset}
 use Rattle.block_machine.specs.State.{Pending, Machine, unanswered}
-use Rattle.block_machine.specs.Steps.{Step, Accept, Issue, Touch, End, Age, Again, Answer, Store, Load, after_step, at, touch, mark_ended}
+use Rattle.block_machine.specs.Steps.{Step, Accept, Issue, Touch, End, Age, WaitAgain, Answer, Store, Load, after_step, update_pending, touch, mark_ended}
 use Rattle.block_machine.specs.Expected.{after}
 use Rattle.block_machine.specs.Events.{AbstractState, AbstractCall, Submit, StoreAt, LoadAt, Service, Tick, Reset, RevokeOf, State, Device, CallResult, Submitted, Stored, Loaded, Served, WasReset, WasRevoked, Shown, Stepped, CallRecord, NoneDueWhereReady, IsAnswered, IsByDevice, IsByServer, AreStepsOfCall, IsRun, abstract_after_all}
 use Rattle.block_machine.proofs.Members.{contains_none, contains_here, contains_there, at_cases, map_in, into_map}
 use Rattle.machine_runs.proofs.RunLaws.{is_ready, run_fit}
 use Rattle.machine_runs.proofs.Issuing.{counted_more, one_of_run}
 
-same_due : (id : RequestId) (f : Pending → Pending) → ((e : Pending) → unanswered (f e) ≡ unanswered e) → (es : List Pending) → map unanswered (map (at id f) es) ≡ map unanswered es
+same_due : (id : RequestId) (f : Pending → Pending) → ((e : Pending) → unanswered (f e) ≡ unanswered e) → (es : List Pending) → map unanswered (map (update_pending id f) es) ≡ map unanswered es
 same_due id f same [] = refl
 same_due id f same (x ∷ xs) =
-    ap (λ (u : Unanswered). u ∷ map unanswered (map (at id f) xs)) (⊎_elim (λ c. ap unanswered c.1 ∙ same x) (λ c. ap unanswered c.1) (at_cases id f x))
+    ap (λ (u : Unanswered). u ∷ map unanswered (map (update_pending id f) xs)) (⊎_elim (λ c. ap unanswered c.1 ∙ same x) (λ c. ap unanswered c.1) (at_cases id f x))
     ∙ ap (λ (us : List Unanswered). unanswered x ∷ us) (same_due id f same xs)
 
 -- the step changes nothing of what is due
@@ -29,7 +29,7 @@ abbrev IsIdle : Step → Type 0
 IsIdle (Accept r) = ⊥
 IsIdle (Issue mode e) = ⊥
 IsIdle (Age ready) = ⊥
-IsIdle (Again e) = ⊥
+IsIdle (WaitAgain e) = ⊥
 IsIdle (Answer e o) = ⊥
 IsIdle _ = Unit {0}
 
@@ -39,7 +39,7 @@ idle_due m (End p) h = same_due p.request.id mark_ended (λ e. refl) m.book
 idle_due m (Accept r) h = absurd h
 idle_due m (Issue mode e) h = absurd h
 idle_due m (Age ready) h = absurd h
-idle_due m (Again e) h = absurd h
+idle_due m (WaitAgain e) h = absurd h
 idle_due m (Answer e o) h = absurd h
 idle_due m _ h = refl
 
@@ -47,7 +47,7 @@ devices_idle : (step : Step) → IsByDevice step → IsIdle step
 devices_idle (Accept r) h = absurd h
 devices_idle (Issue mode e) h = absurd h
 devices_idle (Age ready) h = absurd h
-devices_idle (Again e) h = absurd h
+devices_idle (WaitAgain e) h = absurd h
 devices_idle (Answer e o) h = absurd h
 devices_idle _ h = tt
 
@@ -83,7 +83,7 @@ issued_still old new book same all port ready =
 issued_stuck : (old new : AbstractState) (evidence : Evidence) → PortsWellFormed new.ports → ((port : Port) → IsAfterStuckReset old.ports evidence new.ports port) → NoneDueWhereReady new
 issued_stuck old new evidence fit stuck port ready = absurd (⊎_elim
     (λ served. false≢true (ap is_ready (sym ((stuck port).1 served).0) ∙ ap is_ready ready))
-    (λ other. false≢true (ap is_ready (sym (fit.absent port ((stuck port).0 ∙ other))) ∙ ap is_ready ready))
+    (λ other. false≢true (ap is_ready (sym (fit.unserved_are_absent port ((stuck port).0 ∙ other))) ∙ ap is_ready ready))
     (cases_Bool (old.ports.served port)))
 
 -- what these steps leave, with these ports
@@ -102,18 +102,18 @@ issued_event {D} (LoadAt c f o n) (Loaded (Err fault)) old evidence steps ports 
 issued_event {D} (State p) (Shown state) old evidence steps ports a b fit all = issued_still old (left old steps ports) (idle_steps {D = D} (State p) ports old.machine steps refl b) a.2 all
 issued_event {D} (Device d) (Stepped true) old evidence steps ports a b fit all = issued_still old (left old steps ports) (idle_steps {D = D} (Device d) ports old.machine steps refl b) a.1 all
 issued_event {D} (Device d) (Stepped false) old evidence steps ports a b fit all = issued_still old (left old steps ports) (idle_steps {D = D} (Device d) ports old.machine steps refl b) a.1 all
-issued_event Service (Served replies) old evidence steps ports a b fit all = a.issues
-issued_event Tick (Served replies) old evidence steps ports a b fit all = a.issues
-issued_event Reset (WasReset (Some replies)) old evidence steps ports a b fit all = a.issues
+issued_event Service (Served replies) old evidence steps ports a b fit all = a.none_is_due
+issued_event Tick (Served replies) old evidence steps ports a b fit all = a.none_is_due
+issued_event Reset (WasReset (Some replies)) old evidence steps ports a b fit all = a.none_is_due
 issued_event Reset (WasReset None) old evidence steps ports a b fit all = issued_stuck old (left old steps ports) evidence fit a.1
-issued_event (RevokeOf c n) (WasRevoked (Some replies)) old evidence steps ports a b fit all = a.issues
+issued_event (RevokeOf c n) (WasRevoked (Some replies)) old evidence steps ports a b fit all = a.none_is_due
 issued_event (RevokeOf c n) (WasRevoked None) old evidence steps ports a b fit all =
     issued_still old (left old steps ports) (ap (λ (xs : List Step). map unanswered (after old.machine xs).book) a.1) a.2 all
 issued_event ask said old evidence steps ports a b fit all = absurd a
 
 pub law_none_due_between_calls : {D : Type 0} (first : AbstractState) (run : List (CallRecord D)) → IsRun first run → NoneDueWhereReady (abstract_after_all first run)
-law_none_due_between_calls first [] r = λ port ready x here due. contains_none x (subst (λ (es : List Pending). Contains (map unanswered es) x) r.0.book due.here)
-law_none_due_between_calls first (event ∷ past) r = issued_event event.ask event.said (abstract_after_all first past) event.evidence event.steps event.ports r.1.answered r.1.belong r.1.fit (law_none_due_between_calls first past r.0)
+law_none_due_between_calls first [] r = λ port ready x here due. contains_none x (subst (λ (es : List Pending). Contains (map unanswered es) x) r.0.book due.is_in_book)
+law_none_due_between_calls first (event ∷ past) r = issued_event event.ask event.said (abstract_after_all first past) event.evidence event.steps event.ports r.1.is_answered r.1.steps_are_of_call r.1.ports_are_well_formed (law_none_due_between_calls first past r.0)
 
 -- The only unanswered request waits for nothing: so where its port is ready, it is issued.
 
@@ -179,13 +179,13 @@ lone_is_issued first run e r h ready alone = true_from_ne_false e.issued due
     due waits =
         let alone_there = none_any (waits_for mode (unanswered e)) (map unanswered book)
         (none (waits_for mode (unanswered e)) (held_none (e.request.port.0 == e.request.port.0) (is_plain mode e.request.asked.op) e.issued (nat_lt e.request.id.0 e.request.id.0) _ waits later)) in
-        let first_there : ahead mode (map unanswered book) (unanswered e) ≡ 0 = none_counted (λ other. is_earlier_on_port other (unanswered e) && is_unblocked mode (map unanswered book) other) (map unanswered book)
+        let first_there : unblocked_ahead_count mode (map unanswered book) (unanswered e) ≡ 0 = none_counted (λ other. is_earlier_on_port other (unanswered e) && is_unblocked mode (map unanswered book) other) (map unanswered book)
         (none _ (not_earlier (e.request.port.0 == e.request.port.0) (nat_lt e.request.id.0 e.request.id.0) _ later)) in
         let free_there : issued_count (map unanswered book) e.request.port ≡ 0 = none_counted (λ (other : Unanswered). other.port.0 == e.request.port.0 && other.issued) (map unanswered book)
         (none _ (not_issued (e.request.port.0 == e.request.port.0) e.issued waits)) in
-        let usable = ((run_fit first run r).slots e.request.port ready).0 in
+        let usable = ((run_fit first run r).modes_are_valid e.request.port ready).0 in
         law_none_due_between_calls first run r e.request.port ready (unanswered e) refl (record {
-          here = into_map unanswered book e h;
-          clear = clear_from e.issued (list_any (waits_for mode (unanswered e)) (map unanswered book)) waits alone_there;
-          slot = λ queued. omega (arith, first_there, free_there, usable);
+          is_in_book = into_map unanswered book e h;
+          nothing_blocks = clear_from e.issued (list_any (waits_for mode (unanswered e)) (map unanswered book)) waits alone_there;
+          slot_is_left = λ queued. omega (arith, first_there, free_there, usable);
         })

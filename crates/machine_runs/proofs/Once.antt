@@ -9,28 +9,28 @@ use Rattle.ata_types.specs.declared.request.Outcome.{Outcome}
 use Rattle.ata_types.specs.declared.request.Reply.{Reply}
 use Rattle.block_machine.specs.Ports.{Ports, Evidence}
 use Rattle.block_machine.specs.State.{Accepted, Pending, Machine}
-use Rattle.block_machine.specs.Steps.{Step, Accept, Answer, May, after_step}
+use Rattle.block_machine.specs.Steps.{Step, Accept, Answer, IsEnabled, after_step}
 use Rattle.block_machine.specs.Expected.{after, IsLegal, IsInitial}
-use Rattle.block_machine.specs.Confined.{WasAccepted}
-use Rattle.block_machine.specs.Events.{AbstractState, AbstractCall, Submit, Service, Tick, Reset, RevokeOf, CallResult, Submitted, Served, WasReset, WasRevoked, CallRecord, AllMay, AreStepsOfCall, RepliesMatch, IsAnswered, IsRun, accepts_it, answers_it, accepts_of, answers_of, reply_of, replies_of, all_replies, gives_id, WasGivenId, abstract_after_all, steps_of}
+use Rattle.block_machine.specs.Confinement.{WasAccepted}
+use Rattle.block_machine.specs.Events.{AbstractState, AbstractCall, Submit, Service, Tick, Reset, RevokeOf, CallResult, Submitted, Served, WasReset, WasRevoked, CallRecord, AllEnabled, AreStepsOfCall, RepliesMatch, IsAnswered, IsRun, accepts_id, answers_id, accepts_of, answers_of, reply_of, replies_of, all_replies, gives_id, WasGivenId, abstract_after_all, steps_of}
 use Rattle.block_machine.proofs.Members.{contains_none, contains_here, contains_there, contains_cases, map_in, without_in, append_in}
 use Rattle.block_machine.proofs.Sound.{Sound}
 use Rattle.block_machine.proofs.Runs.{traced, nobody}
 use Rattle.block_machine.proofs.Accepts.{living_accepted}
 use Rattle.block_machine.proofs.Counting.{count_cons, count_append, count_map}
-use Rattle.machine_runs.specs.Told.{WasUnansweredBefore, WasAsked}
+use Rattle.machine_runs.specs.AnswerOrigins.{WasUnansweredBefore, WasAsked}
 use Rattle.machine_runs.proofs.CallSteps.{Came, came, Since, IsAccepted, since, is_submit, none_accepted, all_fit, accepted_asked}
 use Rattle.block_machine.proofs.EventLemmas.{run_starts, run_legal, step_of_run}
 
 -- How often an id was accepted: not yet where it is still to come, and once at most.
 record IsFresh (m : Machine) (id : RequestId) (n : ℕ) : Type 0 where
   most : n ≤ 1
-  none : m.next ≤ id.0 → n ≡ 0
+  none : m.next_id ≤ id.0 → n ≡ 0
 
-fresh_step : (m : Machine) (step : Step) (id : RequestId) (n : ℕ) → May m step → IsFresh m id n → IsFresh (after_step m step) id (cond (accepts_it id step) 1 0 + n)
+fresh_step : (m : Machine) (step : Step) (id : RequestId) (n : ℕ) → IsEnabled m step → IsFresh m id n → IsFresh (after_step m step) id (cond (accepts_id id step) 1 0 + n)
 fresh_step m (Accept r) id n may f = go (r.id.0 == id.0) refl
   where
-    next : r.id.0 ≡ m.next
+    next : r.id.0 ≡ m.next_id
     next = may.id
 
     go : (b : Bool) → (r.id.0 == id.0) ≡ b → IsFresh (after_step m (Accept r)) id (cond b 1 0 + n)
@@ -41,21 +41,21 @@ fresh_step m (Accept r) id n may f = go (r.id.0 == id.0) refl
     go false e = let most = f.most in record { most = omega (arith, most); none = λ le. let zero = f.none (omega (arith, le)) in omega (arith, zero) }
 fresh_step m step id n may f = let most = f.most in record { most = omega (arith, most); none = λ le. let zero = f.none le in omega (arith, zero) }
 
-fresh : (start : Machine) (h : List Step) (id : RequestId) → IsInitial start → IsLegal start h → IsFresh (after start h) id (count_by (accepts_it id) h)
+fresh : (start : Machine) (h : List Step) (id : RequestId) → IsInitial start → IsLegal start h → IsFresh (after start h) id (count_by (accepts_id id) h)
 fresh start [] id s legal = record { most = omega arith; none = λ le. refl }
-fresh start (step ∷ past) id s legal = subst (IsFresh (after start (step ∷ past)) id) (sym (count_cons (accepts_it id) step past))
-    (fresh_step (after start past) step id (count_by (accepts_it id) past) legal.1 (fresh start past id s legal.0))
+fresh start (step ∷ past) id s legal = subst (IsFresh (after start (step ∷ past)) id) (sym (count_cons (accepts_id id) step past))
+    (fresh_step (after start past) step id (count_by (accepts_id id) past) legal.1 (fresh start past id s legal.0))
 
-pub law_accepted_once : {D : Type 0} (first : AbstractState) (run : List (CallRecord D)) (id : RequestId) → IsRun first run → count_by (accepts_it id) (steps_of run) ≤ 1
+pub law_accepted_once : {D : Type 0} (first : AbstractState) (run : List (CallRecord D)) (id : RequestId) → IsRun first run → count_by (accepts_id id) (steps_of run) ≤ 1
 law_accepted_once first run id r = (fresh first.machine (steps_of run) id (run_starts first run r) (run_legal first run r)).most
 
 -- How often an id was answered: not yet where it is still to come, or unanswered, and once at most.
 record IsUntold (m : Machine) (id : RequestId) (n : ℕ) : Type 0 where
   most : n ≤ 1
-  none : m.next ≤ id.0 → n ≡ 0
+  none : m.next_id ≤ id.0 → n ≡ 0
   here : (e : Pending) → Contains m.book e → e.request.id.0 ≡ id.0 → n ≡ 0
 
-untold_step : (m : Machine) (step : Step) (id : RequestId) (n : ℕ) → May m step → Sound m → IsUntold m id n → IsUntold (after_step m step) id (cond (answers_it id step) 1 0 + n)
+untold_step : (m : Machine) (step : Step) (id : RequestId) (n : ℕ) → IsEnabled m step → Sound m → IsUntold m id n → IsUntold (after_step m step) id (cond (answers_id id step) 1 0 + n)
 untold_step m (Answer p o) id n may s f = go (p.request.id.0 == id.0) refl
   where
     go : (b : Bool) → (p.request.id.0 == id.0) ≡ b → IsUntold (after_step m (Answer p o)) id (cond b 1 0 + n)
@@ -73,7 +73,7 @@ untold_step m (Answer p o) id n may s f = go (p.request.id.0 == id.0) refl
         }
 untold_step m (Accept r) id n may s f =
     let most = f.most in
-    let next : r.id.0 ≡ m.next = may.id in
+    let next : r.id.0 ≡ m.next_id = may.id in
     record {
       most = omega (arith, most);
       none = λ le. let zero = f.none (omega (arith, le)) in omega (arith, zero);
@@ -93,12 +93,12 @@ untold_step m step id n may s f =
           (came m step x i);
     }
 
-untold : (start : Machine) (h : List Step) (id : RequestId) → IsInitial start → IsLegal start h → IsUntold (after start h) id (count_by (answers_it id) h)
+untold : (start : Machine) (h : List Step) (id : RequestId) → IsInitial start → IsLegal start h → IsUntold (after start h) id (count_by (answers_id id) h)
 untold start [] id s legal = record { most = omega arith; none = λ le. refl; here = λ e i q. refl }
-untold start (step ∷ past) id s legal = subst (IsUntold (after start (step ∷ past)) id) (sym (count_cons (answers_it id) step past))
-    (untold_step (after start past) step id (count_by (answers_it id) past) legal.1 (traced start past s legal.0).sound (untold start past id s legal.0))
+untold start (step ∷ past) id s legal = subst (IsUntold (after start (step ∷ past)) id) (sym (count_cons (answers_id id) step past))
+    (untold_step (after start past) step id (count_by (answers_id id) past) legal.1 (traced start past s legal.0).sound (untold start past id s legal.0))
 
-pub law_answered_once : {D : Type 0} (first : AbstractState) (run : List (CallRecord D)) (id : RequestId) → IsRun first run → count_by (answers_it id) (steps_of run) ≤ 1
+pub law_answered_once : {D : Type 0} (first : AbstractState) (run : List (CallRecord D)) (id : RequestId) → IsRun first run → count_by (answers_id id) (steps_of run) ≤ 1
 law_answered_once first run id r = (untold first.machine (steps_of run) id (run_starts first run r) (run_legal first run r)).most
 
 pub law_answered_was_accepted : {D : Type 0} (first : AbstractState) (run : List (CallRecord D)) (late early : List Step) (e : Pending) (outcome : Outcome) → IsRun first run
@@ -112,10 +112,10 @@ law_answered_was_accepted first run late early e outcome r split =
 -- a call tells the answers of its steps, or gives no reply
 told_or_none : {D : Type 0} (ask : AbstractCall D) (said : CallResult) (old : AbstractState) (evidence : Evidence) (steps : List Step) (new : AbstractState) → IsAnswered ask said old evidence steps new
     → (RepliesMatch steps (replies_of said) × (is_submit ask ≡ false)) ⊎ (replies_of said ≡ [])
-told_or_none Service (Served replies) old evidence steps new a = inl (a.tells, refl)
-told_or_none Tick (Served replies) old evidence steps new a = inl (a.tells, refl)
-told_or_none Reset (WasReset (Some replies)) old evidence steps new a = inl (a.tells, refl)
-told_or_none (RevokeOf c n) (WasRevoked (Some replies)) old evidence steps new a = inl (a.tells, refl)
+told_or_none Service (Served replies) old evidence steps new a = inl (a.replies_match, refl)
+told_or_none Tick (Served replies) old evidence steps new a = inl (a.replies_match, refl)
+told_or_none Reset (WasReset (Some replies)) old evidence steps new a = inl (a.replies_match, refl)
+told_or_none (RevokeOf c n) (WasRevoked (Some replies)) old evidence steps new a = inl (a.replies_match, refl)
 told_or_none ask (Served replies) old evidence steps new a = absurd a
 told_or_none ask (WasReset (Some replies)) old evidence steps new a = absurd a
 told_or_none ask (WasRevoked (Some replies)) old evidence steps new a = absurd a
@@ -127,43 +127,43 @@ abbrev is_of : RequestId → Pending × Outcome → Bool
 is_of id answer = answer.0.request.id.0 == id.0
 
 -- a step, counted
-count_answers : (id : RequestId) (steps : List Step) → count_by (is_of id) (answers_of steps) ≡ count_by (answers_it id) steps
+count_answers : (id : RequestId) (steps : List Step) → count_by (is_of id) (answers_of steps) ≡ count_by (answers_id id) steps
 count_answers id [] = refl
 count_answers id (Answer e o ∷ before) =
-    let rest = count_answers id before in omega (arith, rest, count_cons (is_of id) (e, o) (answers_of before), count_cons (answers_it id) (Answer e o) before)
-count_answers id (step ∷ before) = let rest = count_answers id before in omega (arith, rest, count_cons (answers_it id) step before)
+    let rest = count_answers id before in omega (arith, rest, count_cons (is_of id) (e, o) (answers_of before), count_cons (answers_id id) (Answer e o) before)
+count_answers id (step ∷ before) = let rest = count_answers id before in omega (arith, rest, count_cons (answers_id id) step before)
 
 count_replies : (id : RequestId) (answers : List (Pending × Outcome)) → count_by (λ (reply : Reply). reply.id.0 == id.0) (map reply_of answers) ≡ count_by (is_of id) answers
 count_replies id answers = count_map (λ (reply : Reply). reply.id.0 == id.0) (is_of id) reply_of answers (λ y i. refl)
 
 -- a call replies as often as it answers, or not
-replies_few : (id : RequestId) (steps : List Step) (replies : List Reply) → RepliesMatch steps replies ⊎ (replies ≡ []) → count_by (λ (reply : Reply). reply.id.0 == id.0) replies ≤ count_by (answers_it id) steps
+replies_few : (id : RequestId) (steps : List Step) (replies : List Reply) → RepliesMatch steps replies ⊎ (replies ≡ []) → count_by (λ (reply : Reply). reply.id.0 == id.0) replies ≤ count_by (answers_id id) steps
 replies_few id steps replies (inl t) =
-    let same = ap (count_by (λ (reply : Reply). reply.id.0 == id.0)) t.told in
-    let swapped : count_by (is_of id) (answers_of steps) ≡ count_by (is_of id) t.answers = sum_by-IsPermutation (λ a. cond (is_of id a) 1 0) t.answers (answers_of steps) t.same in
+    let same = ap (count_by (λ (reply : Reply). reply.id.0 == id.0)) t.replies_are in
+    let swapped : count_by (is_of id) (answers_of steps) ≡ count_by (is_of id) t.answers = sum_by-IsPermutation (λ a. cond (is_of id a) 1 0) t.answers (answers_of steps) t.is_permutation in
     omega (arith, same, swapped, count_answers id steps, count_replies id t.answers)
 replies_few id steps replies (inr e) = let same = ap (count_by (λ (reply : Reply). reply.id.0 == id.0)) e in omega (arith, same)
 
-run_replies : {D : Type 0} (first : AbstractState) (run : List (CallRecord D)) (id : RequestId) → IsRun first run → count_by (λ (reply : Reply). reply.id.0 == id.0) (all_replies run) ≤ count_by (answers_it id) (steps_of run)
+run_replies : {D : Type 0} (first : AbstractState) (run : List (CallRecord D)) (id : RequestId) → IsRun first run → count_by (λ (reply : Reply). reply.id.0 == id.0) (all_replies run) ≤ count_by (answers_id id) (steps_of run)
 run_replies first [] id r = omega arith
 run_replies first (event ∷ past) id r =
     let rest = run_replies first past id r.0 in
     let now = replies_few id event.steps (replies_of event.said)
-    (⊎_elim (λ t. inl t.0) (λ e. inr e) (told_or_none event.ask event.said (abstract_after_all first past) event.evidence event.steps _ r.1.answered)) in
-    omega (arith, rest, now, count_append (λ (reply : Reply). reply.id.0 == id.0) (replies_of event.said) (all_replies past), count_append (answers_it id) event.steps (steps_of past))
+    (⊎_elim (λ t. inl t.0) (λ e. inr e) (told_or_none event.ask event.said (abstract_after_all first past) event.evidence event.steps _ r.1.is_answered)) in
+    omega (arith, rest, now, count_append (λ (reply : Reply). reply.id.0 == id.0) (replies_of event.said) (all_replies past), count_append (answers_id id) event.steps (steps_of past))
 
 pub law_replied_once : {D : Type 0} (first : AbstractState) (run : List (CallRecord D)) (id : RequestId) → IsRun first run → count_by (λ (reply : Reply). reply.id.0 == id.0) (all_replies run) ≤ 1
 law_replied_once first run id r = let few = run_replies first run id r in let once = law_answered_once first run id r in omega (arith, few, once)
 
 -- a call that accepts says so
-accepts_count : (id : RequestId) (steps : List Step) → count_by (λ (r : Accepted). r.id.0 == id.0) (accepts_of steps) ≡ count_by (accepts_it id) steps
+accepts_count : (id : RequestId) (steps : List Step) → count_by (λ (r : Accepted). r.id.0 == id.0) (accepts_of steps) ≡ count_by (accepts_id id) steps
 accepts_count id [] = refl
 accepts_count id (Accept r ∷ before) =
-    let rest = accepts_count id before in omega (arith, rest, count_cons (λ (x : Accepted). x.id.0 == id.0) r (accepts_of before), count_cons (accepts_it id) (Accept r) before)
-accepts_count id (step ∷ before) = let rest = accepts_count id before in omega (arith, rest, count_cons (accepts_it id) step before)
+    let rest = accepts_count id before in omega (arith, rest, count_cons (λ (x : Accepted). x.id.0 == id.0) r (accepts_of before), count_cons (accepts_id id) (Accept r) before)
+accepts_count id (step ∷ before) = let rest = accepts_count id before in omega (arith, rest, count_cons (accepts_id id) step before)
 
 gives_accepted : {D : Type 0} (id : RequestId) (ask : AbstractCall D) (said : CallResult) (old : AbstractState) (evidence : Evidence) (steps : List Step) (new : AbstractState) → IsAnswered ask said old evidence steps new
-    → cond (gives_id id said) 1 0 ≤ count_by (accepts_it id) steps
+    → cond (gives_id id said) 1 0 ≤ count_by (accepts_id id) steps
 gives_accepted id (Submit q) (Submitted (Ok given)) old evidence steps new a =
     let one : count_by (λ (r : Accepted). r.id.0 == id.0) (accepts_of steps) ≡ cond (a.1.0.id.0 == id.0) 1 0 + 0 =
     ap (count_by (λ (r : Accepted). r.id.0 == id.0)) a.1.1 ∙ count_cons (λ (r : Accepted). r.id.0 == id.0) a.1.0 [] in
@@ -172,12 +172,12 @@ gives_accepted id (Submit q) (Submitted (Ok given)) old evidence steps new a =
 gives_accepted id ask (Submitted (Ok given)) old evidence steps new a = absurd a
 gives_accepted id ask said old evidence steps new a = omega arith
 
-run_gives : {D : Type 0} (first : AbstractState) (run : List (CallRecord D)) (id : RequestId) → IsRun first run → count_by (λ (event : CallRecord D). gives_id id event.said) run ≤ count_by (accepts_it id) (steps_of run)
+run_gives : {D : Type 0} (first : AbstractState) (run : List (CallRecord D)) (id : RequestId) → IsRun first run → count_by (λ (event : CallRecord D). gives_id id event.said) run ≤ count_by (accepts_id id) (steps_of run)
 run_gives first [] id r = omega arith
 run_gives {D} first (event ∷ past) id r =
     let rest = run_gives first past id r.0 in
-    let now = gives_accepted id event.ask event.said (abstract_after_all first past) event.evidence event.steps _ r.1.answered in
-    omega (arith, rest, now, count_cons (λ (x : CallRecord D). gives_id id x.said) event past, count_append (accepts_it id) event.steps (steps_of past))
+    let now = gives_accepted id event.ask event.said (abstract_after_all first past) event.evidence event.steps _ r.1.is_answered in
+    omega (arith, rest, now, count_cons (λ (x : CallRecord D). gives_id id x.said) event past, count_append (accepts_id id) event.steps (steps_of past))
 
 pub law_ids_are_given_once : {D : Type 0} (first : AbstractState) (run : List (CallRecord D)) (id : RequestId) → IsRun first run → count_by (λ (event : CallRecord D). gives_id id event.said) run ≤ 1
 law_ids_are_given_once first run id r = let few = run_gives first run id r in let once = law_accepted_once first run id r in omega (arith, few, once)
@@ -200,19 +200,19 @@ pub came_from : {D : Type 0} (first : AbstractState) (past : List (CallRecord D)
 came_from first past event e r h = ⊎_elim
     (λ (s : Since (abstract_after_all first past).machine event.steps e). inl (record {
       before = s.old;
-      here = s.here;
+      is_in_book = s.here;
       same = s.same;
       issued = λ t. ⊎_elim (λ anew. inl anew.0) (λ kept. inr kept.1) (s.issued t);
     }))
     (λ (a : IsAccepted event.steps e). inr
-    (accepts_asked e.request event.ask event.said (abstract_after_all first past) event.evidence event.steps event.ports _ r.1.belong r.1.answered a.0))
+    (accepts_asked e.request event.ask event.said (abstract_after_all first past) event.evidence event.steps event.ports _ r.1.steps_are_of_call r.1.is_answered a.0))
     (since (abstract_after_all first past).machine event.steps e h)
 
 was_asked : {D : Type 0} (first : AbstractState) (run : List (CallRecord D)) (e : Pending) → IsRun first run → Contains (abstract_after_all first run).machine.book e → WasAsked e.request run
 was_asked first [] e r h = absurd (nobody first.machine r.0 e (inl h))
 was_asked first (event ∷ past) e r h = ⊎_elim
     (λ (c : WasUnansweredBefore (abstract_after_all first past).machine event.steps e). inr
-    (subst (λ (x : Accepted). WasAsked x past) c.same (was_asked first past c.before r.0 c.here)))
+    (subst (λ (x : Accepted). WasAsked x past) c.same (was_asked first past c.before r.0 c.is_in_book)))
     (λ asked. inl asked)
     (came_from first past event e r h)
 
@@ -227,7 +227,7 @@ accepted_in start (step ∷ steps) past r (inr w) = accepted_in start steps past
 pub law_accepted_was_asked : {D : Type 0} (first : AbstractState) (run : List (CallRecord D)) (r : Accepted) → IsRun first run → WasAccepted first.machine (steps_of run) r → WasAsked r run
 law_accepted_was_asked first [] r run w = w
 law_accepted_was_asked first (event ∷ past) r run w = ⊎_elim
-    (λ (i : Contains (accepts_of event.steps) r). inl (accepts_asked r event.ask event.said (abstract_after_all first past) event.evidence event.steps event.ports _ run.1.belong run.1.answered i))
+    (λ (i : Contains (accepts_of event.steps) r). inl (accepts_asked r event.ask event.said (abstract_after_all first past) event.evidence event.steps event.ports _ run.1.steps_are_of_call run.1.is_answered i))
     (λ was. inr (law_accepted_was_asked first past r run.0 was))
     (accepted_in first.machine event.steps (steps_of past) r w)
 
@@ -243,7 +243,7 @@ not_cons : {X : Type 0} (x : X) (xs : List X) → x ∷ xs ≡ [] → ⊥
 not_cons x xs e = contains_none x (subst (λ ys. Contains ys x) e (contains_here x xs x refl))
 
 -- a request that these steps answer was unanswered before them, where they accept none
-was_open : (m : Machine) (steps : List Step) (answer : Pending × Outcome) → AllMay m steps → accepts_of steps ≡ [] → Contains (answers_of steps) answer
+was_open : (m : Machine) (steps : List Step) (answer : Pending × Outcome) → AllEnabled m steps → accepts_of steps ≡ [] → Contains (answers_of steps) answer
     → (e : Pending) × Contains m.book e × (e.request ≡ answer.0.request)
 was_open m [] answer may none h = absurd (contains_none answer h)
 was_open m (Accept r ∷ before) answer may none h = absurd (not_cons r (accepts_of before) none)
@@ -272,14 +272,14 @@ pub law_replied_was_asked : {D : Type 0} (first : AbstractState) (past : List (C
     → IsRepliedBy reply event past
 law_replied_was_asked first past event reply r h = ⊎_elim
     (λ (t : RepliesMatch event.steps (replies_of event.said) × (is_submit event.ask ≡ false)).
-    let a = map_in reply_of t.0.answers reply (subst (λ (xs : List Reply). Contains xs reply) t.0.told h) in
-    let i = Contains-permutation t.0.answers (answers_of event.steps) a.0 t.0.same a.1 in
-    let waited = was_open (abstract_after_all first past).machine event.steps a.0 r.1.may (none_accepted event.ask event.steps t.1 (all_fit event.ask event.ports event.steps r.1.belong)) i in
+    let a = map_in reply_of t.0.answers reply (subst (λ (xs : List Reply). Contains xs reply) t.0.replies_are h) in
+    let i = Contains-permutation t.0.answers (answers_of event.steps) a.0 t.0.is_permutation a.1 in
+    let waited = was_open (abstract_after_all first past).machine event.steps a.0 r.1.steps_are_enabled (none_accepted event.ask event.steps t.1 (all_fit event.ask event.ports event.steps r.1.steps_are_of_call)) i in
     let asked : WasAsked a.0.0.request past = subst (λ (x : Accepted). WasAsked x past) waited.2 (was_asked first past waited.0 r.0 waited.1) in
     let told : IsRepliedBy (reply_of a.0) event past = (a.0.0, answers_in event.steps a.0 i, refl, refl, asked) in
     subst (λ (x : Reply). IsRepliedBy x event past) (sym a.2) told)
     (λ e. absurd (contains_none reply (subst (λ (xs : List Reply). Contains xs reply) e h)))
-    (told_or_none event.ask event.said (abstract_after_all first past) event.evidence event.steps _ r.1.answered)
+    (told_or_none event.ask event.said (abstract_after_all first past) event.evidence event.steps _ r.1.is_answered)
 
 pub law_replied_was_given : {D : Type 0} (first : AbstractState) (past : List (CallRecord D)) (event : CallRecord D) (reply : Reply) → IsRun first (event ∷ past) → Contains (replies_of event.said) reply
     → WasGivenId reply.id reply.client past

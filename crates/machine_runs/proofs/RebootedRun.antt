@@ -7,7 +7,7 @@ use Rattle.ata_types.specs.declared.PortState.TheVariants.{Ready}
 use Rattle.ata_types.specs.declared.request.Outcome.TheVariants as outcome
 use Rattle.block_machine.specs.Ports.{MayBecome}
 use Rattle.block_machine.specs.State.{Pending, Machine, unanswered}
-use Rattle.block_machine.specs.Steps.{Issue, Again, Answer, Release, newly_accepted, newly_issued, requeued}
+use Rattle.block_machine.specs.Steps.{Issue, WaitAgain, Answer, Release, newly_accepted, newly_issued, requeued}
 use Rattle.block_machine.specs.Events.{AbstractState, Reset, WasReset, CallRecord, Happens, IsIssuedIn, reply_of, abstract_after_all, abstract_after}
 use Rattle.machine_runs.specs.ExampleRuns.{GoesAgainInResets}
 use Rattle.block_machine.proofs.Setting.{port, empty_starts, two_rows, granted}
@@ -24,7 +24,7 @@ abbrev waits : Pending
 waits = newly_accepted read
 
 abbrev retry : ℕ → CallRecord (Unit {0})
-retry n = record { ask = Reset; said = WasReset (Some []); evidence = halted; steps = Issue mode (requeued (tried n)) ∷ Again (tried n) ∷ Release ∷ []; ports = ports }
+retry n = record { ask = Reset; said = WasReset (Some []); evidence = halted; steps = Issue mode (requeued (tried n)) ∷ WaitAgain (tried n) ∷ Release ∷ []; ports = ports }
 
 abbrev run5 : List (CallRecord (Unit {0}))
 run5 = retry 3 ∷ retry 2 ∷ retry 1 ∷ run2
@@ -33,7 +33,7 @@ abbrev abort : CallRecord (Unit {0})
 abort = record { ask = Reset; said = WasReset (Some (reply_of (tried 4, outcome.Aborted) ∷ [])); evidence = halted; steps = Issue mode waits ∷ Answer (tried 4) outcome.Aborted ∷ Release ∷ []; ports = ports }
 
 becomes : (p : Port) → MayBecome ports halted ports p
-becomes p = record { served = refl; stuck = (λ dead. none_dead p dead, λ h. absurd (All-contains (λ _. ⊥) [] p (All-nil (λ _. ⊥)) h)); keeps = λ _. (refl, refl) }
+becomes p = record { served_is_kept = refl; dead_is_stuck = (λ dead. none_dead p dead, λ h. absurd (All-contains (λ _. ⊥) [] p (All-nil (λ _. ⊥)) h)); disk_is_kept = λ _. (refl, refl) }
 
 -- the moment before a reset
 abbrev before : Machine → ℕ → AbstractState
@@ -41,62 +41,62 @@ before m n = record { machine = record m { book = tried n ∷ waits ∷ []; kept
 
 again : (m : Machine) (n : ℕ) → m.rows ≡ two_rows → ((p : Port) → m.present p ≡ true) → n < 4 → Happens (before m n) (retry n)
 again m n rows present few = record {
-  may = (
+  steps_are_enabled = (
     ((tt, tt), ((0, omega arith, refl), refl, few, granted 0 row_zero rows)),
-    ((0, omega arith, refl), record { here = (0, omega arith, refl); clear = refl; slot = λ _. omega arith }, λ e h. absurd (All-contains (λ _. ⊥) [] e (All-nil (λ _. ⊥)) h), granted 0 row_zero rows),
+    ((0, omega arith, refl), record { is_in_book = (0, omega arith, refl); nothing_blocks = refl; slot_is_left = λ _. omega arith }, λ e h. absurd (All-contains (λ _. ⊥) [] e (All-nil (λ _. ⊥)) h), granted 0 row_zero rows),
   );
-  belong = (((tt, inr tt), inr refl), inr (refl, refl));
-  last = (((tt, λ id h i. false≢true i), λ id h i. false≢true i), λ id h i. false≢true i);
-  lawful = (tt, (0, omega arith, refl));
-  fit = ports_fit Ready refl;
-  disks = λ e o h i same. (refl, refl);
-  answered = record {
-    tells = none_told (retry n).steps refl;
-    releases = record { later = Issue mode (requeued (tried n)) ∷ Again (tried n) ∷ []; earlier = []; split = refl; before = tt; once = refl };
-    unplugs = none_unplugged (retry n).steps (abstract_after (before m n) (retry n)).machine refl;
-    finds = finds_none (retry n).steps ports ports refl;
-    issues = λ p _. none_due p;
-    emptied = λ p. emptied_of (tried (suc n) ∷ waits ∷ []) (of_two (tried (suc n)) waits (λ e. e.request.port ≡ port) refl refl) p;
-    becomes = λ p. becomes p;
-    anew = λ p e h _ issued. of_two (tried (suc n)) waits (λ x. x.issued ≡ true → IsIssuedIn x.request.id (retry n).steps) (λ _. refl) (λ t. absurd (false≢true t)) e h issued;
-    stopped = λ p. stopped_here p;
-    disk = λ p _. inl (present p);
+  steps_are_of_call = (((tt, inr tt), inr refl), inr (refl, refl));
+  issues_are_last = (((tt, λ id h i. false≢true i), λ id h i. false≢true i), λ id h i. false≢true i);
+  answers_are_lawful = (tt, (0, omega arith, refl));
+  ports_are_well_formed = ports_fit Ready refl;
+  unanswered_keep_disk = λ e o h i same. (refl, refl);
+  is_answered = record {
+    replies_match = none_told (retry n).steps refl;
+    releases_once = record { later = Issue mode (requeued (tried n)) ∷ WaitAgain (tried n) ∷ []; earlier = []; split = refl; before = tt; once = refl };
+    answers_all_unplugged = none_unplugged (retry n).steps (abstract_after (before m n) (retry n)).machine refl;
+    unplugged_lost_disk = finds_none (retry n).steps ports ports refl;
+    none_is_due = λ p _. none_due p;
+    empty_unless_ready = λ p. emptied_of (tried (suc n) ∷ waits ∷ []) (of_two (tried (suc n)) waits (λ e. e.request.port ≡ port) refl refl) p;
+    port_may_become = λ p. becomes p;
+    none_stays_issued = λ p e h _ issued. of_two (tried (suc n)) waits (λ x. x.issued ≡ true → IsIssuedIn x.request.id (retry n).steps) (λ _. refl) (λ t. absurd (false≢true t)) e h issued;
+    served_are_stopped = λ p. stopped_here p;
+    shown_disk_was_in_or_came = λ p _. inl (present p);
   };
 }
 
 happens6 : Happens (abstract_after_all first run5) abort
 happens6 = record {
-  may = (
+  steps_are_enabled = (
     ((tt, tt), ((0, omega arith, refl), granted 0 row_zero refl)),
-    ((0, omega arith, refl), record { here = (0, omega arith, refl); clear = refl; slot = λ _. omega arith }, λ e h. absurd (All-contains (λ _. ⊥) [] e (All-nil (λ _. ⊥)) h), granted 0 row_zero refl),
+    ((0, omega arith, refl), record { is_in_book = (0, omega arith, refl); nothing_blocks = refl; slot_is_left = λ _. omega arith }, λ e h. absurd (All-contains (λ _. ⊥) [] e (All-nil (λ _. ⊥)) h), granted 0 row_zero refl),
   );
-  belong = (((tt, inr tt), inr tt), inr (refl, refl));
-  last = (((tt, λ id h i. false≢true i), λ id h i. false≢true i), λ id h i. false≢true i);
-  lawful = (tt, (record { pending = tried 4; here = (0, omega arith, refl); id_is = refl; issued = refl }, refl, (refl, (0, omega arith, refl), (refl, refl))));
-  fit = ports_fit Ready refl;
-  disks = λ e o h i same. (refl, refl);
-  answered = record {
-    tells = one_told (tried 4) outcome.Aborted abort.steps refl (reply_of (tried 4, outcome.Aborted)) refl;
-    releases = record { later = Issue mode waits ∷ Answer (tried 4) outcome.Aborted ∷ []; earlier = []; split = refl; before = tt; once = refl };
-    unplugs = none_unplugged abort.steps (abstract_after (abstract_after_all first run5) abort).machine refl;
-    finds = finds_none abort.steps ports ports refl;
-    issues = λ p _. one_issued (unanswered (newly_issued waits)) refl p;
-    emptied = λ p. emptied_of (newly_issued waits ∷ []) (only_one (newly_issued waits) (λ x. x.request.port ≡ port) refl) p;
-    becomes = λ p. becomes p;
-    anew = λ p e h _ _. only_one (newly_issued waits) (λ x. IsIssuedIn x.request.id abort.steps) refl e h;
-    stopped = λ p. stopped_here p;
-    disk = λ p _. inl refl;
+  steps_are_of_call = (((tt, inr tt), inr tt), inr (refl, refl));
+  issues_are_last = (((tt, λ id h i. false≢true i), λ id h i. false≢true i), λ id h i. false≢true i);
+  answers_are_lawful = (tt, (record { pending = tried 4; is_in_book = (0, omega arith, refl); id_is = refl; issued = refl }, refl, (refl, (0, omega arith, refl), (refl, refl))));
+  ports_are_well_formed = ports_fit Ready refl;
+  unanswered_keep_disk = λ e o h i same. (refl, refl);
+  is_answered = record {
+    replies_match = one_told (tried 4) outcome.Aborted abort.steps refl (reply_of (tried 4, outcome.Aborted)) refl;
+    releases_once = record { later = Issue mode waits ∷ Answer (tried 4) outcome.Aborted ∷ []; earlier = []; split = refl; before = tt; once = refl };
+    answers_all_unplugged = none_unplugged abort.steps (abstract_after (abstract_after_all first run5) abort).machine refl;
+    unplugged_lost_disk = finds_none abort.steps ports ports refl;
+    none_is_due = λ p _. one_issued (unanswered (newly_issued waits)) refl p;
+    empty_unless_ready = λ p. emptied_of (newly_issued waits ∷ []) (only_one (newly_issued waits) (λ x. x.request.port ≡ port) refl) p;
+    port_may_become = λ p. becomes p;
+    none_stays_issued = λ p e h _ _. only_one (newly_issued waits) (λ x. IsIssuedIn x.request.id abort.steps) refl e h;
+    served_are_stopped = λ p. stopped_here p;
+    shown_disk_was_in_or_came = λ p _. inl refl;
   };
 }
 
 pub goes_again_in_resets : GoesAgainInResets
 goes_again_in_resets = record {
-  first = first;
+  initial_state = first;
   asked = run2;
-  one = retry 1;
-  two = retry 2;
-  three = retry 3;
-  four = abort;
+  first_call = retry 1;
+  second_call = retry 2;
+  third_call = retry 3;
+  fourth_call = abort;
   runs = (((((((empty_starts, ports_fit Ready refl), happens1), happens2), again (abstract_after_all first run2).machine 1 refl (λ p. refl) (omega arith)), again (abstract_after_all first (retry 1 ∷ run2)).machine 2 refl (λ p. refl) (omega arith)), again (abstract_after_all first (retry 2 ∷ retry 1 ∷ run2)).machine 3 refl (λ p. refl) (omega arith)), happens6);
   resets = (refl, refl, refl, refl);
   issued = tried 1;

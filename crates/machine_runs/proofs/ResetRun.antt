@@ -8,7 +8,7 @@ use Rattle.ata_types.specs.declared.request.Outcome.{Outcome}
 use Rattle.ata_types.specs.declared.request.Outcome.TheVariants as outcome
 use Rattle.block_machine.specs.Ports.{Evidence, SamePorts}
 use Rattle.block_machine.specs.State.{Pending, unanswered}
-use Rattle.block_machine.specs.Steps.{Step, Issue, Age, Again, Answer, Release, newly_accepted, newly_issued, requeued}
+use Rattle.block_machine.specs.Steps.{Step, Issue, Age, WaitAgain, Answer, Release, newly_accepted, newly_issued, requeued}
 use Rattle.block_machine.specs.Events.{AbstractState, Service, Tick, Reset, Served, WasReset, CallRecord, TellsDead, AgesOnce, HasTimedOut, IsIssuedIn, RestartsTimedOut, Happens, is_age, reply_of, abstract_after_all}
 use Rattle.machine_runs.specs.ExampleRuns.{QuarantineEndsWithReset}
 use Rattle.block_machine.proofs.Members.{contains_none, contains_here, contains_cases}
@@ -37,11 +37,11 @@ abbrev waits : Pending
 waits = requeued (aged 3)
 
 abbrev restarts : List Step
-restarts = Issue mode waits ∷ Again (aged 3) ∷ []
+restarts = Issue mode waits ∷ WaitAgain (aged 3) ∷ []
 
 -- the port's engine was seen to stop, or the adapter's reset to end
 abbrev pub halted : Evidence
-halted = record { faults = []; lost = []; gone = []; failed = []; fatal = []; stopped = port ∷ []; stuck = [] }
+halted = record { faults = []; lost = []; link_changed = []; failed = []; fatal = []; stopped = port ∷ []; stuck = [] }
 
 abbrev restarting : CallRecord (Unit {0})
 restarting = record (tick restarts) { evidence = halted }
@@ -53,7 +53,7 @@ abbrev again : Pending
 again = newly_issued waits
 
 abbrev seen : Evidence
-seen = record { faults = []; lost = []; gone = []; failed = []; fatal = []; stopped = []; stuck = port ∷ [] }
+seen = record { faults = []; lost = []; link_changed = []; failed = []; fatal = []; stopped = []; stuck = port ∷ [] }
 
 abbrev stuck : CallRecord (Unit {0})
 stuck = record { ask = Reset; said = WasReset None; evidence = seen; steps = []; ports = ports_in Dead }
@@ -81,11 +81,11 @@ run7 = reset ∷ run6
 
 pub ages_once : (later : List Step) → count_by is_age later ≡ 0 → AgesOnce ports (later ++ Age aging ∷ [])
 ages_once later once = record {
-  ready = aging;
+  ready_ports = aging;
   is_ready = λ p. (at_here Ready p, ready_here p);
   later = later;
-  first = refl;
-  once = once;
+  age_is_first = refl;
+  no_other_age = once;
 }
 
 -- a tick before the third leaves the port alone
@@ -93,7 +93,7 @@ abbrev pub IsYoung : AbstractState → Type 0
 IsYoung m = (e : Pending) → Contains m.machine.book e → e.age < 2
 
 not_hung : (m : AbstractState) → IsYoung m → (p : Port) → HasTimedOut m p → ⊥
-not_hung m young p hung = let age = young hung.pending hung.here in let enough = hung.old_enough in omega (arith, age, enough)
+not_hung m young p hung = let age = young hung.pending hung.is_in_book in let enough = hung.old_enough in omega (arith, age, enough)
 
 only_age : (step : Step) → Contains (Age aging ∷ []) step → is_age step ≡ true
 only_age step h = ⊎_elim (λ same. ap is_age same) (λ n. absurd (contains_none step n)) (contains_cases (Age aging) [] step h)
@@ -101,58 +101,58 @@ only_age step h = ⊎_elim (λ same. ap is_age same) (λ n. absurd (contains_non
 pub ticks : (old : AbstractState) → IsYoung old → (new : AbstractState) → SamePorts old.ports new.ports → RestartsTimedOut old none (Age aging ∷ []) new
 ticks old young new same = record {
   ports = λ p. inl (not_hung old young p, same p);
-  again = λ e h. absurd (false≢true (only_age (Again e) h));
-  answer = λ e o h. absurd (false≢true (only_age (Answer e o) h));
-  ended = λ p hung. absurd (not_hung old young p hung);
-  interrupts = λ p. (λ hung. absurd (not_hung old young p hung), λ i. absurd (⊎_elim (contains_none p) (contains_none p) i));
-  finds = finds_none (Age aging ∷ []) old.ports new.ports refl;
-  disk = λ p hung. absurd (not_hung old young p hung);
-  anew = λ p hung. absurd (not_hung old young p hung);
+  only_timed_out_wait_again = λ e h. absurd (false≢true (only_age (WaitAgain e) h));
+  only_timed_out_are_answered = λ e o h. absurd (false≢true (only_age (Answer e o) h));
+  answers_ended = λ p hung. absurd (not_hung old young p hung);
+  is_interrupted = λ p. (λ hung. absurd (not_hung old young p hung), λ i. absurd (⊎_elim (contains_none p) (contains_none p) i));
+  unplugged_lost_disk = finds_none (Age aging ∷ []) old.ports new.ports refl;
+  shown_disk_was_in_or_came = λ p hung. absurd (not_hung old young p hung);
+  none_stays_issued = λ p hung. absurd (not_hung old young p hung);
 }
 
 pub happens2 : Happens (abstract_after_all first run1) (tick [])
 happens2 = record {
-  may = (tt, tt);
-  belong = (tt, inr tt);
-  last = (tt, λ id h i. false≢true i);
-  lawful = tt;
-  fit = ports_fit Ready refl;
-  disks = λ e o h i same. (refl, refl);
-  answered = record {
-    tells = none_told (Age aging ∷ []) refl;
-    ages = ages_once [] refl;
-    restarts = ticks (abstract_after_all first run1) (only_one (aged 0) (λ e. e.age < 2) (omega arith)) (abstract_after_all first run2) (λ p. (refl, refl, refl, refl, refl, refl));
-    unplugs = none_unplugged (Age aging ∷ []) (abstract_after_all first run2).machine refl;
-    issues = λ p _. one_issued (unanswered (aged 1)) refl p;
-    emptied = λ p _ ne e h. emptied_one (aged 1) refl p ne e h;
+  steps_are_enabled = (tt, tt);
+  steps_are_of_call = (tt, inr tt);
+  issues_are_last = (tt, λ id h i. false≢true i);
+  answers_are_lawful = tt;
+  ports_are_well_formed = ports_fit Ready refl;
+  unanswered_keep_disk = λ e o h i same. (refl, refl);
+  is_answered = record {
+    replies_match = none_told (Age aging ∷ []) refl;
+    ages_once = ages_once [] refl;
+    restarts_timed_out = ticks (abstract_after_all first run1) (only_one (aged 0) (λ e. e.age < 2) (omega arith)) (abstract_after_all first run2) (λ p. (refl, refl, refl, refl, refl, refl));
+    answers_all_unplugged = none_unplugged (Age aging ∷ []) (abstract_after_all first run2).machine refl;
+    none_is_due = λ p _. one_issued (unanswered (aged 1)) refl p;
+    empty_unless_ready = λ p _ ne e h. emptied_one (aged 1) refl p ne e h;
   };
 }
 
 pub happens3 : Happens (abstract_after_all first run2) (tick [])
 happens3 = record {
-  may = (tt, tt);
-  belong = (tt, inr tt);
-  last = (tt, λ id h i. false≢true i);
-  lawful = tt;
-  fit = ports_fit Ready refl;
-  disks = λ e o h i same. (refl, refl);
-  answered = record {
-    tells = none_told (Age aging ∷ []) refl;
-    ages = ages_once [] refl;
-    restarts = ticks (abstract_after_all first run2) (only_one (aged 1) (λ e. e.age < 2) (omega arith)) (abstract_after_all first run3) (λ p. (refl, refl, refl, refl, refl, refl));
-    unplugs = none_unplugged (Age aging ∷ []) (abstract_after_all first run3).machine refl;
-    issues = λ p _. one_issued (unanswered (aged 2)) refl p;
-    emptied = λ p _ ne e h. emptied_one (aged 2) refl p ne e h;
+  steps_are_enabled = (tt, tt);
+  steps_are_of_call = (tt, inr tt);
+  issues_are_last = (tt, λ id h i. false≢true i);
+  answers_are_lawful = tt;
+  ports_are_well_formed = ports_fit Ready refl;
+  unanswered_keep_disk = λ e o h i same. (refl, refl);
+  is_answered = record {
+    replies_match = none_told (Age aging ∷ []) refl;
+    ages_once = ages_once [] refl;
+    restarts_timed_out = ticks (abstract_after_all first run2) (only_one (aged 1) (λ e. e.age < 2) (omega arith)) (abstract_after_all first run3) (λ p. (refl, refl, refl, refl, refl, refl));
+    answers_all_unplugged = none_unplugged (Age aging ∷ []) (abstract_after_all first run3).machine refl;
+    none_is_due = λ p _. one_issued (unanswered (aged 2)) refl p;
+    empty_unless_ready = λ p _ ne e h. emptied_one (aged 2) refl p ne e h;
   };
 }
 
 -- the third restarts it
 
 pub hung : HasTimedOut (abstract_after_all first run3) port
-hung = record { ready = refl; pending = aged 2; here = contains_here (aged 2) [] (aged 2) refl; port_is = refl; issued = refl; old_enough = omega arith }
+hung = record { ready = refl; pending = aged 2; is_in_book = contains_here (aged 2) [] (aged 2) refl; port_is = refl; issued = refl; old_enough = omega arith }
 
 abbrev again_of : Step → Option Pending
-again_of (Again e) = Some e
+again_of (WaitAgain e) = Some e
 again_of _ = None
 
 abbrev is_answer : Step → Bool
@@ -160,35 +160,35 @@ is_answer (Answer e o) = true
 is_answer _ = false
 
 -- a fact of each of the steps
-each_step : (P : Step → Type 0) → P (Issue mode waits) → P (Again (aged 3)) → P (Age aging) → (step : Step) → Contains restarting.steps step → P step
+each_step : (P : Step → Type 0) → P (Issue mode waits) → P (WaitAgain (aged 3)) → P (Age aging) → (step : Step) → Contains restarting.steps step → P step
 each_step P a b c step h = ⊎_elim
     (λ same. subst P (sym same) a)
     (λ n. ⊎_elim
     (λ same. subst P (sym same) b)
     (λ k. ⊎_elim (λ same. subst P (sym same) c) (λ l. absurd (contains_none step l)) (contains_cases (Age aging) [] step k))
-    (contains_cases (Again (aged 3)) (Age aging ∷ []) step n))
-    (contains_cases (Issue mode waits) (Again (aged 3) ∷ Age aging ∷ []) step h)
+    (contains_cases (WaitAgain (aged 3)) (Age aging ∷ []) step n))
+    (contains_cases (Issue mode waits) (WaitAgain (aged 3) ∷ Age aging ∷ []) step h)
 
 restarted : RestartsTimedOut (abstract_after_all first run3) halted restarting.steps (abstract_after_all first run4)
 restarted = record {
   ports = restarts_here (abstract_after_all first run3).machine halted refl hung;
-  again = λ e h. each_step (λ step. (x : Pending) → again_of step ≡ Some x → HasTimedOut (abstract_after_all first run3) x.request.port)
+  only_timed_out_wait_again = λ e h. each_step (λ step. (x : Pending) → again_of step ≡ Some x → HasTimedOut (abstract_after_all first run3) x.request.port)
       (λ x q. absurd (none_some x q))
       (λ x q. let same : aged 3 ≡ x = some_same x q in subst (λ (y : Pending). HasTimedOut (abstract_after_all first run3) y.request.port) same hung)
       (λ x q. absurd (none_some x q))
-      (Again e) h e refl;
-  answer = λ e o h. absurd (false≢true (sym (each_step (λ step. is_answer step ≡ false) refl refl refl (Answer e o) h)));
-  ended = λ p _. none_ended (abstract_after_all first run3).machine restarting.steps refl p;
-  interrupts = λ p. (
+      (WaitAgain e) h e refl;
+  only_timed_out_are_answered = λ e o h. absurd (false≢true (sym (each_step (λ step. is_answer step ≡ false) refl refl refl (Answer e o) h)));
+  answers_ended = λ p _. none_ended (abstract_after_all first run3).machine restarting.steps refl p;
+  is_interrupted = λ p. (
     λ h. inl (contains_here port [] p (ready_port p h.ready)),
     λ i. ⊎_elim
         (λ h. ⊎_elim (λ (same : p ≡ port). subst (λ (x : Port). HasTimedOut (abstract_after_all first run3) x) (sym same) hung) (λ n. absurd (contains_none p n)) (contains_cases port [] p h))
         (λ h. absurd (contains_none p h))
         i,
   );
-  finds = finds_none restarting.steps ports ports refl;
-  disk = λ p _ _. inl refl;
-  anew = λ p _ e h _ _. ⊎_elim
+  unplugged_lost_disk = finds_none restarting.steps ports ports refl;
+  shown_disk_was_in_or_came = λ p _ _. inl refl;
+  none_stays_issued = λ p _ e h _ _. ⊎_elim
       (λ (same : e ≡ again). subst (λ (y : Pending). IsIssuedIn y.request.id restarting.steps) (sym same) refl)
       (λ n. absurd (contains_none e n))
       (contains_cases again [] e h);
@@ -202,22 +202,22 @@ restarted = record {
 
 happens4 : Happens (abstract_after_all first run3) restarting
 happens4 = record {
-  may = (
+  steps_are_enabled = (
     ((tt, tt), (contains_here (aged 3) [] (aged 3) refl, refl, omega arith, granted 0 row_zero refl)),
-    (contains_here waits [] waits refl, record { here = contains_here (unanswered waits) [] (unanswered waits) refl; clear = refl; slot = λ _. omega arith }, λ e h. absurd (contains_none e h), granted 0 row_zero refl),
+    (contains_here waits [] waits refl, record { is_in_book = contains_here (unanswered waits) [] (unanswered waits) refl; nothing_blocks = refl; slot_is_left = λ _. omega arith }, λ e h. absurd (contains_none e h), granted 0 row_zero refl),
   );
-  belong = (((tt, inr tt), inr refl), inr (refl, refl));
-  last = (((tt, λ id h i. false≢true i), λ id h i. false≢true i), λ id h i. false≢true i);
-  lawful = (tt, contains_here port [] port refl);
-  fit = ports_fit Ready refl;
-  disks = λ e o h i same. (refl, refl);
-  answered = record {
-    tells = none_told restarting.steps refl;
-    ages = ages_once restarts refl;
-    restarts = restarted;
-    unplugs = none_unplugged restarting.steps (abstract_after_all first run4).machine refl;
-    issues = λ p _. one_issued (unanswered again) refl p;
-    emptied = λ p _ ne e h. emptied_one again refl p ne e h;
+  steps_are_of_call = (((tt, inr tt), inr refl), inr (refl, refl));
+  issues_are_last = (((tt, λ id h i. false≢true i), λ id h i. false≢true i), λ id h i. false≢true i);
+  answers_are_lawful = (tt, contains_here port [] port refl);
+  ports_are_well_formed = ports_fit Ready refl;
+  unanswered_keep_disk = λ e o h i same. (refl, refl);
+  is_answered = record {
+    replies_match = none_told restarting.steps refl;
+    ages_once = ages_once restarts refl;
+    restarts_timed_out = restarted;
+    answers_all_unplugged = none_unplugged restarting.steps (abstract_after_all first run4).machine refl;
+    none_is_due = λ p _. one_issued (unanswered again) refl p;
+    empty_unless_ready = λ p _ ne e h. emptied_one again refl p ne e h;
   };
 }
 
@@ -239,13 +239,13 @@ dead_here p e = contains_here port [] p (ap (λ (n : ℕ). record { 0 = n }) (eq
 
 happens5 : Happens (abstract_after_all first run4) stuck
 happens5 = record {
-  may = tt;
-  belong = tt;
-  last = tt;
-  lawful = tt;
-  fit = ports_fit Dead refl;
-  disks = λ e o h i same. (refl, refl);
-  answered = (tt, λ p. (refl, λ here. let dead = at_here Dead p here in (dead, dead_here p dead), (refl, refl)));
+  steps_are_enabled = tt;
+  steps_are_of_call = tt;
+  issues_are_last = tt;
+  answers_are_lawful = tt;
+  ports_are_well_formed = ports_fit Dead refl;
+  unanswered_keep_disk = λ e o h i same. (refl, refl);
+  is_answered = (tt, λ p. (refl, λ here. let dead = at_here Dead p here in (dead, dead_here p dead), (refl, refl)));
 }
 
 abbrev outcome_of : Step → Outcome
@@ -260,71 +260,71 @@ told_dead e o h dead = ⊎_elim
 
 happens6 : Happens (abstract_after_all first run5) service
 happens6 = record {
-  may = (tt, (contains_here again [] again refl, tt));
-  belong = (tt, inr tt);
-  last = (tt, λ id h i. false≢true i);
-  lawful = (tt, refl);
-  fit = ports_fit Dead refl;
-  disks = λ e o h i same. (refl, refl);
-  answered = record {
-    tells = one_told again outcome.PortDead service.steps refl (reply_of (again, outcome.PortDead)) refl;
-    dead = told_dead;
-    unplugs = none_unplugged service.steps (abstract_after_all first run6).machine refl;
-    issues = λ p ready. dead_not_ready p ready;
-    emptied = λ p ne e h. absurd (contains_none e h);
-    ended = λ p _. none_ended (abstract_after_all first run5).machine service.steps refl p;
-    becomes = λ p. (λ _. (refl, refl, refl, refl, refl, refl), λ alive. (record { served = refl; stuck = (λ dead. absurd (alive dead), λ h. absurd (contains_none p h)); keeps = λ _. (refl, refl) }, inl (refl, refl, refl, refl, refl, refl)));
-    disk = λ p. inl (refl, refl, refl, refl, refl, refl);
+  steps_are_enabled = (tt, (contains_here again [] again refl, tt));
+  steps_are_of_call = (tt, inr tt);
+  issues_are_last = (tt, λ id h i. false≢true i);
+  answers_are_lawful = (tt, refl);
+  ports_are_well_formed = ports_fit Dead refl;
+  unanswered_keep_disk = λ e o h i same. (refl, refl);
+  is_answered = record {
+    replies_match = one_told again outcome.PortDead service.steps refl (reply_of (again, outcome.PortDead)) refl;
+    tells_dead = told_dead;
+    answers_all_unplugged = none_unplugged service.steps (abstract_after_all first run6).machine refl;
+    none_is_due = λ p ready. dead_not_ready p ready;
+    empty_unless_ready = λ p ne e h. absurd (contains_none e h);
+    answers_ended = λ p _. none_ended (abstract_after_all first run5).machine service.steps refl p;
+    port_is_serviced = λ p. (λ _. (refl, refl, refl, refl, refl, refl), λ alive. (record { served_is_kept = refl; dead_is_stuck = (λ dead. absurd (alive dead), λ h. absurd (contains_none p h)); disk_is_kept = λ _. (refl, refl) }, inl (refl, refl, refl, refl, refl, refl)));
+    shown_disk_was_in_or_came = λ p. inl (refl, refl, refl, refl, refl, refl);
   };
 }
 
 happens7 : Happens (abstract_after_all first run6) reset
 happens7 = record {
-  may = (tt, tt);
-  belong = (tt, inr tt);
-  last = (tt, λ id h i. false≢true i);
-  lawful = tt;
-  fit = ports_fit Ready refl;
-  disks = λ e o h i same. (refl, refl);
-  answered = record {
-    tells = none_told reset.steps refl;
-    releases = record { later = []; earlier = []; split = refl; before = tt; once = refl };
-    unplugs = none_unplugged reset.steps (abstract_after_all first run7).machine refl;
-    finds = finds_none reset.steps (ports_in Dead) ports refl;
-    issues = λ p _. none_there p;
-    emptied = λ p ne e h. absurd (contains_none e h);
-    becomes = λ p. record { served = refl; stuck = (λ e. none_dead p e, λ h. absurd (contains_none p h)); keeps = λ _. (refl, refl) };
-    anew = λ p e h. absurd (contains_none e h);
-    stopped = λ p. stopped_here p;
-    disk = λ p _. inl refl;
+  steps_are_enabled = (tt, tt);
+  steps_are_of_call = (tt, inr tt);
+  issues_are_last = (tt, λ id h i. false≢true i);
+  answers_are_lawful = tt;
+  ports_are_well_formed = ports_fit Ready refl;
+  unanswered_keep_disk = λ e o h i same. (refl, refl);
+  is_answered = record {
+    replies_match = none_told reset.steps refl;
+    releases_once = record { later = []; earlier = []; split = refl; before = tt; once = refl };
+    answers_all_unplugged = none_unplugged reset.steps (abstract_after_all first run7).machine refl;
+    unplugged_lost_disk = finds_none reset.steps (ports_in Dead) ports refl;
+    none_is_due = λ p _. none_there p;
+    empty_unless_ready = λ p ne e h. absurd (contains_none e h);
+    port_may_become = λ p. record { served_is_kept = refl; dead_is_stuck = (λ e. none_dead p e, λ h. absurd (contains_none p h)); disk_is_kept = λ _. (refl, refl) };
+    none_stays_issued = λ p e h. absurd (contains_none e h);
+    served_are_stopped = λ p. stopped_here p;
+    shown_disk_was_in_or_came = λ p _. inl refl;
   };
 }
 
 pub ends_with_a_reset : QuarantineEndsWithReset
 ends_with_a_reset = record {
-  first = first;
+  initial_state = first;
   asked = run1;
-  one = tick [];
-  two = tick [];
-  three = restarting;
+  first_call = tick [];
+  second_call = tick [];
+  third_call = restarting;
   stuck = stuck;
   service = service;
   reset = reset;
   runs = ((((((((empty_starts, ports_fit Ready refl), happens1), happens2), happens3), happens4), happens5), happens6), happens7);
   ticks = (refl, refl, refl);
   aged = aged 2;
-  old = refl;
+  book_is = refl;
   once = (refl, refl, refl);
   again = again;
   same = refl;
   hung = refl;
   twice = (refl, refl, refl);
   stays = refl;
-  serves = refl;
+  asks_for_service = refl;
   answers = contains_here (Answer again outcome.PortDead) [] (Answer again outcome.PortDead) refl;
   kept = refl;
   frame = frame 100;
-  its = refl;
+  frames_are = refl;
   lent = refl;
   ends = refl;
   freed = refl;

@@ -9,7 +9,7 @@ use Rattle.block_machine.specs.Rules.{HasRow, IsSameGrantName}
 use Rattle.block_machine.specs.State.{Pending, frame_at, unanswered}
 use Rattle.block_machine.specs.Steps.{Step, Touch, End, Answer, Revoke, newly_accepted, newly_issued, touch}
 use Rattle.block_machine.specs.Events.{RevokeOf, Service, Served, WasRevoked, CallRecord, Happens, reply_of, abstract_after_all}
-use Rattle.machine_runs.specs.Revoked.{RevokesWhileIssued}
+use Rattle.machine_runs.specs.RevocationRuns.{RevokesWhileIssued}
 use Rattle.block_machine.proofs.Members.{contains_none, contains_here, contains_there, contains_cases}
 use Rattle.block_machine.proofs.Setting.{client, row, empty_starts, granted, port}
 use Rattle.machine_runs.proofs.Scene.{first, reply, call, done, served, row_zero, one_issued, none_there, one_told, one_touched, ports_fit, plain_service, none_dead, none_ended, none_unplugged, stay_ready}
@@ -44,19 +44,19 @@ told_of _ = newly_accepted write
 
 happens3 : Happens (abstract_after_all first run2) event3
 happens3 = record {
-  may = ((tt, granted 0 row_zero refl), (contains_there (newly_issued (newly_accepted write)) (newly_accepted read ∷ []) (newly_accepted read) (contains_here (newly_accepted read) [] (newly_accepted read) refl), no_row));
-  belong = ((tt, inr (refl, refl)), inr refl);
-  last = ((tt, λ id h i. false≢true i), λ id h i. false≢true i);
-  lawful = (tt, inl refl);
-  fit = ports_fit Ready refl;
-  disks = λ e o h i same. (refl, refl);
-  answered = record {
-    there = granted 0 row_zero refl;
+  steps_are_enabled = ((tt, granted 0 row_zero refl), (contains_there (newly_issued (newly_accepted write)) (newly_accepted read ∷ []) (newly_accepted read) (contains_here (newly_accepted read) [] (newly_accepted read) refl), no_row));
+  steps_are_of_call = ((tt, inr (refl, refl)), inr refl);
+  issues_are_last = ((tt, λ id h i. false≢true i), λ id h i. false≢true i);
+  answers_are_lawful = (tt, inl refl);
+  ports_are_well_formed = ports_fit Ready refl;
+  unanswered_keep_disk = λ e o h i same. (refl, refl);
+  is_answered = record {
+    has_row = granted 0 row_zero refl;
     rows = refl;
-    tells = one_told (newly_accepted read) outcome.Revoked event3.steps refl revoked refl;
-    told = λ e. (told e, λ of. waiting_told e of.0 of.1 of.2);
-    same = λ p. (refl, refl, refl, refl, refl, refl);
-    issues = λ p _. one_issued (unanswered (newly_issued (newly_accepted write))) refl p;
+    replies_match = one_told (newly_accepted read) outcome.Revoked event3.steps refl revoked refl;
+    waiting_are_revoked = λ e. (told e, λ of. waiting_told e of.0 of.1 of.2);
+    ports_are_same = λ p. (refl, refl, refl, refl, refl, refl);
+    none_is_due = λ p _. one_issued (unanswered (newly_issued (newly_accepted write))) refl p;
   };
 }
   where
@@ -85,13 +85,13 @@ happens3 = record {
 
 happens4 : Happens (abstract_after_all first run3) event4
 happens4 = record {
-  may = (((tt, (inl (contains_here (newly_issued (newly_accepted write)) [] (newly_issued (newly_accepted write)) refl, refl), omega arith, refl, omega arith, λ _ b lt. refl)), (inl (contains_here (touch 0 (newly_issued (newly_accepted write))) [] (touch 0 (newly_issued (newly_accepted write))) refl, refl), one_touched, refl)), (contains_here (done write) [] (done write) refl, tt));
-  belong = (((tt, inl tt), inl tt), inr tt);
-  last = (((tt, λ id h i. false≢true i), λ id h i. false≢true i), λ id h i. false≢true i);
-  lawful = (tt, (record { pending = newly_issued (newly_accepted write); here = contains_here (newly_issued (newly_accepted write)) [] (newly_issued (newly_accepted write)) refl; id_is = refl; issued = refl }, refl, one_touched, refl));
-  fit = ports_fit Ready refl;
-  disks = λ e o h i same. (refl, refl);
-  answered = plain_service (abstract_after_all first run3).machine (abstract_after_all first run4).machine event4.steps (reply 1 ∷ []) (one_told (done write) outcome.Ok event4.steps refl (reply 1) refl) refl (none_ended (abstract_after_all first run3).machine event4.steps refl) (λ p. none_there p) (λ e h. absurd (contains_none e h));
+  steps_are_enabled = (((tt, (inl (contains_here (newly_issued (newly_accepted write)) [] (newly_issued (newly_accepted write)) refl, refl), omega arith, refl, omega arith, λ _ b lt. refl)), (inl (contains_here (touch 0 (newly_issued (newly_accepted write))) [] (touch 0 (newly_issued (newly_accepted write))) refl, refl), one_touched, refl)), (contains_here (done write) [] (done write) refl, tt));
+  steps_are_of_call = (((tt, inl tt), inl tt), inr tt);
+  issues_are_last = (((tt, λ id h i. false≢true i), λ id h i. false≢true i), λ id h i. false≢true i);
+  answers_are_lawful = (tt, (record { pending = newly_issued (newly_accepted write); is_in_book = contains_here (newly_issued (newly_accepted write)) [] (newly_issued (newly_accepted write)) refl; id_is = refl; issued = refl }, refl, one_touched, refl));
+  ports_are_well_formed = ports_fit Ready refl;
+  unanswered_keep_disk = λ e o h i same. (refl, refl);
+  is_answered = plain_service (abstract_after_all first run3).machine (abstract_after_all first run4).machine event4.steps (reply 1 ∷ []) (one_told (done write) outcome.Ok event4.steps refl (reply 1) refl) refl (none_ended (abstract_after_all first run3).machine event4.steps refl) (λ p. none_there p) (λ e h. absurd (contains_none e h));
 }
 
 -- ---- where the port fails first
@@ -101,28 +101,28 @@ running = newly_issued (newly_accepted write)
 
 -- port 0 failed, and was stopped
 abbrev failure : Evidence
-failure = record { faults = []; lost = []; gone = []; failed = port ∷ []; fatal = []; stopped = port ∷ []; stuck = [] }
+failure = record { faults = []; lost = []; link_changed = []; failed = port ∷ []; fatal = []; stopped = port ∷ []; stuck = [] }
 
 abbrev failed : CallRecord (Unit {0})
 failed = record (call Service (Served (reply_of (running, outcome.Revoked) ∷ [])) (Answer running outcome.Revoked ∷ [])) { evidence = failure }
 
 happens_failed : Happens (abstract_after_all first run3) failed
 happens_failed = record {
-  may = (tt, (contains_here running [] running refl, no_row));
-  belong = (tt, inr tt);
-  last = (tt, λ id h i. false≢true i);
-  lawful = (tt, inr (refl, contains_here port [] port refl, (refl, refl)));
-  fit = ports_fit Ready refl;
-  disks = λ e o h i same. (refl, refl);
-  answered = record {
-    tells = one_told running outcome.Revoked failed.steps refl (reply_of (running, outcome.Revoked)) refl;
-    dead = λ e o i dead. none_dead e.request.port dead;
-    unplugs = none_unplugged failed.steps (abstract_after_all first (failed ∷ run3)).machine refl;
-    issues = λ p _. none_there p;
-    emptied = λ p ne e h. absurd (contains_none e h);
-    ended = λ p _. none_ended (abstract_after_all first run3).machine failed.steps refl p;
-    becomes = λ p. (λ dead. none_dead p dead, λ _. (stay_ready failure refl p, inl (refl, refl, refl, refl, refl, refl)));
-    disk = λ p. inl (refl, refl, refl, refl, refl, refl);
+  steps_are_enabled = (tt, (contains_here running [] running refl, no_row));
+  steps_are_of_call = (tt, inr tt);
+  issues_are_last = (tt, λ id h i. false≢true i);
+  answers_are_lawful = (tt, inr (refl, contains_here port [] port refl, (refl, refl)));
+  ports_are_well_formed = ports_fit Ready refl;
+  unanswered_keep_disk = λ e o h i same. (refl, refl);
+  is_answered = record {
+    replies_match = one_told running outcome.Revoked failed.steps refl (reply_of (running, outcome.Revoked)) refl;
+    tells_dead = λ e o i dead. none_dead e.request.port dead;
+    answers_all_unplugged = none_unplugged failed.steps (abstract_after_all first (failed ∷ run3)).machine refl;
+    none_is_due = λ p _. none_there p;
+    empty_unless_ready = λ p ne e h. absurd (contains_none e h);
+    answers_ended = λ p _. none_ended (abstract_after_all first run3).machine failed.steps refl p;
+    port_is_serviced = λ p. (λ dead. none_dead p dead, λ _. (stay_ready failure refl p, inl (refl, refl, refl, refl, refl, refl)));
+    shown_disk_was_in_or_came = λ p. inl (refl, refl, refl, refl, refl, refl);
   };
 }
 
@@ -130,10 +130,10 @@ happens_failed = record {
 
 pub is_taken_back : RevokesWhileIssued
 is_taken_back = record {
-  first = first;
+  initial_state = first;
   run = run4;
   runs = (((((empty_starts, ports_fit Ready refl), happens1), happens2), happens3), happens4);
-  told = ((((((((tt, tt), tt), tt), tt), tt), λ _ b lt. refl), tt), tt);
+  steps_are_faithful = ((((((((tt, tt), tt), tt), tt), tt), λ _ b lt. refl), tt), tt);
   early = run2;
   call = event3;
   service = event4;
@@ -150,10 +150,10 @@ is_taken_back = record {
   replies = refl;
   stays = refl;
   gone = no_row;
-  serves = refl;
+  asks_for_service = refl;
   done = done write;
-  its = refl;
-  answers = contains_here (Answer (done write) outcome.Ok) (End (touch 0 (newly_issued (newly_accepted write))) ∷ Touch (newly_issued (newly_accepted write)) 0 (write.held 0) ∷ []) (Answer (done write) outcome.Ok) refl;
+  request_is = refl;
+  answers = contains_here (Answer (done write) outcome.Ok) (End (touch 0 (newly_issued (newly_accepted write))) ∷ Touch (newly_issued (newly_accepted write)) 0 (write.held_blocks 0) ∷ []) (Answer (done write) outcome.Ok) refl;
   failing = failed;
   runs_too = (((((empty_starts, ports_fit Ready refl), happens1), happens2), happens3), happens_failed);
   told_too = ((((((tt, tt), tt), tt), tt), tt), tt);

@@ -15,12 +15,12 @@ use Rattle.block_machine.specs.Rules.{IsNamed}
 use Rattle.block_machine.specs.Refusals.{IsAcceptable}
 use Rattle.block_machine.specs.Ports.{Ports, Evidence, MayBecome, SamePorts, PortsWellFormed, IsServiced, IsAfterStuckReset}
 use Rattle.block_machine.specs.State.{Accepted, Pending, Machine}
-use Rattle.block_machine.specs.Steps.{Step, Issue, Age, Touch, End, Again, Answer, Release, MayAccept, touch, mark_ended}
+use Rattle.block_machine.specs.Steps.{Step, Issue, Age, Touch, End, WaitAgain, Answer, Release, MayAccept, touch, mark_ended}
 use Rattle.block_machine.specs.Expected.{after}
-use Rattle.block_machine.specs.Events.{AbstractState, AbstractCall, AllMay, AreStepsOfCall, EmptyUnlessReady, Submit, StoreAt, LoadAt, Service, Tick, Reset, State, Device, RevokeOf, CallResult, Submitted, Stored, Loaded, Served, WasReset, WasRevoked, Shown, Stepped, CallRecord, IsAnswered, Happens, AllAnswersLawful, AgesOnce, RestartsTimedOut, ReleasesOnce, IssuesLast, IsRun, IsStillStuck, StaysStuck, accepts_of, is_age, is_release, issues_it, handles, abstract_after_all, situation_of, abstract_after}
+use Rattle.block_machine.specs.Events.{AbstractState, AbstractCall, AllEnabled, AreStepsOfCall, EmptyUnlessReady, Submit, StoreAt, LoadAt, Service, Tick, Reset, State, Device, RevokeOf, CallResult, Submitted, Stored, Loaded, Served, WasReset, WasRevoked, Shown, Stepped, CallRecord, IsAnswered, Happens, AllAnswersLawful, AgesOnce, RestartsTimedOut, ReleasesOnce, IssuesLast, IsRun, IsStillStuck, StaysStuck, accepts_of, is_age, is_release, issues_id, handles_id, abstract_after_all, admission_context_of, abstract_after}
 use Rattle.block_machine.proofs.Members.{contains_none, contains_cases, map_in}
 use Rattle.block_machine.proofs.Keeps.{at_keeps}
-use Rattle.block_machine.specs.Confined.{IsGranted}
+use Rattle.block_machine.specs.Confinement.{IsGranted}
 use Rattle.block_machine.proofs.Runs.{nobody}
 use Rattle.block_machine.proofs.Accepts.{law_accepted_is_granted}
 use Rattle.block_machine.proofs.Counting.{count_cons, count_append, count_least}
@@ -28,29 +28,29 @@ use Rattle.machine_runs.proofs.CallSteps.{Since, IsAccepted, since, accepted_new
 
 -- A call issues a request once at most.
 
-issuing_handles : (id : RequestId) (step : Step) → issues_it id step ≡ true → handles id step ≡ true
+issuing_handles : (id : RequestId) (step : Step) → issues_id id step ≡ true → handles_id id step ≡ true
 issuing_handles id (Issue mode e) t = t
 issuing_handles id _ t = absurd (false≢true t)
 
-issued_once : (id : RequestId) (steps : List Step) → IssuesLast steps → (list_any (issues_it id) steps ≡ false → count_by (issues_it id) steps ≡ 0) × (count_by (issues_it id) steps ≤ 1)
+issued_once : (id : RequestId) (steps : List Step) → IssuesLast steps → (list_any (issues_id id) steps ≡ false → count_by (issues_id id) steps ≡ 0) × (count_by (issues_id id) steps ≤ 1)
 issued_once id [] l = ((λ _. refl), omega arith)
-issued_once id (step ∷ before) l = go (issues_it id step) refl (issued_once id before l.0)
+issued_once id (step ∷ before) l = go (issues_id id step) refl (issued_once id before l.0)
   where
-    go : (b : Bool) → issues_it id step ≡ b → (list_any (issues_it id) before ≡ false → count_by (issues_it id) before ≡ 0) × (count_by (issues_it id) before ≤ 1)
-        → (list_any (issues_it id) (step ∷ before) ≡ false → count_by (issues_it id) (step ∷ before) ≡ 0) × (count_by (issues_it id) (step ∷ before) ≤ 1)
+    go : (b : Bool) → issues_id id step ≡ b → (list_any (issues_id id) before ≡ false → count_by (issues_id id) before ≡ 0) × (count_by (issues_id id) before ≤ 1)
+        → (list_any (issues_id id) (step ∷ before) ≡ false → count_by (issues_id id) (step ∷ before) ≡ 0) × (count_by (issues_id id) (step ∷ before) ≤ 1)
     go true e rest =
         let none = rest.0 (false_from_ne_true _ (l.1 id (issuing_handles id step e))) in
-        let one : ◌≡◌ {A = ℕ} (cond (issues_it id step) 1 0) 1 = ap (λ (b : Bool). cond {A = ℕ} b 1 0) e in
-        ((λ f. absurd (false≢true (sym (or_parts _ _ f).0 ∙ e))), omega (arith, none, one, count_cons (issues_it id) step before))
+        let one : ◌≡◌ {A = ℕ} (cond (issues_id id step) 1 0) 1 = ap (λ (b : Bool). cond {A = ℕ} b 1 0) e in
+        ((λ f. absurd (false≢true (sym (or_parts _ _ f).0 ∙ e))), omega (arith, none, one, count_cons (issues_id id) step before))
     go false e rest =
         let most = rest.1 in
-        let zero : ◌≡◌ {A = ℕ} (cond (issues_it id step) 1 0) 0 = ap (λ (b : Bool). cond {A = ℕ} b 1 0) e in (
-          (λ f. let none = rest.0 (or_parts _ _ f).1 in omega (arith, none, zero, count_cons (issues_it id) step before)),
-          omega (arith, most, zero, count_cons (issues_it id) step before),
+        let zero : ◌≡◌ {A = ℕ} (cond (issues_id id step) 1 0) 0 = ap (λ (b : Bool). cond {A = ℕ} b 1 0) e in (
+          (λ f. let none = rest.0 (or_parts _ _ f).1 in omega (arith, none, zero, count_cons (issues_id id) step before)),
+          omega (arith, most, zero, count_cons (issues_id id) step before),
         )
 
-pub law_issued_once_a_call : {D : Type 0} (old : AbstractState) (event : CallRecord D) (id : RequestId) → Happens old event → count_by (issues_it id) event.steps ≤ 1
-law_issued_once_a_call old event id h = (issued_once id event.steps h.last).1
+pub law_issued_once_a_call : {D : Type 0} (old : AbstractState) (event : CallRecord D) (id : RequestId) → Happens old event → count_by (issues_id id) event.steps ≤ 1
+law_issued_once_a_call old event id h = (issued_once id event.steps h.issues_are_last).1
 
 -- What a call that was answered may have done to ports and book. `was`: a reset was stuck before it, and is so still.
 data Kind {D : Type 0} (ask : AbstractCall D) (said : CallResult) (old : AbstractState) (evidence : Evidence) (steps : List Step) (new : AbstractState) (was : Type 0) : Type 0 where
@@ -71,11 +71,11 @@ kind (LoadAt c f o n) (Loaded (Err fault)) old evidence steps new was a = Leaves
 kind (State port) (Shown state) old evidence steps new was a = Leaves refl refl a.2 (λ w. w)
 kind (Device d) (Stepped true) old evidence steps new was a = Leaves refl refl a.1 (λ w. w)
 kind (Device d) (Stepped false) old evidence steps new was a = Leaves refl refl a.1 (λ w. w)
-kind Service (Served replies) old evidence steps new was a = Serves refl refl (λ port. (a.emptied port, a.becomes port))
-kind Tick (Served replies) old evidence steps new was a = Ticks refl a.ages a.restarts a.emptied (λ w. w)
-kind Reset (WasReset (Some replies)) old evidence steps new was a = Resets refl a.releases (λ port. (a.emptied port, a.becomes port))
+kind Service (Served replies) old evidence steps new was a = Serves refl refl (λ port. (a.empty_unless_ready port, a.port_is_serviced port))
+kind Tick (Served replies) old evidence steps new was a = Ticks refl a.ages_once a.restarts_timed_out a.empty_unless_ready (λ w. w)
+kind Reset (WasReset (Some replies)) old evidence steps new was a = Resets refl a.releases_once (λ port. (a.empty_unless_ready port, a.port_may_become port))
 kind Reset (WasReset None) old evidence steps new was a = Sticks refl a.1 tt
-kind (RevokeOf c n) (WasRevoked (Some replies)) old evidence steps new was a = Leaves refl refl a.same (λ w. w)
+kind (RevokeOf c n) (WasRevoked (Some replies)) old evidence steps new was a = Leaves refl refl a.ports_are_same (λ w. w)
 kind (RevokeOf c n) (WasRevoked None) old evidence steps new was a = Leaves refl refl a.2 (λ w. w)
 kind ask said old evidence steps new was a = absurd a
 
@@ -96,7 +96,7 @@ ready_or _ = inr (λ e. false≢true (ap is_ready e))
 
 pub run_fit : {D : Type 0} (first : AbstractState) (run : List (CallRecord D)) → IsRun first run → PortsWellFormed (abstract_after_all first run).ports
 run_fit first [] r = r.1
-run_fit first (event ∷ past) r = r.1.fit
+run_fit first (event ∷ past) r = r.1.ports_are_well_formed
 
 -- The port and the sectors of a request that a call accepts. Such a call leaves the ports alone.
 record IsWelcome (old : AbstractState) (new : Ports) (r : Accepted) : Type 0 where
@@ -104,17 +104,17 @@ record IsWelcome (old : AbstractState) (new : Ports) (r : Accepted) : Type 0 whe
   within : r.asked.op ≢ Flush → r.asked.first.0 + r.asked.count ≤ old.ports.sectors r.port
   same : SamePorts old.ports new
 
-welcome : (old : AbstractState) (new : Ports) (q : Request) (n : Machine) (r : Accepted) → ((row : GrantRow) → Contains n.rows row → Contains old.machine.rows row) → r.asked ≡ q → MayAccept n r → IsAcceptable (situation_of old) q → SamePorts old.ports new
+welcome : (old : AbstractState) (new : Ports) (q : Request) (n : Machine) (r : Accepted) → ((row : GrantRow) → Contains n.rows row → Contains old.machine.rows row) → r.asked ≡ q → MayAccept n r → IsAcceptable (admission_context_of old) q → SamePorts old.ports new
     → IsWelcome old new r
 welcome old new q n r rows asked fresh ok same = record {
-  ready = ⊎_elim (λ y. y) (λ ne. absurd (ok (refused.PortNotReady (old.ports.state r.port)) (ne, (g.row, named, ap old.ports.state (sym g.port))))) (ready_or (old.ports.state r.port));
+  ready = ⊎_elim (λ y. y) (λ ne. absurd (ok (refused.PortNotReady (old.ports.state r.port)) (ne, (g.row, named, ap old.ports.state (sym g.row_port_is))))) (ready_or (old.ports.state r.port));
   within = λ op. ⊎_elim
       (λ (lt : old.ports.sectors r.port < r.asked.first.0 + r.asked.count). absurd (ok refused.OutsideDisk (
         subst (λ (x : Request). x.op ≢ Flush) asked op,
         (
           g.row,
           named,
-          subst (λ (x : Request). old.ports.sectors g.row.port < x.first.0 + x.count) asked (subst (λ (p : Port). old.ports.sectors p < r.asked.first.0 + r.asked.count) g.port lt),
+          subst (λ (x : Request). old.ports.sectors g.row.port < x.first.0 + x.count) asked (subst (λ (p : Port). old.ports.sectors p < r.asked.first.0 + r.asked.count) g.row_port_is lt),
         ),
       )))
       (λ le. le)
@@ -126,10 +126,10 @@ welcome old new q n r rows asked fresh ok same = record {
     g = law_accepted_is_granted n r fresh
 
     named : IsNamed old.machine.rows q g.row
-    named = subst (λ (x : Request). IsNamed old.machine.rows x g.row) asked (rows g.row g.named.0, g.named.1)
+    named = subst (λ (x : Request). IsNamed old.machine.rows x g.row) asked (rows g.row g.is_named.0, g.is_named.1)
 
 welcomed : {D : Type 0} (ask : AbstractCall D) (said : CallResult) (old : AbstractState) (evidence : Evidence) (steps : List Step) (ports : Ports) (r : Accepted)
-    → IsAnswered ask said old evidence steps (record { machine = after old.machine steps; ports = ports }) → AllMay old.machine steps → AreStepsOfCall ask ports steps → Contains (accepts_of steps) r → IsWelcome old ports r
+    → IsAnswered ask said old evidence steps (record { machine = after old.machine steps; ports = ports }) → AllEnabled old.machine steps → AreStepsOfCall ask ports steps → Contains (accepts_of steps) r → IsWelcome old ports r
 welcomed {D} (Submit q) (Submitted (Ok id)) old evidence steps ports r a may b h =
     let x = accepted_new old.machine steps r may h in
     welcome old ports q x.0 r x.1 (accepted_asked D q ports steps r b h) x.2 a.0 a.2
@@ -139,7 +139,7 @@ welcomed ask said old evidence steps ports r a may b h = absurd (contains_none r
 
 -- a request that the event accepts
 welcomes : {D : Type 0} (old : AbstractState) (event : CallRecord D) → Happens old event → (r : Accepted) → Contains (accepts_of event.steps) r → IsWelcome old event.ports r
-welcomes old event h r i = welcomed event.ask event.said old event.evidence event.steps event.ports r h.answered h.may h.belong i
+welcomes old event h r i = welcomed event.ask event.said old event.evidence event.steps event.ports r h.is_answered h.steps_are_enabled h.steps_are_of_call i
 
 -- An unanswered request is on a ready port, or on one that is dead since a reset that was stuck.
 
@@ -152,8 +152,8 @@ emptied_ready m e h empty = ⊎_elim (λ y. y) (λ ne. absurd (empty ne e h refl
 -- a ready or dead port is served
 placed_served : (ports : Ports) (port : Port) (was : Type 0) → PortsWellFormed ports → IsPlaced ports port was → ports.served port ≡ true
 placed_served ports port was fit placed = true_from_ne_false _ (λ f. ⊎_elim
-    (λ ready. false≢true (ap is_ready (sym (fit.absent port f)) ∙ ap is_ready ready))
-    (λ (dead : (ports.state port ≡ Dead) × was). false≢true (ap is_dead (sym (fit.absent port f)) ∙ ap is_dead dead.0)) placed)
+    (λ ready. false≢true (ap is_ready (sym (fit.unserved_are_absent port f)) ∙ ap is_ready ready))
+    (λ (dead : (ports.state port ≡ Dead) × was). false≢true (ap is_dead (sym (fit.unserved_are_absent port f)) ∙ ap is_dead dead.0)) placed)
 
 placed_event : {D : Type 0} (ask : AbstractCall D) (said : CallResult) (old : AbstractState) (evidence : Evidence) (steps : List Step) (new : AbstractState) (was : Type 0) (e : Pending) → PortsWellFormed old.ports
     → Contains new.machine.book e → IsPlaced old.ports e.request.port was → Kind ask said old evidence steps new was → IsPlaced new.ports e.request.port (StaysStuck ask said was)
@@ -177,7 +177,7 @@ law_unanswered_where_ready first (event ∷ past) e r h = ⊎_elim
     (λ (s : Since (abstract_after_all first past).machine event.steps e). placed_event event.ask event.said (abstract_after_all first past) event.evidence event.steps (abstract_after_all first (event ∷ past)) (IsStillStuck past) e
     (run_fit first past r.0) h
     (subst (λ (x : Accepted). IsPlaced (abstract_after_all first past).ports x.port (IsStillStuck past)) s.same (law_unanswered_where_ready first past s.old r.0 s.here))
-    (kind event.ask event.said (abstract_after_all first past) event.evidence event.steps (abstract_after_all first (event ∷ past)) (IsStillStuck past) r.1.answered))
+    (kind event.ask event.said (abstract_after_all first past) event.evidence event.steps (abstract_after_all first (event ∷ past)) (IsStillStuck past) r.1.is_answered))
     (λ (a : IsAccepted event.steps e). let w = welcomes (abstract_after_all first past) event r.1 e.request a.0 in inl ((w.same e.request.port).1 ∙ w.ready))
     (since (abstract_after_all first past).machine event.steps e h)
 
@@ -190,7 +190,7 @@ law_unanswered_sectors_are_on_disk first (event ∷ past) e r h op = ⊎_elim
     (λ (s : Since (abstract_after_all first past).machine event.steps e).
     let le = subst (λ (x : Accepted). x.asked.first.0 + x.asked.count ≤ (abstract_after_all first past).ports.sectors x.port) s.same
     (law_unanswered_sectors_are_on_disk first past s.old r.0 s.here (subst (λ (x : Accepted). x.asked.op ≢ Flush) (sym s.same) op)) in
-    let same = (r.1.disks e s.old h s.here (ap (λ (x : Accepted). x.id) s.same)).1 in
+    let same = (r.1.unanswered_keep_disk e s.old h s.here (ap (λ (x : Accepted). x.id) s.same)).1 in
     omega (arith, le, same))
     (λ (a : IsAccepted event.steps e).
     let w = welcomes (abstract_after_all first past) event r.1 e.request a.0 in
@@ -204,13 +204,13 @@ law_unanswered_sectors_are_on_disk first (event ∷ past) e r h op = ⊎_elim
 -- a tick ages a port once, where it is ready
 aged_once : (ports : Ports) (steps : List Step) (port : Port) → AgesOnce ports steps → (count_by (ages_it port) steps ≤ 1) × (ports.state port ≢ Ready → count_by (ages_it port) steps ≡ 0)
 aged_once ports steps port a =
-    let split : count_by (ages_it port) steps ≡ count_by (ages_it port) a.later + count_by (ages_it port) (Age a.ready ∷ []) =
-    ap (λ (xs : List Step). count_by (ages_it port) xs) a.first ∙ count_append (ages_it port) a.later (Age a.ready ∷ []) in
-    let last = count_cons (ages_it port) (Age a.ready) [] in
+    let split : count_by (ages_it port) steps ≡ count_by (ages_it port) a.later + count_by (ages_it port) (Age a.ready_ports ∷ []) =
+    ap (λ (xs : List Step). count_by (ages_it port) xs) a.age_is_first ∙ count_append (ages_it port) a.later (Age a.ready_ports ∷ []) in
+    let last = count_cons (ages_it port) (Age a.ready_ports) [] in
     let fewer = count_least (ages_it port) is_age a.later (λ y _. aging y) in
-    let none = a.once in (
-      (let one = at_most (a.ready port) in omega (arith, split, last, fewer, none, one)),
-      (λ ne. let zero : ◌≡◌ {A = ℕ} (cond (a.ready port) 1 0) 0 = ap (λ (b : Bool). cond {A = ℕ} b 1 0) (false_from_ne_true _ (λ t. ne ((a.is_ready port).0 t))) in
+    let none = a.no_other_age in (
+      (let one = at_most (a.ready_ports port) in omega (arith, split, last, fewer, none, one)),
+      (λ ne. let zero : ◌≡◌ {A = ℕ} (cond (a.ready_ports port) 1 0) 0 = ap (λ (b : Bool). cond {A = ℕ} b 1 0) (false_from_ne_true _ (λ t. ne ((a.is_ready port).0 t))) in
           omega (arith, split, last, fewer, none, zero)),
     )
   where
@@ -250,8 +250,8 @@ young {D} ask said old evidence steps new e fit k here t all from = by k
         (λ anew. let le = anew.1 in omega (arith, le, once))
         (λ kept. ⊎_elim
         (λ (less : s.old.age < 2). let le = kept.2 in omega (arith, le, once, less))
-        (λ (more : 2 ≤ s.old.age). absurd (false≢true (sym kept.0 ∙ hung.anew e.request.port
-        (record { ready = ready; pending = s.old; here = s.here; port_is = ap (λ (x : Accepted). x.port) s.same; issued = kept.1; old_enough = more }) e here refl t)))
+        (λ (more : 2 ≤ s.old.age). absurd (false≢true (sym kept.0 ∙ hung.none_stays_issued e.request.port
+        (record { ready = ready; pending = s.old; is_in_book = s.here; port_is = ap (λ (x : Accepted). x.port) s.same; issued = kept.1; old_enough = more }) e here refl t)))
         (cases_lt s.old.age 2))
         (s.issued t))
         (λ (a : IsAccepted steps e). let le = (a.1 t).1 in omega (arith, le, once))
@@ -268,8 +268,8 @@ young {D} ask said old evidence steps new e fit k here t all from = by k
 pub law_ages_are_bounded : {D : Type 0} (first : AbstractState) (run : List (CallRecord D)) (e : Pending) → IsRun first run → Contains (abstract_after_all first run).machine.book e → e.issued ≡ true → e.age ≤ 2
 law_ages_are_bounded first [] e r h t = absurd (nobody first.machine r.0 e (inl h))
 law_ages_are_bounded first (event ∷ past) e r h t = young event.ask event.said (abstract_after_all first past) event.evidence event.steps (abstract_after_all first (event ∷ past)) e
-    (all_fit event.ask event.ports event.steps r.1.belong)
-    (kind event.ask event.said (abstract_after_all first past) event.evidence event.steps (abstract_after_all first (event ∷ past)) (Unit {0}) r.1.answered)
+    (all_fit event.ask event.ports event.steps r.1.steps_are_of_call)
+    (kind event.ask event.said (abstract_after_all first past) event.evidence event.steps (abstract_after_all first (event ∷ past)) (Unit {0}) r.1.is_answered)
     h t (λ o i u. law_ages_are_bounded first past o r.0 i u) (since (abstract_after_all first past).machine event.steps e h)
 
 -- A kept request is on a dead port.
@@ -310,7 +310,7 @@ kept_from old evidence ports m (Answer p outcome.PortDead ∷ before) l e h = go
         (λ i. moved_kept ports m (Answer p outcome.PortDead) before e e refl refl (rest i))
         (contains_cases p (after m before).kept e h)
     go false h rest = moved_kept ports m (Answer p outcome.PortDead) before e e refl refl (rest h)
-kept_from old evidence ports m (Again p ∷ before) l e h = moved_kept ports m (Again p) before e e refl refl (kept_from old evidence ports m before l.0 e h)
+kept_from old evidence ports m (WaitAgain p ∷ before) l e h = moved_kept ports m (WaitAgain p) before e e refl refl (kept_from old evidence ports m before l.0 e h)
 kept_from old evidence ports m (step ∷ before) l e h = moved_kept ports m step before e e refl refl (kept_from old evidence ports m before l e h)
 
 kept_event : {D : Type 0} (ask : AbstractCall D) (said : CallResult) (old : AbstractState) (evidence : Evidence) (steps : List Step) (new : AbstractState) (port : Port) → PortsWellFormed old.ports
@@ -334,9 +334,9 @@ law_kept_where_dead first (event ∷ past) e r h = ⊎_elim
     (λ o. kept_event event.ask event.said (abstract_after_all first past) event.evidence event.steps (abstract_after_all first (event ∷ past)) e.request.port
     (run_fit first past r.0) o.3
     (subst (λ (x : Accepted). (abstract_after_all first past).ports.state x.port ≡ Dead) o.2 (law_kept_where_dead first past o.0 r.0 o.1))
-    (kind event.ask event.said (abstract_after_all first past) event.evidence event.steps (abstract_after_all first (event ∷ past)) (Unit {0}) r.1.answered))
+    (kind event.ask event.said (abstract_after_all first past) event.evidence event.steps (abstract_after_all first (event ∷ past)) (Unit {0}) r.1.is_answered))
     (λ dead. dead)
-    (kept_from (abstract_after_all first past) event.evidence event.ports (abstract_after_all first past).machine event.steps r.1.lawful e h)
+    (kept_from (abstract_after_all first past) event.evidence event.ports (abstract_after_all first past).machine event.steps r.1.answers_are_lawful e h)
 
 -- A port that is dead after a call was dead when it began, or got stuck in it.
 
@@ -347,14 +347,14 @@ dead_or _ = inr (λ e. false≢true (ap is_dead e))
 was_dead : {D : Type 0} (ask : AbstractCall D) (said : CallResult) (old : AbstractState) (evidence : Evidence) (steps : List Step) (new : AbstractState) (port : Port) → PortsWellFormed new.ports → new.ports.state port ≡ Dead
     → Kind ask said old evidence steps new (Unit {0}) → (old.ports.state port ≡ Dead) ⊎ Contains evidence.stuck port
 was_dead ask said old evidence steps new port fit dead (Leaves t r same keep) = inl (sym (same port).1 ∙ dead)
-was_dead ask said old evidence steps new port fit dead (Serves t r ports) = ⊎_elim (λ was. inl was) (λ alive. inr (((ports port).1.1 alive).0.stuck.0 dead)) (dead_or (old.ports.state port))
-was_dead ask said old evidence steps new port fit dead (Ticks r ages hung empty keep) = ⊎_elim (λ same. inl (sym same.1.1 ∙ dead)) (λ h. inr (h.1.stuck.0 dead)) (hung.ports port)
-was_dead ask said old evidence steps new port fit dead (Resets t releases ports) = inr ((ports port).1.stuck.0 dead)
+was_dead ask said old evidence steps new port fit dead (Serves t r ports) = ⊎_elim (λ was. inl was) (λ alive. inr (((ports port).1.1 alive).0.dead_is_stuck.0 dead)) (dead_or (old.ports.state port))
+was_dead ask said old evidence steps new port fit dead (Ticks r ages hung empty keep) = ⊎_elim (λ same. inl (sym same.1.1 ∙ dead)) (λ h. inr (h.1.dead_is_stuck.0 dead)) (hung.ports port)
+was_dead ask said old evidence steps new port fit dead (Resets t releases ports) = inr ((ports port).1.dead_is_stuck.0 dead)
 was_dead ask said old evidence steps new port fit dead (Sticks t ports keep) =
     inr (((ports port).1 (sym (ports port).0 ∙ placed_served new.ports port (Unit {0}) fit (inr (dead, tt)))).1)
 
 pub law_dead_ports_were_stuck : {D : Type 0} (old : AbstractState) (event : CallRecord D) (port : Port) → Happens old event → event.ports.state port ≡ Dead
     → (old.ports.state port ≡ Dead) ⊎ Contains event.evidence.stuck port
 law_dead_ports_were_stuck old event port h dead =
-    was_dead event.ask event.said old event.evidence event.steps (abstract_after old event) port h.fit dead
-    (kind event.ask event.said old event.evidence event.steps (abstract_after old event) (Unit {0}) h.answered)
+    was_dead event.ask event.said old event.evidence event.steps (abstract_after old event) port h.ports_are_well_formed dead
+    (kind event.ask event.said old event.evidence event.steps (abstract_after old event) (Unit {0}) h.is_answered)

@@ -23,18 +23,18 @@ use Rattle.block_machine.specs.declared.due.Unanswered.{Unanswered}
 use Rattle.ata_types.specs.SectorGrants.{AllowsOp}
 use Rattle.block_machine.specs.Rules.{IsAllowedCount, frame_count_for}
 use Rattle.block_machine.specs.Refusals.{MayAccessFrame}
-use Rattle.block_machine.specs.Due.{NoneDue, is_flush}
+use Rattle.block_machine.specs.DueRequests.{NoneDue, is_flush}
 use Rattle.block_machine.specs.State.{Accepted, Pending, Machine, block_of, unanswered}
 use Rattle.block_machine.specs.Steps.{Step, Touch, End, Answer, newly_accepted, newly_issued, touch, mark_ended, MayAccept}
 use Rattle.block_machine.specs.Ports.{Ports, Evidence, PortsWellFormed, SamePort, IsStoppedOrStuck, MayBecome, IsServiced}
-use Rattle.block_machine.specs.Events.{AbstractState, AbstractCall, CallResult, CallRecord, ShowsDisk, HasTimedOut, AnswersEnded, AnswersAllUnplugged, UnpluggedLostDisk, AnswersService, RepliesMatch, situation_of, answers_of, reply_of}
+use Rattle.block_machine.specs.Events.{AbstractState, AbstractCall, CallResult, CallRecord, ShowsDisk, HasTimedOut, AnswersEnded, AnswersAllUnplugged, UnpluggedLostDisk, AnswersService, RepliesMatch, admission_context_of, answers_of, reply_of}
 use Rattle.block_machine.proofs.Members.{contains_none, contains_here, contains_cases, append_in, none_of}
 use Rattle.block_machine.proofs.Counting.{issued_not_due}
 use Rattle.block_machine.proofs.Setting.{client, on, port, frame, row, two_rows, request, empty, its_row, is_trim, IsFit, acceptable}
 
 -- no evidence
 abbrev pub none : Evidence
-none = record { faults = []; lost = []; gone = []; failed = []; fatal = []; stopped = []; stuck = [] }
+none = record { faults = []; lost = []; link_changed = []; failed = []; fatal = []; stopped = []; stuck = [] }
 
 abbrev pub mode : QueueMode
 mode = record { queued = true; usable = 32 }
@@ -63,7 +63,7 @@ reply n = record { id = id n; client = client; outcome = outcome.Ok }
 
 -- a request of one sector of a port, with its frame's bytes at a moment
 abbrev pub one_sector : ℕ → Machine → ℕ → Op → ℕ → ℕ → Accepted
-one_sector p m n op sector f = record { id = id n; port = on p; asked = request p op sector 1 (frame f ∷ []); held = block_of m.memory (frame f ∷ []) }
+one_sector p m n op sector f = record { id = id n; port = on p; asked = request p op sector 1 (frame f ∷ []); held_blocks = block_of m.memory (frame f ∷ []) }
 
 -- the same of sector 100 of port 0
 abbrev pub sector_request : Machine → ℕ → Op → ℕ → Accepted
@@ -74,7 +74,7 @@ abbrev pub done : Accepted → Pending
 done r = mark_ended (touch 0 (newly_issued (newly_accepted r)))
 
 abbrev pub served : Accepted → List Step
-served r = Answer (done r) outcome.Ok ∷ End (touch 0 (newly_issued (newly_accepted r))) ∷ Touch (newly_issued (newly_accepted r)) 0 (r.held 0) ∷ []
+served r = Answer (done r) outcome.Ok ∷ End (touch 0 (newly_issued (newly_accepted r))) ∷ Touch (newly_issued (newly_accepted r)) 0 (r.held_blocks 0) ∷ []
 
 -- What holds of the parts.
 
@@ -90,15 +90,15 @@ pub record IsQuiet (p : ℕ) (m : AbstractState) : Type 0 where
   pub mine : Contains two_rows (row p)
   pub ready : m.ports.state (on p) ≡ Ready
   pub size : m.ports.sectors (on p) ≡ 200
-  pub room : (situation_of m).unanswered client < 16
-  pub few : m.machine.next ≤ 5
+  pub room : (admission_context_of m).unanswered client < 16
+  pub few : m.machine.next_id ≤ 5
 
 pub row_zero : Contains two_rows (row 0)
 row_zero = contains_here (row 0) (row 1 ∷ []) (row 0) refl
 
 -- a request of one sector is fit there
 pub fit_sector : (p : ℕ) (m : AbstractState) (op : Op) (k n : ℕ) → IsQuiet p m → op ≢ Trim → op ≢ Flush → frame_count_for op 1 ≡ 1 → IsAllowedCount op 1 → AllowsOp (row p).rights op → 100 ≤ k → k < 164
-    → m.machine.owner (frame n) ≡ Some client → m.machine.lent (frame n) ≡ None → IsFit p (situation_of m) (request p op k 1 (frame n ∷ []))
+    → m.machine.owner (frame n) ≡ Some client → m.machine.lent (frame n) ≡ None → IsFit p (admission_context_of m) (request p op k 1 (frame n ∷ []))
 fit_sector p m op k n q no_trim no_flush frames count allowed from to own free = record {
   rows = q.rows;
   mine = q.mine;
@@ -121,16 +121,16 @@ fit_sector p m op k n q no_trim no_flush frames count allowed from to own free =
     same : (f : Frame) → slice_get (frame n ∷ []) 0 ≡ Some f → f ≡ frame n
     same f e = sym (get_or_from_slice_get (frame n ∷ []) 0 f f e)
 
-pub write_at : (p : ℕ) (m : AbstractState) (k n : ℕ) → IsQuiet p m → 100 ≤ k → k < 164 → m.machine.owner (frame n) ≡ Some client → m.machine.lent (frame n) ≡ None → IsFit p (situation_of m) (request p Write k 1 (frame n ∷ []))
+pub write_at : (p : ℕ) (m : AbstractState) (k n : ℕ) → IsQuiet p m → 100 ≤ k → k < 164 → m.machine.owner (frame n) ≡ Some client → m.machine.lent (frame n) ≡ None → IsFit p (admission_context_of m) (request p Write k 1 (frame n ∷ []))
 write_at p m k n q from to own free = fit_sector p m Write k n q (λ e. false≢true (ap is_trim e)) (λ e. false≢true (ap is_flush e)) refl (omega arith, omega arith) refl from to own free
 
-pub fit_write : (m : AbstractState) (n : ℕ) → IsQuiet 0 m → m.machine.owner (frame n) ≡ Some client → m.machine.lent (frame n) ≡ None → IsFit 0 (situation_of m) (request 0 Write 100 1 (frame n ∷ []))
+pub fit_write : (m : AbstractState) (n : ℕ) → IsQuiet 0 m → m.machine.owner (frame n) ≡ Some client → m.machine.lent (frame n) ≡ None → IsFit 0 (admission_context_of m) (request 0 Write 100 1 (frame n ∷ []))
 fit_write m n q own free = write_at 0 m 100 n q (omega arith) (omega arith) own free
 
-pub fit_read : (p : ℕ) (m : AbstractState) (n : ℕ) → IsQuiet p m → m.machine.owner (frame n) ≡ Some client → m.machine.lent (frame n) ≡ None → IsFit p (situation_of m) (request p Read 100 1 (frame n ∷ []))
+pub fit_read : (p : ℕ) (m : AbstractState) (n : ℕ) → IsQuiet p m → m.machine.owner (frame n) ≡ Some client → m.machine.lent (frame n) ≡ None → IsFit p (admission_context_of m) (request p Read 100 1 (frame n ∷ []))
 fit_read p m n q own free = fit_sector p m Read 100 n q (λ e. false≢true (ap is_trim e)) (λ e. false≢true (ap is_flush e)) refl (omega arith, omega arith) refl (omega arith) (omega arith) own free
 
-pub fit_flush : (m : AbstractState) → IsQuiet 0 m → IsFit 0 (situation_of m) (request 0 Flush 0 0 [])
+pub fit_flush : (m : AbstractState) → IsQuiet 0 m → IsFit 0 (admission_context_of m) (request 0 Flush 0 0 [])
 fit_flush m q = record {
   rows = q.rows;
   mine = q.mine;
@@ -154,19 +154,19 @@ fit_flush m q = record {
     nothing f e = let lt = slice_get_within [] 0 f e in omega (arith, lt)
 
 -- a fit request is new to the machine
-pub new : (p : ℕ) (m : AbstractState) (a : Accepted) → IsQuiet p m → IsFit p (situation_of m) a.asked → a.id.0 ≡ m.machine.next → a.port ≡ on p → a.held ≡ block_of m.machine.memory a.asked.frames.items → MayAccept m.machine a
+pub new : (p : ℕ) (m : AbstractState) (a : Accepted) → IsQuiet p m → IsFit p (admission_context_of m) a.asked → a.id.0 ≡ m.machine.next_id → a.port ≡ on p → a.held_blocks ≡ block_of m.machine.memory a.asked.frames.items → MayAccept m.machine a
 new p m a q fit next here held = record {
   id = next;
   id_left = let few = q.few in omega (arith, few);
-  unbroken = λ rule h. acceptable p (situation_of m) a.asked fit (refused.Rule rule) h;
+  unbroken = λ rule h. acceptable p (admission_context_of m) a.asked fit (refused.Rule rule) h;
   port = λ r h. here ∙ ap (λ (x : GrantRow). x.port) (sym (its_row r (subst (λ (xs : List GrantRow). Contains xs r) q.rows h.0) ∙ ap row (h.1.1 ∙ fit.grant)));
-  few = let none = fit.few in subst (λ c. (situation_of m).unanswered c < 16) (sym fit.client_is) none;
+  few = let none = fit.few in subst (λ c. (admission_context_of m).unanswered c < 16) (sym fit.client_is) none;
   held = held;
 }
 
 -- no request of a book is due where all are issued
 pub none_waits : (us : List Unanswered) → list_any (λ u. not u.issued) us ≡ false → (p : Port) → NoneDue mode us p
-none_waits us all p r here due = issued_not_due mode us r (is_issued r.issued (none_of (λ u. not u.issued) us r all due.here)) due
+none_waits us all p r here due = issued_not_due mode us r (is_issued r.issued (none_of (λ u. not u.issued) us r all due.is_in_book)) due
   where
     is_issued : (b : Bool) → not b ≡ false → b ≡ true
     is_issued true e = refl
@@ -177,23 +177,23 @@ pub one_issued : (u : Unanswered) → u.issued ≡ true → (p : Port) → NoneD
 one_issued u issued p = none_waits (u ∷ []) (or_from _ _ (ap not issued) refl) p
 
 pub none_there : (p : Port) → NoneDue mode [] p
-none_there p r here due = contains_none r due.here
+none_there p r here due = contains_none r due.is_in_book
 
 -- an only answer is told
 pub one_told : (e : Pending) (o : Outcome) (steps : List Step) → answers_of steps ≡ (e, o) ∷ [] → (r : Reply) → r ≡ reply_of (e, o) → RepliesMatch steps (r ∷ [])
 one_told e o steps only r is = record {
   answers = (e, o) ∷ [];
-  same = subst (λ xs. IsPermutation ((e, o) ∷ []) xs) (sym only) (IsPermutation-refl _);
+  is_permutation = subst (λ xs. IsPermutation ((e, o) ∷ []) xs) (sym only) (IsPermutation-refl _);
   ordered = λ i j d lt below. absurd (omega (arith, lt, below));
-  told = ap (λ (x : Reply). x ∷ []) is;
+  replies_are = ap (λ (x : Reply). x ∷ []) is;
 }
 
 pub none_told : (steps : List Step) → answers_of steps ≡ [] → RepliesMatch steps []
 none_told steps only = record {
   answers = [];
-  same = subst (λ xs. IsPermutation [] xs) (sym only) (IsPermutation-refl _);
+  is_permutation = subst (λ xs. IsPermutation [] xs) (sym only) (IsPermutation-refl _);
   ordered = λ i j d lt below. absurd (omega (arith, lt, below));
-  told = refl;
+  replies_are = refl;
 }
 
 pub one_touched : (i : ℕ) → i < 1 → ((i == 0) || false) ≡ true
@@ -205,10 +205,10 @@ is_unfit _ = false
 
 pub ports_fit : (state : PortState) → is_unfit state ≡ false → PortsWellFormed (ports_in state)
 ports_fit state known = record {
-  few = λ p e. let zero = eqb-true p.0 0 e in omega (arith, zero);
-  absent = λ p e. cond-false (p.0 == 0) state Absent e;
-  slots = λ p e. (omega arith, omega arith, λ f. absurd (false≢true (sym f)));
-  causes = λ p cause e. go cause (p.0 == 0) e;
+  few_are_served = λ p e. let zero = eqb-true p.0 0 e in omega (arith, zero);
+  unserved_are_absent = λ p e. cond-false (p.0 == 0) state Absent e;
+  modes_are_valid = λ p e. (omega arith, omega arith, λ f. absurd (false≢true (sym f)));
+  causes_are_valid = λ p cause e. go cause (p.0 == 0) e;
 }
   where
     go : (cause : ℕ) (b : Bool) → cond b state Absent ≡ Unfit cause → (1 ≤ cause) × (cause ≤ 9)
@@ -266,7 +266,7 @@ pub serviced : (p : Port) → IsServiced ports none ports p
 serviced p = (
   λ dead. none_dead p dead,
   λ _. (
-    record { served = refl; stuck = (λ e. none_dead p e, λ h. absurd (contains_none p h)); keeps = λ _. (refl, refl) },
+    record { served_is_kept = refl; dead_is_stuck = (λ e. none_dead p e, λ h. absurd (contains_none p h)); disk_is_kept = λ _. (refl, refl) },
     inl (refl, refl, refl, refl, refl, refl),
   ),
 )
@@ -290,9 +290,9 @@ changed_here old new evidence here p = go (p.0 == 0) refl
 -- a port that no call got stuck stays ready
 pub stay_ready : (evidence : Evidence) → evidence.stuck ≡ [] → (p : Port) → MayBecome ports evidence ports p
 stay_ready evidence none p = record {
-  served = refl;
-  stuck = (λ dead. none_dead p dead, λ h. absurd (contains_none p (subst (λ (stuck : List Port). Contains stuck p) none h)));
-  keeps = λ _. (refl, refl);
+  served_is_kept = refl;
+  dead_is_stuck = (λ dead. none_dead p dead, λ h. absurd (contains_none p (subst (λ (stuck : List Port). Contains stuck p) none h)));
+  disk_is_kept = λ _. (refl, refl);
 }
 
 -- what a tick makes of each port where port 0 is hung: that becomes what it may, in this state, and the others stay as they are
@@ -326,8 +326,8 @@ never_unplugged steps none e h = absurd (false≢true (sym (none_of is_unplugged
 
 pub none_unplugged : (steps : List Step) (m : Machine) → list_any is_unplugged steps ≡ false → AnswersAllUnplugged steps m
 none_unplugged steps m none = record {
-  emptied = λ e other h i. never_unplugged steps none e h;
-  alike = λ e other h i. never_unplugged steps none e h;
+  none_is_left = λ e other h i. never_unplugged steps none e h;
+  none_is_told_dead = λ e other h i. never_unplugged steps none e h;
 }
 
 pub finds_none : (steps : List Step) (old new : Ports) → list_any is_unplugged steps ≡ false → UnpluggedLostDisk steps old new
@@ -358,14 +358,14 @@ pub plain_service : (old new : Machine) (steps : List Step) (replies : List Repl
     → ((p : Port) → AnswersEnded old steps p) → ((p : Port) → NoneDue mode (map unanswered new.book) p) → ((e : Pending) → Contains new.book e → e.request.port ≡ port)
     → AnswersService (record { machine = old; ports = ports }) none steps replies (record { machine = new; ports = ports })
 plain_service old new steps replies tells plugged ended issues mine = record {
-  tells = tells;
-  dead = λ e o h dead. none_dead e.request.port dead;
-  unplugs = none_unplugged steps new plugged;
-  issues = λ p _. issues p;
-  emptied = emptied_of new.book mine;
-  ended = λ p _. ended p;
-  becomes = serviced;
-  disk = λ p. inl (refl, refl, refl, refl, refl, refl);
+  replies_match = tells;
+  tells_dead = λ e o h dead. none_dead e.request.port dead;
+  answers_all_unplugged = none_unplugged steps new plugged;
+  none_is_due = λ p _. issues p;
+  empty_unless_ready = emptied_of new.book mine;
+  answers_ended = λ p _. ended p;
+  port_is_serviced = serviced;
+  shown_disk_was_in_or_came = λ p. inl (refl, refl, refl, refl, refl, refl);
 }
 
 -- of the one request of a book, or of none

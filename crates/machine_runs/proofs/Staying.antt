@@ -1,21 +1,21 @@
 -- What is left for a read that was answered stays what it is, however long the run goes on.
 use Rattle.std.proofs.Common.{◌≡◌, ◌≢◌, ℕ, ◌<◌, true, false, List, ◌∷◌, refl, sym, ap, ◌∙◌, subst, arith, eqb-true, ◌-◌, [], inl, inr}
 use Rattle.std.proofs.lemmas.Bool.{or_left, and_parts, cond-false, false_from_ne_true}
-use Rattle.block_machine.specs.Due.{changes_sectors}
+use Rattle.block_machine.specs.DueRequests.{changes_sectors}
 use Rattle.block_machine.specs.State.{Block, Accepted, Pending, Machine, sector_of, block_written}
-use Rattle.block_machine.specs.Steps.{Step, Touch, May, HoldsFrames}
-use Rattle.block_machine.specs.Expected.{after, IsLegal, IsInitial, IsTouch, touches, HasTouched, plug_count, disk_number_read, IsLastWritten, IsExpectedBlock}
+use Rattle.block_machine.specs.Steps.{Step, Touch, IsEnabled, HoldsFrames}
+use Rattle.block_machine.specs.Expected.{after, IsLegal, IsInitial, IsTouch, touches_sector, HasTouched, plug_count, disk_number_read, IsLastWritten, IsExpectedBlock}
 use Rattle.block_machine.proofs.Trace.{Seen, runs_lives, conflict_at, read_number, last_from}
 use Rattle.block_machine.proofs.Runs.{traced}
 
 -- a request that isn't there touches nothing
-no_touch : (m : Machine) (step : Step) → May m step → (r : Accepted) (k : ℕ) → ((e : Pending) → HoldsFrames m e → e.request.id ≢ r.id) → touches r.id k step ≡ false
+no_touch : (m : Machine) (step : Step) → IsEnabled m step → (r : Accepted) (k : ℕ) → ((e : Pending) → HoldsFrames m e → e.request.id ≢ r.id) → touches_sector r.id k step ≡ false
 no_touch m (Touch e i block) may r k gone = false_from_ne_true _ (λ t.
     gone e (runs_lives m e may.0) (ap (λ (n : ℕ). record { 0 = n }) (eqb-true e.request.id.0 r.id.0 (and_parts _ _ t).0)))
 no_touch m _ may r k gone = refl
 
 -- no earlier write or trim touches a sector that the read touched
-no_earlier : (m : Machine) (step : Step) → May m step → (r : Accepted) (k : ℕ) → Seen m r k → (w : Accepted) → changes_sectors w.asked.op ≡ true → w.port ≡ r.port → w.id.0 < r.id.0 → IsTouch step w k → ⊥
+no_earlier : (m : Machine) (step : Step) → IsEnabled m step → (r : Accepted) (k : ℕ) → Seen m r k → (w : Accepted) → changes_sectors w.asked.op ≡ true → w.port ≡ r.port → w.id.0 < r.id.0 → IsTouch step w k → ⊥
 no_earlier m (Touch e i block) may r k seen w writes here less t =
     let less_e : e.request.id.0 < r.id.0 = subst (λ (a : Accepted). a.id.0 < r.id.0) (sym t.0) less in
     let here_e : e.request.port ≡ r.port = ap (λ (a : Accepted). a.port) t.0 ∙ here in
@@ -30,14 +30,14 @@ pub law_expected_is_stable : (start : Machine) (h : List Step) (step : Step) (re
 law_expected_is_stable start h step read k n block s legal touched gone left =
     let m = after start h in
     let seen = (traced start h s legal.0).seen read k n touched in
-    let same : disk_number_read read k (step ∷ h) ≡ disk_number_read read k h = cond-false (touches read.id k step) (plug_count read.port h) (disk_number_read read k h) (no_touch m step legal.1 read k gone) in
+    let same : disk_number_read read k (step ∷ h) ≡ disk_number_read read k h = cond-false (touches_sector read.id k step) (plug_count read.port h) (disk_number_read read k h) (no_touch m step legal.1 read k gone) in
     subst (λ (x : ℕ). IsLastWritten start read.port k x read.id.0 (step ∷ h) block) (sym same)
     (last_from start read.port k (disk_number_read read k h) read.id.0 read.id.0 step h block (read_number read k h)
     (no_earlier m step legal.1 read k seen) (λ w o. o.earlier) (λ w o. o.earlier) left)
 
 -- Left is one block: requests that touched and have one id are one.
 
-meets : {m : Machine} {x : Accepted} {j : ℕ} {w : Accepted} (k : ℕ) (step : Step) → May m step → IsTouch step w k → Seen m x j → w.id.0 ≡ x.id.0 → w ≡ x
+meets : {m : Machine} {x : Accepted} {j : ℕ} {w : Accepted} (k : ℕ) (step : Step) → IsEnabled m step → IsTouch step w k → Seen m x j → w.id.0 ≡ x.id.0 → w ≡ x
 meets {m} k (Touch e i block) may t s id = sym t.0 ∙ s.one e (runs_lives m e may.0) (ap (λ (y : Accepted). y.id.0) t.0 ∙ id)
 meets k _ may t s id = absurd t
 
@@ -58,7 +58,7 @@ law_expected_is_unique start h read k a b s legal (inl p) (inl q) =
     let le = p.2 q.0 q.1 in
     let ge = q.2 p.0 p.1 in
     let same : p.0 ≡ q.0 = touched_one start h s legal p.0 q.0 k _ k _ p.1.touched q.1.touched (omega (arith, le, ge)) in
-    p.3 ∙ ap (λ (w : Accepted). block_written w.asked.op w.held (k - w.asked.first.0)) same ∙ sym q.3
+    p.3 ∙ ap (λ (w : Accepted). block_written w.asked.op w.held_blocks (k - w.asked.first.0)) same ∙ sym q.3
 law_expected_is_unique start h read k a b s legal (inl p) (inr q) = absurd (q.0 p.0 p.1)
 law_expected_is_unique start h read k a b s legal (inr p) (inl q) = absurd (p.0 q.0 q.1)
 law_expected_is_unique start h read k a b s legal (inr p) (inr q) = p.1 ∙ sym q.1

@@ -7,7 +7,7 @@ use Rattle.ata_types.specs.declared.PortState.TheVariants.{Ready}
 use Rattle.ata_types.specs.declared.request.Outcome.{Outcome}
 use Rattle.ata_types.specs.declared.request.Outcome.TheVariants as outcome
 use Rattle.block_machine.specs.State.{Pending}
-use Rattle.block_machine.specs.Steps.{Step, Touch, End, Age, Again, Answer, touch, mark_ended}
+use Rattle.block_machine.specs.Steps.{Step, Touch, End, Age, WaitAgain, Answer, touch, mark_ended}
 use Rattle.block_machine.specs.Events.{Tick, Device, Served, Stepped, CallRecord, HasTimedOut, RestartsTimedOut, Happens, reply_of, abstract_after_all}
 use Rattle.machine_runs.specs.ExampleRuns.{IsAnsweredByTick}
 use Rattle.block_machine.proofs.Members.{contains_none, contains_here, contains_cases}
@@ -18,7 +18,7 @@ use Rattle.machine_runs.proofs.ResetRun.{aging, aged, halted, run3, happens2, ha
 
 -- the device ends the write that is two ticks old
 abbrev ending : CallRecord (Unit {0})
-ending = call (Device tt) (Stepped true) (End (touch 0 (aged 2)) ∷ Touch (aged 2) 0 (write.held 0) ∷ [])
+ending = call (Device tt) (Stepped true) (End (touch 0 (aged 2)) ∷ Touch (aged 2) 0 (write.held_blocks 0) ∷ [])
 
 abbrev run4 : List (CallRecord (Unit {0}))
 run4 = ending ∷ run3
@@ -38,20 +38,20 @@ run5 = tick ∷ run4
 
 happens4 : Happens (abstract_after_all first run3) ending
 happens4 = record {
-  may = ((tt, (inl (contains_here (aged 2) [] (aged 2) refl, refl), omega arith, refl, omega arith, λ _ b lt. refl)), (inl (contains_here (touch 0 (aged 2)) [] (touch 0 (aged 2)) refl, refl), one_touched, refl));
-  belong = ((tt, inl tt), inl tt);
-  last = ((tt, λ id h i. false≢true i), λ id h i. false≢true i);
-  lawful = tt;
-  fit = ports_fit Ready refl;
-  disks = λ e o h i same. (refl, refl);
-  answered = (((tt, tt), tt), λ p. (refl, refl, refl, refl, refl, refl));
+  steps_are_enabled = ((tt, (inl (contains_here (aged 2) [] (aged 2) refl, refl), omega arith, refl, omega arith, λ _ b lt. refl)), (inl (contains_here (touch 0 (aged 2)) [] (touch 0 (aged 2)) refl, refl), one_touched, refl));
+  steps_are_of_call = ((tt, inl tt), inl tt);
+  issues_are_last = ((tt, λ id h i. false≢true i), λ id h i. false≢true i);
+  answers_are_lawful = tt;
+  ports_are_well_formed = ports_fit Ready refl;
+  unanswered_keep_disk = λ e o h i same. (refl, refl);
+  is_answered = (((tt, tt), tt), λ p. (refl, refl, refl, refl, refl, refl));
 }
 
 hung : HasTimedOut (abstract_after_all first run4) port
-hung = record { ready = refl; pending = over; here = contains_here over [] over refl; port_is = refl; issued = refl; old_enough = omega arith }
+hung = record { ready = refl; pending = over; is_in_book = contains_here over [] over refl; port_is = refl; issued = refl; old_enough = omega arith }
 
 abbrev is_again : Step → Bool
-is_again (Again e) = true
+is_again (WaitAgain e) = true
 is_again _ = false
 
 abbrev is_answer : Step → Bool
@@ -66,22 +66,22 @@ port_of _ = port
 restarted : RestartsTimedOut (abstract_after_all first run4) halted tick.steps (abstract_after_all first run5)
 restarted = record {
   ports = restarts_here (abstract_after_all first run4).machine halted refl hung;
-  again = λ e h. absurd (false≢true (sym (each (λ step. is_again step ≡ false) refl refl (Again e) h)));
-  answer = λ e o h. each (λ step. (x : Pending) (a : Outcome) → step ≡ Answer x a → HasTimedOut (abstract_after_all first run4) x.request.port)
+  only_timed_out_wait_again = λ e h. absurd (false≢true (sym (each (λ step. is_again step ≡ false) refl refl (WaitAgain e) h)));
+  only_timed_out_are_answered = λ e o h. each (λ step. (x : Pending) (a : Outcome) → step ≡ Answer x a → HasTimedOut (abstract_after_all first run4) x.request.port)
       (λ x a q. subst (λ (y : Step). HasTimedOut (abstract_after_all first run4) (port_of y)) q hung)
       (λ x a q. absurd (false≢true (ap is_answer q)))
       (Answer e o) h e o refl;
-  ended = λ p _. last_ended (abstract_after_all first run4).machine tick.steps [] over refl refl older_still refl (contains_here (Answer older_still outcome.Ok) (Age aging ∷ []) (Answer older_still outcome.Ok) refl) p;
-  anew = λ p _ e h. absurd (contains_none e h);
-  interrupts = λ p. (
+  answers_ended = λ p _. last_ended (abstract_after_all first run4).machine tick.steps [] over refl refl older_still refl (contains_here (Answer older_still outcome.Ok) (Age aging ∷ []) (Answer older_still outcome.Ok) refl) p;
+  none_stays_issued = λ p _ e h. absurd (contains_none e h);
+  is_interrupted = λ p. (
     λ h. inl (contains_here port [] p (ready_port p h.ready)),
     λ i. ⊎_elim
         (λ h. ⊎_elim (λ (same : p ≡ port). subst (λ (x : Port). HasTimedOut (abstract_after_all first run4) x) (sym same) hung) (λ n. absurd (contains_none p n)) (contains_cases port [] p h))
         (λ h. absurd (contains_none p h))
         i,
   );
-  finds = finds_none tick.steps ports ports refl;
-  disk = λ p _ _. inl refl;
+  unplugged_lost_disk = finds_none tick.steps ports ports refl;
+  shown_disk_was_in_or_came = λ p _ _. inl refl;
 }
   where
     each : (P : Step → Type 0) → P (Answer older_still outcome.Ok) → P (Age aging) → (step : Step) → Contains tick.steps step → P step
@@ -92,31 +92,31 @@ restarted = record {
 
 happens5 : Happens (abstract_after_all first run4) tick
 happens5 = record {
-  may = ((tt, tt), (contains_here older_still [] older_still refl, tt));
-  belong = ((tt, inr tt), inr (inr refl));
-  last = ((tt, λ id h i. false≢true i), λ id h i. false≢true i);
-  lawful = (tt, (record { pending = over; here = contains_here over [] over refl; id_is = refl; issued = refl }, refl, one_touched, refl));
-  fit = ports_fit Ready refl;
-  disks = λ e o h i same. (refl, refl);
-  answered = record {
-    tells = one_told older_still outcome.Ok tick.steps refl (reply_of (older_still, outcome.Ok)) refl;
-    ages = ages_once (Answer older_still outcome.Ok ∷ []) refl;
-    restarts = restarted;
-    unplugs = none_unplugged tick.steps (abstract_after_all first run5).machine refl;
-    issues = λ p _. none_there p;
-    emptied = λ p _ ne e h. absurd (contains_none e h);
+  steps_are_enabled = ((tt, tt), (contains_here older_still [] older_still refl, tt));
+  steps_are_of_call = ((tt, inr tt), inr (inr refl));
+  issues_are_last = ((tt, λ id h i. false≢true i), λ id h i. false≢true i);
+  answers_are_lawful = (tt, (record { pending = over; is_in_book = contains_here over [] over refl; id_is = refl; issued = refl }, refl, one_touched, refl));
+  ports_are_well_formed = ports_fit Ready refl;
+  unanswered_keep_disk = λ e o h i same. (refl, refl);
+  is_answered = record {
+    replies_match = one_told older_still outcome.Ok tick.steps refl (reply_of (older_still, outcome.Ok)) refl;
+    ages_once = ages_once (Answer older_still outcome.Ok ∷ []) refl;
+    restarts_timed_out = restarted;
+    answers_all_unplugged = none_unplugged tick.steps (abstract_after_all first run5).machine refl;
+    none_is_due = λ p _. none_there p;
+    empty_unless_ready = λ p _ ne e h. absurd (contains_none e h);
   };
 }
 
 pub ends_at_a_tick : IsAnsweredByTick
 ends_at_a_tick = record {
-  first = first;
+  initial_state = first;
   early = run3;
   ending = ending;
   tick = tick;
   runs = ((((((empty_starts, ports_fit Ready refl), happens1), happens2), happens3), happens4), happens5);
   aged = aged 2;
-  old = refl;
+  book_is = refl;
   not_ended = (refl, refl);
   told_to = refl;
   ended = over;

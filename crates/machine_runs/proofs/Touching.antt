@@ -5,8 +5,8 @@ use Rattle.std.proofs.lemmas.Bool.{or_cases, false≢true}
 use Rattle.std.specs.List.{Contains}
 use Rattle.ata_types.specs.declared.request.Outcome.TheVariants.{Ok}
 use Rattle.block_machine.specs.State.{Accepted, Pending, Machine, sector_of, newly_unanswered}
-use Rattle.block_machine.specs.Steps.{Step, Accept, Issue, Touch, End, Age, Again, Answer, Release, Revoke, Unplug, Replace, Store, Load, HoldsFrames, May, MayStillMove, after_step, newly_issued, touch, mark_ended, requeued, newly_accepted}
-use Rattle.block_machine.specs.Due.{conflict}
+use Rattle.block_machine.specs.Steps.{Step, Accept, Issue, Touch, End, Age, WaitAgain, Answer, Release, Revoke, Unplug, Replace, Store, Load, HoldsFrames, IsEnabled, MayStillMove, after_step, newly_issued, touch, mark_ended, requeued, newly_accepted}
+use Rattle.block_machine.specs.DueRequests.{are_conflicting}
 use Rattle.block_machine.specs.Expected.{after, IsLegal, IsInitial, IsIssue, IsTouch, IsEnd, HasTouchedSinceIssue, HasEndedSinceIssue}
 use Rattle.block_machine.specs.Events.{AbstractState, CallRecord, IsRun, steps_of}
 use Rattle.block_machine.proofs.Members.{map_in, at_cases, without_in, append_in}
@@ -47,7 +47,7 @@ as_before m step e o here same not touched ended = record {
 stayed : (m : Machine) (step : Step) (e o : Pending) → Contains m.book o → e ≡ o → (IsIssue step e.request → ⊥) → Marks m step e
 stayed m step e o here same not = as_before m step e o here (ap (λ (y : Pending). y.request) (sym same)) not (ap (λ (y : Pending). y.touched) same) (ap (λ (y : Pending). y.ended) same)
 
-marks : (m : Machine) (step : Step) → May m step → Sound m → (e : Pending) → Contains (after_step m step).book e → Marks m step e ⊎ IsUnmarked e
+marks : (m : Machine) (step : Step) → IsEnabled m step → Sound m → (e : Pending) → Contains (after_step m step).book e → Marks m step e ⊎ IsUnmarked e
 marks m (Accept r) may s e i = ⊎_elim
     (λ o. inl (stayed m (Accept r) e e o refl (λ x. x)))
     (λ p. inr (unmarked e (newly_accepted r) p ((λ k. refl), refl)))
@@ -89,11 +89,11 @@ marks m (End p) may s e j =
     }))
     (λ c. inl (stayed m (End p) e r.0 r.1 (r.2 ∙ c.1) (λ x. x)))
     (at_cases p.request.id mark_ended r.0)
-marks m (Again p) may s e j =
+marks m (WaitAgain p) may s e j =
     let r = map_in _ m.book e j in
     ⊎_elim
     (λ c. inr (unmarked e (requeued r.0) (r.2 ∙ c.1) ((λ k. refl), refl)))
-    (λ c. inl (stayed m (Again p) e r.0 r.1 (r.2 ∙ c.1) (λ x. x)))
+    (λ c. inl (stayed m (WaitAgain p) e r.0 r.1 (r.2 ∙ c.1) (λ x. x)))
     (at_cases p.request.id requeued r.0)
 marks m (Age ready) may s e j =
     let r = map_in _ m.book e j in
@@ -147,5 +147,5 @@ law_ok_was_ended first run late early e r split =
 
 -- a request isn't moved while an earlier one that conflicts with it is there
 pub take_turns : (start : Machine) (history : List Step) (earlier later : Pending) → IsInitial start → IsLegal start history → HoldsFrames (after start history) earlier → MayStillMove (after start history) later
-    → earlier.request.id.0 < later.request.id.0 → conflict (newly_unanswered earlier.request) (newly_unanswered later.request) ≡ true → ⊥
+    → earlier.request.id.0 < later.request.id.0 → are_conflicting (newly_unanswered earlier.request) (newly_unanswered later.request) ≡ true → ⊥
 take_turns start history earlier later starts legal living may before conflicts = (traced start history starts legal).sound.order later earlier may living before conflicts

@@ -13,8 +13,8 @@ use Rattle.ata_types.specs.declared.request.Outcome.{Outcome}
 use Rattle.ata_types.specs.declared.request.Outcome.TheVariants as outcome
 use Rattle.block_machine.specs.Ports.{Ports, Evidence, PortsWellFormed, SamePort, IsStoppedOrStuck, IsServiced}
 use Rattle.block_machine.specs.State.{Accepted, Pending, Machine, unanswered, is_reader}
-use Rattle.block_machine.specs.Steps.{Step, Accept, Issue, Touch, End, Again, Answer, Unplug, newly_accepted, newly_issued, touch, requeued}
-use Rattle.block_machine.specs.Events.{AbstractState, Submit, Service, Device, Submitted, Served, Stepped, CallRecord, Happens, AnswersAllUnplugged, RepliesMatch, IsToldBefore, IsIssuedIn, abstract_after, abstract_after_all, situation_of, steps_of, reply_of, ShowsDisk}
+use Rattle.block_machine.specs.Steps.{Step, Accept, Issue, Touch, End, WaitAgain, Answer, Unplug, newly_accepted, newly_issued, touch, requeued}
+use Rattle.block_machine.specs.Events.{AbstractState, Submit, Service, Device, Submitted, Served, Stepped, CallRecord, Happens, AnswersAllUnplugged, RepliesMatch, IsToldBefore, IsIssuedIn, abstract_after, abstract_after_all, admission_context_of, steps_of, reply_of, ShowsDisk}
 use Rattle.machine_runs.specs.ExampleRuns.{MeetsErrors}
 use Rattle.block_machine.proofs.Members.{contains_none, contains_here, contains_there, contains_cases, none_of}
 use Rattle.block_machine.proofs.Setting.{on, frame, row, two_rows, empty, empty_starts, acceptable, granted}
@@ -65,7 +65,7 @@ finishing = newly_issued (newly_accepted finished)
 
 -- the device ends it
 abbrev ending : CallRecord (Unit {0})
-ending = record { ask = Device tt; said = Stepped true; evidence = none; steps = End (touch 0 finishing) ∷ Touch finishing 0 (finished.held 0) ∷ []; ports = ports_in Ready Ready }
+ending = record { ask = Device tt; said = Stepped true; evidence = none; steps = End (touch 0 finishing) ∷ Touch finishing 0 (finished.held_blocks 0) ∷ []; ports = ports_in Ready Ready }
 
 abbrev run5 : List (CallRecord (Unit {0}))
 run5 = ending ∷ run4
@@ -88,10 +88,10 @@ losing = newly_issued (newly_accepted lost)
 
 -- port 0 failed and told a fault, and port 1 told that its disk went; both were stopped
 abbrev port_error : Evidence
-port_error = record { faults = record { id = id 2; status = 65; error = 64 } ∷ []; lost = on 1 ∷ []; gone = on 1 ∷ []; failed = on 0 ∷ []; fatal = []; stopped = on 0 ∷ on 1 ∷ []; stuck = [] }
+port_error = record { faults = record { id = id 2; status = 65; error = 64 } ∷ []; lost = on 1 ∷ []; link_changed = on 1 ∷ []; failed = on 0 ∷ []; fatal = []; stopped = on 0 ∷ on 1 ∷ []; stuck = [] }
 
 abbrev requeuing : List Step
-requeuing = Again (tried 1) ∷ Answer failing (outcome.DeviceError 65 64) ∷ Answer (done finished) outcome.Ok ∷ []
+requeuing = WaitAgain (tried 1) ∷ Answer failing (outcome.DeviceError 65 64) ∷ Answer (done finished) outcome.Ok ∷ []
 
 abbrev serving : List Step
 serving = Answer losing outcome.Unplugged ∷ Issue mode (requeued (tried 1)) ∷ requeuing
@@ -110,11 +110,11 @@ run7 = service ∷ run6
 
 -- port 0 failed, and was stopped
 abbrev failure : Evidence
-failure = record { faults = []; lost = []; gone = []; failed = on 0 ∷ []; fatal = []; stopped = on 0 ∷ []; stuck = [] }
+failure = record { faults = []; lost = []; link_changed = []; failed = on 0 ∷ []; fatal = []; stopped = on 0 ∷ []; stuck = [] }
 
 -- a service that issues it again
 abbrev retry : ℕ → CallRecord (Unit {0})
-retry n = record { ask = Service; said = Served []; evidence = failure; steps = Issue mode (requeued (tried n)) ∷ Again (tried n) ∷ []; ports = ports_in Ready Absent }
+retry n = record { ask = Service; said = Served []; evidence = failure; steps = Issue mode (requeued (tried n)) ∷ WaitAgain (tried n) ∷ []; ports = ports_in Ready Absent }
 
 abbrev run9 : List (CallRecord (Unit {0}))
 run9 = retry 3 ∷ retry 2 ∷ run7
@@ -134,10 +134,10 @@ not_dead {A} low high z o p e = go (p.0 == 0) (p.0 == 1) e
 
 fit : (low high : PortState) → is_unfit low ≡ false → is_unfit high ≡ false → PortsWellFormed (ports_in low high)
 fit low high l h = record {
-  few = λ p e. ⊎_elim (λ q. let n = eqb-true p.0 0 q in omega (arith, n)) (λ q. let n = eqb-true p.0 1 q in omega (arith, n)) (or_cases (p.0 == 0) (p.0 == 1) e);
-  absent = λ p. go (p.0 == 0) (p.0 == 1);
-  slots = λ p e. (omega arith, omega arith, λ f. absurd (false≢true (sym f)));
-  causes = λ p cause e. unfit cause (p.0 == 0) (p.0 == 1) e;
+  few_are_served = λ p e. ⊎_elim (λ q. let n = eqb-true p.0 0 q in omega (arith, n)) (λ q. let n = eqb-true p.0 1 q in omega (arith, n)) (or_cases (p.0 == 0) (p.0 == 1) e);
+  unserved_are_absent = λ p. go (p.0 == 0) (p.0 == 1);
+  modes_are_valid = λ p e. (omega arith, omega arith, λ f. absurd (false≢true (sym f)));
+  causes_are_valid = λ p cause e. unfit cause (p.0 == 0) (p.0 == 1) e;
 }
   where
     unfit : (cause : ℕ) (a b : Bool) → cond a low (cond b high Absent) ≡ Unfit cause → (1 ≤ cause) × (cause ≤ 9)
@@ -181,14 +181,14 @@ stays : (p : Port) → IsServiced (ports_in Ready Absent) failure (ports_in Read
 stays p = (
   λ dead. not_dead Ready Absent refl refl p dead,
   λ _. (
-    record { served = refl; stuck = (λ dead. not_dead Ready Absent refl refl p dead, λ h. absurd (contains_none p h)); keeps = λ _. (refl, refl) },
+    record { served_is_kept = refl; dead_is_stuck = (λ dead. not_dead Ready Absent refl refl p dead, λ h. absurd (contains_none p h)); disk_is_kept = λ _. (refl, refl) },
     inl (refl, refl, refl, refl, refl, refl),
   ),
 )
 
 -- one of them waits for nothing
 
-quiet : (p : ℕ) (m : AbstractState) → Contains two_rows (row p) → m.machine.rows ≡ two_rows → m.ports.state (on p) ≡ Ready → m.ports.sectors (on p) ≡ 200 → (situation_of m).unanswered (record { 0 = 1 }) < 16 → m.machine.next < 5 → IsQuiet p m
+quiet : (p : ℕ) (m : AbstractState) → Contains two_rows (row p) → m.machine.rows ≡ two_rows → m.ports.state (on p) ≡ Ready → m.ports.sectors (on p) ≡ 200 → (admission_context_of m).unanswered (record { 0 = 1 }) < 16 → m.machine.next_id < 5 → IsQuiet p m
 quiet p m mine rows ready size room next = record { rows = rows; mine = mine; ready = ready; size = size; room = room; few = omega (arith, next) }
 
 quiet0 : IsQuiet 1 (abstract_after_all first run0)
@@ -205,13 +205,13 @@ quiet3 = quiet 0 (abstract_after_all first run3) row_zero refl refl refl (omega 
 
 happens1 : Happens (abstract_after_all first run0) (submit lost)
 happens1 = record {
-  may = ((tt, new 1 (abstract_after_all first run0) lost quiet0 (fit_read 1 (abstract_after_all first run0) 102 quiet0 refl refl) refl refl refl), (contains_here (newly_accepted lost) [] (newly_accepted lost) refl, record { here = contains_here (unanswered (newly_accepted lost)) [] (unanswered (newly_accepted lost)) refl; clear = refl; slot = λ _. omega arith }, λ e h. absurd (contains_none e h), granted 1 quiet0.mine refl));
-  belong = ((tt, inr refl), inr (refl, refl));
-  last = ((tt, λ id h i. false≢true i), λ id h i. false≢true i);
-  lawful = tt;
-  fit = fit Ready Ready refl refl;
-  disks = λ e o h i same. (refl, refl);
-  answered = (acceptable 1 (situation_of (abstract_after_all first run0)) lost.asked (fit_read 1 (abstract_after_all first run0) 102 quiet0 refl refl), (lost, refl, refl), λ p. (refl, refl, refl, refl, refl, refl), λ p _. none_waits _ refl p);
+  steps_are_enabled = ((tt, new 1 (abstract_after_all first run0) lost quiet0 (fit_read 1 (abstract_after_all first run0) 102 quiet0 refl refl) refl refl refl), (contains_here (newly_accepted lost) [] (newly_accepted lost) refl, record { is_in_book = contains_here (unanswered (newly_accepted lost)) [] (unanswered (newly_accepted lost)) refl; nothing_blocks = refl; slot_is_left = λ _. omega arith }, λ e h. absurd (contains_none e h), granted 1 quiet0.mine refl));
+  steps_are_of_call = ((tt, inr refl), inr (refl, refl));
+  issues_are_last = ((tt, λ id h i. false≢true i), λ id h i. false≢true i);
+  answers_are_lawful = tt;
+  ports_are_well_formed = fit Ready Ready refl refl;
+  unanswered_keep_disk = λ e o h i same. (refl, refl);
+  is_answered = (acceptable 1 (admission_context_of (abstract_after_all first run0)) lost.asked (fit_read 1 (abstract_after_all first run0) 102 quiet0 refl refl), (lost, refl, refl), λ p. (refl, refl, refl, refl, refl, refl), λ p _. none_waits _ refl p);
 }
 
 -- a request of the book's end
@@ -226,57 +226,57 @@ fourth a b c d = contains_there a (b ∷ c ∷ d ∷ []) d (third b c d)
 
 happens2 : Happens (abstract_after_all first run1) (submit failed)
 happens2 = record {
-  may = ((tt, new 0 (abstract_after_all first run1) failed quiet1 (write_at 0 (abstract_after_all first run1) 100 100 quiet1 (omega arith) (omega arith) refl refl) refl refl refl), (second losing (newly_accepted failed), record { here = second (unanswered losing) (unanswered (newly_accepted failed)); clear = refl; slot = λ _. omega arith }, λ e h. absurd (contains_none e h), granted 0 row_zero refl));
-  belong = ((tt, inr refl), inr (refl, refl));
-  last = ((tt, λ id h i. false≢true i), λ id h i. false≢true i);
-  lawful = tt;
-  fit = fit Ready Ready refl refl;
-  disks = λ e o h i same. (refl, refl);
-  answered = (acceptable 0 (situation_of (abstract_after_all first run1)) failed.asked (write_at 0 (abstract_after_all first run1) 100 100 quiet1 (omega arith) (omega arith) refl refl), (failed, refl, refl), λ p. (refl, refl, refl, refl, refl, refl), λ p _. none_waits _ refl p);
+  steps_are_enabled = ((tt, new 0 (abstract_after_all first run1) failed quiet1 (write_at 0 (abstract_after_all first run1) 100 100 quiet1 (omega arith) (omega arith) refl refl) refl refl refl), (second losing (newly_accepted failed), record { is_in_book = second (unanswered losing) (unanswered (newly_accepted failed)); nothing_blocks = refl; slot_is_left = λ _. omega arith }, λ e h. absurd (contains_none e h), granted 0 row_zero refl));
+  steps_are_of_call = ((tt, inr refl), inr (refl, refl));
+  issues_are_last = ((tt, λ id h i. false≢true i), λ id h i. false≢true i);
+  answers_are_lawful = tt;
+  ports_are_well_formed = fit Ready Ready refl refl;
+  unanswered_keep_disk = λ e o h i same. (refl, refl);
+  is_answered = (acceptable 0 (admission_context_of (abstract_after_all first run1)) failed.asked (write_at 0 (abstract_after_all first run1) 100 100 quiet1 (omega arith) (omega arith) refl refl), (failed, refl, refl), λ p. (refl, refl, refl, refl, refl, refl), λ p _. none_waits _ refl p);
 }
 
 happens3 : Happens (abstract_after_all first run2) (submit again)
 happens3 = record {
-  may = ((tt, new 0 (abstract_after_all first run2) again quiet2 (write_at 0 (abstract_after_all first run2) 101 101 quiet2 (omega arith) (omega arith) refl refl) refl refl refl), (third losing failing (newly_accepted again), record { here = third (unanswered losing) (unanswered failing) (unanswered (newly_accepted again)); clear = refl; slot = λ _. omega arith }, λ e h. absurd (contains_none e h), granted 0 row_zero refl));
-  belong = ((tt, inr refl), inr (refl, refl));
-  last = ((tt, λ id h i. false≢true i), λ id h i. false≢true i);
-  lawful = tt;
-  fit = fit Ready Ready refl refl;
-  disks = λ e o h i same. (refl, refl);
-  answered = (acceptable 0 (situation_of (abstract_after_all first run2)) again.asked (write_at 0 (abstract_after_all first run2) 101 101 quiet2 (omega arith) (omega arith) refl refl), (again, refl, refl), λ p. (refl, refl, refl, refl, refl, refl), λ p _. none_waits _ refl p);
+  steps_are_enabled = ((tt, new 0 (abstract_after_all first run2) again quiet2 (write_at 0 (abstract_after_all first run2) 101 101 quiet2 (omega arith) (omega arith) refl refl) refl refl refl), (third losing failing (newly_accepted again), record { is_in_book = third (unanswered losing) (unanswered failing) (unanswered (newly_accepted again)); nothing_blocks = refl; slot_is_left = λ _. omega arith }, λ e h. absurd (contains_none e h), granted 0 row_zero refl));
+  steps_are_of_call = ((tt, inr refl), inr (refl, refl));
+  issues_are_last = ((tt, λ id h i. false≢true i), λ id h i. false≢true i);
+  answers_are_lawful = tt;
+  ports_are_well_formed = fit Ready Ready refl refl;
+  unanswered_keep_disk = λ e o h i same. (refl, refl);
+  is_answered = (acceptable 0 (admission_context_of (abstract_after_all first run2)) again.asked (write_at 0 (abstract_after_all first run2) 101 101 quiet2 (omega arith) (omega arith) refl refl), (again, refl, refl), λ p. (refl, refl, refl, refl, refl, refl), λ p _. none_waits _ refl p);
 }
 
 happens4 : Happens (abstract_after_all first run3) (submit finished)
 happens4 = record {
-  may = ((tt, new 0 (abstract_after_all first run3) finished quiet3 (write_at 0 (abstract_after_all first run3) 102 103 quiet3 (omega arith) (omega arith) refl refl) refl refl refl), (fourth losing failing (tried 1) (newly_accepted finished), record { here = fourth (unanswered losing) (unanswered failing) (unanswered (tried 1)) (unanswered (newly_accepted finished)); clear = refl; slot = λ _. omega arith }, λ e h. absurd (contains_none e h), granted 0 row_zero refl));
-  belong = ((tt, inr refl), inr (refl, refl));
-  last = ((tt, λ id h i. false≢true i), λ id h i. false≢true i);
-  lawful = tt;
-  fit = fit Ready Ready refl refl;
-  disks = λ e o h i same. (refl, refl);
-  answered = (acceptable 0 (situation_of (abstract_after_all first run3)) finished.asked (write_at 0 (abstract_after_all first run3) 102 103 quiet3 (omega arith) (omega arith) refl refl), (finished, refl, refl), λ p. (refl, refl, refl, refl, refl, refl), λ p _. none_waits _ refl p);
+  steps_are_enabled = ((tt, new 0 (abstract_after_all first run3) finished quiet3 (write_at 0 (abstract_after_all first run3) 102 103 quiet3 (omega arith) (omega arith) refl refl) refl refl refl), (fourth losing failing (tried 1) (newly_accepted finished), record { is_in_book = fourth (unanswered losing) (unanswered failing) (unanswered (tried 1)) (unanswered (newly_accepted finished)); nothing_blocks = refl; slot_is_left = λ _. omega arith }, λ e h. absurd (contains_none e h), granted 0 row_zero refl));
+  steps_are_of_call = ((tt, inr refl), inr (refl, refl));
+  issues_are_last = ((tt, λ id h i. false≢true i), λ id h i. false≢true i);
+  answers_are_lawful = tt;
+  ports_are_well_formed = fit Ready Ready refl refl;
+  unanswered_keep_disk = λ e o h i same. (refl, refl);
+  is_answered = (acceptable 0 (admission_context_of (abstract_after_all first run3)) finished.asked (write_at 0 (abstract_after_all first run3) 102 103 quiet3 (omega arith) (omega arith) refl refl), (finished, refl, refl), λ p. (refl, refl, refl, refl, refl, refl), λ p _. none_waits _ refl p);
 }
 
 happens5 : Happens (abstract_after_all first run4) ending
 happens5 = record {
-  may = ((tt, (inl (fourth losing failing (tried 1) finishing, refl), omega arith, refl, omega arith, λ _ b lt. refl)), (inl (fourth losing failing (tried 1) (touch 0 finishing), refl), one_touched, refl));
-  belong = ((tt, inl tt), inl tt);
-  last = ((tt, λ id h i. false≢true i), λ id h i. false≢true i);
-  lawful = tt;
-  fit = fit Ready Ready refl refl;
-  disks = λ e o h i same. (refl, refl);
-  answered = (((tt, tt), tt), λ p. (refl, refl, refl, refl, refl, refl));
+  steps_are_enabled = ((tt, (inl (fourth losing failing (tried 1) finishing, refl), omega arith, refl, omega arith, λ _ b lt. refl)), (inl (fourth losing failing (tried 1) (touch 0 finishing), refl), one_touched, refl));
+  steps_are_of_call = ((tt, inl tt), inl tt);
+  issues_are_last = ((tt, λ id h i. false≢true i), λ id h i. false≢true i);
+  answers_are_lawful = tt;
+  ports_are_well_formed = fit Ready Ready refl refl;
+  unanswered_keep_disk = λ e o h i same. (refl, refl);
+  is_answered = (((tt, tt), tt), λ p. (refl, refl, refl, refl, refl, refl));
 }
 
 happens6 : Happens (abstract_after_all first run5) unplug
 happens6 = record {
-  may = (tt, refl);
-  belong = (tt, inl tt);
-  last = (tt, λ id h i. false≢true i);
-  lawful = tt;
-  fit = fit Ready Ready refl refl;
-  disks = λ e o h i same. (refl, refl);
-  answered = ((tt, tt), λ p. (refl, refl, refl, refl, refl, refl));
+  steps_are_enabled = (tt, refl);
+  steps_are_of_call = (tt, inl tt);
+  issues_are_last = (tt, λ id h i. false≢true i);
+  answers_are_lawful = tt;
+  ports_are_well_formed = fit Ready Ready refl refl;
+  unanswered_keep_disk = λ e o h i same. (refl, refl);
+  is_answered = ((tt, tt), λ p. (refl, refl, refl, refl, refl, refl));
 }
 
 -- The call that finds both troubles.
@@ -291,9 +291,9 @@ all_told = (failing, outcome.DeviceError 65 64) ∷ (done finished, outcome.Ok) 
 told_in_order : RepliesMatch serving (map reply_of all_told)
 told_in_order = record {
   answers = all_told;
-  same = IsPermutation-append_comm ((failing, outcome.DeviceError 65 64) ∷ (done finished, outcome.Ok) ∷ []) ((losing, outcome.Unplugged) ∷ []);
+  is_permutation = IsPermutation-append_comm ((failing, outcome.DeviceError 65 64) ∷ (done finished, outcome.Ok) ∷ []) ((losing, outcome.Unplugged) ∷ []);
   ordered = λ i j d lt below. go i j d lt below;
-  told = refl;
+  replies_are = refl;
 }
   where
     go : (i j : ℕ) (d : Pending × Outcome) → i < j → j < 3 → IsToldBefore (slice_index_or all_told i d) (slice_index_or all_told j d)
@@ -310,56 +310,56 @@ unplugs_zero _ = false
 -- port 1's alone are answered Unplugged
 unplugs_all : AnswersAllUnplugged serving (abstract_after_all first run7).machine
 unplugs_all = record {
-  emptied = λ e other h i q. false≢true (sym (none_of unplugs_zero serving (Answer e outcome.Unplugged) refl h)
+  none_is_left = λ e other h i q. false≢true (sym (none_of unplugs_zero serving (Answer e outcome.Unplugged) refl h)
       ∙ eq-eqb e.request.port.0 0 (ap (λ (x : Port). x.0) (sym q) ∙ left_here 2 other i));
-  alike = λ e other h i. absurd (false≢true (sym (none_of is_told_dead serving (Answer other outcome.PortDead) refl i)));
+  none_is_told_dead = λ e other h i. absurd (false≢true (sym (none_of is_told_dead serving (Answer other outcome.PortDead) refl i)));
 }
 
 happens7 : Happens (abstract_after_all first run6) service
 happens7 = record {
-  may = (
+  steps_are_enabled = (
     (
       (
         ((tt, (fourth losing failing (tried 1) (done finished), tt)), (contains_there losing (failing ∷ tried 1 ∷ []) failing (contains_here failing (tried 1 ∷ []) failing refl), tt)),
         (second losing (tried 1), refl, omega arith, granted 0 row_zero refl),
       ),
-      (second losing (requeued (tried 1)), record { here = second (unanswered losing) (unanswered (requeued (tried 1))); clear = refl; slot = λ _. omega arith }, λ e h. absurd (contains_none e h), granted 0 row_zero refl),
+      (second losing (requeued (tried 1)), record { is_in_book = second (unanswered losing) (unanswered (requeued (tried 1))); nothing_blocks = refl; slot_is_left = λ _. omega arith }, λ e h. absurd (contains_none e h), granted 0 row_zero refl),
     ),
     (contains_here losing (tried 2 ∷ []) losing refl, tt),
   );
-  belong = (((((tt, inr tt), inr tt), inr refl), inr (refl, refl)), inr tt);
-  last = (((((tt, λ id h i. false≢true i), λ id h i. false≢true i), λ id h i. false≢true i), λ id h i. false≢true i), apart);
-  lawful = (
+  steps_are_of_call = (((((tt, inr tt), inr tt), inr refl), inr (refl, refl)), inr tt);
+  issues_are_last = (((((tt, λ id h i. false≢true i), λ id h i. false≢true i), λ id h i. false≢true i), λ id h i. false≢true i), apart);
+  answers_are_lawful = (
     (
       (
-        (tt, (record { pending = done finished; here = fourth losing failing (tried 1) (done finished); id_is = refl; issued = refl }, refl, one_touched, refl)),
-        (record { pending = failing; here = contains_there losing (failing ∷ tried 1 ∷ done finished ∷ []) failing (contains_here failing (tried 1 ∷ done finished ∷ []) failing refl); id_is = refl; issued = refl }, refl, contains_here _ [] _ refl, contains_here (on 0) (on 1 ∷ []) (on 0) refl),
+        (tt, (record { pending = done finished; is_in_book = fourth losing failing (tried 1) (done finished); id_is = refl; issued = refl }, refl, one_touched, refl)),
+        (record { pending = failing; is_in_book = contains_there losing (failing ∷ tried 1 ∷ done finished ∷ []) failing (contains_here failing (tried 1 ∷ done finished ∷ []) failing refl); id_is = refl; issued = refl }, refl, contains_here _ [] _ refl, contains_here (on 0) (on 1 ∷ []) (on 0) refl),
       ),
       contains_here (on 0) (on 1 ∷ []) (on 0) refl,
     ),
     (contains_here (on 1) [] (on 1) refl, second (on 0) (on 1)),
   );
-  fit = fit Ready Absent refl refl;
-  disks = λ e o h i same. (refl, refl);
-  answered = record {
-    tells = told_in_order;
-    dead = λ e o i dead. not_dead Ready Ready refl refl e.request.port dead;
-    unplugs = unplugs_all;
-    issues = λ p _. none_waits _ refl p;
-    emptied = λ p ne e h. emptied_at (both Ready Absent) (tried 2) refl p ne e h;
-    ended = λ p _. last_ended (abstract_after_all first run6).machine service.steps (losing ∷ failing ∷ tried 1 ∷ []) (done finished) refl refl (done finished) refl (4, omega arith, refl) p;
-    becomes = λ p. (
+  ports_are_well_formed = fit Ready Absent refl refl;
+  unanswered_keep_disk = λ e o h i same. (refl, refl);
+  is_answered = record {
+    replies_match = told_in_order;
+    tells_dead = λ e o i dead. not_dead Ready Ready refl refl e.request.port dead;
+    answers_all_unplugged = unplugs_all;
+    none_is_due = λ p _. none_waits _ refl p;
+    empty_unless_ready = λ p ne e h. emptied_at (both Ready Absent) (tried 2) refl p ne e h;
+    answers_ended = λ p _. last_ended (abstract_after_all first run6).machine service.steps (losing ∷ failing ∷ tried 1 ∷ []) (done finished) refl refl (done finished) refl (4, omega arith, refl) p;
+    port_is_serviced = λ p. (
       λ dead. not_dead Ready Ready refl refl p dead,
       λ _. (
         record {
-          served = refl;
-          stuck = (λ dead. not_dead Ready Absent refl refl p dead, λ h. absurd (contains_none p h));
-          keeps = λ _. (refl, refl);
+          served_is_kept = refl;
+          dead_is_stuck = (λ dead. not_dead Ready Absent refl refl p dead, λ h. absurd (contains_none p h));
+          disk_is_kept = λ _. (refl, refl);
         },
         changed_there service.evidence (second (on 0) (on 1)) p,
       ),
     );
-    disk = λ p. inr (λ shows. inl (in_zero (abstract_after_all first run6).machine refl p shows));
+    shown_disk_was_in_or_came = λ p. inr (λ shows. inl (in_zero (abstract_after_all first run6).machine refl p shows));
   };
 }
   where
@@ -377,54 +377,54 @@ before m n = record { machine = record m { book = tried n ∷ []; kept = [] }; p
 
 retried : (m : Machine) (n : ℕ) → m.rows ≡ two_rows → n < 4 → Happens (before m n) (retry n)
 retried m n rows few = record {
-  may = ((tt, (contains_here (tried n) [] (tried n) refl, refl, few, granted 0 row_zero rows)), (contains_here (requeued (tried n)) [] (requeued (tried n)) refl, record { here = contains_here (unanswered (requeued (tried n))) [] (unanswered (requeued (tried n))) refl; clear = refl; slot = λ _. omega arith }, λ e h. absurd (contains_none e h), granted 0 row_zero rows));
-  belong = ((tt, inr refl), inr (refl, refl));
-  last = ((tt, λ id h i. false≢true i), λ id h i. false≢true i);
-  lawful = (tt, contains_here (on 0) [] (on 0) refl);
-  fit = fit Ready Absent refl refl;
-  disks = λ e o h i same. (refl, refl);
-  answered = record {
-    tells = none_told (retry n).steps refl;
-    dead = λ e o i dead. not_dead Ready Absent refl refl e.request.port dead;
-    unplugs = none_unplugged (retry n).steps (abstract_after (before m n) (retry n)).machine refl;
-    issues = λ p _. none_waits _ refl p;
-    emptied = λ p ne e h. emptied_at (both Ready Absent) (tried (suc n)) refl p ne e h;
-    ended = λ p _. none_ended (before m n).machine (retry n).steps refl p;
-    becomes = stays;
-    disk = λ p. inl (refl, refl, refl, refl, refl, refl);
+  steps_are_enabled = ((tt, (contains_here (tried n) [] (tried n) refl, refl, few, granted 0 row_zero rows)), (contains_here (requeued (tried n)) [] (requeued (tried n)) refl, record { is_in_book = contains_here (unanswered (requeued (tried n))) [] (unanswered (requeued (tried n))) refl; nothing_blocks = refl; slot_is_left = λ _. omega arith }, λ e h. absurd (contains_none e h), granted 0 row_zero rows));
+  steps_are_of_call = ((tt, inr refl), inr (refl, refl));
+  issues_are_last = ((tt, λ id h i. false≢true i), λ id h i. false≢true i);
+  answers_are_lawful = (tt, contains_here (on 0) [] (on 0) refl);
+  ports_are_well_formed = fit Ready Absent refl refl;
+  unanswered_keep_disk = λ e o h i same. (refl, refl);
+  is_answered = record {
+    replies_match = none_told (retry n).steps refl;
+    tells_dead = λ e o i dead. not_dead Ready Absent refl refl e.request.port dead;
+    answers_all_unplugged = none_unplugged (retry n).steps (abstract_after (before m n) (retry n)).machine refl;
+    none_is_due = λ p _. none_waits _ refl p;
+    empty_unless_ready = λ p ne e h. emptied_at (both Ready Absent) (tried (suc n)) refl p ne e h;
+    answers_ended = λ p _. none_ended (before m n).machine (retry n).steps refl p;
+    port_is_serviced = stays;
+    shown_disk_was_in_or_came = λ p. inl (refl, refl, refl, refl, refl, refl);
   };
 }
 
 happens10 : Happens (abstract_after_all first run9) abort
 happens10 = record {
-  may = (tt, (contains_here (tried 4) [] (tried 4) refl, granted 0 row_zero refl));
-  belong = (tt, inr tt);
-  last = (tt, λ id h i. false≢true i);
-  lawful = (tt, (record { pending = tried 4; here = contains_here (tried 4) [] (tried 4) refl; id_is = refl; issued = refl }, refl, (refl, contains_here (on 0) [] (on 0) refl, (refl, refl))));
-  fit = fit Ready Absent refl refl;
-  disks = λ e o h i same. (refl, refl);
-  answered = record {
-    tells = one_told (tried 4) outcome.Aborted abort.steps refl (reply_of (tried 4, outcome.Aborted)) refl;
-    dead = λ e o i dead. not_dead Ready Absent refl refl e.request.port dead;
-    unplugs = none_unplugged abort.steps (abstract_after (abstract_after_all first run9) abort).machine refl;
-    issues = λ p _. none_there p;
-    emptied = λ p ne e h. absurd (contains_none e h);
-    ended = λ p _. none_ended (abstract_after_all first run9).machine abort.steps refl p;
-    becomes = stays;
-    disk = λ p. inl (refl, refl, refl, refl, refl, refl);
+  steps_are_enabled = (tt, (contains_here (tried 4) [] (tried 4) refl, granted 0 row_zero refl));
+  steps_are_of_call = (tt, inr tt);
+  issues_are_last = (tt, λ id h i. false≢true i);
+  answers_are_lawful = (tt, (record { pending = tried 4; is_in_book = contains_here (tried 4) [] (tried 4) refl; id_is = refl; issued = refl }, refl, (refl, contains_here (on 0) [] (on 0) refl, (refl, refl))));
+  ports_are_well_formed = fit Ready Absent refl refl;
+  unanswered_keep_disk = λ e o h i same. (refl, refl);
+  is_answered = record {
+    replies_match = one_told (tried 4) outcome.Aborted abort.steps refl (reply_of (tried 4, outcome.Aborted)) refl;
+    tells_dead = λ e o i dead. not_dead Ready Absent refl refl e.request.port dead;
+    answers_all_unplugged = none_unplugged abort.steps (abstract_after (abstract_after_all first run9) abort).machine refl;
+    none_is_due = λ p _. none_there p;
+    empty_unless_ready = λ p ne e h. absurd (contains_none e h);
+    answers_ended = λ p _. none_ended (abstract_after_all first run9).machine abort.steps refl p;
+    port_is_serviced = stays;
+    shown_disk_was_in_or_came = λ p. inl (refl, refl, refl, refl, refl, refl);
   };
 }
 
 pub meets_trouble : MeetsErrors
 meets_trouble = record {
-  first = first;
+  initial_state = first;
   asked = run6;
   service = service;
   third = retry 2;
   fourth = retry 3;
   last = abort;
   runs = (((((((((((empty_starts, fit Ready Ready refl refl), happens1), happens2), happens3), happens4), happens5), happens6), happens7), retried (abstract_after_all first run7).machine 2 refl (omega arith)), retried (abstract_after_all first (retry 2 ∷ run7)).machine 3 refl (omega arith)), happens10);
-  told = (((((((((((((((((((((tt, tt), tt), tt), tt), tt), tt), tt), tt), λ e. absurd (false≢true (ap is_reader e))), tt), tt), tt), tt), tt), tt), tt), tt), tt), tt), tt), tt);
+  steps_are_faithful = (((((((((((((((((((((tt, tt), tt), tt), tt), tt), tt), tt), tt), λ e. absurd (false≢true (ap is_reader e))), tt), tt), tt), tt), tt), tt), tt), tt), tt), tt), tt), tt);
   lost = losing;
   failed = failing;
   again = tried 1;
@@ -434,11 +434,11 @@ meets_trouble = record {
   had_ended = refl;
   apart = λ e. distinct (ap (λ (x : Port). x.0) e);
   together = (refl, refl);
-  goes = contains_here (Unplug (on 1)) (steps_of run5) (Unplug (on 1)) refl;
-  serves = (refl, refl, refl, refl);
+  disk_is_unplugged = contains_here (Unplug (on 1)) (steps_of run5) (Unplug (on 1)) refl;
+  asks_for_service = (refl, refl, refl, refl);
   tells = refl;
-  requeues = contains_there (Answer losing outcome.Unplugged) (Issue mode (requeued (tried 1)) ∷ requeuing) (Again (tried 1))
-      (contains_there (Issue mode (requeued (tried 1))) requeuing (Again (tried 1)) (contains_here (Again (tried 1)) (Answer failing (outcome.DeviceError 65 64) ∷ Answer (done finished) outcome.Ok ∷ []) (Again (tried 1)) refl));
+  requeues = contains_there (Answer losing outcome.Unplugged) (Issue mode (requeued (tried 1)) ∷ requeuing) (WaitAgain (tried 1))
+      (contains_there (Issue mode (requeued (tried 1))) requeuing (WaitAgain (tried 1)) (contains_here (WaitAgain (tried 1)) (Answer failing (outcome.DeviceError 65 64) ∷ Answer (done finished) outcome.Ok ∷ []) (WaitAgain (tried 1)) refl));
   absent = refl;
   ready = refl;
   anew = tried 2;
@@ -450,7 +450,7 @@ meets_trouble = record {
   ends = refl;
   none_left = refl;
   frame = frame 101;
-  its = refl;
+  frames_are = refl;
   freed = refl;
 }
   where

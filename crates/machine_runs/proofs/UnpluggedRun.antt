@@ -10,9 +10,9 @@ use Rattle.ata_types.specs.declared.request.Outcome.{Outcome}
 use Rattle.ata_types.specs.declared.request.Outcome.TheVariants as outcome
 use Rattle.block_machine.specs.Ports.{Evidence}
 use Rattle.block_machine.specs.State.{Pending, Machine}
-use Rattle.block_machine.specs.Steps.{Step, Age, Again, Answer, Unplug, newly_accepted, older}
+use Rattle.block_machine.specs.Steps.{Step, Age, WaitAgain, Answer, Unplug, newly_accepted, aged_pending}
 use Rattle.block_machine.specs.Events.{AbstractState, Tick, Device, Served, Stepped, CallRecord, HasTimedOut, RestartsTimedOut, Happens, RepliesMatch, IsToldBefore, reply_of, abstract_after_all, abstract_after}
-use Rattle.machine_runs.specs.ExampleRuns.{IsTakenOutBeforeATick}
+use Rattle.machine_runs.specs.ExampleRuns.{IsUnpluggedBeforeTick}
 use Rattle.block_machine.proofs.Members.{contains_none, contains_here, contains_cases, none_of}
 use Rattle.block_machine.proofs.Setting.{port, frame, empty_starts}
 use Rattle.machine_runs.proofs.Scene.{first, ports, ports_in, call, none_told, ready_port, restarts_into, shows_none, is_told_dead, emptied_of, of_two, none_ended, none_unplugged, absent_not_ready, absent_not_dead, ports_fit}
@@ -38,7 +38,7 @@ run5 = going ∷ run4
 
 -- the link had told that the disk went, and the engine was seen to stop
 abbrev gone : Evidence
-gone = record { faults = []; lost = port ∷ []; gone = port ∷ []; failed = []; fatal = []; stopped = port ∷ []; stuck = [] }
+gone = record { faults = []; lost = port ∷ []; link_changed = port ∷ []; failed = []; fatal = []; stopped = port ∷ []; stuck = [] }
 
 abbrev told : List (Pending × Outcome)
 told = (aged 3, outcome.Unplugged) ∷ (waits, outcome.Unplugged) ∷ []
@@ -58,37 +58,37 @@ before m n = record { machine = record m { book = aged n ∷ waits ∷ []; kept 
 
 ticked : (m : Machine) (n : ℕ) → n < 2 → Happens (before m n) (reset_run.tick [])
 ticked m n young = record {
-  may = (tt, tt);
-  belong = (tt, inr tt);
-  last = (tt, λ id h i. false≢true i);
-  lawful = tt;
-  fit = ports_fit Ready refl;
-  disks = λ e o h i same. (refl, refl);
-  answered = record {
-    tells = none_told (Age aging ∷ []) refl;
-    ages = ages_once [] refl;
-    restarts = ticks (before m n) (of_two (aged n) waits (λ e. e.age < 2) young (omega arith)) (abstract_after (before m n) (reset_run.tick [])) (λ p. (refl, refl, refl, refl, refl, refl));
-    unplugs = none_unplugged (Age aging ∷ []) (abstract_after (before m n) (reset_run.tick [])).machine refl;
-    issues = λ p _. none_due p;
-    emptied = λ p _. emptied_of (older aging (aged n) ∷ older aging waits ∷ []) (of_two (older aging (aged n)) (older aging waits) (λ e. e.request.port ≡ port) refl refl) p;
+  steps_are_enabled = (tt, tt);
+  steps_are_of_call = (tt, inr tt);
+  issues_are_last = (tt, λ id h i. false≢true i);
+  answers_are_lawful = tt;
+  ports_are_well_formed = ports_fit Ready refl;
+  unanswered_keep_disk = λ e o h i same. (refl, refl);
+  is_answered = record {
+    replies_match = none_told (Age aging ∷ []) refl;
+    ages_once = ages_once [] refl;
+    restarts_timed_out = ticks (before m n) (of_two (aged n) waits (λ e. e.age < 2) young (omega arith)) (abstract_after (before m n) (reset_run.tick [])) (λ p. (refl, refl, refl, refl, refl, refl));
+    answers_all_unplugged = none_unplugged (Age aging ∷ []) (abstract_after (before m n) (reset_run.tick [])).machine refl;
+    none_is_due = λ p _. none_due p;
+    empty_unless_ready = λ p _. emptied_of (aged_pending aging (aged n) ∷ aged_pending aging waits ∷ []) (of_two (aged_pending aging (aged n)) (aged_pending aging waits) (λ e. e.request.port ≡ port) refl refl) p;
   };
 }
 
 happens5 : Happens (abstract_after_all first run4) going
 happens5 = record {
-  may = (tt, refl);
-  belong = (tt, inl tt);
-  last = (tt, λ id h i. false≢true i);
-  lawful = tt;
-  fit = ports_fit Ready refl;
-  disks = λ e o h i same. (refl, refl);
-  answered = ((tt, tt), λ p. (refl, refl, refl, refl, refl, refl));
+  steps_are_enabled = (tt, refl);
+  steps_are_of_call = (tt, inl tt);
+  issues_are_last = (tt, λ id h i. false≢true i);
+  answers_are_lawful = tt;
+  ports_are_well_formed = ports_fit Ready refl;
+  unanswered_keep_disk = λ e o h i same. (refl, refl);
+  is_answered = ((tt, tt), λ p. (refl, refl, refl, refl, refl, refl));
 }
 
 -- The third tick.
 
 hung : HasTimedOut (abstract_after_all first run5) port
-hung = record { ready = refl; pending = aged 2; here = contains_here (aged 2) (waits ∷ []) (aged 2) refl; port_is = refl; issued = refl; old_enough = omega arith }
+hung = record { ready = refl; pending = aged 2; is_in_book = contains_here (aged 2) (waits ∷ []) (aged 2) refl; port_is = refl; issued = refl; old_enough = omega arith }
 
 only_port : (p : Port) → Contains (port ∷ []) p → p ≡ port
 only_port p h = ⊎_elim (λ same. same) (λ n. absurd (contains_none p n)) (contains_cases port [] p h)
@@ -99,7 +99,7 @@ port_of (Answer e o) = e.request.port
 port_of _ = port
 
 abbrev is_again : Step → Bool
-is_again (Again e) = true
+is_again (WaitAgain e) = true
 is_again _ = false
 
 each_step : (P : Step → Type 0) → P (Answer waits outcome.Unplugged) → P (Answer (aged 3) outcome.Unplugged) → P (Age aging) → (step : Step) → Contains tick.steps step → P step
@@ -114,31 +114,31 @@ each_step P a b c step h = ⊎_elim
 restarted : RestartsTimedOut (abstract_after_all first run5) gone tick.steps (abstract_after_all first run6)
 restarted = record {
   ports = restarts_into (abstract_after_all first run5).machine Absent gone hung (λ p. record {
-    served = refl;
-    stuck = (λ dead. absent_not_dead p dead, λ h. absurd (contains_none p h));
-    keeps = λ _. (refl, refl);
+    served_is_kept = refl;
+    dead_is_stuck = (λ dead. absent_not_dead p dead, λ h. absurd (contains_none p h));
+    disk_is_kept = λ _. (refl, refl);
   });
-  again = λ e h. absurd (false≢true (sym (none_of is_again tick.steps (Again e) refl h)));
-  answer = λ e o h. subst (λ (x : Port). HasTimedOut (abstract_after_all first run5) x) (sym (each_step (λ step. port_of step ≡ port) refl refl refl (Answer e o) h)) hung;
-  ended = λ p _. none_ended (abstract_after_all first run5).machine tick.steps refl p;
-  anew = λ p _ e h. absurd (contains_none e h);
-  interrupts = λ p. (
+  only_timed_out_wait_again = λ e h. absurd (false≢true (sym (none_of is_again tick.steps (WaitAgain e) refl h)));
+  only_timed_out_are_answered = λ e o h. subst (λ (x : Port). HasTimedOut (abstract_after_all first run5) x) (sym (each_step (λ step. port_of step ≡ port) refl refl refl (Answer e o) h)) hung;
+  answers_ended = λ p _. none_ended (abstract_after_all first run5).machine tick.steps refl p;
+  none_stays_issued = λ p _ e h. absurd (contains_none e h);
+  is_interrupted = λ p. (
     λ h. inl (contains_here port [] p (ready_port p h.ready)),
     λ i. ⊎_elim
         (λ h. subst (λ (x : Port). HasTimedOut (abstract_after_all first run5) x) (sym (only_port p h)) hung)
         (λ h. absurd (contains_none p h))
         i,
   );
-  finds = λ e h. (λ dead. absent_not_dead e.request.port dead, λ ready. absent_not_ready e.request.port ready);
-  disk = λ p _ shows. shows_none Absent (λ s. s) p shows;
+  unplugged_lost_disk = λ e h. (λ dead. absent_not_dead e.request.port dead, λ ready. absent_not_ready e.request.port ready);
+  shown_disk_was_in_or_came = λ p _ shows. shows_none Absent (λ s. s) p shows;
 }
 
 told_in_order : RepliesMatch tick.steps (map reply_of told)
 told_in_order = record {
   answers = told;
-  same = IsPermutation-append_comm ((aged 3, outcome.Unplugged) ∷ []) ((waits, outcome.Unplugged) ∷ []);
+  is_permutation = IsPermutation-append_comm ((aged 3, outcome.Unplugged) ∷ []) ((waits, outcome.Unplugged) ∷ []);
   ordered = go;
-  told = refl;
+  replies_are = refl;
 }
   where
     go : (i j : ℕ) (d : Pending × Outcome) → i < j → j < 2 → IsToldBefore (slice_index_or told i d) (slice_index_or told j d)
@@ -147,31 +147,31 @@ told_in_order = record {
 
 happens6 : Happens (abstract_after_all first run5) tick
 happens6 = record {
-  may = (((tt, tt), (contains_here (aged 3) (waits ∷ []) (aged 3) refl, tt)), (contains_here waits [] waits refl, tt));
-  belong = (((tt, inr tt), inr (inl tt)), inr (inl tt));
-  last = (((tt, λ id h i. false≢true i), λ id h i. false≢true i), λ id h i. false≢true i);
-  lawful = (
+  steps_are_enabled = (((tt, tt), (contains_here (aged 3) (waits ∷ []) (aged 3) refl, tt)), (contains_here waits [] waits refl, tt));
+  steps_are_of_call = (((tt, inr tt), inr (inl tt)), inr (inl tt));
+  issues_are_last = (((tt, λ id h i. false≢true i), λ id h i. false≢true i), λ id h i. false≢true i);
+  answers_are_lawful = (
     (tt, (contains_here port [] port refl, contains_here port [] port refl)),
     (contains_here port [] port refl, contains_here port [] port refl),
   );
-  fit = ports_fit Absent refl;
-  disks = λ e o h i same. (refl, refl);
-  answered = record {
-    tells = told_in_order;
-    ages = ages_once answers refl;
-    restarts = restarted;
-    unplugs = record {
-      emptied = λ e other h i. absurd (contains_none other i);
-      alike = λ e other h i. absurd (false≢true (sym (none_of is_told_dead tick.steps (Answer other outcome.PortDead) refl i)));
+  ports_are_well_formed = ports_fit Absent refl;
+  unanswered_keep_disk = λ e o h i same. (refl, refl);
+  is_answered = record {
+    replies_match = told_in_order;
+    ages_once = ages_once answers refl;
+    restarts_timed_out = restarted;
+    answers_all_unplugged = record {
+      none_is_left = λ e other h i. absurd (contains_none other i);
+      none_is_told_dead = λ e other h i. absurd (false≢true (sym (none_of is_told_dead tick.steps (Answer other outcome.PortDead) refl i)));
     };
-    issues = λ p ready. absent_not_ready p ready;
-    emptied = λ p _ ne e h. absurd (contains_none e h);
+    none_is_due = λ p ready. absent_not_ready p ready;
+    empty_unless_ready = λ p _ ne e h. absurd (contains_none e h);
   };
 }
 
-pub is_taken_out_before_a_tick : IsTakenOutBeforeATick
+pub is_taken_out_before_a_tick : IsUnpluggedBeforeTick
 is_taken_out_before_a_tick = record {
-  first = first;
+  initial_state = first;
   early = run4;
   going = going;
   tick = tick;
@@ -179,16 +179,16 @@ is_taken_out_before_a_tick = record {
   issued = aged 2;
   waits = waits;
   book = refl;
-  old = (refl, refl, refl, refl);
+  requests_are = (refl, refl, refl, refl);
   told_to = refl;
-  goes = refl;
+  disk_is_unplugged = refl;
   ticks = refl;
   tells = refl;
   lost = (contains_here port [] port refl, contains_here port [] port refl);
   absent = refl;
   none_left = refl;
   frame = frame 100;
-  its = refl;
+  frames_are = refl;
   lent = refl;
   freed = refl;
 }

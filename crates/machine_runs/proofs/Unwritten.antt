@@ -6,17 +6,17 @@ use Rattle.ata_types.specs.declared.request.Op.{Op}
 use Rattle.ata_types.specs.declared.request.Op.TheVariants.{Read, Write, Trim, Flush}
 use Rattle.ata_types.specs.declared.grant.GrantRow.{GrantRow}
 use Rattle.ata_types.specs.SectorGrants.{AllowsOp}
-use Rattle.block_machine.specs.Due.{changes_sectors}
+use Rattle.block_machine.specs.DueRequests.{changes_sectors}
 use Rattle.block_machine.specs.State.{Block, Accepted, Machine}
-use Rattle.block_machine.specs.Steps.{Step, Touch, May}
+use Rattle.block_machine.specs.Steps.{Step, Touch, IsEnabled}
 use Rattle.block_machine.specs.Expected.{after, IsLegal, IsInitial, IsTouch, HasTouched, IsExpectedBlock, disk_number_read, bytes_when_plugged}
-use Rattle.block_machine.specs.Confined.{WasAccepted, GrantsNoWrites}
+use Rattle.block_machine.specs.Confinement.{WasAccepted, GrantsNoWrites}
 use Rattle.block_machine.proofs.Trace.{runs_lives}
 use Rattle.block_machine.proofs.Accepts.{living_accepted}
 use Rattle.block_machine.proofs.Configured.{was_granted}
 
 -- the request of a touch that may come was accepted
-toucher_lives : (start : Machine) (h : List Step) → IsInitial start → IsLegal start h → (step : Step) → May (after start h) step → (r : Accepted) (k : ℕ) → IsTouch step r k → WasAccepted start h r
+toucher_lives : (start : Machine) (h : List Step) → IsInitial start → IsLegal start h → (step : Step) → IsEnabled (after start h) step → (r : Accepted) (k : ℕ) → IsTouch step r k → WasAccepted start h r
 toucher_lives start h s legal (Touch e i block) may r k t = subst (WasAccepted start h) t.0 (living_accepted start h s legal e (runs_lives (after start h) e may.0))
 toucher_lives start h s legal _ may r k t = absurd t
 
@@ -41,5 +41,5 @@ law_unwritten_disk_is_as_plugged start h read k block s legal none (inl last) =
     let writer = last.0 in
     let wrote = last.1 in
     let g = was_granted start h writer (toucher_accepted start h s legal writer k _ wrote.touched) in
-    absurd (never_writes g.row (none g.row g.named.0) writer.asked.op g.right wrote.writes)
+    absurd (never_writes g.row (none g.row g.is_named.0) writer.asked.op g.op_is_allowed wrote.op_changes_sectors)
 law_unwritten_disk_is_as_plugged start h read k block s legal none (inr untouched) = untouched.1

@@ -6,10 +6,10 @@ use Rattle.ata_types.specs.declared.PortState.TheVariants.{Ready}
 use Rattle.ata_types.specs.declared.request.Op.TheVariants.{Read, Write}
 use Rattle.ata_types.specs.declared.request.Outcome.TheVariants as outcome
 use Rattle.block_machine.specs.declared.due.Unanswered.{Unanswered}
-use Rattle.block_machine.specs.Due.{NoneDue, is_unblocked}
+use Rattle.block_machine.specs.DueRequests.{NoneDue, is_unblocked}
 use Rattle.block_machine.specs.State.{Block, Accepted, is_reader, unanswered}
 use Rattle.block_machine.specs.Steps.{Accept, Issue, Touch, End, Answer, newly_accepted, newly_issued, touch}
-use Rattle.block_machine.specs.Events.{Submit, Service, Device, Submitted, Served, Stepped, CallRecord, Happens, abstract_after_all, situation_of}
+use Rattle.block_machine.specs.Events.{Submit, Service, Device, Submitted, Served, Stepped, CallRecord, Happens, abstract_after_all, admission_context_of}
 use Rattle.machine_runs.specs.ExampleRuns.{WaitsItsTurn}
 use Rattle.block_machine.proofs.Members.{contains_none, contains_here, contains_there, contains_cases}
 use Rattle.block_machine.proofs.Counting.{issued_not_due}
@@ -68,13 +68,13 @@ quiet1 = record { rows = refl; mine = row_zero; ready = refl; size = refl; room 
 
 pub happens1 : Happens (abstract_after_all first run0) event1
 happens1 = record {
-  may = ((tt, new 0 (abstract_after_all first run0) write quiet0 (fit_write (abstract_after_all first run0) 100 quiet0 refl refl) refl refl refl), (contains_here (newly_accepted write) [] (newly_accepted write) refl, record { here = contains_here (unanswered (newly_accepted write)) [] (unanswered (newly_accepted write)) refl; clear = refl; slot = λ _. omega arith }, λ e h. absurd (contains_none e h), granted 0 row_zero refl));
-  belong = ((tt, inr refl), inr (refl, refl));
-  last = ((tt, λ id h i. false≢true i), λ id h i. false≢true i);
-  lawful = tt;
-  fit = ports_fit Ready refl;
-  disks = λ e o h i same. (refl, refl);
-  answered = (acceptable 0 (situation_of (abstract_after_all first run0)) write.asked (fit_write (abstract_after_all first run0) 100 quiet0 refl refl), (write, refl, refl), λ p. (refl, refl, refl, refl, refl, refl), λ p _. one_issued (unanswered (newly_issued (newly_accepted write))) refl p);
+  steps_are_enabled = ((tt, new 0 (abstract_after_all first run0) write quiet0 (fit_write (abstract_after_all first run0) 100 quiet0 refl refl) refl refl refl), (contains_here (newly_accepted write) [] (newly_accepted write) refl, record { is_in_book = contains_here (unanswered (newly_accepted write)) [] (unanswered (newly_accepted write)) refl; nothing_blocks = refl; slot_is_left = λ _. omega arith }, λ e h. absurd (contains_none e h), granted 0 row_zero refl));
+  steps_are_of_call = ((tt, inr refl), inr (refl, refl));
+  issues_are_last = ((tt, λ id h i. false≢true i), λ id h i. false≢true i);
+  answers_are_lawful = tt;
+  ports_are_well_formed = ports_fit Ready refl;
+  unanswered_keep_disk = λ e o h i same. (refl, refl);
+  is_answered = (acceptable 0 (admission_context_of (abstract_after_all first run0)) write.asked (fit_write (abstract_after_all first run0) 100 quiet0 refl refl), (write, refl, refl), λ p. (refl, refl, refl, refl, refl, refl), λ p _. one_issued (unanswered (newly_issued (newly_accepted write))) refl p);
 }
 
 -- the write in its slot, and the read after it
@@ -86,25 +86,25 @@ pub none_due : (p : Port) → NoneDue mode book p
 none_due p r here due = ⊎_elim
     (λ e. issued_not_due mode book r (ap (λ (x : Unanswered). x.issued) e) due)
     (λ i. ⊎_elim
-    (λ e. false≢true (ap (λ (x : Unanswered). is_unblocked mode book x) (sym e) ∙ due.clear))
+    (λ e. false≢true (ap (λ (x : Unanswered). is_unblocked mode book x) (sym e) ∙ due.nothing_blocks))
     (λ n. contains_none r n)
     (contains_cases (unanswered (newly_accepted read)) [] r i))
-    (contains_cases (unanswered (newly_issued (newly_accepted write))) (unanswered (newly_accepted read) ∷ []) r due.here)
+    (contains_cases (unanswered (newly_issued (newly_accepted write))) (unanswered (newly_accepted read) ∷ []) r due.is_in_book)
 
 pub happens2 : Happens (abstract_after_all first run1) event2
 happens2 = record {
-  may = (tt, new 0 (abstract_after_all first run1) read quiet1 (fit_read 0 (abstract_after_all first run1) 101 quiet1 refl refl) refl refl refl);
-  belong = (tt, inr refl);
-  last = (tt, λ id h i. false≢true i);
-  lawful = tt;
-  fit = ports_fit Ready refl;
-  disks = λ e o h i same. (refl, refl);
-  answered = (acceptable 0 (situation_of (abstract_after_all first run1)) read.asked (fit_read 0 (abstract_after_all first run1) 101 quiet1 refl refl), (read, refl, refl), λ p. (refl, refl, refl, refl, refl, refl), λ p _. none_due p);
+  steps_are_enabled = (tt, new 0 (abstract_after_all first run1) read quiet1 (fit_read 0 (abstract_after_all first run1) 101 quiet1 refl refl) refl refl refl);
+  steps_are_of_call = (tt, inr refl);
+  issues_are_last = (tt, λ id h i. false≢true i);
+  answers_are_lawful = tt;
+  ports_are_well_formed = ports_fit Ready refl;
+  unanswered_keep_disk = λ e o h i same. (refl, refl);
+  is_answered = (acceptable 0 (admission_context_of (abstract_after_all first run1)) read.asked (fit_read 0 (abstract_after_all first run1) 101 quiet1 refl refl), (read, refl, refl), λ p. (refl, refl, refl, refl, refl, refl), λ p _. none_due p);
 }
 
 happens3 : Happens (abstract_after_all first run2) event3
 happens3 = record {
-  may = (
+  steps_are_enabled = (
     (
       (
         (tt, (inl (contains_here (newly_issued (newly_accepted write)) (newly_accepted read ∷ []) (newly_issued (newly_accepted write)) refl, refl), omega arith, refl, omega arith, λ _ b lt. refl)),
@@ -112,44 +112,44 @@ happens3 = record {
       ),
       (contains_here (done write) (newly_accepted read ∷ []) (done write) refl, tt),
     ),
-    (contains_here (newly_accepted read) [] (newly_accepted read) refl, record { here = contains_here (unanswered (newly_accepted read)) [] (unanswered (newly_accepted read)) refl; clear = refl; slot = λ _. omega arith }, λ e h. absurd (contains_none e h), granted 0 row_zero refl),
+    (contains_here (newly_accepted read) [] (newly_accepted read) refl, record { is_in_book = contains_here (unanswered (newly_accepted read)) [] (unanswered (newly_accepted read)) refl; nothing_blocks = refl; slot_is_left = λ _. omega arith }, λ e h. absurd (contains_none e h), granted 0 row_zero refl),
   );
-  belong = ((((tt, inl tt), inl tt), inr tt), inr (refl, refl));
-  last = ((((tt, λ id h i. false≢true i), λ id h i. false≢true i), λ id h i. false≢true i), λ id h i. false≢true i);
-  lawful = (tt, (record { pending = newly_issued (newly_accepted write); here = contains_here (newly_issued (newly_accepted write)) (newly_accepted read ∷ []) (newly_issued (newly_accepted write)) refl; id_is = refl; issued = refl }, refl, one_touched, refl));
-  fit = ports_fit Ready refl;
-  disks = λ e o h i same. (refl, refl);
-  answered = plain_service (abstract_after_all first run2).machine (abstract_after_all first run3).machine event3.steps (reply 1 ∷ []) (one_told (done write) outcome.Ok event3.steps refl (reply 1) refl) refl (none_ended (abstract_after_all first run2).machine event3.steps refl) (λ p. one_issued (unanswered (newly_issued (newly_accepted read))) refl p) (only_one (newly_issued (newly_accepted read)) (λ e. e.request.port ≡ port) refl);
+  steps_are_of_call = ((((tt, inl tt), inl tt), inr tt), inr (refl, refl));
+  issues_are_last = ((((tt, λ id h i. false≢true i), λ id h i. false≢true i), λ id h i. false≢true i), λ id h i. false≢true i);
+  answers_are_lawful = (tt, (record { pending = newly_issued (newly_accepted write); is_in_book = contains_here (newly_issued (newly_accepted write)) (newly_accepted read ∷ []) (newly_issued (newly_accepted write)) refl; id_is = refl; issued = refl }, refl, one_touched, refl));
+  ports_are_well_formed = ports_fit Ready refl;
+  unanswered_keep_disk = λ e o h i same. (refl, refl);
+  is_answered = plain_service (abstract_after_all first run2).machine (abstract_after_all first run3).machine event3.steps (reply 1 ∷ []) (one_told (done write) outcome.Ok event3.steps refl (reply 1) refl) refl (none_ended (abstract_after_all first run2).machine event3.steps refl) (λ p. one_issued (unanswered (newly_issued (newly_accepted read))) refl p) (only_one (newly_issued (newly_accepted read)) (λ e. e.request.port ≡ port) refl);
 }
 
 happens4 : Happens (abstract_after_all first run3) event4
 happens4 = record {
-  may = ((tt, (inl (contains_here (newly_issued (newly_accepted read)) [] (newly_issued (newly_accepted read)) refl, refl), omega arith, refl, omega arith, λ e. absurd (false≢true (sym (ap is_reader e))))), (inl (contains_here (touch 0 (newly_issued (newly_accepted read))) [] (touch 0 (newly_issued (newly_accepted read))) refl, refl), one_touched, refl));
-  belong = ((tt, inl tt), inl tt);
-  last = ((tt, λ id h i. false≢true i), λ id h i. false≢true i);
-  lawful = tt;
-  fit = ports_fit Ready refl;
-  disks = λ e o h i same. (refl, refl);
-  answered = (((tt, tt), tt), λ p. (refl, refl, refl, refl, refl, refl));
+  steps_are_enabled = ((tt, (inl (contains_here (newly_issued (newly_accepted read)) [] (newly_issued (newly_accepted read)) refl, refl), omega arith, refl, omega arith, λ e. absurd (false≢true (sym (ap is_reader e))))), (inl (contains_here (touch 0 (newly_issued (newly_accepted read))) [] (touch 0 (newly_issued (newly_accepted read))) refl, refl), one_touched, refl));
+  steps_are_of_call = ((tt, inl tt), inl tt);
+  issues_are_last = ((tt, λ id h i. false≢true i), λ id h i. false≢true i);
+  answers_are_lawful = tt;
+  ports_are_well_formed = ports_fit Ready refl;
+  unanswered_keep_disk = λ e o h i same. (refl, refl);
+  is_answered = (((tt, tt), tt), λ p. (refl, refl, refl, refl, refl, refl));
 }
 
 happens5 : Happens (abstract_after_all first run4) event5
 happens5 = record {
-  may = (tt, (contains_here (done read) [] (done read) refl, tt));
-  belong = (tt, inr tt);
-  last = (tt, λ id h i. false≢true i);
-  lawful = (tt, (record { pending = done read; here = contains_here (done read) [] (done read) refl; id_is = refl; issued = refl }, refl, one_touched, refl));
-  fit = ports_fit Ready refl;
-  disks = λ e o h i same. (refl, refl);
-  answered = plain_service (abstract_after_all first run4).machine (abstract_after_all first run5).machine event5.steps (reply 2 ∷ []) (one_told (done read) outcome.Ok event5.steps refl (reply 2) refl) refl (last_ended (abstract_after_all first run4).machine event5.steps [] (done read) refl refl (done read) refl (0, omega arith, refl)) (λ p. none_there p) (λ e h. absurd (contains_none e h));
+  steps_are_enabled = (tt, (contains_here (done read) [] (done read) refl, tt));
+  steps_are_of_call = (tt, inr tt);
+  issues_are_last = (tt, λ id h i. false≢true i);
+  answers_are_lawful = (tt, (record { pending = done read; is_in_book = contains_here (done read) [] (done read) refl; id_is = refl; issued = refl }, refl, one_touched, refl));
+  ports_are_well_formed = ports_fit Ready refl;
+  unanswered_keep_disk = λ e o h i same. (refl, refl);
+  is_answered = plain_service (abstract_after_all first run4).machine (abstract_after_all first run5).machine event5.steps (reply 2 ∷ []) (one_told (done read) outcome.Ok event5.steps refl (reply 2) refl) refl (last_ended (abstract_after_all first run4).machine event5.steps [] (done read) refl refl (done read) refl (0, omega arith, refl)) (λ p. none_there p) (λ e h. absurd (contains_none e h));
 }
 
 pub waits_its_turn : WaitsItsTurn
 waits_its_turn = record {
-  first = first;
+  initial_state = first;
   run = run5;
   runs = ((((((empty_starts, ports_fit Ready refl), happens1), happens2), happens3), happens4), happens5);
-  told = ((((((((((tt, tt), tt), tt), λ e. absurd (false≢true (ap is_reader e))), tt), tt), tt), λ _ b lt. refl), tt), tt);
+  steps_are_faithful = ((((((((((tt, tt), tt), tt), λ e. absurd (false≢true (ap is_reader e))), tt), tt), tt), λ _ b lt. refl), tt), tt);
   early = run2;
   call = event3;
   ending = event4;
@@ -163,8 +163,8 @@ waits_its_turn = record {
   conflicts = refl;
   done = done write;
   answers = contains_there (Issue mode (newly_accepted read)) (served write) (Answer (done write) outcome.Ok)
-      (contains_here (Answer (done write) outcome.Ok) (End (touch 0 (newly_issued (newly_accepted write))) ∷ Touch (newly_issued (newly_accepted write)) 0 (write.held 0) ∷ []) (Answer (done write) outcome.Ok) refl);
-  its = refl;
+      (contains_here (Answer (done write) outcome.Ok) (End (touch 0 (newly_issued (newly_accepted write))) ∷ Touch (newly_issued (newly_accepted write)) 0 (write.held_blocks 0) ∷ []) (Answer (done write) outcome.Ok) refl);
+  request_is = refl;
   mode = mode;
   issues = contains_here (Issue mode (newly_accepted read)) (served write) (Issue mode (newly_accepted read)) refl;
   running = newly_issued (newly_accepted read);
@@ -175,6 +175,6 @@ waits_its_turn = record {
   its_too = refl;
   alone = refl;
   had_ended = refl;
-  serves = refl;
+  asks_for_service = refl;
   answered = contains_here (Answer (done read) outcome.Ok) [] (Answer (done read) outcome.Ok) refl;
 }

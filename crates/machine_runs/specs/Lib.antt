@@ -1,3 +1,3 @@
-pub mod Told
+pub mod AnswerOrigins
 pub mod ExampleRuns
-pub mod Revoked
+pub mod RevocationRuns

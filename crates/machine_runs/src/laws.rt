@@ -12,15 +12,15 @@ ghost use Rattle.ata_types.specs.declared.request.Outcome.{Outcome};
 ghost use Rattle.ata_types.specs.declared.request.Outcome.TheVariants.{Ok, Aborted};
 ghost use Rattle.ata_types.specs.declared.request.Reply.{Reply};
 ghost use Rattle.ata_types.specs.declared.grant.GrantRow.{GrantRow};
-ghost use Rattle.block_machine.specs.Due.{conflict};
+ghost use Rattle.block_machine.specs.DueRequests.{are_conflicting};
 ghost use Rattle.block_machine.specs.State.{Block, Accepted, Pending, Machine, sector_of, newly_unanswered};
 ghost use Rattle.block_machine.specs.Steps.{Step, Answer, HasGrant, after_step, HoldsFrames, MayStillMove};
 ghost use Rattle.block_machine.specs.Expected.{IsInitial, IsLegal, HasTouched, HasTouchedSinceIssue, HasEndedSinceIssue, IsExpectedBlock, after, bytes_when_plugged, disk_number_read};
-ghost use Rattle.block_machine.specs.Confined.{GrantsNoWrites, WasAccepted, MayChangeByte, MayChangeSector};
-ghost use Rattle.block_machine.specs.Events.{AbstractState, CallRecord, NoneDueWhereReady, Happens, EveryReadHolds, IsLawfulAnswer, IsRun, IsStillStuck, accepts_it, answers_it, issues_it, gives_id, replies_of, all_replies, WasGivenId, abstract_after_all, steps_of};
-ghost use Rattle.machine_runs.specs.Told.{AsksFor, WasUnansweredBefore, CallAnswersOk, WasAsked, waits_again};
-ghost use Rattle.machine_runs.specs.Revoked.{RevokesWhileIssued};
-ghost use Rattle.machine_runs.specs.ExampleRuns.{FindsFlushedOrLater, WaitsItsTurn, QuarantineEndsWithReset, MeetsErrors, IsAnsweredByTick, IsTakenOutBeforeATick, GoesAgainInResets, DiesInAService, ReadsWrongWithoutKeptRule};
+ghost use Rattle.block_machine.specs.Confinement.{GrantsNoWrites, WasAccepted, MayChangeByte, MayChangeSector};
+ghost use Rattle.block_machine.specs.Events.{AbstractState, CallRecord, NoneDueWhereReady, Happens, EveryReadHolds, IsLawfulAnswer, IsRun, IsStillStuck, accepts_id, answers_id, issues_id, gives_id, replies_of, all_replies, WasGivenId, abstract_after_all, steps_of};
+ghost use Rattle.machine_runs.specs.AnswerOrigins.{AsksFor, WasUnansweredBefore, CallAnswersOk, WasAsked, waits_again};
+ghost use Rattle.machine_runs.specs.RevocationRuns.{RevokesWhileIssued};
+ghost use Rattle.machine_runs.specs.ExampleRuns.{FindsFlushedOrLater, WaitsItsTurn, QuarantineEndsWithReset, MeetsErrors, IsAnsweredByTick, IsUnpluggedBeforeTick, GoesAgainInResets, DiesInAService, ReadsWrongWithoutKeptRule};
 
 /// Where no grant lets its client write or trim, what is left on a sector for a read is what the disk that it found
 /// there held when it was put in.
@@ -66,13 +66,13 @@ pub fn law_ok_was_touched<D>()
 /// Over every run an id is accepted once at most.
 pub fn law_accepted_once<D>()
     ensures { (first : AbstractState) (run : List (CallRecord D)) (id : RequestId) → IsRun first run
-        → count_by (accepts_it id) (steps_of run) ≤ 1 }
+        → count_by (accepts_id id) (steps_of run) ≤ 1 }
 {}
 
 /// Over every run a request is answered once at most.
 pub fn law_answered_once<D>()
     ensures { (first : AbstractState) (run : List (CallRecord D)) (id : RequestId) → IsRun first run
-        → count_by (answers_it id) (steps_of run) ≤ 1 }
+        → count_by (answers_id id) (steps_of run) ≤ 1 }
 {}
 
 /// Each request that a run answers was accepted before.
@@ -160,11 +160,11 @@ pub fn law_dead_ports_were_stuck<D>()
 
 /// Over every run a request is issued four times at most, and one that is answered Aborted was issued four times.
 pub fn law_issued_four_at_most<D>()
-    ensures most { (first : AbstractState) (run : List (CallRecord D)) (id : RequestId) → IsRun first run
-        → count_by (issues_it id) (steps_of run) ≤ 4 }
+    ensures four_at_most { (first : AbstractState) (run : List (CallRecord D)) (id : RequestId) → IsRun first run
+        → count_by (issues_id id) (steps_of run) ≤ 4 }
     ensures aborted { (first : AbstractState) (run : List (CallRecord D)) (late early : List Step) (e : Pending)
         → IsRun first run → steps_of run ≡ late ++ Answer e Aborted ∷ early
-        → count_by (issues_it e.request.id) (steps_of run) ≡ 4 }
+        → count_by (issues_id e.request.id) (steps_of run) ≡ 4 }
 {}
 
 /// Where a run answers a request Ok, the device ended it, and since then it wasn't issued again.
@@ -179,15 +179,15 @@ pub fn law_ok_was_ended<D>()
 pub fn law_issues_are_counted()
     ensures { (start : Machine) (history : List Step) (e : Pending) → IsInitial start → IsLegal start history
         → Contains (after start history).book e
-        → (count_by (issues_it e.request.id) history ≡ e.issues)
-        × (count_by (issues_it e.request.id) history ≡ count_by (waits_again e.request.id) history + cond e.issued 1
+        → (count_by (issues_id e.request.id) history ≡ e.issues)
+        × (count_by (issues_id e.request.id) history ≡ count_by (waits_again e.request.id) history + cond e.issued 1
         0) }
 {}
 
 /// A call issues a request once at most.
 pub fn law_issued_once_a_call<D>()
     ensures { (old : AbstractState) (event : CallRecord D) (id : RequestId) → Happens old event
-        → count_by (issues_it id) event.steps ≤ 1 }
+        → count_by (issues_id id) event.steps ≤ 1 }
 {}
 
 /// At each moment of a run no request of a ready port is due: calls that issue leave none, and no other makes one due.
@@ -250,7 +250,7 @@ pub fn law_conflicting_requests_take_turns()
         → IsLegal start history
         → HoldsFrames (after start history) earlier → MayStillMove (after start history) later
         → earlier.request.id.0 < later.request.id.0
-        → conflict (newly_unanswered earlier.request) (newly_unanswered later.request) ≡ true
+        → are_conflicting (newly_unanswered earlier.request) (newly_unanswered later.request) ≡ true
         → ⊥ }
 {}
 
@@ -285,19 +285,19 @@ pub fn law_a_revoking_run_exists()
 
 /// A run exists in which two ports serve requests, the one fails and the other loses its disk, and a fault, an
 /// unplugged request, one that is issued anew and one that is aborted are told as they have to be.
-pub fn law_a_troubled_run_exists()
+pub fn law_a_run_with_errors_exists()
     ensures { MeetsErrors }
 {}
 
 /// A run exists in which a tick answers a request that had ended.
-pub fn law_a_ticked_run_exists()
+pub fn law_a_tick_answers_in_a_run()
     ensures { IsAnsweredByTick }
 {}
 
 /// A run exists in which a tick finds a port hung whose disk was taken out, and tells its requests Unplugged, issued or
 /// not.
 pub fn law_an_unplugged_run_exists()
-    ensures { IsTakenOutBeforeATick }
+    ensures { IsUnpluggedBeforeTick }
 {}
 
 /// A run exists in which resets issue a request anew, abort it after its fourth issue, and issue one that waited for
@@ -307,7 +307,7 @@ pub fn law_a_four_resets_run_exists()
 {}
 
 /// A run exists in which a port meets a fatal error, is stopped by a service, and gets stuck in its boot.
-pub fn law_a_dying_run_exists()
+pub fn law_a_run_with_dead_port_exists()
     ensures { DiesInAService }
 {}
 

@@ -9,11 +9,11 @@ use Rattle.adapter.specs.Device.{Device}
 use Rattle.adapter.specs.declared.access.DeviceStep.{DeviceStep}
 use Rattle.configuration.specs.Document.{TextReadsAs}
 use Rattle.configuration.specs.declared.Config.{Config}
-use Rattle.device_model.specs.Modelled.{device_at, is_starved}
+use Rattle.device_model.specs.ModelState.{device_at, is_starved}
 use Rattle.device_model.specs.declared.model.Model.{Model}
 use Rattle.block_server.specs.Promise.{Simulates}
-use Rattle.block_server.specs.View.{ServerView}
-use Rattle.play.specs.Played.{Prints, none, call, IsServerOfModel, Played, RanFirstLines}
+use Rattle.block_server.specs.ServerView.{ServerView}
+use Rattle.play.specs.PlayedScript.{Prints, none, call, IsServerOfModel, Played, RanFirstLines}
 
 -- no call keeps the promise, nor do calls after others that keep it break it
 pub record GoOn {A : Type 0} (device : A → Device) : Type 0 where
@@ -39,7 +39,7 @@ abbrev pub played_of : {S : Type 0} (size : S → ℕ) (told : S → Option (ℕ
     → IsServerOfModel size told values image blank server → RanFirstLines (device_at size told) is_starved trace script server last old new
     → GoOn (device_at size told) → (model : Model S) → model ≡ last.adapter → Played size told config script image blank trace old new model
 played_of size told config script image blank trace old new values read server last started ran laws model left =
-    let begun = started.made.begun in
+    let begun = started.made.starts_history in
     record {
       values = values;
       read = read;
@@ -48,10 +48,10 @@ played_of size told config script image blank trace old new values read server l
       ran = ran;
       answers = record {
         started = started;
-        first = begun.0;
+        initial_state = begun.0;
         begun = begun.1;
         telling = λ image_tells blank_tells.
-            ap (λ (d : Device). d.telling) begun.1.stands.device_is ∙ started.made.taken.same.telling ∙ started.modelled.made.telling ∙ ap (λ (b : Bool). b && true) (both_tell _ _ image_tells blank_tells);
+            ap (λ (d : Device). d.telling) begun.1.stands.device_is ∙ started.made.takes_over.adapter_is_kept.telling ∙ started.modelled.made.telling_is ∙ ap (λ (b : Bool). b && true) (both_tell _ _ image_tells blank_tells);
         promise = all_keep (device_at size told) is_starved trace laws server last ran.shown ran.played ran.said ran.text ran.last ran.prints begun.0 [] begun.1;
       };
       left = left;

@@ -16,10 +16,10 @@ use Rattle.adapter.specs.Device.{Device}
 use Rattle.adapter.specs.declared.access.DeviceStep.{DeviceStep}
 use Rattle.adapter.specs.declared.tape.Entry.{Entry}
 use Rattle.block_server.specs.Promise.{Simulates}
-use Rattle.block_server.specs.View.{ServerView}
-use Rattle.script.specs.Script.{Asks, AskInTurn, done, IsFirstLine, IsScript, LineLaws, SplitsAt, asked_lines, lines_of, lines_after}
-use Rattle.play.specs.Lines.{call_text}
-use Rattle.play.specs.Played.{Prints, none, call, PrintsPart, RanFirstLines, RanWholeScript}
+use Rattle.block_server.specs.ServerView.{ServerView}
+use Rattle.script.specs.Script.{Asks, AskForCalls, done, IsFirstLine, IsScript, LineLaws, SplitsAt, asked_lines, lines_of, lines_after}
+use Rattle.play.specs.PrintedText.{call_text}
+use Rattle.play.specs.PlayedScript.{Prints, none, call, PrintsPart, RanFirstLines, RanWholeScript}
 
 pub appends_none : (known : Option (List ℕ)) → Appends known known []
 appends_none None = tt
@@ -58,7 +58,7 @@ module _ {A : Type 0} (device : A → Device) (starved : A → Bool) (trace : Bo
     pub texts : List (List ℕ)
     pub cut : all ≡ texts ++ lines_after left
     pub played : List (Call DeviceStep)
-    pub asks : AskInTurn texts played
+    pub asks : AskForCalls texts played
     pub said : List (CallResult (ArrayVec Reply))
     pub text : List ℕ
     pub last : List ℕ
@@ -79,9 +79,9 @@ module _ {A : Type 0} (device : A → Device) (starved : A → Bool) (trace : Bo
   }
 
   -- the lines of one text more
-  asks_more : (laws : LineLaws) (texts : List (List ℕ)) (played : List (Call DeviceStep)) (text : List ℕ) (asked : Option (Call DeviceStep)) → AskInTurn texts played → Asks text asked
-      → AskInTurn (texts ++ text ∷ []) (played ++ asked_lines asked)
-  asks_more laws texts played text asked asks more = laws.joined texts (text ∷ []) played (asked_lines asked) asks (laws.single text asked more)
+  asks_more : (laws : LineLaws) (texts : List (List ℕ)) (played : List (Call DeviceStep)) (text : List ℕ) (asked : Option (Call DeviceStep)) → AskForCalls texts played → Asks text asked
+      → AskForCalls (texts ++ text ∷ []) (played ++ asked_lines asked)
+  asks_more laws texts played text asked asks more = laws.asked_lists_join texts (text ∷ []) played (asked_lines asked) asks (laws.one_line_asks text asked more)
 
   cut_on : (texts : List (List ℕ)) (text : List ℕ) (left : Option (Bor (List ℕ))) → all ≡ texts ++ text ∷ lines_after left
       → all ≡ (texts ++ text ∷ []) ++ lines_after left
@@ -94,7 +94,7 @@ module _ {A : Type 0} (device : A → Device) (starved : A → Bool) (trace : Bo
     texts = so_far.texts ++ line ∷ [];
     cut = cut_on so_far.texts line left (cut_more all so_far.texts t.now line left so_far.cut is);
     played = so_far.played;
-    asks = subst (λ (lines : List (Call DeviceStep)). AskInTurn (so_far.texts ++ line ∷ []) lines) (append-nil so_far.played)
+    asks = subst (λ (lines : List (Call DeviceStep)). AskForCalls (so_far.texts ++ line ∷ []) lines) (append-nil so_far.played)
         (asks_more laws so_far.texts so_far.played line None so_far.asks asks);
     said = so_far.said;
     text = so_far.text;
@@ -131,10 +131,10 @@ module _ {A : Type 0} (device : A → Device) (starved : A → Bool) (trace : Bo
     record {
       played = so_far.played ++ asked ∷ [];
       rest = from.rest;
-      asks = subst (λ (texts : List (List ℕ)). AskInTurn texts ((so_far.played ++ asked ∷ []) ++ from.rest))
+      asks = subst (λ (texts : List (List ℕ)). AskForCalls texts ((so_far.played ++ asked ∷ []) ++ from.rest))
           (sym (cut_on device starved trace first (lines_of script) so_far.texts text left (cut_more (lines_of script) so_far.texts t.now text left so_far.cut is)))
-          (laws.joined (so_far.texts ++ text ∷ []) (lines_after left) (so_far.played ++ asked ∷ []) from.rest
-          (asks_more device starved trace first (lines_of script) laws so_far.texts so_far.played text (Some asked) so_far.asks asks) from.others);
+          (laws.asked_lists_join (so_far.texts ++ text ∷ []) (lines_after left) (so_far.played ++ asked ∷ []) from.rest
+          (asks_more device starved trace first (lines_of script) laws so_far.texts so_far.played text (Some asked) so_far.asks asks) from.after_ask);
       shown = length (device next.adapter).tape;
       said = so_far.said ++ p.one ∷ [];
       text = so_far.text ++ so_far.last;
@@ -174,8 +174,8 @@ module _ {A : Type 0} (device : A → Device) (starved : A → Bool) (trace : Bo
     record {
       played = so_far.played;
       rest = [];
-      asks = subst (λ (lines : List (Call DeviceStep)). AskInTurn (lines_of script) lines) (sym (append-nil so_far.played))
-          (subst (λ (texts : List (List ℕ)). AskInTurn texts so_far.played) (sym (so_far.cut ∙ append-nil so_far.texts)) so_far.asks);
+      asks = subst (λ (lines : List (Call DeviceStep)). AskForCalls (lines_of script) lines) (sym (append-nil so_far.played))
+          (subst (λ (texts : List (List ℕ)). AskForCalls texts so_far.played) (sym (so_far.cut ∙ append-nil so_far.texts)) so_far.asks);
       shown = shown;
       said = so_far.said;
       text = so_far.text;
@@ -185,7 +185,7 @@ module _ {A : Type 0} (device : A → Device) (starved : A → Bool) (trace : Bo
       printed = subst (λ (part : List ℕ). Appends before after (so_far.text ++ part)) (sym (take_all (length so_far.last) so_far.last (omega arith))) so_far.printed;
       silent = λ is. absurd (false≢true (sym fed ∙ is));
     },
-    record { played = refl; printed = omega arith; fed = fed },
+    record { played = refl; printed = omega arith; is_not_starved = fed },
   )
 
 -- a call whose text is these bytes, of which a part was printed

@@ -1,3 +1,3 @@
 -- The definitions that the contracts cite.
-pub mod Lines
-pub mod Played
+pub mod PrintedText
+pub mod PlayedScript

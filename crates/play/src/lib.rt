@@ -10,5 +10,5 @@ mod model_setup;
 mod printed;
 mod session;
 
-pub use model_setup::{model_with, new_model};
+pub use model_setup::{new_model, new_model_of_disks};
 pub use session::{Ended, Finished, PlayError, parse_inputs, play, play_adapter};

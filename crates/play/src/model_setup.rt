@@ -1,9 +1,9 @@
 // The model behind the server, as a configuration says.
 ghost use Rattle.std.specs.Prelude.{◌≡◌, IfOk, string_bytes};
-ghost use Rattle.block_server.specs.Made.{IsReadyFor};
+ghost use Rattle.block_server.specs.InitialServer.{IsReadyFor};
 ghost use Rattle.configuration.specs.Rules.{LacksEveryFault, IsTrimWord};
-ghost use Rattle.device_model.specs.Modelled.{device_at};
-ghost use Rattle.play.specs.Played.{IsModelOf, IsModelWith, trim_word_of};
+ghost use Rattle.device_model.specs.ModelState.{device_at};
+ghost use Rattle.play.specs.PlayedScript.{IsModelOf, IsModelWith, trim_word};
 
 use configuration::Config;
 use device_model::{Disks, Model, ModelConfig, NoMemory, Trim};
@@ -16,7 +16,7 @@ const ALL_PORTS: u8 = 0x0f;
 /// The promise on trims that a configuration's word names.
 fn trim_of(word: &str) -> Trim
     requires { IsTrimWord word.now }
-    ensures { trim_word_of result ≡ word.now }
+    ensures { trim_word result ≡ word.now }
 {
     match word {
         "full" => Trim::Full,
@@ -38,12 +38,12 @@ pub fn new_model<S: SectorStore>(
     ensures ready { IfOk result (λ m. IsReadyFor config.now (device_at S.size S.told m)) }
     ensures made { IfOk result (IsModelOf S.size S.told config.now image blank) }
 {
-    model_with(alloc, config, Disks::of_port_0(image, blank))
+    new_model_of_disks(alloc, config, Disks::of_port_0(image, blank))
 }
 
 /// A new modelled adapter as the configuration says, with these disks.
 #[inline(never)]
-pub fn model_with<S: SectorStore>(
+pub fn new_model_of_disks<S: SectorStore>(
     alloc: Global,
     config: &Config,
     disks: Disks<S>,

@@ -3,7 +3,7 @@ ghost use Rattle.std.specs.Prelude.{◌≡◌, ◌≢◌, ◌≤◌, ℕ, IfErr,
 ghost use Rattle.std.specs.Io.KnownBytes.{Appends};
 ghost use Rattle.std.specs.declared.io.ErrorKind.TheVariants.{Interrupted};
 ghost use Rattle.block_server.specs.CallResults.{with_replies};
-ghost use Rattle.play.specs.Lines.{call_text, end_text, gained_text, replies_text, done_text, said_text, trace_text};
+ghost use Rattle.play.specs.PrintedText.{call_text, end_text, entries_text, replies_text, done_text, said_text, trace_text};
 ghost use Rattle.script.specs.Answer.{answer_line};
 ghost use Rattle.std.specs.List.{flat_map};
 
@@ -91,8 +91,8 @@ fn print_end<W: io::Write>(out: &mut W, done: Done) -> io::Result<()>
 }
 
 /// Prints a line for each move, each clear, and each flush that has ended, in their order.
-fn print_gained<W: io::Write>(out: &mut W, gained: &[Entry]) -> io::Result<()>
-    ensures { OnOk result (Appends (W.contents out.old) (W.contents out.new) (gained_text gained.now)) }
+fn print_entries<W: io::Write>(out: &mut W, gained: &[Entry]) -> io::Result<()>
+    ensures { OnOk result (Appends (W.contents out.old) (W.contents out.new) (entries_text gained.now)) }
 {
     for entry in gained {
         match entry {
@@ -117,7 +117,7 @@ fn print_trace<W: io::Write>(
     if !trace {
         return Ok(());
     }
-    print_gained(out, tape.get(shown..).unwrap_or_default())
+    print_entries(out, tape.get(shown..).unwrap_or_default())
 }
 
 /// Writes what is printed of a call, in place of what the text had: with a trace, what the tape gained past so many

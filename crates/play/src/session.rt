@@ -5,14 +5,14 @@ ghost use Rattle.ata_types.specs.declared.call.Call.{Call};
 ghost use Rattle.ata_types.specs.declared.call.CallResult.{CallResult};
 ghost use Rattle.adapter.specs.declared.access.DeviceStep.{DeviceStep};
 ghost use Rattle.block_server.specs.CallResults.{with_replies};
-ghost use Rattle.block_server.specs.Made.{IsInitialServer, IsReadyFor};
+ghost use Rattle.block_server.specs.InitialServer.{IsInitialServer, IsReadyFor};
 ghost use Rattle.block_server.specs.Promise.{Simulates};
-ghost use Rattle.block_server.specs.View.{ServerView};
+ghost use Rattle.block_server.specs.ServerView.{ServerView};
 ghost use Rattle.configuration.specs.Document.{TextReadsAs};
 ghost use Rattle.configuration.specs.Rules.{LacksEveryFault};
 ghost use Rattle.script.specs.Script.{IsScript};
-ghost use Rattle.device_model.specs.Modelled.{device_at, is_starved};
-ghost use Rattle.play.specs.Played.{Ends, IsRefused, IsServerOfModel, RanWholeScript, IsWhyItStopped, PrintsPart, RanFirstLines};
+ghost use Rattle.device_model.specs.ModelState.{device_at, is_starved};
+ghost use Rattle.play.specs.PlayedScript.{Ends, IsRefused, IsServerOfModel, RanWholeScript, IsWhyItStopped, PrintsPart, RanFirstLines};
 
 use crate::model_setup::new_model;
 use crate::printed::{print_call, write_out};
@@ -65,7 +65,7 @@ pub enum PlayError {
 }
 
 impl From<PlayError> for Ended {
-    ghost use Rattle.play.specs.Played.{ended_by_stop};
+    ghost use Rattle.play.specs.PlayedScript.{ended_by_stop};
 
     ghost from_gives = { λ stop ended. ended ≡ ended_by_stop stop };
 
@@ -87,7 +87,7 @@ struct Room {
 }
 
 impl From<ConfigFault> for Ended {
-    ghost use Rattle.play.specs.Played.{ended_by_config};
+    ghost use Rattle.play.specs.PlayedScript.{ended_by_config};
 
     ghost from_gives = { λ fault ended. ended ≡ ended_by_config fault };
 
@@ -100,7 +100,7 @@ impl From<ConfigFault> for Ended {
 }
 
 impl From<BadLine> for Ended {
-    ghost use Rattle.play.specs.Played.{ended_by_line};
+    ghost use Rattle.play.specs.PlayedScript.{ended_by_line};
 
     ghost from_gives = { λ bad ended. ended ≡ ended_by_line bad };
 
@@ -138,7 +138,7 @@ fn on_heap<A: Adapter + Drop>(alloc: Global, server: Server<A>) -> Result<Box<Se
 
 /// Ends a server on the heap. Its adapter comes back as it is.
 #[inline(never)]
-fn closed<A: Adapter>(server: Box<Server<A>>) -> A
+fn close_server<A: Adapter>(server: Box<Server<A>>) -> A
     ensures { result ≡ server.value.adapter }
 {
     Box::into_inner(server).close()
@@ -224,7 +224,7 @@ fn play_line<A: TapedAdapter, W: io::Write>(
 /// with a trace, and what it said. Where memory is refused, to the model too, or the output fails, it stops at that
 /// line: no later one is played.
 #[inline(never)]
-fn perform<A: TapedAdapter, W: io::Write>(
+fn play_lines<A: TapedAdapter, W: io::Write>(
     alloc: Global,
     server: &mut Server<A>,
     script: &[u8],
@@ -303,8 +303,8 @@ pub fn play_adapter<A: TapedAdapter + Drop, W: io::Write>(
     let Ok(mut server) = on_heap(alloc, server) else {
         return (Err(PlayError::NoMemory), None);
     };
-    let performed = perform(alloc, &mut server, script, trace, out);
-    (performed, Some(closed(server)))
+    let performed = play_lines(alloc, &mut server, script, trace, out);
+    (performed, Some(close_server(server)))
 }
 
 /// Plays a script against a new server over a modelled adapter, and prints at once what each line answers.
@@ -337,8 +337,8 @@ pub fn play<S: SectorStore, W: io::Write>(
         return unbegun(Ended::NoMemory);
     };
     law_runs_keep_their_promise::<Model<S>>();
-    let performed = perform(alloc, &mut server, script, trace, out);
-    let model = Some(closed(server));
+    let performed = play_lines(alloc, &mut server, script, trace, out);
+    let model = Some(close_server(server));
     match performed {
         Ok(()) => Finished {
             ended: Ended::Done,

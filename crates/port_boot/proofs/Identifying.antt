@@ -8,7 +8,7 @@ use Rattle.ata_types.specs.declared.PortState.TheVariants.{Absent, Ready, Foreig
 use Rattle.ata_types.specs.declared.memory.TheConstants.{DRIVER_BYTES}
 use Rattle.hba_regs.specs.declared.reg.PortReg.TheVariants.{Ci, Cmd, Ie}
 use Rattle.hba_regs.specs.declared.reg.Reg.TheVariants.{Px}
-use Rattle.adapter.specs.Access.{Access, Writes, port_written, named_causes}
+use Rattle.adapter.specs.Access.{Access, Writes, port_after_write, named_causes}
 use Rattle.adapter.specs.Access.Access.{Writing}
 use Rattle.adapter.specs.Device.{Notes, Device}
 use Rattle.adapter.specs.Device as device
@@ -18,17 +18,17 @@ use Rattle.adapter.specs.declared.command.Operation.TheVariants.{Identify}
 use Rattle.adapter.specs.declared.tape.Entry.{Entry}
 use Rattle.adapter.specs.declared.tape.Entry.TheVariants as entry
 use Rattle.adapter.specs.RegisterEffects.{PortRegisterWritten}
-use Rattle.refinement.specs.Driven.{RelatesWith, AnyUse, IsRelated, OnPortWriting, IsDrivenBy, IsSimulated, IsSimulatedAlong, IsSimulatedAlongTo, GainsNoMove}
+use Rattle.refinement.specs.Fragments.{RelatesWith, AnyUse, IsRelated, IsPortAccessWriting, IsDrivenBy, IsSimulated, IsSimulatedAlong, IsSimulatedAlongChangingUses, GainsNoMove}
 use Rattle.refinement.specs.Halting.{HaltIsOfTaken}
 use Rattle.refinement.specs.Links.{SameAdapter}
 use Rattle.refinement.specs.Driver.{AllFree}
-use Rattle.refinement.specs.Slots.{Own, SlotStates, put as used, IsMove, IsOver}
-use Rattle.command_table.specs.Written.{IsUnused}
-use Rattle.disk_page.specs.Asking.{IsPageAccess, LeavesRunning, BringsLastPage, ReadsPage}
+use Rattle.refinement.specs.Slots.{Own, SlotStates, set_slot_state as used, IsMove, IsOver}
+use Rattle.command_table.specs.TableStores.{IsUnused}
+use Rattle.disk_page.specs.PageRequests.{IsPageAccess, LeavesRunning, BringsLastPage, ReadsPage}
 use Rattle.identify.specs.declared.DiskInfo.{DiskInfo}
 use Rattle.port_control.specs.Engines.{FailsToStop, FailsToStopReceiving, Stops, StopsReceiving, EngineSticks}
 use Rattle.port_control.specs.Ports.{IsCommandRegister, IsPlacingRegister, IsRunning, HasStCleared, SawDevice}
-use Rattle.port_boot.specs.States.{HasIdentity, IsFit, IsStateByPage, BacksState, IsReady, IsBootRegister, IsOfBoot, IsBoot, IsBootTo, IsBootable, IsBroughtUp, IsStoppedAs, IsAfterStart, StopsOnWay, IsStateOfFault}
+use Rattle.port_boot.specs.States.{HasIdentity, IsFit, IsStateByPage, BacksState, IsReady, IsBootRegister, IsBootAccess, IsBoot, IsBootTo, IsBootable, IsBroughtUp, IsStoppedAs, IsAfterStart, StopsOnWay, IsStateOfFault}
 use Rattle.port_control.specs.declared.PortFault.{PortFault}
 use Rattle.port_control.specs.declared.PortFault.TheVariants.{NoDevice, Busy, EngineStuck, NotAta}
 use Rattle.port_boot.proofs.Bringing.{placing, starting, told_boots}
@@ -53,11 +53,11 @@ page_on port old new page g same h = record {
   before = h.before;
   move = h.move;
   later = h.later ++ g.0;
-  here = g.1 ∙ (ap (λ (t : List Entry). t ++ g.0) h.here ∙ append_assoc h.before (entry.Move h.move ∷ h.later) g.0);
-  since = let s = h.since in omega (arith, s, same);
+  tape_is = g.1 ∙ (ap (λ (t : List Entry). t ++ g.0) h.tape_is ∙ append_assoc h.before (entry.Move h.move ∷ h.later) g.0);
+  came_after_sctl = let s = h.came_after_sctl in omega (arith, s, same);
   is_move = h.is_move;
-  last = All-append (λ e. IsMove port Identify e → ⊥) h.later g.0 h.last g.2;
-  bytes = h.bytes;
+  no_later_page = All-append (λ e. IsMove port Identify e → ⊥) h.later g.0 h.no_later_page g.2;
+  bytes_are = h.bytes_are;
 }
 
 module _ (port : Port) (start old mid : Device) (up : IsBroughtUp port start old) (l : LeavesRunning port.0 old mid) where
@@ -65,7 +65,7 @@ module _ (port : Port) (start old mid : Device) (up : IsBroughtUp port start old
   noted = ap (λ (n : Notes). n.sctl_written_at) l.notes
 
   pub asked_saw : SawDevice (mid.port port.0).notes
-  asked_saw = (ap (λ (n : Notes). n.last_ssts % 16) l.notes ∙ up.saw.0, ap (λ (n : Notes). n.link_count) l.notes ∙ up.saw.1)
+  asked_saw = (ap (λ (n : Notes). n.last_ssts % 16) l.notes ∙ up.device_was_seen.0, ap (λ (n : Notes). n.link_count) l.notes ∙ up.device_was_seen.1)
 
   pub asked_running : Laws → IsOver (mid.port port.0) 0 → IsRunning port.0 (mid.port port.0)
   asked_running laws over =
@@ -73,7 +73,7 @@ module _ (port : Port) (start old mid : Device) (up : IsBroughtUp port start old
       let none = laws.asked_none port.0 old mid l (λ slot. record { issued = r.ci slot; free = r.taken slot }) over in
       record {
         st = l.controls.st ∙ r.st;
-        cr = l.controls.runs r.st r.cr;
+        cr = l.controls.engine_stays_running r.st r.cr;
         fre = l.controls.fre ∙ r.fre;
         bases = l.bases ∙ r.bases;
         ci = λ slot. (none slot).issued;
@@ -83,34 +83,34 @@ module _ (port : Port) (start old mid : Device) (up : IsBroughtUp port start old
 
   pub asked_page : (page : List ℕ) → BringsLastPage port.0 Identify (length old.tape) page mid → HasIdentity port.0 mid page
   asked_page page b =
-      let brought = b.brought in
+      let brought = b.page_stands in
       record {
         before = brought.before;
         move = brought.move;
         later = brought.later;
-        here = brought.here;
-        since = let after = brought.after in let marked = up.marked in omega (arith, after, marked, noted);
+        tape_is = brought.tape_is_split;
+        came_after_sctl = let after = brought.came_since in let marked = up.sctl_time_in_tape in omega (arith, after, marked, noted);
         is_move = brought.is_move;
-        last = brought.last;
-        bytes = b.same;
+        no_later_page = brought.last;
+        bytes_are = b.page_bytes_are;
       }
 
 command_quiet : IsCommandRegister Ci → ⊥
 command_quiet e = absurd (let k : Ci ≡ Cmd = e in cc)
 
-asking : (port : Port) (access : Access) → IsPageAccess port access → IsOfBoot port access
+asking : (port : Port) (access : Access) → IsPageAccess port access → IsBootAccess port access
 asking port access is = inr is
 
-controlling : (port : Port) (access : Access) → OnPortWriting IsBootRegister port access → IsOfBoot port access
+controlling : (port : Port) (access : Access) → IsPortAccessWriting IsBootRegister port access → IsBootAccess port access
 controlling port access is = inl is
 
 unused : (port : Port) (uses : SlotStates) → AllFree uses port.0 → IsUnused port.0 0 uses
 unused port uses free = free 0
 
 -- a port that was to stop was driven so, however it ended
-pub halt_driven : (port : Port) (wanted state : PortState) (old new : Device) → IsStoppedAs port wanted state old new → IsDrivenBy (OnPortWriting IsCommandRegister port) old new
-halt_driven port wanted state old new (inl x) = x.1.told.followed.driven
-halt_driven port wanted state old new (inr x) = x.2.told.followed.driven
+pub halt_driven : (port : Port) (wanted state : PortState) (old new : Device) → IsStoppedAs port wanted state old new → IsDrivenBy (IsPortAccessWriting IsCommandRegister port) old new
+halt_driven port wanted state old new (inl x) = x.1.is_simulated.followed.is_driven
+halt_driven port wanted state old new (inr x) = x.2.is_simulated.followed.is_driven
 
 -- a boot to any state but Dead
 pub boots_to : (TapeTells : List Access → Type 0) (port : Port) (old new : Device) (state : PortState) → state ≢ Dead → IsBoot TapeTells port old new → IsBootTo TapeTells port state old new
@@ -129,46 +129,46 @@ module _ (laws : Laws) where
 
   -- PxIE may be written
   pub enabling : (port : Port) (v : ℕ) (d : Device) → IsBootable port d → IsStable (MayWrite (Px port Ie) v) d
-  enabling port v d b = laws.write_stays (Px port Ie) v d (λ p e. absurd cc) (b.on, b.there, tt)
+  enabling port v d b = laws.write_stays (Px port Ie) v d (λ p e. absurd cc) (b.adapter_is_on, b.has_port, tt)
 
   -- a stop is a part of the boot
-  stop_boots : (TapeTells : List Access → Type 0) (port : Port) (mid new : Device) → IsSimulatedAlong TapeTells (OnPortWriting IsCommandRegister port) AnyUse mid new → IsSimulatedAlong TapeTells (IsOfBoot port) AnyUse mid new
+  stop_boots : (TapeTells : List Access → Type 0) (port : Port) (mid new : Device) → IsSimulatedAlong TapeTells (IsPortAccessWriting IsCommandRegister port) AnyUse mid new → IsSimulatedAlong TapeTells (IsBootAccess port) AnyUse mid new
   stop_boots TapeTells port mid new f = told_wider laws TapeTells (Controlling Commanding AnyUses port) (Booting AnyUses port) (λ uses. uses) mid new
       (λ access may. inl (laws.control_wider Commanding BootRegisters port starting access may)) (λ uses is. is) f
 
   module _ (port : Port) (start old mid : Device) (up : IsBroughtUp port start old) (on : IsOn mid) (l : LeavesRunning port.0 old mid) where
     module _ (driven : IsDrivenBy (IsPageAccess port) old mid) where
       pub asked_there : HasPort mid port.0
-      asked_there = there_after (asking_adapter port old mid driven) up.bootable.there
+      asked_there = there_after (asking_adapter port old mid driven) up.bootable.has_port
 
       pub asked_room : DRIVER_BYTES ≤ mid.size
-      asked_room = let same = (asking_adapter port old mid driven).size in let room = up.bootable.room in omega (arith, same, room)
+      asked_room = let same = (asking_adapter port old mid driven).size in let room = up.bootable.driver_memory_fits in omega (arith, same, room)
 
   -- where it didn't stop, its engine is stuck
-  halting_sticks : (port : Port) (old new : Device) → IsSimulatedAlong (FailsToStop port) (OnPortWriting IsCommandRegister port) AnyUse old new → IsSimulatedAlong (EngineSticks port) (OnPortWriting IsCommandRegister port) AnyUse old new
-  halting_sticks port old new f = told_more (FailsToStop port) (EngineSticks port) (OnPortWriting IsCommandRegister port) AnyUse (λ uses. uses) old new (laws.failing_sticks port) f
+  halting_sticks : (port : Port) (old new : Device) → IsSimulatedAlong (FailsToStop port) (IsPortAccessWriting IsCommandRegister port) AnyUse old new → IsSimulatedAlong (EngineSticks port) (IsPortAccessWriting IsCommandRegister port) AnyUse old new
+  halting_sticks port old new f = told_more (FailsToStop port) (EngineSticks port) (IsPortAccessWriting IsCommandRegister port) AnyUse (λ uses. uses) old new (laws.failing_sticks port) f
 
   -- ---- no page came
 
   module _ (port : Port) (start old mid : Device) (up : IsBroughtUp port start old) (on : IsOn mid) (l : LeavesRunning port.0 old mid)
       (reads : ReadsPage port Identify None old mid) (agrees : (uses : SlotStates) → IsUnused port.0 0 uses → IsRelated uses old → IsRelated (used uses port.0 0 (Own Identify)) mid) where
     pub unasked_there : HasPort mid port.0
-    unasked_there = asked_there port start old mid up on l reads.1.followed.driven
+    unasked_there = asked_there port start old mid up on l reads.1.followed.is_driven
 
     pub unasked_agreed : RelatesWith AnyUse mid
-    unasked_agreed = let a = up.bootable.agreed in (used a.0 port.0 0 (Own Identify), tt, agrees a.0 (a.1 0) a.2)
+    unasked_agreed = let a = up.bootable.machine_is_related in (used a.0 port.0 0 (Own Identify), tt, agrees a.0 (a.1 0) a.2)
 
     module _ (new : Device) (has : HasStCleared (mid.port port.0) (new.port port.0)) where
       -- asked, and then stopped, of which so much is told
-      module _ (TapeTells : List Access → Type 0) (since : (early late : List Access) → TapeTells late → TapeTells (early ++ late)) (stops : IsSimulatedAlong TapeTells (OnPortWriting IsCommandRegister port) AnyUse mid new) where
-        given : IsSimulatedAlongTo TapeTells (IsOfBoot port) (IsUnused port.0 0) (λ uses. used uses port.0 0 (Own Identify)) old new
+      module _ (TapeTells : List Access → Type 0) (since : (early late : List Access) → TapeTells late → TapeTells (early ++ late)) (stops : IsSimulatedAlong TapeTells (IsPortAccessWriting IsCommandRegister port) AnyUse mid new) where
+        given : IsSimulatedAlongChangingUses TapeTells (IsBootAccess port) (IsUnused port.0 0) (λ uses. used uses port.0 0 (Own Identify)) old new
         given = told_both laws (λ early. Unit {0}) TapeTells TapeTells (λ early late any is. since early late is) (Booting HeadUnused port) (Booting AnyUses port) (λ uses. used uses port.0 0 (Own Identify)) (λ uses. uses)
             (λ access may. may)
             (λ uses free. tt) old mid new
             (record { followed = followed_wider laws (Asking port) (Booting HeadUnused port) (λ uses. used uses port.0 0 (Own Identify)) old mid (asking port) (λ uses free. free) reads.1.followed; tells = tt })
             (stop_boots TapeTells port mid new stops)
 
-        given_boots : IsSimulatedAlongTo TapeTells (IsOfBoot port) (λ uses. AllFree uses port.0) (λ uses. used uses port.0 0 (Own Identify)) old new
+        given_boots : IsSimulatedAlongChangingUses TapeTells (IsBootAccess port) (λ uses. AllFree uses port.0) (λ uses. used uses port.0 0 (Own Identify)) old new
         given_boots = told_wider laws TapeTells (Booting HeadUnused port) (Booting PortUnused port) (λ uses. used uses port.0 0 (Own Identify)) old new (λ access may. may) (unused port) given
 
         stopped_boots : IsOver (new.port port.0) 0 → IsBoot TapeTells port old new
@@ -186,15 +186,15 @@ module _ (laws : Laws) where
               ap (λ (n : Notes). n.command_count) has.notes ∙ reads.0,
             ))),
           )
-      unasked_ends wanted result (inr x) = let P : PortState → Type 0 = λ s. BacksState wanted s port.0 new in subst P (sym x.0) (x.1, x.2.stuck)
+      unasked_ends wanted result (inr x) = let P : PortState → Type 0 = λ s. BacksState wanted s port.0 new in subst P (sym x.0) (x.1, x.2.stuck_is_backed)
 
       pub unasked_boots : (result : PortState) → IsStoppedAs port (Unfit 9) result mid new → IsBootTo (Stops port) port result old new
       unasked_boots result (inl x) =
           let P : PortState → Type 0 = λ s. IsBootTo (Stops port) port s old new in
-          subst P (sym x.0) (stopped_boots (Stops port) (λ early late. laws.falls_since early late 0 15 port) x.1.told (record { issued = x.1.stopped.halted.ci 0; free = x.1.stopped.halted.taken 0 }))
+          subst P (sym x.0) (stopped_boots (Stops port) (λ early late. laws.falls_since early late 0 15 port) x.1.is_simulated (record { issued = x.1.stopped.halted.ci 0; free = x.1.stopped.halted.taken 0 }))
       unasked_boots result (inr x) =
           let P : PortState → Type 0 = λ s. IsBootTo (Stops port) port s old new in
-          subst P (sym x.0) (inr (given_boots (EngineSticks port) (λ early late. laws.sticks_since early late port) (halting_sticks port mid new x.2.told)))
+          subst P (sym x.0) (inr (given_boots (EngineSticks port) (λ early late. laws.sticks_since early late port) (halting_sticks port mid new x.2.is_simulated)))
 
   -- ---- a page came
 
@@ -202,33 +202,33 @@ module _ (laws : Laws) where
       (reads : ReadsPage port Identify (Some page) old mid) (agrees : (uses : SlotStates) → IsUnused port.0 0 uses → IsRelated uses old → IsRelated uses mid) where
     pub identified : IsIdentified port mid page
     identified =
-        let a = up.bootable.agreed in
+        let a = up.bootable.machine_is_related in
         record {
           bootable = record {
-            on = on;
-            there = asked_there port start old mid up on l reads.1.driven;
-            room = asked_room port start old mid up on l reads.1.driven;
-            agreed = (a.0, a.1, agrees a.0 (a.1 0) a.2);
+            adapter_is_on = on;
+            has_port = asked_there port start old mid up on l reads.1.is_driven;
+            driver_memory_fits = asked_room port start old mid up on l reads.1.is_driven;
+            machine_is_related = (a.0, a.1, agrees a.0 (a.1 0) a.2);
           };
-          runs = asked_running port start old mid up l laws reads.0.clear.over;
-          det = l.controls.sctl_det ∙ up.det;
+          runs = asked_running port start old mid up l laws reads.0.slot_is_clear.over;
+          det = l.controls.sctl_det ∙ up.no_comreset;
           saw = asked_saw port start old mid up l;
           has = asked_page port start old mid up l page reads.0;
         }
 
-    asked_boots : IsSimulated (IsOfBoot port) (λ uses. AllFree uses port.0) old mid
+    asked_boots : IsSimulated (IsBootAccess port) (λ uses. AllFree uses port.0) old mid
     asked_boots = followed_wider laws (Asking port) (Booting PortUnused port) (λ uses. uses) old mid (asking port) (unused port) reads.1
 
     -- and then PxIE is written
     module _ (v : ℕ) (new : Device) (call : Writes (Px port Ie) v mid new) where
       w : PortRegisterWritten port.0 Ie v mid new
-      w = laws.put_at port Ie v mid new call identified.bootable.on.no_reset
+      w = laws.put_at port Ie v mid new call identified.bootable.adapter_is_on.no_reset
 
       pub enabled_on : IsOn new
       enabled_on = laws.access_on (Writing (Px port Ie) v) mid new on (λ k e. absurd cc) call
 
       pub enabled_written : (new.port port.0).notes.sctl_written_at ≡ (mid.port port.0).notes.sctl_written_at
-      enabled_written = ap (λ (p : device.DevicePort). p.notes.sctl_written_at) w.here ∙ ap (λ (n : Notes). n.sctl_written_at) (w.notes port.0)
+      enabled_written = ap (λ (p : device.DevicePort). p.notes.sctl_written_at) w.port_is_written ∙ ap (λ (n : Notes). n.sctl_written_at) (w.notes port.0)
 
       pub enabled_since : (new.port port.0).notes.sctl_written_at ≡ (old.port port.0).notes.sctl_written_at
       enabled_since = enabled_written ∙ ap (λ (n : Notes). n.sctl_written_at) l.notes
@@ -237,44 +237,44 @@ module _ (laws : Laws) where
       enabled_ready wanted info told fit =
           let h = identified in
           let r = h.runs in
-          let k = w.keeps.port port.0 in
-          let c = w.keeps.on.controls port.0 in
+          let k = w.keeps.ports_are_kept port.0 in
+          let c = w.keeps.keeps_outside_reset.controls port.0 in
           let P : device.DevicePort → Type 0 = λ p. IsRunning port.0 p in
-          let runs : IsRunning port.0 (port_written Ie v (length w.mid.tape) (w.mid.port port.0)) = record {
+          let runs : IsRunning port.0 (port_after_write Ie v (length w.mid.tape) (w.mid.port port.0)) = record {
             st = c.st ∙ r.st;
-            cr = c.runs r.st r.cr;
+            cr = c.engine_stays_running r.st r.cr;
             fre = c.fre ∙ r.fre;
             bases = k.bases ∙ r.bases;
             ci = λ slot. k.ci slot (r.ci slot);
             sact = λ slot. k.sact slot (r.sact slot);
-            taken = λ slot. k.free slot (r.ci slot) (r.taken slot);
+            taken = λ slot. k.slots_stay_free slot (r.ci slot) (r.taken slot);
           } in
-          let noted : (new.port port.0).notes ≡ (mid.port port.0).notes = ap (λ (p : device.DevicePort). p.notes) w.here ∙ w.notes port.0 in
+          let noted : (new.port port.0).notes ≡ (mid.port port.0).notes = ap (λ (p : device.DevicePort). p.notes) w.port_is_written ∙ w.notes port.0 in
           record {
-            runs = subst P (sym w.here) runs;
-            saw = (ap (λ (n : Notes). n.last_ssts % 16) noted ∙ h.saw.0, ap (λ (n : Notes). n.link_count) noted ∙ h.saw.1);
-            disk = record {
-              det = ap (λ (p : device.DevicePort). p.sctl_det) w.here ∙ c.sctl_det ∙ h.det;
-              tells = ap (λ (p : device.DevicePort). p.ie) w.here ∙ told;
-              page = page;
-              has = page_on port.0 mid new page (laws.access_unmoving port.0 Identify (Writing (Px port Ie) v) mid new (λ slot. record { issued = r.ci slot; free = r.taken slot }) call) enabled_written h.has;
-              fit = fit;
+            runs = subst P (sym w.port_is_written) runs;
+            device_was_seen = (ap (λ (n : Notes). n.last_ssts % 16) noted ∙ h.saw.0, ap (λ (n : Notes). n.link_count) noted ∙ h.saw.1);
+            has_fit_disk = record {
+              no_comreset = ap (λ (p : device.DevicePort). p.sctl_det) w.port_is_written ∙ c.sctl_det ∙ h.det;
+              ie_is_named = ap (λ (p : device.DevicePort). p.ie) w.port_is_written ∙ told;
+              last_identify_page = page;
+              page_is_last = page_on port.0 mid new page (laws.access_unmoving port.0 Identify (Writing (Px port Ie) v) mid new (λ slot. record { issued = r.ci slot; free = r.taken slot }) call) enabled_written h.has;
+              disk_is_fit = fit;
             };
           }
 
       -- what halts the port then is of a command that is taken
       pub enabled_halts : (RelatesWith (λ uses. AllFree uses port.0) old → (mid.port port.0).halt ≡ NotHalted) → (wanted : Option (List ℕ)) (info : DiskInfo) → v ≡ named_causes → IsFit wanted page info → HaltIsOfTaken (new.port port.0)
       enabled_halts calm wanted info told fit =
-          let a = identified.bootable.agreed in
-          laws.halts_access a.0 a.2.machine port (Writing (Px port Ie) v) mid new a.2.reached a.2.knows.agrees (λ (e : Px port Ie ≡ Px port Cmd). absurd cc) call
-          (λ _. laws.halts_calm (mid.port port.0) (calm up.bootable.agreed)) (enabled_ready wanted info told fit).runs.st
+          let a = identified.bootable.machine_is_related in
+          laws.halts_access a.0 a.2.machine port (Writing (Px port Ie) v) mid new a.2.reached a.2.driver_relation.state_relation (λ (e : Px port Ie ≡ Px port Cmd). absurd cc) call
+          (λ _. laws.halts_calm (mid.port port.0) (calm up.bootable.machine_is_related)) (enabled_ready wanted info told fit).runs.st
 
-      pub enabled_boots : IsSimulated (IsOfBoot port) (λ uses. AllFree uses port.0) old new
+      pub enabled_boots : IsSimulated (IsBootAccess port) (λ uses. AllFree uses port.0) old new
       enabled_boots = followed_then laws (Booting PortUnused port) old mid new asked_boots
           (laws.fragments.writes (Booting PortUnused port) (Px port Ie) v mid new (inl (refl, inr (inr refl))) (enabling port v mid identified.bootable) (λ uses free. tt) call).followed
 
     -- or the port is stopped, of which so much is told
-    halted_as : (TapeTells : List Access → Type 0) → ((early late : List Access) → TapeTells late → TapeTells (early ++ late)) → (new : Device) → IsSimulatedAlong TapeTells (OnPortWriting IsCommandRegister port) AnyUse mid new → IsBoot TapeTells port old new
+    halted_as : (TapeTells : List Access → Type 0) → ((early late : List Access) → TapeTells late → TapeTells (early ++ late)) → (new : Device) → IsSimulatedAlong TapeTells (IsPortAccessWriting IsCommandRegister port) AnyUse mid new → IsBoot TapeTells port old new
     halted_as TapeTells since new stops = told_since laws TapeTells (Booting PortUnused port) since (λ uses. uses) old mid new asked_boots
         (told_wider laws TapeTells (Booting AnyUses port) (Booting PortUnused port) (λ uses. uses) mid new (λ access may. may) (λ uses free. tt) (stop_boots TapeTells port mid new stops))
 
@@ -282,17 +282,17 @@ module _ (laws : Laws) where
     halted_boots wanted state result new judged (inl x) =
         let P : PortState → Type 0 = λ s. IsBootTo (Stops port) port s old new in
         let alive : state ≢ Dead = λ (dead : state ≡ Dead). absurd (subst (λ (s : PortState). IsStateByPage wanted s page) dead judged) in
-        subst P (sym x.0) (boots_to (Stops port) port old new state alive (halted_as (Stops port) (λ early late. laws.falls_since early late 0 15 port) new x.1.told))
+        subst P (sym x.0) (boots_to (Stops port) port old new state alive (halted_as (Stops port) (λ early late. laws.falls_since early late 0 15 port) new x.1.is_simulated))
     halted_boots wanted state result new judged (inr x) =
         let P : PortState → Type 0 = λ s. IsBootTo (Stops port) port s old new in
-        subst P (sym x.0) (inl (halted_as (EngineSticks port) (λ early late. laws.sticks_since early late port) new (halting_sticks port mid new x.2.told)))
+        subst P (sym x.0) (inl (halted_as (EngineSticks port) (λ early late. laws.sticks_since early late port) new (halting_sticks port mid new x.2.is_simulated)))
 
-    module _ (new : Device) (stops : IsDrivenBy (OnPortWriting IsCommandRegister port) mid new) (has : HasStCleared (mid.port port.0) (new.port port.0)) where
+    module _ (new : Device) (stops : IsDrivenBy (IsPortAccessWriting IsCommandRegister port) mid new) (has : HasStCleared (mid.port port.0) (new.port port.0)) where
       halted_page : HasIdentity port.0 new page
       halted_page =
           let h = identified in
           let silent = laws.controls_unmoving port Identify mid new
-          (driven_as (OnPortWriting IsCommandRegister port) (OnPortWriting (λ r. r ≢ Ci) port) mid new (laws.control_wider Commanding ButIssued port (λ r is same. command_quiet (subst IsCommandRegister same is))) stops) (λ slot. record { issued = h.runs.ci slot; free = h.runs.taken slot }) in
+          (driven_as (IsPortAccessWriting IsCommandRegister port) (IsPortAccessWriting (λ r. r ≢ Ci) port) mid new (laws.control_wider Commanding ButIssued port (λ r is same. command_quiet (subst IsCommandRegister same is))) stops) (λ slot. record { issued = h.runs.ci slot; free = h.runs.taken slot }) in
           page_on port.0 mid new page silent.0 (ap (λ (n : Notes). n.sctl_written_at) has.notes) h.has
 
       pub halted_ends : (wanted : Option (List ℕ)) (state result : PortState) → IsStateByPage wanted state page → IsStoppedAs port state result mid new → BacksState wanted result port.0 new
@@ -301,28 +301,28 @@ module _ (laws : Laws) where
       halted_ends wanted Absent result judged (inl x) = absurd judged
       halted_ends wanted Ready result judged (inl x) = absurd judged
       halted_ends wanted Dead result judged (inl x) = absurd judged
-      halted_ends wanted state result judged (inr x) = let P : PortState → Type 0 = λ s. BacksState wanted s port.0 new in subst P (sym x.0) (x.1, x.2.stuck)
+      halted_ends wanted state result judged (inr x) = let P : PortState → Type 0 = λ s. BacksState wanted s port.0 new in subst P (sym x.0) (x.1, x.2.stuck_is_backed)
 
   -- ---- the whole boot
 
-  pub up_boots : (TapeTells : List Access → Type 0) (port : Port) (old mid : Device) → IsSimulatedAlong TapeTells (OnPortWriting IsBootRegister port) (λ uses. AllFree uses port.0) old mid → IsBoot TapeTells port old mid
+  pub up_boots : (TapeTells : List Access → Type 0) (port : Port) (old mid : Device) → IsSimulatedAlong TapeTells (IsPortAccessWriting IsBootRegister port) (λ uses. AllFree uses port.0) old mid → IsBoot TapeTells port old mid
   up_boots TapeTells port old mid f = told_wider laws TapeTells (Controlling BootRegisters PortUnused port) (Booting PortUnused port) (λ uses. uses) old mid (controlling port) (λ uses free. free) f
 
   -- no part came after it, since FR didn't fall
-  pub stuck_boots : (port : Port) (old mid : Device) → IsSimulatedAlong (FailsToStopReceiving port) (OnPortWriting IsPlacingRegister port) AnyUse old mid → IsBoot (EngineSticks port) port old mid
-  stuck_boots port old mid f = told_more (FailsToStopReceiving port) (EngineSticks port) (IsOfBoot port) (λ uses. AllFree uses port.0) (λ uses. uses) old mid (laws.failing_receiving_sticks port)
+  pub stuck_boots : (port : Port) (old mid : Device) → IsSimulatedAlong (FailsToStopReceiving port) (IsPortAccessWriting IsPlacingRegister port) AnyUse old mid → IsBoot (EngineSticks port) port old mid
+  stuck_boots port old mid f = told_more (FailsToStopReceiving port) (EngineSticks port) (IsBootAccess port) (λ uses. AllFree uses port.0) (λ uses. uses) old mid (laws.failing_receiving_sticks port)
       (up_boots (FailsToStopReceiving port) port old mid (told_boots laws (FailsToStopReceiving port) Placing AnyUses port old mid placing (λ uses free. tt) f))
 
   -- no part came after it, since there was a fault
   pub faulty_boots : (port : Port) (old mid : Device) (fault : PortFault) → fault ≢ EngineStuck → (state : PortState) → IsStateOfFault state fault →
-      IsSimulatedAlong (StopsReceiving port) (OnPortWriting IsBootRegister port) (λ uses. AllFree uses port.0) old mid → IsBootTo (StopsOnWay port state) port state old mid
+      IsSimulatedAlong (StopsReceiving port) (IsPortAccessWriting IsBootRegister port) (λ uses. AllFree uses port.0) old mid → IsBootTo (StopsOnWay port state) port state old mid
   faulty_boots port old mid fault other state told first = by fault other told
     where
       early : (s : PortState) → state ≡ s → s ≢ Dead → (IsAfterStart s → ⊥) → IsBootTo (StopsOnWay port state) port state old mid
       early s is alive late =
           let P : PortState → Type 0 = λ x. IsBootTo (StopsOnWay port x) port x old mid in
           subst P (sym is) (boots_to (StopsOnWay port s) port old mid s alive
-          (told_more (StopsReceiving port) (StopsOnWay port s) (IsOfBoot port) (λ uses. AllFree uses port.0) (λ uses. uses) old mid (λ accesses here. (here, λ is. absurd (late is))) (up_boots (StopsReceiving port) port old mid first)))
+          (told_more (StopsReceiving port) (StopsOnWay port s) (IsBootAccess port) (λ uses. AllFree uses port.0) (λ uses. uses) old mid (λ accesses here. (here, λ is. absurd (late is))) (up_boots (StopsReceiving port) port old mid first)))
 
       by : (fault : PortFault) → fault ≢ EngineStuck → IsStateOfFault state fault → IsBootTo (StopsOnWay port state) port state old mid
       by NoDevice other told = early Absent told (λ e. absurd cc) (λ late. late)
@@ -331,8 +331,8 @@ module _ (laws : Laws) where
       by (NotAta signature) other told = early (Unfit 8) told (λ e. absurd cc) (λ late. absurd (late.1 refl))
 
   -- what was proved of one part is so of the whole
-  module _ (port : Port) (old mid new : Device) (first : IsSimulatedAlong (StopsReceiving port) (OnPortWriting IsBootRegister port) (λ uses. AllFree uses port.0) old mid) where
-    pub whole_ready : (result : Result DiskInfo PortState) → OnOk result (IsSimulated (IsOfBoot port) (λ uses. AllFree uses port.0) mid new) → OnOk result (IsBoot (StopsReceiving port) port old new)
+  module _ (port : Port) (old mid new : Device) (first : IsSimulatedAlong (StopsReceiving port) (IsPortAccessWriting IsBootRegister port) (λ uses. AllFree uses port.0) old mid) where
+    pub whole_ready : (result : Result DiskInfo PortState) → OnOk result (IsSimulated (IsBootAccess port) (λ uses. AllFree uses port.0) mid new) → OnOk result (IsBoot (StopsReceiving port) port old new)
     whole_ready (Ok info) then = told_then laws (StopsReceiving port) (Booting PortUnused port) (λ early late. laws.falls_then early late 4 14 port) old mid new (up_boots (StopsReceiving port) port old mid first) then
     whole_ready (Err state) then = then
 
@@ -342,7 +342,7 @@ module _ (laws : Laws) where
         (λ uses. uses) (λ uses. uses) (λ access may. may) (λ uses free. free) old mid new (up_boots (StopsReceiving port) port old mid first) then
 
     -- or one is stuck
-    dies : (next : SlotStates → SlotStates) → IsSimulatedAlongTo (EngineSticks port) (IsOfBoot port) (λ uses. AllFree uses port.0) next mid new → IsSimulatedAlongTo (EngineSticks port) (IsOfBoot port) (λ uses. AllFree uses port.0) next old new
+    dies : (next : SlotStates → SlotStates) → IsSimulatedAlongChangingUses (EngineSticks port) (IsBootAccess port) (λ uses. AllFree uses port.0) next mid new → IsSimulatedAlongChangingUses (EngineSticks port) (IsBootAccess port) (λ uses. AllFree uses port.0) next old new
     dies next then = told_since laws (EngineSticks port) (Booting PortUnused port) (λ early late. laws.sticks_since early late port) next old mid new (up_boots (StopsReceiving port) port old mid first).followed then
 
     pub whole_ended : (result : Result DiskInfo PortState) → IfErr result (λ state. IsBootTo (Stops port) port state mid new) → IfErr result (λ state. IsBootTo (StopsOnWay port state) port state old new)

@@ -13,13 +13,13 @@ use Rattle.adapter.specs.Access.{Access, Writes}
 use Rattle.adapter.specs.Access.Access.{Reading, Writing, Loading, Storing}
 use Rattle.adapter.specs.Device.{Device}
 use Rattle.adapter.specs.Rules.{IsOn}
-use Rattle.refinement.specs.Driven.{OnPortWriting, IsDrivenBy}
+use Rattle.refinement.specs.Fragments.{IsPortAccessWriting, IsDrivenBy}
 use Rattle.refinement.specs.Errors.{NoneFatal, NoneFails}
 use Rattle.refinement.specs.PortFacts.{Undisturbed, ShowsNoTrouble}
 use Rattle.refinement.specs.Links.{NoPlugEvents, DoesNotWrite}
-use Rattle.refinement.specs.Started.{IsStarted}
-use Rattle.refinement.specs.Driven.{TapeGrows}
-use Rattle.disk_page.specs.Asking.{IsPageAccess, LeavesRunning}
+use Rattle.refinement.specs.StartedPort.{IsStarted}
+use Rattle.refinement.specs.Fragments.{TapeGrows}
+use Rattle.disk_page.specs.PageRequests.{IsPageAccess, LeavesRunning}
 use Rattle.port_control.specs.Engines.{Stops}
 use Rattle.port_control.specs.Ports.{IsCommandRegister, HasClearErrors}
 use Rattle.port_control.specs.declared.PortFault.{PortFault}
@@ -29,7 +29,7 @@ use Rattle.identify.specs.declared.DiskInfo.{DiskInfo}
 use Rattle.identify.specs.declared.Unfit.{Unfit as Fault}
 use Rattle.identify.specs.declared.Unfit.TheVariants.{BadChecksum, Word83, No48Bit, SectorSize, NoFlush, NoSectors}
 use Rattle.port_boot.specs.Outcomes.{EndsReady, EndsUnready, FailsToIdentify, Identifies, BootBringsUp}
-use Rattle.port_boot.specs.States.{IsStateOfFault, IsStateByPage, IsBootRegister, IsBeforeStart, IsStoppedAs, IsOfBoot, IsBroughtUp, AsksDisk, BringsReady, EndsBeforeStart, EndsAfterStart, IsAfterStart, ShowsOnlyNewErrors, BitsRiseWithCause, RunsOn, StopsWithLinkUp}
+use Rattle.port_boot.specs.States.{IsStateOfFault, IsStateByPage, IsBootRegister, IsBeforeStart, IsStoppedAs, IsBootAccess, IsBroughtUp, AsksDisk, BringsReady, EndsBeforeStart, EndsAfterStart, IsAfterStart, ShowsOnlyNewErrors, BitsRiseWithCause, StaysRunning, StopsWithLinkUp}
 use Rattle.port_boot.proofs.Identifying.{whole_ended, whole_ready}
 use Rattle.port_boot.proofs.Staying.{boot_driven}
 use Rattle.port_boot.proofs.Enduring.{Endures, Lasts, endures, lasts, lasts_access, lasts_more, goes_more}
@@ -50,7 +50,7 @@ no_control e = absurd (let k : Sctl ≡ Cmd = e in cc)
 -- a port that wasn't started isn't in a late state
 pub early_is_not_late : (port : Port) (state : PortState) (old new : Device) → (state ≡ Dead) ⊎ EndsBeforeStart port state old new → IsAfterStart state → EndsAfterStart port old new
 early_is_not_late port state old new (inl dead) late = absurd (subst IsAfterStart dead late)
-early_is_not_late port state old new (inr e) late = absurd (by e.fault e.told)
+early_is_not_late port state old new (inr e) late = absurd (by e.fault e.state_is)
   where
     by : (fault : PortFault) → IsStateOfFault state fault → ⊥
     by NoDevice told = subst IsAfterStart told late
@@ -102,52 +102,52 @@ module _ (laws : Laws) where
   module _ (port : Port) (start old mid : Device) (up : IsBroughtUp port start old) (driven : IsDrivenBy (IsPageAccess port) old mid) where
     asked : Lasts port.0 old mid
     asked =
-        let spares = λ (r : Reg) (other : Px port Ci ≢ r). All-weaker (IsPageAccess port) (DoesNotWrite r) (asking_spares port r other) driven.accesses driven.only in
-        lasts laws port driven.accesses old mid up.bootable.on driven.all (spares Ghc (λ (e : Px port Ci ≡ Ghc). absurd (cc)))
+        let spares = λ (r : Reg) (other : Px port Ci ≢ r). All-weaker (IsPageAccess port) (DoesNotWrite r) (asking_spares port r other) driven.accesses driven.accesses_are_of_kind in
+        lasts laws port driven.accesses old mid up.bootable.adapter_is_on driven.all_are_done (spares Ghc (λ (e : Px port Ci ≡ Ghc). absurd (cc)))
         (spares (Px port Sctl) (λ (e : Px port Ci ≡ Px port Sctl). absurd (cc))) (spares (Px port Cmd) (λ (e : Px port Ci ≡ Px port Cmd). absurd (cc)))
 
     -- and then PxIE is written
-    pub told_runs_on : (v : ℕ) (new : Device) → IsOn mid → Writes (Px port Ie) v mid new → RunsOn port.0 old new
+    pub told_runs_on : (v : ℕ) (new : Device) → IsOn mid → Writes (Px port Ie) v mid new → StaysRunning port.0 old new
     told_runs_on v new on call =
         (lasts_more laws port.0 old mid new asked
         (lasts_access laws port (Writing (Px port Ie) v) mid new on
         (λ (e : Px port Ie ≡ Px port Sctl). absurd (cc)) call (λ (e : Px port Ie ≡ Px port Cmd). absurd (cc)))).runs
 
     -- or the port is stopped
-    pub stops_then : (new : Device) → IsOn mid → LeavesRunning port.0 old mid → IsDrivenBy (OnPortWriting IsCommandRegister port) mid new → StopsWithLinkUp port old new
+    pub stops_then : (new : Device) → IsOn mid → LeavesRunning port.0 old mid → IsDrivenBy (IsPortAccessWriting IsCommandRegister port) mid new → StopsWithLinkUp port old new
     stops_then new on l stop =
-        let late : Endures port.0 mid new = endures laws port stop.accesses mid new on stop.all
-        (All-weaker (OnPortWriting IsCommandRegister port) (DoesNotWrite Ghc) (λ access is. laws.of_spares_ghc port access (laws.control_of Commanding port access is)) stop.accesses stop.only)
-        (All-weaker (OnPortWriting IsCommandRegister port) (DoesNotWrite (Px port Sctl)) (laws.control_spares Commanding port Sctl no_control) stop.accesses stop.only) in
-        let det : (mid.port port.0).sctl_det ≡ 0 = l.controls.sctl_det ∙ up.det in
+        let late : Endures port.0 mid new = endures laws port stop.accesses mid new on stop.all_are_done
+        (All-weaker (IsPortAccessWriting IsCommandRegister port) (DoesNotWrite Ghc) (λ access is. laws.of_spares_ghc port access (laws.control_of Commanding port access is)) stop.accesses stop.accesses_are_of_kind)
+        (All-weaker (IsPortAccessWriting IsCommandRegister port) (DoesNotWrite (Px port Sctl)) (laws.control_spares Commanding port Sctl no_control) stop.accesses stop.accesses_are_of_kind) in
+        let det : (mid.port port.0).sctl_det ≡ 0 = l.controls.sctl_det ∙ up.no_comreset in
         record {
-          way = record { asked = mid; asks = driven; stops = stop };
-          goes = goes_more laws port.0 old mid new asked.grows late.grows asked.runs.goes late.goes;
-          up = λ calm h.
+          asks_disk_then_stops = record { asked = mid; asks = driven; stops = stop };
+          bits_rise_with_cause = goes_more laws port.0 old mid new asked.grows late.grows asked.runs.bits_rise_with_cause late.goes;
+          link_is_up = λ calm h.
               let parts = calm_in_parts laws port.0 old mid new asked.grows late.grows calm in
-              late.up parts.1 (laws.started_up (mid.port port.0) (asked.runs.started parts.0 h) (λ e. absurd (omega (arith, det, e))));
+              late.up parts.1 (laws.started_up (mid.port port.0) (asked.runs.stays_started parts.0 h) (λ e. absurd (omega (arith, det, e))));
         }
 
   -- ---- the whole boot
 
   module _ (port : Port) (start old new : Device) (up : IsBroughtUp port start old) (early : TapeGrows start old) (late : TapeGrows old new) where
     linked : (old.port port.0).link_due ≡ false
-    linked = (up.recorded up.runs.st).linked
+    linked = (up.faults_are_on_record up.runs.st).no_link_is_due
 
     clear_since : BitsRiseWithCause port.0 old new → HasClearErrors port.0 start new
     clear_since goes =
-        let disks = goes.disks linked in
+        let disks = goes.changes_by_disks linked in
         record {
-          serr_n = λ none. let parts = plugs_in_parts laws port.0 start old new early late none in disks.serr_n parts.1 (up.clear.serr_n parts.0);
-          serr_x = λ none. let parts = comes_in_parts laws port.0 start old new early late none in disks.serr_x parts.1 (up.clear.serr_x parts.0);
+          serr_n = λ none. let parts = plugs_in_parts laws port.0 start old new early late none in disks.serr_n parts.1 (up.errors_are_clear.serr_n parts.0);
+          serr_x = λ none. let parts = comes_in_parts laws port.0 start old new early late none in disks.serr_x parts.1 (up.errors_are_clear.serr_x parts.0);
         }
 
     fatal_since : BitsRiseWithCause port.0 old new → NoneFatal port.0 start new → (place : ℕ) → 27 ≤ place → place ≤ 29 → (new.port port.0).is place ≡ false
     fatal_since goes none place low high =
-        goes.errors.fatal (laws.tape.fatal_parts port.0 start old new early.0 late.0 early.1 late.1 none).1 place low high (up.calm place (omega (arith, high)))
+        goes.changes_by_errors.fatal (laws.tape.fatal_parts port.0 start old new early.0 late.0 early.1 late.1 none).1 place low high (up.no_cause_is_set place (omega (arith, high)))
 
     fault_since : BitsRiseWithCause port.0 old new → NoneFails port.0 start new → (new.port port.0).is 30 ≡ false
-    fault_since goes none = goes.errors.fault (laws.tape.fails_parts port.0 start old new early.0 late.0 early.1 late.1 none).1 (up.calm 30 (omega arith))
+    fault_since goes none = goes.changes_by_errors.fault (laws.tape.fails_parts port.0 start old new early.0 late.0 early.1 late.1 none).1 (up.no_cause_is_set 30 (omega arith))
 
     -- where no disk went or came, and nothing else went wrong since the port was up
     no_trouble : BitsRiseWithCause port.0 old new → NoPlugEvents port.0 start new → Undisturbed port.0 old new → ShowsNoTrouble (new.port port.0)
@@ -156,9 +156,9 @@ module _ (laws : Laws) where
         record {
           serr_n = clear.serr_n plugs;
           serr_x = clear.serr_x (laws.tape.plugs_come port.0 start new plugs);
-          quiet = λ place low high. elim (cases_eq place 30) [
-            | inl e ↦ let P : ℕ → Type 0 = λ k. (new.port port.0).is k ≡ false in subst P (sym e) (goes.errors.fault (laws.undisturbed_fails port.0 old new calm) (up.calm 30 (omega arith)))
-            | inr ne ↦ goes.errors.fatal (laws.undisturbed_fatal port.0 old new calm) place low (omega (arith, high, ne)) (up.calm place (omega (arith, high)))
+          no_error_bit_is_set = λ place low high. elim (cases_eq place 30) [
+            | inl e ↦ let P : ℕ → Type 0 = λ k. (new.port port.0).is k ≡ false in subst P (sym e) (goes.changes_by_errors.fault (laws.undisturbed_fails port.0 old new calm) (up.no_cause_is_set 30 (omega arith)))
+            | inr ne ↦ goes.changes_by_errors.fatal (laws.undisturbed_fatal port.0 old new calm) place low (omega (arith, high, ne)) (up.no_cause_is_set place (omega (arith, high)))
           ];
         }
 
@@ -166,35 +166,35 @@ module _ (laws : Laws) where
     started_then : Undisturbed port.0 start new → Undisturbed port.0 old new × IsStarted (old.port port.0)
     started_then calm =
         let parts = calm_in_parts laws port.0 start old new early late calm in
-        (parts.1, up.well (laws.undisturbed_plugs port.0 start old parts.0))
+        (parts.1, up.port_is_started (laws.undisturbed_plugs port.0 start old parts.0))
 
-    pub shows_news : RunsOn port.0 old new → ShowsOnlyNewErrors port.0 start new
+    pub shows_news : StaysRunning port.0 old new → ShowsOnlyNewErrors port.0 start new
     shows_news runs = record {
-      clear = clear_since runs.goes;
-      fatal = fatal_since runs.goes;
-      fault = fault_since runs.goes;
-      recorded = runs.recorded up.recorded;
-      well = λ calm. let s = started_then calm in laws.well_of (new.port port.0) (runs.started s.0 s.1) (no_trouble runs.goes (laws.undisturbed_plugs port.0 start new calm) s.0);
+      errors_are_clear = clear_since runs.bits_rise_with_cause;
+      fatal = fatal_since runs.bits_rise_with_cause;
+      fault = fault_since runs.bits_rise_with_cause;
+      faults_are_on_record = runs.faults_are_on_record up.faults_are_on_record;
+      port_runs_well = λ calm. let s = started_then calm in laws.well_of (new.port port.0) (runs.stays_started s.0 s.1) (no_trouble runs.bits_rise_with_cause (laws.undisturbed_plugs port.0 start new calm) s.0);
     }
 
-    pub gets_ready : AsksDisk port old new → RunsOn port.0 old new → BringsReady port start new
+    pub gets_ready : AsksDisk port old new → StaysRunning port.0 old new → BringsReady port start new
     gets_ready then runs = record {
       up = old;
-      first = up.way;
-      then = then;
-      well = λ plugs calm.
+      brings_up = up.brings_up_port;
+      asks_disk = then;
+      port_runs_well = λ plugs calm.
           let parts = plugs_in_parts laws port.0 start old new early late plugs in
-          laws.well_of (new.port port.0) (runs.started calm (up.well parts.0)) (no_trouble runs.goes plugs calm);
+          laws.well_of (new.port port.0) (runs.stays_started calm (up.port_is_started parts.0)) (no_trouble runs.bits_rise_with_cause plugs calm);
     }
 
     pub ends_late : StopsWithLinkUp port old new → EndsAfterStart port start new
     ends_late stops = record {
       up = old;
-      first = up.way;
-      then = stops.way;
-      clear = clear_since stops.goes;
-      undue = stops.goes.undue linked;
-      linked = λ calm. let s = started_then calm in stops.up s.0 s.1;
+      brings_up = up.brings_up_port;
+      asks_then_stops = stops.asks_disk_then_stops;
+      errors_are_clear = clear_since stops.bits_rise_with_cause;
+      no_link_is_due = stops.bits_rise_with_cause.no_link_gets_due linked;
+      undisturbed_link_is_up = λ calm. let s = started_then calm in stops.link_is_up s.0 s.1;
     }
 
   -- ---- by what is answered
@@ -202,30 +202,30 @@ module _ (laws : Laws) where
   module _ (port : Port) (start old new : Device) (rises : BootBringsUp port start old) (wanted : Option (List ℕ))
       (written : (new.port port.0).notes.sctl_written_at ≡ (old.port port.0).notes.sctl_written_at) where
     risen : TapeGrows start old
-    risen = driven_grows laws (OnPortWriting IsBootRegister port) start old rises.boots.followed.driven
+    risen = driven_grows laws (IsPortAccessWriting IsBootRegister port) start old rises.boots.followed.is_driven
 
     since : length start.tape ≤ (new.port port.0).notes.sctl_written_at
-    since = let before = rises.up.since in omega (arith, before, written)
+    since = let before = rises.is_brought_up.sctl_written_in_boot in omega (arith, before, written)
 
     pub whole_identified : (result : Result DiskInfo PortState) → IfOk result (λ info. Identifies wanted port info old new) → IfOk result (λ info. EndsReady wanted port info start new)
     whole_identified (Ok info) i =
-        let late = driven_grows laws (IsOfBoot port) old new i.boots.driven in
+        let late = driven_grows laws (IsBootAccess port) old new i.boots.is_driven in
         record {
           ready = i.ready;
-          since = since;
+          sctl_written_in_boot = since;
           boots = whole_ready laws port start old new rises.boots (Ok info) i.boots;
-          way = gets_ready port start old new rises.up risen late i.asked i.runs_on;
-          news = shows_news port start old new rises.up risen late i.runs_on;
-          halts = i.halts;
+          brings_ready = gets_ready port start old new rises.is_brought_up risen late i.asks_disk i.runs_on;
+          shows_only_new_errors = shows_news port start old new rises.is_brought_up risen late i.runs_on;
+          halt_is_of_taken = i.halt_is_of_taken;
         }
     whole_identified (Err state) i = i
 
     pub whole_stopped : (result : Result DiskInfo PortState) → IfErr result (λ state. FailsToIdentify wanted port state old new) → IfErr result (λ state. EndsUnready wanted port state start new)
     whole_stopped (Ok info) f = f
     whole_stopped (Err state) f = record {
-      ended = f.ended;
-      since = λ _. since;
+      state_is_backed = f.state_is_backed;
+      sctl_written_in_boot = λ _. since;
       boots = whole_ended laws port start old new rises.boots (Err state) f.boots;
-      early = λ early. absurd (f.late early);
-      late = λ _. ends_late port start old new rises.up risen (driven_grows laws (IsOfBoot port) old new (boot_driven (Stops port) port old new state f.boots)) f.stops;
+      ends_before_start = λ early. absurd (f.was_started early);
+      ends_after_start = λ _. ends_late port start old new rises.is_brought_up risen (driven_grows laws (IsBootAccess port) old new (boot_driven (Stops port) port old new state f.boots)) f.stops_with_link_up;
     }

@@ -11,36 +11,36 @@ use Rattle.hba_regs.specs.declared.reg.Reg.{Reg}
 use Rattle.hba_regs.specs.declared.reg.Reg.TheVariants.{Cap, Ghc, Pi, Vs, Cap2, Bohc, Px}
 use Rattle.hba_regs.specs.declared.reg.Reg.TheVariants as adapter
 use Rattle.adapter.specs.Steps.{halt_after_start}
-use Rattle.adapter.specs.Access.{Access, Does, DoesAll, noted, port_written, with_is_bit_cleared, with_fre, with_st, written, named_causes}
+use Rattle.adapter.specs.Access.{Access, Does, DoesAll, noted, port_after_write, port_after_hba_is_write, port_after_fre_write, port_after_st_write, written, named_causes}
 use Rattle.adapter.specs.Access.Access.{Reading, Writing, Loading, Storing}
 use Rattle.adapter.specs.Device.{Device, DevicePort}
 use Rattle.adapter.specs.Memory.{changed}
 use Rattle.adapter.specs.Steps.{DeviceTransition, Can, TransitionsLead, Steps, device_after}
 use Rattle.adapter.specs.Steps.DeviceTransition.{Fetch, FetchFault, Move, Clear, Done, Fault, Fatal, Fall, FrFall, LinkUp, Unplug, Plug, ResetEnds, Scribble}
-use Rattle.refinement.specs.Driven.{IsDrivenBy}
+use Rattle.refinement.specs.Fragments.{IsDrivenBy}
 use Rattle.port_control.specs.Ports.{FindsSignature, ReadsUntil}
-use Rattle.port_boot.specs.States.{BringsReady, HasDiskIfShown}
+use Rattle.port_boot.specs.States.{BringsReady, ShownDiskIsIn}
 
 not_three : ◌≡◌ {A = ℕ} 0 3 → ⊥
 not_three none = absurd cc
 
 -- one port changed
-at : (f : ℕ → DevicePort) (p port : ℕ) (new : DevicePort) → HasDiskIfShown (f port) → (HasDiskIfShown (f p) → HasDiskIfShown new) → HasDiskIfShown (changed f p new port)
+at : (f : ℕ → DevicePort) (p port : ℕ) (new : DevicePort) → ShownDiskIsIn (f port) → (ShownDiskIsIn (f p) → ShownDiskIsIn new) → ShownDiskIsIn (changed f p new port)
 unfolding changed
 at f p port new h here =
     elim (eqb_tells port p) [
-      | inl both ↦ rw both.0 (here (subst (λ (q : ℕ). HasDiskIfShown (f q)) both.1 h))
+      | inl both ↦ rw both.0 (here (subst (λ (q : ℕ). ShownDiskIsIn (f q)) both.1 h))
       | inr both ↦ rw both.0 h
     ]
 
 -- the port itself
-itself : (f : ℕ → DevicePort) (p : ℕ) (new : DevicePort) → HasDiskIfShown new → HasDiskIfShown (changed f p new p)
+itself : (f : ℕ → DevicePort) (p : ℕ) (new : DevicePort) → ShownDiskIsIn new → ShownDiskIsIn (changed f p new p)
 unfolding changed
 itself f p new h = rw (eq-eqb p p refl) h
 
 -- ---- the device's steps
 
-own_step : (port : ℕ) (d : Device) (step : DeviceTransition) → Can step d → HasDiskIfShown (d.port port) → HasDiskIfShown ((device_after step d).port port)
+own_step : (port : ℕ) (d : Device) (step : DeviceTransition) → Can step d → ShownDiskIsIn (d.port port) → ShownDiskIsIn ((device_after step d).port port)
 own_step port d (Fetch p slot c places) can h = at d.port p port _ h (λ x. x)
 own_step port d (FetchFault p slot queued kept_bits) can h = at d.port p port _ h (λ x. x)
 own_step port d (Move p slot t bytes) can h = at d.port p port _ h (λ x. x)
@@ -56,16 +56,16 @@ own_step port d (Plug p disk) can h = at d.port p port _ h (λ x up. refl)
 own_step port d ResetEnds can h = λ none. absurd (not_three none)
 own_step port d (Scribble p slot at_byte bytes) can h = h
 
-leads_own : (port : ℕ) (steps : List DeviceTransition) (old new : Device) → TransitionsLead steps old new → HasDiskIfShown (old.port port) → HasDiskIfShown (new.port port)
-leads_own port [] old new e h = subst (λ (d : Device). HasDiskIfShown (d.port port)) (sym e) h
+leads_own : (port : ℕ) (steps : List DeviceTransition) (old new : Device) → TransitionsLead steps old new → ShownDiskIsIn (old.port port) → ShownDiskIsIn (new.port port)
+leads_own port [] old new e h = subst (λ (d : Device). ShownDiskIsIn (d.port port)) (sym e) h
 leads_own port (step ∷ steps) old new (can, lead) h = leads_own port steps (device_after step old) new lead (own_step port old step can h)
 
-pub steps_own : (port : ℕ) (old new : Device) → Steps old new → HasDiskIfShown (old.port port) → HasDiskIfShown (new.port port)
+pub steps_own : (port : ℕ) (old new : Device) → Steps old new → ShownDiskIsIn (old.port port) → ShownDiskIsIn (new.port port)
 steps_own port old new s h = leads_own port s.steps old new s.lead h
 
 -- ---- what a call does beside
 
-noted_own : (port : ℕ) (r : Reg) (v : ℕ) (d : Device) → HasDiskIfShown (d.port port) → HasDiskIfShown ((noted r v d).port port)
+noted_own : (port : ℕ) (r : Reg) (v : ℕ) (d : Device) → ShownDiskIsIn (d.port port) → ShownDiskIsIn ((noted r v d).port port)
 noted_own port (Px p r) v d h = at d.port p.0 port _ h (λ x. x)
 noted_own port adapter.Is v d h = h
 noted_own port Cap v d h = h
@@ -76,30 +76,30 @@ noted_own port Cap2 v d h = h
 noted_own port Bohc v d h = h
 
 -- ST, where it is set already or isn't
-started_own : (already fre : Bool) (tape : ℕ) (p : DevicePort) → HasDiskIfShown p
-    → HasDiskIfShown (with_fre fre (if already then p else record p { st = true; cr = true; broken = false; halt = halt_after_start p.halt; notes = record p.notes { st_set_at = tape } }))
+started_own : (already fre : Bool) (tape : ℕ) (p : DevicePort) → ShownDiskIsIn p
+    → ShownDiskIsIn (port_after_fre_write fre (if already then p else record p { st = true; cr = true; broken = false; halt = halt_after_start p.halt; notes = record p.notes { st_set_at = tape } }))
 started_own true fre tape p h = h
 started_own false fre tape p h = h
 
-command_own : (st fre : Bool) (tape : ℕ) (p : DevicePort) → HasDiskIfShown p → HasDiskIfShown (with_fre fre (with_st st tape p))
+command_own : (st fre : Bool) (tape : ℕ) (p : DevicePort) → ShownDiskIsIn p → ShownDiskIsIn (port_after_fre_write fre (port_after_st_write st tape p))
 command_own true fre tape p h = started_own p.st fre tape p h
 command_own false fre tape p h = h
 
 -- COMRESET has the port show no device
-control_own : (sends : Bool) (p : DevicePort) → HasDiskIfShown p → (if sends then 0 else p.ssts_det) ≡ 3 → p.present ≡ true
+control_own : (sends : Bool) (p : DevicePort) → ShownDiskIsIn p → (if sends then 0 else p.ssts_det) ≡ 3 → p.present ≡ true
 control_own true p h none = absurd (not_three none)
 control_own false p h up = h up
 
-written_own : (r : PortReg) (v tape : ℕ) (p : DevicePort) → HasDiskIfShown p → HasDiskIfShown (port_written r v tape p)
+written_own : (r : PortReg) (v tape : ℕ) (p : DevicePort) → ShownDiskIsIn p → ShownDiskIsIn (port_after_write r v tape p)
 written_own Cmd v tape p h = command_own (bit v 0) (bit v 4) tape p h
 written_own Sctl v tape p h = control_own (nat_eq (v % 16) 1) p h
 written_own _ v tape p h = h
 
-acknowledged_own : (is : Bool) (p : DevicePort) → HasDiskIfShown p → HasDiskIfShown (if is then with_is_bit_cleared p else p)
+acknowledged_own : (is : Bool) (p : DevicePort) → ShownDiskIsIn p → ShownDiskIsIn (if is then port_after_hba_is_write p else p)
 acknowledged_own true p h = h
 acknowledged_own false p h = h
 
-put_own : (port : ℕ) (r : Reg) (v : ℕ) (d : Device) → HasDiskIfShown (d.port port) → HasDiskIfShown ((written r v d).port port)
+put_own : (port : ℕ) (r : Reg) (v : ℕ) (d : Device) → ShownDiskIsIn (d.port port) → ShownDiskIsIn ((written r v d).port port)
 put_own port (Px p r) v d h = at d.port p.0 port _ h (written_own r v (length d.tape) (d.port p.0))
 put_own port adapter.Is v d h = acknowledged_own (bit v port) (d.port port) h
 put_own port Cap v d h = h
@@ -111,24 +111,24 @@ put_own port Bohc v d h = h
 
 -- ---- calls
 
-pub access_own : (port : ℕ) (access : Access) (old new : Device) → Does access old new → HasDiskIfShown (old.port port) → HasDiskIfShown (new.port port)
-access_own port (Reading r v) old new x h = subst (λ (d : Device). HasDiskIfShown (d.port port)) (sym x.effect) (noted_own port r v x.mid (steps_own port old x.mid x.steps h))
-access_own port (Writing r v) old new x h = subst (λ (d : Device). HasDiskIfShown (d.port port)) (sym x.effect) (put_own port r v x.mid (steps_own port old x.mid x.steps h))
+pub access_own : (port : ℕ) (access : Access) (old new : Device) → Does access old new → ShownDiskIsIn (old.port port) → ShownDiskIsIn (new.port port)
+access_own port (Reading r v) old new x h = subst (λ (d : Device). ShownDiskIsIn (d.port port)) (sym x.effect) (noted_own port r v x.mid (steps_own port old x.mid x.steps h))
+access_own port (Writing r v) old new x h = subst (λ (d : Device). ShownDiskIsIn (d.port port)) (sym x.effect) (put_own port r v x.mid (steps_own port old x.mid x.steps h))
 access_own port (Loading at_byte bytes) old new x h = steps_own port old new x.steps h
-access_own port (Storing at_byte bytes) old new x h = subst (λ (d : Device). HasDiskIfShown (d.port port)) (sym x.effect) (steps_own port old x.mid x.steps h)
+access_own port (Storing at_byte bytes) old new x h = subst (λ (d : Device). ShownDiskIsIn (d.port port)) (sym x.effect) (steps_own port old x.mid x.steps h)
 
-pub all_own : (port : ℕ) (accesses : List Access) (old new : Device) → DoesAll accesses old new → HasDiskIfShown (old.port port) → HasDiskIfShown (new.port port)
-all_own port [] old new e h = subst (λ (d : Device). HasDiskIfShown (d.port port)) (sym e) h
+pub all_own : (port : ℕ) (accesses : List Access) (old new : Device) → DoesAll accesses old new → ShownDiskIsIn (old.port port) → ShownDiskIsIn (new.port port)
+all_own port [] old new e h = subst (λ (d : Device). ShownDiskIsIn (d.port port)) (sym e) h
 all_own port (access ∷ accesses) old new (mid, does, rest) h = all_own port accesses mid new rest (access_own port access old mid does h)
 
 -- ---- a boot
 
 module _ (port : Port) where
   abbrev Own : Device → Type 0
-  Own d = HasDiskIfShown (d.port port.0)
+  Own d = ShownDiskIsIn (d.port port.0)
 
   driven_own : (May : Access → Type 0) (old new : Device) → IsDrivenBy May old new → Own old → Own new
-  driven_own May old new driven = all_own port.0 driven.accesses old new driven.all
+  driven_own May old new driven = all_own port.0 driven.accesses old new driven.all_are_done
 
   until_own : (r : PortReg) (Shown : ℕ → Type 0) (old new : Device) → ReadsUntil port r Shown old new → Own old → Own new
   until_own r Shown old new u h = access_own port.0 (Reading (Px port r) u.value) u.waited new u.reads (driven_own _ old u.waited u.waits.reads h)
@@ -142,12 +142,12 @@ module _ (port : Port) where
 
   pub ready_own : (old new : Device) → BringsReady port old new → Own new
   ready_own old new way =
-      let up = way.first in
+      let up = way.brings_up in
       let resets = up.resets in
       let sends = resets.sends in
       let sent : Own resets.sent = subst (λ (d : Device). Own d) (sym sends.effect)
       (itself sends.mid.port port.0 _ (λ none. absurd (not_three none))) in
       let ended = access_own port.0 (Writing (Px port Sctl) 0) resets.sent resets.ended resets.ends sent in
-      let found = signature_own 0x101 resets.ended up.found resets.rest ended in
+      let found = signature_own 0x101 resets.ended up.found resets.does_rest ended in
       let started = driven_own _ up.found way.up up.starts found in
-      access_own port.0 (Writing (Px port Ie) named_causes) way.then.asked new way.then.tells (driven_own _ way.up way.then.asked way.then.asks started)
+      access_own port.0 (Writing (Px port Ie) named_causes) way.asks_disk.asked new way.asks_disk.tells (driven_own _ way.up way.asks_disk.asked way.asks_disk.asks started)

@@ -8,11 +8,11 @@ use Rattle.adapter.specs.Access.{Access}
 use Rattle.adapter.specs.Device.{Notes, Device}
 use Rattle.adapter.specs.Device as device
 use Rattle.adapter.specs.declared.command.Operation.TheVariants.{Identify}
-use Rattle.refinement.specs.Driven.{IsDrivenBy, SparesOtherPorts, LeavesPort, GainsNoMove}
+use Rattle.refinement.specs.Fragments.{IsDrivenBy, SparesOtherPorts, LeavesPort, GainsNoMove}
 use Rattle.identify.specs.declared.DiskInfo.{DiskInfo}
 use Rattle.port_control.specs.Ports.{IsStopped, IsRunning, SawDevice, BacksFault}
 use Rattle.port_control.specs.declared.PortFault.{PortFault}
-use Rattle.port_boot.specs.States.{BacksState, HasFitDisk, HasIdentity, IsBootTo, IsOfBoot, IsReady, IsUnfit}
+use Rattle.port_boot.specs.States.{BacksState, HasFitDisk, HasIdentity, IsBootTo, IsBootAccess, IsReady, IsUnfit}
 use Rattle.port_boot.proofs.Identifying.{page_on}
 use Rattle.port_boot.specs.Laws.{Laws}
 use Rattle.refinement.specs.Tape.{TapeTells}
@@ -20,7 +20,7 @@ use Rattle.port_boot.specs.Laws.RegisterSet.{BootRegisters}
 
 pub disk_on : (wanted : Option (List ℕ)) (port : ℕ) (old new : Device) (info : DiskInfo) → GainsNoMove port Identify old new → (new.port port).sctl_det ≡ (old.port port).sctl_det → (new.port port).ie ≡ (old.port port).ie →
     (new.port port).notes.sctl_written_at ≡ (old.port port).notes.sctl_written_at → HasFitDisk wanted port old info → HasFitDisk wanted port new info
-disk_on wanted port old new info silent det ie same h = record { det = det ∙ h.det; tells = ie ∙ h.tells; page = h.page; has = page_on port old new h.page silent same h.has; fit = h.fit }
+disk_on wanted port old new info silent det ie same h = record { no_comreset = det ∙ h.no_comreset; ie_is_named = ie ∙ h.ie_is_named; last_identify_page = h.last_identify_page; page_is_last = page_on port old new h.last_identify_page silent same h.page_is_last; disk_is_fit = h.disk_is_fit }
 
 module _ (old new : device.DevicePort) (l : LeavesPort old new) where
   stopped_on : IsStopped old → IsStopped new
@@ -29,7 +29,7 @@ module _ (old new : device.DevicePort) (l : LeavesPort old new) where
       st = l.keeps.st s.halted.st;
       cr = l.keeps.cr s.halted.cr;
       ci = λ slot. l.keeps.ci slot (s.halted.ci slot);
-      taken = l.keeps.idle s.halted.cr s.halted.taken;
+      taken = l.keeps.stays_without_commands s.halted.cr s.halted.taken;
     };
     sact = λ slot. l.keeps.sact slot (s.sact slot);
   }
@@ -37,12 +37,12 @@ module _ (old new : device.DevicePort) (l : LeavesPort old new) where
   running_on : (port : ℕ) → IsRunning port old → IsRunning port new
   running_on port r = record {
     st = l.controls.st ∙ r.st;
-    cr = l.controls.runs r.st r.cr;
+    cr = l.controls.engine_stays_running r.st r.cr;
     fre = l.controls.fre ∙ r.fre;
     bases = l.keeps.bases ∙ r.bases;
     ci = λ slot. l.keeps.ci slot (r.ci slot);
     sact = λ slot. l.keeps.sact slot (r.sact slot);
-    taken = λ slot. l.keeps.free slot (r.ci slot) (r.taken slot);
+    taken = λ slot. l.keeps.slots_stay_free slot (r.ci slot) (r.taken slot);
   }
 
   pub noted_on : (P : Notes → Type 0) → P old.notes → P new.notes
@@ -73,21 +73,21 @@ module _ (port : ℕ) (old new : Device) (l : LeavesPort (old.port port) (new.po
   pub ready_on : (wanted : Option (List ℕ)) (info : DiskInfo) → GainsNoMove port Identify old new → IsReady wanted port old info → IsReady wanted port new info
   ready_on wanted info silent r = record {
     runs = running_on (old.port port) (new.port port) l port r.runs;
-    saw = noted_on (old.port port) (new.port port) l SawDevice r.saw;
-    disk = disk_on wanted port old new info silent l.controls.sctl_det l.controls.ie written_on r.disk;
+    device_was_seen = noted_on (old.port port) (new.port port) l SawDevice r.device_was_seen;
+    has_fit_disk = disk_on wanted port old new info silent l.controls.sctl_det l.controls.ie written_on r.has_fit_disk;
   }
 
-pub boot_driven : (TapeTells : List Access → Type 0) (port : Port) (old new : Device) (state : PortState) → IsBootTo TapeTells port state old new → IsDrivenBy (IsOfBoot port) old new
-boot_driven TapeTells port old new Dead (inl b) = b.followed.driven
-boot_driven TapeTells port old new Dead (inr b) = b.followed.driven
-boot_driven TapeTells port old new Absent b = b.followed.driven
-boot_driven TapeTells port old new Ready b = b.followed.driven
-boot_driven TapeTells port old new Foreign b = b.followed.driven
-boot_driven TapeTells port old new (Unfit n) b = b.followed.driven
+pub boot_driven : (TapeTells : List Access → Type 0) (port : Port) (old new : Device) (state : PortState) → IsBootTo TapeTells port state old new → IsDrivenBy (IsBootAccess port) old new
+boot_driven TapeTells port old new Dead (inl b) = b.followed.is_driven
+boot_driven TapeTells port old new Dead (inr b) = b.followed.is_driven
+boot_driven TapeTells port old new Absent b = b.followed.is_driven
+boot_driven TapeTells port old new Ready b = b.followed.is_driven
+boot_driven TapeTells port old new Foreign b = b.followed.is_driven
+boot_driven TapeTells port old new (Unfit n) b = b.followed.is_driven
 
 module _ (laws : Laws) where
   -- ---- what the accesses of a boot are
 
-  pub of_boot : (port : Port) (access : Access) → IsOfBoot port access → SparesOtherPorts port access
+  pub of_boot : (port : Port) (access : Access) → IsBootAccess port access → SparesOtherPorts port access
   of_boot port access (inl control) = laws.control_of BootRegisters port access control
   of_boot port access (inr asking) = laws.asking_is_of port access asking

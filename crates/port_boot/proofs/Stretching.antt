@@ -6,7 +6,7 @@ use Rattle.hba_regs.specs.Bits.{bit}
 use Rattle.adapter.specs.Access.{Access}
 use Rattle.adapter.specs.Device.{Device}
 use Rattle.adapter.specs.Rules.{IsOn, HasPort}
-use Rattle.refinement.specs.Driven.{AnyAccess, TapeGrows, OnPortWriting, IsDrivenBy, IsSimulated, IsSimulatedTo, SparesOtherPorts, IsSimulatedAlong, IsSimulatedAlongTo}
+use Rattle.refinement.specs.Fragments.{AnyAccess, TapeGrows, IsPortAccessWriting, IsDrivenBy, IsSimulated, IsSimulatedChangingUses, SparesOtherPorts, IsSimulatedAlong, IsSimulatedAlongChangingUses}
 use Rattle.refinement.specs.Errors.{NoDiskComes}
 use Rattle.refinement.specs.PortFacts.{Undisturbed}
 use Rattle.refinement.specs.Links.{NoPlugEvents, SameAdapter}
@@ -18,12 +18,12 @@ there_after {old} {new} {port} s h = (h.0, ap (λ (pi : ℕ). bit pi port) s.pi 
 
 -- accesses that are of another kind, too
 pub driven_as : (May More : Access → Type 0) (old new : Device) → ((access : Access) → May access → More access) → IsDrivenBy May old new → IsDrivenBy More old new
-driven_as May More old new kind a = record { accesses = a.accesses; all = a.all; only = All-weaker May More kind a.accesses a.only }
+driven_as May More old new kind a = record { accesses = a.accesses; all_are_done = a.all_are_done; accesses_are_of_kind = All-weaker May More kind a.accesses a.accesses_are_of_kind }
 
 -- more is told of a list
 pub told_more : (Tells More : List Access → Type 0) (May : Access → Type 0) (Fits : SlotStates → Type 0) (next : SlotStates → SlotStates) (old new : Device) → ((accesses : List Access) → Tells accesses → More accesses) →
-    IsSimulatedAlongTo Tells May Fits next old new → IsSimulatedAlongTo More May Fits next old new
-told_more Tells More May Fits next old new more a = record { followed = a.followed; tells = more a.followed.driven.accesses a.tells }
+    IsSimulatedAlongChangingUses Tells May Fits next old new → IsSimulatedAlongChangingUses More May Fits next old new
+told_more Tells More May Fits next old new more a = record { followed = a.followed; tells = more a.followed.is_driven.accesses a.tells }
 
 module _ (laws : Laws) where
   -- ---- what accesses of any kind leave
@@ -38,8 +38,8 @@ module _ (laws : Laws) where
     pub driven_grows : TapeGrows old new
     driven_grows = laws.tape_any old new any
 
-  pub stays_on : (set : RegisterSet) (port : Port) (old new : Device) → IsDrivenBy (OnPortWriting (registers_of set) port) old new → IsOn old → IsOn new
-  stays_on set port old new driven on = laws.of_on port old new on (driven_as (OnPortWriting (registers_of set) port) (SparesOtherPorts port) old new (laws.control_of set port) driven)
+  pub stays_on : (set : RegisterSet) (port : Port) (old new : Device) → IsDrivenBy (IsPortAccessWriting (registers_of set) port) old new → IsOn old → IsOn new
+  stays_on set port old new driven on = laws.of_on port old new on (driven_as (IsPortAccessWriting (registers_of set) port) (SparesOtherPorts port) old new (laws.control_of set port) driven)
 
   -- ---- parts of a stretch
 
@@ -57,23 +57,23 @@ module _ (laws : Laws) where
 
   -- what is told of a stretch, also where it is of a wider kind
   pub told_wider : (Tells : List Access → Type 0) (kind more : AccessPurpose) (next : SlotStates → SlotStates) (old new : Device) → ((access : Access) → accesses_for kind access → accesses_for more access) →
-      ((uses : SlotStates) → slot_uses_for more uses → slot_uses_for kind uses) → IsSimulatedAlongTo Tells (accesses_for kind) (slot_uses_for kind) next old new → IsSimulatedAlongTo Tells (accesses_for more) (slot_uses_for more) next old new
+      ((uses : SlotStates) → slot_uses_for more uses → slot_uses_for kind uses) → IsSimulatedAlongChangingUses Tells (accesses_for kind) (slot_uses_for kind) next old new → IsSimulatedAlongChangingUses Tells (accesses_for more) (slot_uses_for more) next old new
   told_wider Tells kind more next old new wider fits a =
       let f = laws.fragments.wider kind more next wider fits old new a.followed in
       record { followed = f.followed; tells = subst Tells (sym f.tells) a.tells }
 
   pub followed_wider : (kind more : AccessPurpose) (next : SlotStates → SlotStates) (old new : Device) → ((access : Access) → accesses_for kind access → accesses_for more access) →
-      ((uses : SlotStates) → slot_uses_for more uses → slot_uses_for kind uses) → IsSimulatedTo (accesses_for kind) (slot_uses_for kind) next old new → IsSimulatedTo (accesses_for more) (slot_uses_for more) next old new
+      ((uses : SlotStates) → slot_uses_for more uses → slot_uses_for kind uses) → IsSimulatedChangingUses (accesses_for kind) (slot_uses_for kind) next old new → IsSimulatedChangingUses (accesses_for more) (slot_uses_for more) next old new
   followed_wider kind more next old new wider fits a = (laws.fragments.wider kind more next wider fits old new a).followed
 
   -- of two, one after another
   module _ (First Second Tells : List Access → Type 0) (join : (early late : List Access) → First early → Second late → Tells (early ++ late)) where
     pub told_both : (kind then : AccessPurpose) (first second : SlotStates → SlotStates) → ((access : Access) → accesses_for then access → accesses_for kind access) → ((uses : SlotStates) → slot_uses_for kind uses → slot_uses_for then (first uses)) →
-        (old mid new : Device) → IsSimulatedAlongTo First (accesses_for kind) (slot_uses_for kind) first old mid → IsSimulatedAlongTo Second (accesses_for then) (slot_uses_for then) second mid new →
-        IsSimulatedAlongTo Tells (accesses_for kind) (slot_uses_for kind) (λ uses. second (first uses)) old new
+        (old mid new : Device) → IsSimulatedAlongChangingUses First (accesses_for kind) (slot_uses_for kind) first old mid → IsSimulatedAlongChangingUses Second (accesses_for then) (slot_uses_for then) second mid new →
+        IsSimulatedAlongChangingUses Tells (accesses_for kind) (slot_uses_for kind) (λ uses. second (first uses)) old new
     told_both kind then first second wider on old mid new a b =
         let f = laws.fragments.both kind then first second wider on old mid new a.followed b.followed in
-        record { followed = f.followed; tells = subst Tells (sym f.tells) (join a.followed.driven.accesses b.followed.driven.accesses a.tells b.tells) }
+        record { followed = f.followed; tells = subst Tells (sym f.tells) (join a.followed.is_driven.accesses b.followed.is_driven.accesses a.tells b.tells) }
 
   -- of one that goes on, or that was begun before
   module _ (Tells : List Access → Type 0) (kind : AccessPurpose) where
@@ -83,7 +83,7 @@ module _ (laws : Laws) where
         (record { followed = b; tells = tt })
 
     pub told_since : ((early late : List Access) → Tells late → Tells (early ++ late)) → (next : SlotStates → SlotStates) (old mid new : Device) → IsSimulated (accesses_for kind) (slot_uses_for kind) old mid →
-        IsSimulatedAlongTo Tells (accesses_for kind) (slot_uses_for kind) next mid new → IsSimulatedAlongTo Tells (accesses_for kind) (slot_uses_for kind) next old new
+        IsSimulatedAlongChangingUses Tells (accesses_for kind) (slot_uses_for kind) next mid new → IsSimulatedAlongChangingUses Tells (accesses_for kind) (slot_uses_for kind) next old new
     told_since on next old mid new a b = told_both (λ early. Unit {0}) Tells Tells (λ early late any is. on early late is) kind kind (λ uses. uses) next (λ access may. may) (λ uses fits. fits) old mid new
         (record { followed = a; tells = tt }) b
 

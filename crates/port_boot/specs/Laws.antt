@@ -4,10 +4,10 @@ use Rattle.ata_types.specs.declared.Port.{Port}
 use Rattle.adapter.specs.Access.{Access, Does, Writes}
 use Rattle.refinement.specs.Laws.{FragmentLaws, TapeLaws}
 use Rattle.refinement.specs.Driver.{AllFree}
-use Rattle.refinement.specs.Driven.{AnyAccess, AnyUse, HasNoCommand, OnPortWriting, IsDrivenBy, SparesOtherPorts, GainsNoMove}
+use Rattle.refinement.specs.Fragments.{AnyAccess, AnyUse, HasNoCommand, IsPortAccessWriting, IsDrivenBy, SparesOtherPorts, GainsNoMove}
 use Rattle.refinement.specs.Errors.{ChangesByErrors, NoneFails, NoneFatal}
 use Rattle.hba_regs.specs.declared.reg.PortReg.TheVariants.{Ci, Cmd, Sctl}
-use Rattle.refinement.specs.Started.{ClearsNoStart, IsStarted, IsUp}
+use Rattle.refinement.specs.StartedPort.{ClearsNoStart, IsStarted, IsUp}
 use Rattle.adapter.specs.Device.{Device, DevicePort}
 use Rattle.adapter.specs.Device.Halt.{NotHalted}
 use Rattle.refinement.specs.Relation.{StateRelation}
@@ -18,12 +18,12 @@ use Rattle.adapter.specs.declared.tape.Entry.{Entry}
 use Rattle.port_control.specs.Engines.{FailsToStop, FailsToStopReceiving, EngineFalls, EngineSticks}
 use Rattle.refinement.specs.Slots.{IsOver, SlotStates}
 use Rattle.hba_regs.specs.declared.reg.Reg.TheVariants.{Ghc, Px}
-use Rattle.disk_page.specs.Asking.{IsPageAccess, LeavesRunning}
-use Rattle.port_boot.specs.States.{IsBootRegister, IsOfBoot}
+use Rattle.disk_page.specs.PageRequests.{IsPageAccess, LeavesRunning}
+use Rattle.port_boot.specs.States.{IsBootRegister, IsBootAccess}
 use Rattle.adapter.specs.Rules.{IsOn, MayWrite, IsStable}
 use Rattle.port_control.specs.Ports.{IsPlacingRegister, IsResetRegister, IsCommandRegister}
 use Rattle.refinement.specs.PortFacts.{FaultsOnRecord, RunsWell, ShowsNoTrouble, Undisturbed}
-use Rattle.command_table.specs.Written.{IsUnused}
+use Rattle.command_table.specs.TableStores.{IsUnused}
 use Rattle.adapter.specs.declared.command.Operation.{Operation}
 use Rattle.refinement.specs.Links.{NoPlugEvents, SameAdapter, DoesNotWrite}
 use Rattle.hba_regs.specs.declared.reg.PortReg.{PortReg}
@@ -67,8 +67,8 @@ pub data AccessPurpose : Type 0 where
   Asking : Port → AccessPurpose
 
 abbrev pub accesses_for : AccessPurpose → Access → Type 0
-accesses_for (Controlling set fitting port) = OnPortWriting (registers_of set) port
-accesses_for (Booting fitting port) = IsOfBoot port
+accesses_for (Controlling set fitting port) = IsPortAccessWriting (registers_of set) port
+accesses_for (Booting fitting port) = IsBootAccess port
 accesses_for (Asking port) = IsPageAccess port
 
 abbrev pub slot_uses_for : AccessPurpose → SlotStates → Type 0
@@ -90,7 +90,7 @@ pub record Laws : Type 0 where
   pub access_unmoving : (port : ℕ) (o : Operation) (access : Access) (old new : Device) → HasNoCommand (old.port port)
       → Does access old new → GainsNoMove port o old new
   pub controls_unmoving : (port : Port) (o : Operation) (old new : Device)
-      → IsDrivenBy (OnPortWriting (λ r. r ≢ Ci) port) old new → HasNoCommand (old.port port.0)
+      → IsDrivenBy (IsPortAccessWriting (λ r. r ≢ Ci) port) old new → HasNoCommand (old.port port.0)
       → GainsNoMove port.0 o old new
       × HasNoCommand (new.port port.0)
   -- what goes on
@@ -137,11 +137,12 @@ pub record Laws : Type 0 where
   pub sticks_since : (early late : List Access) (port : Port) → EngineSticks port late
       → EngineSticks port (early ++ late)
   -- this crate's kinds of accesses
-  pub control_of : (set : RegisterSet) (port : Port) (access : Access) → OnPortWriting (registers_of set) port access
+  pub control_of : (set : RegisterSet) (port : Port) (access : Access)
+      → IsPortAccessWriting (registers_of set) port access
       → SparesOtherPorts port access
   pub control_spares : (set : RegisterSet) (port : Port) (r : PortReg) → (registers_of set r → ⊥) → (access : Access)
-      → OnPortWriting (registers_of set) port access → DoesNotWrite (Px port r) access
+      → IsPortAccessWriting (registers_of set) port access → DoesNotWrite (Px port r) access
   pub control_wider : (set more : RegisterSet) (port : Port)
       → ((r : PortReg) → registers_of set r → registers_of more r) → (access : Access)
-      → OnPortWriting (registers_of set) port access → OnPortWriting (registers_of more) port access
+      → IsPortAccessWriting (registers_of set) port access → IsPortAccessWriting (registers_of more) port access
   pub fragments : FragmentLaws AccessPurpose accesses_for slot_uses_for

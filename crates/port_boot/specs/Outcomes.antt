@@ -5,61 +5,61 @@ use Rattle.ata_types.specs.declared.Port.{Port}
 use Rattle.ata_types.specs.declared.PortState.{PortState}
 use Rattle.ata_types.specs.declared.PortState.TheVariants.{Dead}
 use Rattle.adapter.specs.Device.{Device}
-use Rattle.refinement.specs.Driven.{OnPortWriting, IsSimulated, IsSimulatedAlong}
+use Rattle.refinement.specs.Fragments.{IsPortAccessWriting, IsSimulated, IsSimulatedAlong}
 use Rattle.refinement.specs.Driver.{AllFree}
 use Rattle.refinement.specs.Halting.{HaltIsOfTaken}
 use Rattle.identify.specs.declared.DiskInfo.{DiskInfo}
 use Rattle.port_control.specs.Engines.{Stops, StopsReceiving}
-use Rattle.port_boot.specs.States.{BacksState, EndsBeforeStart, EndsAfterStart, AsksDisk, BringsReady, IsBoot, IsBootTo, IsBootRegister, IsBroughtUp, IsBeforeStart, IsAfterStart, IsOfBoot, IsReady, RunsOn, ShowsOnlyNewErrors, StopsOnWay, StopsWithLinkUp}
+use Rattle.port_boot.specs.States.{BacksState, EndsBeforeStart, EndsAfterStart, AsksDisk, BringsReady, IsBoot, IsBootTo, IsBootRegister, IsBroughtUp, IsBeforeStart, IsAfterStart, IsBootAccess, IsReady, StaysRunning, ShowsOnlyNewErrors, StopsOnWay, StopsWithLinkUp}
 
 -- A boot that leaves the port ready: what stands behind that; PxSCTL was written in it; what it is to a machine that
 -- agrees; and its way, with what the port shows of trouble; and what halts it is of a command that is taken.
 pub record EndsReady (wanted : Option (List ℕ)) (port : Port) (info : DiskInfo) (old new : Device) : Type 0 where
   pub ready : IsReady wanted port.0 new info
-  pub since : length old.tape ≤ (new.port port.0).notes.sctl_written_at
+  pub sctl_written_in_boot : length old.tape ≤ (new.port port.0).notes.sctl_written_at
   pub boots : IsBoot (StopsReceiving port) port old new
-  pub way : BringsReady port old new
-  pub news : ShowsOnlyNewErrors port.0 old new
-  pub halts : HaltIsOfTaken (new.port port.0)
+  pub brings_ready : BringsReady port old new
+  pub shows_only_new_errors : ShowsOnlyNewErrors port.0 old new
+  pub halt_is_of_taken : HaltIsOfTaken (new.port port.0)
 
 -- one that leaves it in another state
 pub record EndsUnready (wanted : Option (List ℕ)) (port : Port) (state : PortState) (old new : Device) : Type 0 where
-  pub ended : BacksState wanted state port.0 new
-  pub since : state ≢ Dead → length old.tape ≤ (new.port port.0).notes.sctl_written_at
+  pub state_is_backed : BacksState wanted state port.0 new
+  pub sctl_written_in_boot : state ≢ Dead → length old.tape ≤ (new.port port.0).notes.sctl_written_at
   pub boots : IsBootTo (StopsOnWay port state) port state old new
-  pub early : IsBeforeStart state → EndsBeforeStart port state old new
-  pub late : IsAfterStart state → EndsAfterStart port old new
+  pub ends_before_start : IsBeforeStart state → EndsBeforeStart port state old new
+  pub ends_after_start : IsAfterStart state → EndsAfterStart port old new
 
 -- ---- the first part: FISes are received, COMRESET is sent, and the port is started
 
 -- It brought the port up.
 pub record BootBringsUp (port : Port) (old new : Device) : Type 0 where
-  pub boots : IsSimulatedAlong (StopsReceiving port) (OnPortWriting IsBootRegister port)
+  pub boots : IsSimulatedAlong (StopsReceiving port) (IsPortAccessWriting IsBootRegister port)
       (λ uses. AllFree uses port.0) old
       new
-  pub up : IsBroughtUp port old new
+  pub is_brought_up : IsBroughtUp port old new
 
 -- Or the port wasn't started, whatever disk is wanted.
 pub record BootFailsToBringUp (port : Port) (state : PortState) (old new : Device) : Type 0 where
   pub boots : IsBootTo (StopsOnWay port state) port state old new
-  pub ended : (wanted : Option (List ℕ)) → BacksState wanted state port.0 new
-  pub since : state ≢ Dead → length old.tape ≤ (new.port port.0).notes.sctl_written_at
-  pub early : (state ≡ Dead) ⊎ EndsBeforeStart port state old new
+  pub state_is_backed : (wanted : Option (List ℕ)) → BacksState wanted state port.0 new
+  pub sctl_written_in_boot : state ≢ Dead → length old.tape ≤ (new.port port.0).notes.sctl_written_at
+  pub dead_or_before_start : (state ≡ Dead) ⊎ EndsBeforeStart port state old new
 
 -- ---- the second: the disk is asked for its page
 
 -- It fits, and the port is ready.
 pub record Identifies (wanted : Option (List ℕ)) (port : Port) (info : DiskInfo) (old new : Device) : Type 0 where
   pub ready : IsReady wanted port.0 new info
-  pub boots : IsSimulated (IsOfBoot port) (λ uses. AllFree uses port.0) old new
-  pub asked : AsksDisk port old new
-  pub halts : HaltIsOfTaken (new.port port.0)
-  pub runs_on : RunsOn port.0 old new
+  pub boots : IsSimulated (IsBootAccess port) (λ uses. AllFree uses port.0) old new
+  pub asks_disk : AsksDisk port old new
+  pub halt_is_of_taken : HaltIsOfTaken (new.port port.0)
+  pub runs_on : StaysRunning port.0 old new
 
 -- Or the port was stopped again.
 pub record FailsToIdentify (wanted : Option (List ℕ)) (port : Port) (state : PortState)
     (old new : Device) : Type 0 where
-  pub ended : BacksState wanted state port.0 new
+  pub state_is_backed : BacksState wanted state port.0 new
   pub boots : IsBootTo (Stops port) port state old new
-  pub stops : StopsWithLinkUp port old new
-  pub late : IsBeforeStart state → ⊥
+  pub stops_with_link_up : StopsWithLinkUp port old new
+  pub was_started : IsBeforeStart state → ⊥

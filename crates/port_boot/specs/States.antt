@@ -16,14 +16,14 @@ use Rattle.adapter.specs.declared.tape.Entry.{Entry}
 use Rattle.adapter.specs.declared.tape.Entry.TheVariants as entry
 use Rattle.adapter.specs.declared.tape.Move as tape_move
 use Rattle.adapter.specs.Rules.{IsOn, HasPort}
-use Rattle.refinement.specs.Driven.{RelatesWith, OnPortWriting, IsDrivenBy, IsSimulatedAlong, IsSimulatedAlongTo}
+use Rattle.refinement.specs.Fragments.{RelatesWith, IsPortAccessWriting, IsDrivenBy, IsSimulatedAlong, IsSimulatedAlongChangingUses}
 use Rattle.refinement.specs.Driver.{AllFree}
 use Rattle.refinement.specs.Errors.{NoDiskComes, ChangesByDisks, ChangesByErrors, NoneFatal, NoneFails}
 use Rattle.refinement.specs.PortFacts.{FaultsOnRecord, RunsWell, Undisturbed}
 use Rattle.refinement.specs.Links.{NoPlugEvents}
-use Rattle.refinement.specs.Slots.{Own, put, IsMove}
-use Rattle.refinement.specs.Started.{IsUp, IsComingUp, IsStarted}
-use Rattle.disk_page.specs.Asking.{IsPageAccess}
+use Rattle.refinement.specs.Slots.{Own, set_slot_state, IsMove}
+use Rattle.refinement.specs.StartedPort.{IsUp, IsComingUp, IsStarted}
+use Rattle.disk_page.specs.PageRequests.{IsPageAccess}
 use Rattle.identify.specs.Page.{Describes, HasNoUnfit, IsFirstUnfit, IsSerial, unfit_number}
 use Rattle.identify.specs.declared.DiskInfo.{DiskInfo}
 use Rattle.identify.specs.declared.Unfit.{Unfit as Fault}
@@ -39,11 +39,11 @@ pub record HasIdentity (port : ℕ) (d : Device) (page : List ℕ) : Type 0 wher
   pub before : List Entry
   pub move : tape_move.Move
   pub later : List Entry
-  pub here : d.tape ≡ before ++ entry.Move move ∷ later
-  pub since : (d.port port).notes.sctl_written_at ≤ length before
+  pub tape_is : d.tape ≡ before ++ entry.Move move ∷ later
+  pub came_after_sctl : (d.port port).notes.sctl_written_at ≤ length before
   pub is_move : IsMove port Identify (entry.Move move)
-  pub last : All (λ e. IsMove port Identify e → ⊥) later
-  pub bytes : page ≡ move.bytes.value
+  pub no_later_page : All (λ e. IsMove port Identify e → ⊥) later
+  pub bytes_are : page ≡ move.bytes.value
 
 -- the serial number is the one that is named, if one is: 20 characters, filled with spaces
 abbrev pub SerialMatches : Option (List ℕ) → List ℕ → Type 0
@@ -53,15 +53,15 @@ SerialMatches (Some wanted) serial = serial ≡ wanted
 -- the page has no fault, tells this, and its serial number is the one that is named
 pub record IsFit (wanted : Option (List ℕ)) (page : List ℕ) (info : DiskInfo) : Type 0 where
   pub no_fault : HasNoUnfit page
-  pub tells : Describes page info
-  pub fits : SerialMatches wanted info.serial
+  pub page_tells : Describes page info
+  pub serial_matches : SerialMatches wanted info.serial
 
 -- the page has no fault, and another serial number than the one that is named
 pub record HasOtherSerial (wanted : Option (List ℕ)) (page : List ℕ) : Type 0 where
   pub no_fault : HasNoUnfit page
   pub serial : List ℕ
-  pub tells : IsSerial page serial
-  pub other : SerialMatches wanted serial → ⊥
+  pub page_tells : IsSerial page serial
+  pub serial_differs : SerialMatches wanted serial → ⊥
 
 -- the page's first fault has this number
 abbrev pub HasUnfitNumber : ℕ → List ℕ → Type 0
@@ -105,17 +105,17 @@ BacksState wanted Ready port d = ⊥
 -- DHRS, PSS, SDBS, PCS, PRCS, IFS, HBDS, HBFS and TFES (PxIE: AHCI 1.3.1, 3.3.6), and the last page is of a disk that
 -- fits.
 pub record HasFitDisk (wanted : Option (List ℕ)) (port : ℕ) (d : Device) (info : DiskInfo) : Type 0 where
-  pub det : (d.port port).sctl_det ≡ 0
-  pub tells : (d.port port).ie ≡ named_causes
-  pub page : List ℕ
-  pub has : HasIdentity port d page
-  pub fit : IsFit wanted page info
+  pub no_comreset : (d.port port).sctl_det ≡ 0
+  pub ie_is_named : (d.port port).ie ≡ named_causes
+  pub last_identify_page : List ℕ
+  pub page_is_last : HasIdentity port d last_identify_page
+  pub disk_is_fit : IsFit wanted last_identify_page info
 
 -- Behind Ready stands such a disk, on a port that runs, with no command in a slot, and on which a device was seen.
 pub record IsReady (wanted : Option (List ℕ)) (port : ℕ) (d : Device) (info : DiskInfo) : Type 0 where
   pub runs : IsRunning port (d.port port)
-  pub saw : SawDevice (d.port port).notes
-  pub disk : HasFitDisk wanted port d info
+  pub device_was_seen : SawDevice (d.port port).notes
+  pub has_fit_disk : HasFitDisk wanted port d info
 
 -- ---- accesses
 
@@ -124,20 +124,20 @@ abbrev pub IsBootRegister : PortReg → Type 0
 IsBootRegister r = IsPlacingRegister r ⊎ (IsResetRegister r ⊎ (r ≡ Ie))
 
 -- it is one of these writes, a reading of a register of the port, or one of asking for the page
-abbrev pub IsOfBoot : Port → Access → Type 0
-IsOfBoot port access = OnPortWriting IsBootRegister port access ⊎ IsPageAccess port access
+abbrev pub IsBootAccess : Port → Access → Type 0
+IsBootAccess port access = IsPortAccessWriting IsBootRegister port access ⊎ IsPageAccess port access
 
 -- What a boot is to each machine that agrees with a driver that uses no slot of the port: steps of the device alone,
 -- after which none is used; and so much is told of its accesses.
 abbrev pub IsBoot : (List Access → Type 0) → Port → Device → Device → Type 0
-IsBoot Tells port old new = IsSimulatedAlong Tells (IsOfBoot port) (λ uses. AllFree uses port.0) old new
+IsBoot Tells port old new = IsSimulatedAlong Tells (IsBootAccess port) (λ uses. AllFree uses port.0) old new
 
 -- So it is of a boot to this state. Where the port is dead, 64 readings are told in place of that, which showed an
 -- engine that is stuck; and its slot 0 may have IDENTIFY DEVICE.
 abbrev pub IsBootTo : (List Access → Type 0) → Port → PortState → Device → Device → Type 0
 IsBootTo Tells port Dead old new = IsBoot (EngineSticks port) port old new
-    ⊎ IsSimulatedAlongTo (EngineSticks port) (IsOfBoot port) (λ uses. AllFree uses port.0)
-    (λ uses. put uses port.0 0 (Own Identify))
+    ⊎ IsSimulatedAlongChangingUses (EngineSticks port) (IsBootAccess port) (λ uses. AllFree uses port.0)
+    (λ uses. set_slot_state uses port.0 0 (Own Identify))
     old new
 IsBootTo Tells port _ old new = IsBoot Tells port old new
 
@@ -147,11 +147,11 @@ IsBootTo Tells port _ old new = IsBoot Tells port old new
 -- idle. Then ST was set, last of all (AHCI 1.3.1, 10.1.2).
 pub record BringsUpPort (port : Port) (old new : Device) : Type 0 where
   pub placed : Device
-  pub places : IsDrivenBy (OnPortWriting IsPlacingRegister port) old placed
+  pub places : IsDrivenBy (IsPortAccessWriting IsPlacingRegister port) old placed
   pub found : Device
   pub resets : SendsComresetThen port (FindsSignature port 0x101) placed found
-  pub starts : IsDrivenBy (OnPortWriting IsCommandRegister port) found new
-  pub set : (new.port port.0).notes.st_set_at ≡ length new.tape
+  pub starts : IsDrivenBy (IsPortAccessWriting IsCommandRegister port) found new
+  pub st_set_is_last : (new.port port.0).notes.st_set_at ≡ length new.tape
 
 -- The disk was asked for its page; and last of all the port was made to tell of the causes of interrupts.
 pub record AsksDisk (port : Port) (old new : Device) : Type 0 where
@@ -163,20 +163,20 @@ pub record AsksDisk (port : Port) (old new : Device) : Type 0 where
 -- since ST was set.
 pub record BringsReady (port : Port) (old new : Device) : Type 0 where
   pub up : Device
-  pub first : BringsUpPort port old up
-  pub then : AsksDisk port up new
-  pub well : NoPlugEvents port.0 old new → Undisturbed port.0 up new → RunsWell (new.port port.0)
+  pub brings_up : BringsUpPort port old up
+  pub asks_disk : AsksDisk port up new
+  pub port_runs_well : NoPlugEvents port.0 old new → Undisturbed port.0 up new → RunsWell (new.port port.0)
 
 -- The port wasn't started: after COMRESET it was looked at, with this fault. Where no disk came, its link is up if
 -- PxSSTS shows one. But for a missing device, PxSERR and PxIS were cleared.
 pub record EndsBeforeStart (port : Port) (state : PortState) (old new : Device) : Type 0 where
   pub fault : PortFault
-  pub told : IsStateOfFault state fault
+  pub state_is : IsStateOfFault state fault
   pub placed : Device
-  pub places : IsDrivenBy (OnPortWriting IsPlacingRegister port) old placed
+  pub places : IsDrivenBy (IsPortAccessWriting IsPlacingRegister port) old placed
   pub resets : SendsComresetThen port (SeesResetFault port fault) placed new
-  pub coming : NoDiskComes port.0 old new → IsComingUp (new.port port.0)
-  pub found : fault ≢ NoDevice → IsDeviceFound port.0 old new
+  pub link_is_coming_up : NoDiskComes port.0 old new → IsComingUp (new.port port.0)
+  pub device_is_found : fault ≢ NoDevice → IsDeviceFound port.0 old new
 
 -- the states in which a port wasn't started
 abbrev pub IsBeforeStart : PortState → Type 0
@@ -201,37 +201,37 @@ StopsOnWay port state accesses = StopsReceiving port accesses × (IsAfterStart s
 -- and HBFS of PxIS tell a fatal error since, and TFES a fault. Faults since ST was set are on record, so that no link
 -- is due. And where none of these is on the tape, the port runs well.
 pub record ShowsOnlyNewErrors (port : ℕ) (old new : Device) : Type 0 where
-  pub clear : HasClearErrors port old new
+  pub errors_are_clear : HasClearErrors port old new
   pub fatal : NoneFatal port old new → (place : ℕ) → 27 ≤ place → place ≤ 29 → (new.port port).is place ≡ false
   pub fault : NoneFails port old new → (new.port port).is 30 ≡ false
-  pub recorded : FaultsOnRecord new.tape (new.port port) port
-  pub well : Undisturbed port old new → RunsWell (new.port port)
+  pub faults_are_on_record : FaultsOnRecord new.tape (new.port port) port
+  pub port_runs_well : Undisturbed port old new → RunsWell (new.port port)
 
 -- The disk was asked for its page, and then the port was stopped: of registers PxCMD alone was written after it.
 pub record AsksThenStops (port : Port) (old new : Device) : Type 0 where
   pub asked : Device
   pub asks : IsDrivenBy (IsPageAccess port) old asked
-  pub stops : IsDrivenBy (OnPortWriting IsCommandRegister port) asked new
+  pub stops : IsDrivenBy (IsPortAccessWriting IsCommandRegister port) asked new
 
 -- A port that was started, asked, and stopped again: PxSERR tells no disk of before COMRESET; its link isn't due
 -- to come up any more; and where nothing went wrong, it is up.
 pub record EndsAfterStart (port : Port) (old new : Device) : Type 0 where
   pub up : Device
-  pub first : BringsUpPort port old up
-  pub then : AsksThenStops port up new
-  pub clear : HasClearErrors port.0 old new
-  pub undue : (new.port port.0).link_due ≡ false
-  pub linked : Undisturbed port.0 old new → IsUp (new.port port.0)
+  pub brings_up : BringsUpPort port old up
+  pub asks_then_stops : AsksThenStops port up new
+  pub errors_are_clear : HasClearErrors port.0 old new
+  pub no_link_is_due : (new.port port.0).link_due ≡ false
+  pub undisturbed_link_is_up : Undisturbed port.0 old new → IsUp (new.port port.0)
 
 -- ---- the parts of a boot
 
 -- The adapter is on and has the port and memory for the driver's frames; some machine agrees with a driver that uses no
 -- slot of the port.
 pub record IsBootable (port : Port) (d : Device) : Type 0 where
-  pub on : IsOn d
-  pub there : HasPort d port.0
-  pub room : DRIVER_BYTES ≤ d.size
-  pub agreed : RelatesWith (λ uses. AllFree uses port.0) d
+  pub adapter_is_on : IsOn d
+  pub has_port : HasPort d port.0
+  pub driver_memory_fits : DRIVER_BYTES ≤ d.size
+  pub machine_is_related : RelatesWith (λ uses. AllFree uses port.0) d
 
 -- The port was brought up: it runs, with no command in a slot; COMRESET was sent since, and a device seen. PxIS is
 -- clear, PxSERR tells no disk of before, the record of faults begins, and where no disk went or came, the port is
@@ -239,36 +239,36 @@ pub record IsBootable (port : Port) (d : Device) : Type 0 where
 pub record IsBroughtUp (port : Port) (old new : Device) : Type 0 where
   pub bootable : IsBootable port new
   pub runs : IsRunning port.0 (new.port port.0)
-  pub det : (new.port port.0).sctl_det ≡ 0
-  pub saw : SawDevice (new.port port.0).notes
-  pub known : (new.port port.0).notes.st_set_at ≤ length new.tape
-  pub since : length old.tape ≤ (new.port port.0).notes.sctl_written_at
-  pub marked : (new.port port.0).notes.sctl_written_at ≤ length new.tape
-  pub way : BringsUpPort port old new
-  pub calm : (place : ℕ) → place < 32 → (new.port port.0).is place ≡ false
-  pub clear : HasClearErrors port.0 old new
-  pub recorded : FaultsOnRecord new.tape (new.port port.0) port.0
-  pub well : NoPlugEvents port.0 old new → IsStarted (new.port port.0)
+  pub no_comreset : (new.port port.0).sctl_det ≡ 0
+  pub device_was_seen : SawDevice (new.port port.0).notes
+  pub st_set_in_tape : (new.port port.0).notes.st_set_at ≤ length new.tape
+  pub sctl_written_in_boot : length old.tape ≤ (new.port port.0).notes.sctl_written_at
+  pub sctl_time_in_tape : (new.port port.0).notes.sctl_written_at ≤ length new.tape
+  pub brings_up_port : BringsUpPort port old new
+  pub no_cause_is_set : (place : ℕ) → place < 32 → (new.port port.0).is place ≡ false
+  pub errors_are_clear : HasClearErrors port.0 old new
+  pub faults_are_on_record : FaultsOnRecord new.tape (new.port port.0) port.0
+  pub port_is_started : NoPlugEvents port.0 old new → IsStarted (new.port port.0)
 
 -- What goes on while PxSCTL isn't written and no link is due: no link gets due, N and X rise by disks alone, and the
 -- trouble that PxIS tells by errors alone.
 pub record BitsRiseWithCause (port : ℕ) (old new : Device) : Type 0 where
-  pub undue : (old.port port).link_due ≡ false → (new.port port).link_due ≡ false
-  pub disks : (old.port port).link_due ≡ false → ChangesByDisks port old new
-  pub errors : ChangesByErrors port old new
+  pub no_link_gets_due : (old.port port).link_due ≡ false → (new.port port).link_due ≡ false
+  pub changes_by_disks : (old.port port).link_due ≡ false → ChangesByDisks port old new
+  pub changes_by_errors : ChangesByErrors port old new
 
 -- and while ST isn't cleared either: a port that was started is so still where nothing went wrong, and the record of
 -- faults goes on
-pub record RunsOn (port : ℕ) (old new : Device) : Type 0 where
-  pub goes : BitsRiseWithCause port old new
-  pub started : Undisturbed port old new → IsStarted (old.port port) → IsStarted (new.port port)
-  pub recorded : FaultsOnRecord old.tape (old.port port) port → FaultsOnRecord new.tape (new.port port) port
+pub record StaysRunning (port : ℕ) (old new : Device) : Type 0 where
+  pub bits_rise_with_cause : BitsRiseWithCause port old new
+  pub stays_started : Undisturbed port old new → IsStarted (old.port port) → IsStarted (new.port port)
+  pub faults_are_on_record : FaultsOnRecord old.tape (old.port port) port → FaultsOnRecord new.tape (new.port port) port
 
 -- and where ST is cleared in the end, the link of a port that was started is up
 pub record StopsWithLinkUp (port : Port) (old new : Device) : Type 0 where
-  pub way : AsksThenStops port old new
-  pub goes : BitsRiseWithCause port.0 old new
-  pub up : Undisturbed port.0 old new → IsStarted (old.port port.0) → IsUp (new.port port.0)
+  pub asks_disk_then_stops : AsksThenStops port old new
+  pub bits_rise_with_cause : BitsRiseWithCause port.0 old new
+  pub link_is_up : Undisturbed port.0 old new → IsStarted (old.port port.0) → IsUp (new.port port.0)
 
 -- The port was stopped, and is in this state; or its engine is stuck, and it is dead.
 abbrev pub IsStoppedAs : Port → PortState → PortState → Device → Device → Type 0
@@ -278,5 +278,5 @@ IsStoppedAs port wanted state old new = ((state ≡ wanted) × PortStops port ol
 -- ---- what a port shows
 
 -- where a port shows a device in PxSSTS, whose DET is 3, a disk is in (AHCI 1.3.1, 3.3.10)
-abbrev pub HasDiskIfShown : DevicePort → Type 0
-HasDiskIfShown p = p.ssts_det ≡ 3 → p.present ≡ true
+abbrev pub ShownDiskIsIn : DevicePort → Type 0
+ShownDiskIsIn p = p.ssts_det ≡ 3 → p.present ≡ true

@@ -7,16 +7,16 @@ ghost use Rattle.hba_regs.specs.declared.reg.PortReg.TheVariants.{Cmd, Sctl};
 ghost use Rattle.hba_regs.specs.declared.reg.Reg.TheVariants.{Ghc, Px};
 ghost use Rattle.adapter.specs.Access.{Access, Does, DoesAll, is_cause, is_pending, shown_interrupt};
 ghost use Rattle.adapter.specs.Device.{Device};
-ghost use Rattle.adapter.specs.Pending.{LeavesIe, KeepsIsBit, SetsCause, interrupting_port};
+ghost use Rattle.adapter.specs.PendingInterrupts.{LeavesIe, KeepsIsBit, SetsCause, interrupting_port};
 ghost use Rattle.adapter.specs.Rules.{IsOn};
 ghost use Rattle.adapter.specs.Steps.{Can, DeviceTransition, Steps, device_after};
 ghost use Rattle.adapter.specs.declared.tape.Entry.{Entry};
 ghost use Rattle.adapter.specs.declared.command.Operation.TheVariants.{Identify};
-ghost use Rattle.refinement.specs.Driven.{OnPortWriting, IsDrivenBy, SparesOtherPorts, LeavesPort, GainsNoMove};
+ghost use Rattle.refinement.specs.Fragments.{IsPortAccessWriting, IsDrivenBy, SparesOtherPorts, LeavesPort, GainsNoMove};
 ghost use Rattle.refinement.specs.PortFacts.{RunsWell, Undisturbed};
 ghost use Rattle.refinement.specs.Links.{DoesNotWrite};
 ghost use Rattle.identify.specs.declared.DiskInfo.{DiskInfo};
-ghost use Rattle.port_boot.specs.States.{BacksState, BringsReady, HasFitDisk, HasIdentity, IsBootTo, IsOfBoot, IsReady, RunsOn, HasDiskIfShown, StopsOnWay};
+ghost use Rattle.port_boot.specs.States.{BacksState, BringsReady, HasFitDisk, HasIdentity, IsBootTo, IsBootAccess, IsReady, StaysRunning, ShownDiskIsIn, StopsOnWay};
 ghost use Rattle.port_control.specs.Engines.{StopsBoth};
 ghost use Rattle.port_control.specs.Ports.{IsCommandRegister};
 
@@ -69,7 +69,7 @@ pub fn law_a_ready_port_interrupts()
 
 /// A boot touches no register of another port: its accesses are of its port.
 pub fn law_a_boot_is_of_its_port()
-    ensures { (port : Port) (access : Access) → IsOfBoot port access → SparesOtherPorts port access }
+    ensures { (port : Port) (access : Access) → IsBootAccess port access → SparesOtherPorts port access }
 {
     law_prerequisites();
 }
@@ -77,11 +77,11 @@ pub fn law_a_boot_is_of_its_port()
 /// A boot, to whatever state, was made by its accesses; and those of a stop are among them.
 pub fn law_boots_are_driven()
     ensures boots { (port : Port) (state : PortState) (old new : Device)
-        → IsBootTo (StopsOnWay port state) port state old new → IsDrivenBy (IsOfBoot port) old new }
+        → IsBootTo (StopsOnWay port state) port state old new → IsDrivenBy (IsBootAccess port) old new }
     ensures stops { (port : Port) (state : PortState) (old new : Device) → IsBootTo (StopsBoth port) port state old new
-        → IsDrivenBy (IsOfBoot port) old new }
-    ensures commanding { (port : Port) (access : Access) → OnPortWriting IsCommandRegister port access
-        → IsOfBoot port access }
+        → IsDrivenBy (IsBootAccess port) old new }
+    ensures commanding { (port : Port) (access : Access) → IsPortAccessWriting IsCommandRegister port access
+        → IsBootAccess port access }
 {
     law_prerequisites();
 }
@@ -89,12 +89,15 @@ pub fn law_boots_are_driven()
 /// A port that runs does so still after an access that writes neither its PxCMD nor its PxSCTL, and after several that
 /// don't write GHC either. Where it ran well, and nothing went wrong on it, it runs well.
 pub fn law_a_port_runs_on()
-    ensures over { (port : Port) (access : Access) (old new : Device) → IsOn old → DoesNotWrite (Px port Sctl) access
-        → DoesNotWrite (Px port Cmd) access → Does access old new → RunsOn port.0 old new }
-    ensures runs { (port : Port) (accesses : List Access) (old new : Device) → IsOn old → DoesAll accesses old new
+    ensures one_access { (port : Port) (access : Access) (old new : Device) → IsOn old
+        → DoesNotWrite (Px port Sctl) access
+        → DoesNotWrite (Px port Cmd) access → Does access old new → StaysRunning port.0 old new }
+    ensures more_accesses { (port : Port) (accesses : List Access) (old new : Device) → IsOn old
+        → DoesAll accesses old new
         → All (DoesNotWrite Ghc) accesses → All (DoesNotWrite (Px port Sctl)) accesses
-        → All (DoesNotWrite (Px port Cmd)) accesses → RunsOn port.0 old new }
-    ensures well { (port : ℕ) (old new : Device) → RunsOn port old new → Undisturbed port old new
+        → All (DoesNotWrite (Px port Cmd)) accesses → StaysRunning port.0 old new }
+    ensures healthy_port_stays_well { (port : ℕ) (old new : Device) → StaysRunning port old new
+        → Undisturbed port old new
         → RunsWell (old.port port) → RunsWell (new.port port) }
 {
     law_prerequisites();
@@ -104,11 +107,11 @@ pub fn law_a_port_runs_on()
 /// that resets the adapter. And a boot that leaves its port ready begins it, since COMRESET has a port show no device
 /// until its link comes up.
 pub fn law_a_disk_is_in_where_one_shows()
-    ensures steps { (port : ℕ) (old new : Device) → Steps old new → HasDiskIfShown (old.port port)
-        → HasDiskIfShown (new.port port) }
+    ensures steps { (port : ℕ) (old new : Device) → Steps old new → ShownDiskIsIn (old.port port)
+        → ShownDiskIsIn (new.port port) }
     ensures access { (port : ℕ) (access : Access) (old new : Device) → Does access old new
-        → HasDiskIfShown (old.port port) → HasDiskIfShown (new.port port) }
+        → ShownDiskIsIn (old.port port) → ShownDiskIsIn (new.port port) }
     ensures accesses { (port : ℕ) (accesses : List Access) (old new : Device) → DoesAll accesses old new
-        → HasDiskIfShown (old.port port) → HasDiskIfShown (new.port port) }
-    ensures begins { (port : Port) (old new : Device) → BringsReady port old new → HasDiskIfShown (new.port port.0) }
+        → ShownDiskIsIn (old.port port) → ShownDiskIsIn (new.port port) }
+    ensures begins { (port : Port) (old new : Device) → BringsReady port old new → ShownDiskIsIn (new.port port.0) }
 {}

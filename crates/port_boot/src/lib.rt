@@ -9,11 +9,11 @@ ghost use Rattle.std.specs.Prelude.{Option, ◌≡◌, ◌↔◌, IsTrue, IfOk, 
 ghost use Rattle.adapter.specs.Access.{named_causes};
 ghost use Rattle.adapter.specs.Device.{Device};
 ghost use Rattle.adapter.specs.Rules.{IsOn, HasPort};
-ghost use Rattle.refinement.specs.Driven.{RelatesWith, AnyUse};
+ghost use Rattle.refinement.specs.Fragments.{RelatesWith, AnyUse};
 ghost use Rattle.port_control.specs.Ports.{IsStopped, HasStCleared};
 ghost use Rattle.port_boot.specs.Outcomes.{EndsReady, EndsUnready, FailsToIdentify, BootFailsToBringUp, Identifies, BootBringsUp};
 ghost use Rattle.port_boot.specs.States.{IsStateOfFault, SerialMatches, IsFit, IsStateByPage, IsBootable, IsBroughtUp, IsStoppedAs};
-ghost use Rattle.adapter.specs.Counted.{MakesAtMost};
+ghost use Rattle.adapter.specs.AccessBounds.{MakesAtMost};
 ghost use Rattle.port_control.specs.Costs.{STOP_ACCESSES};
 ghost use Rattle.port_boot.specs.Costs.{BOOT_ACCESSES, IDENTIFY_ACCESSES, BRING_UP_ACCESSES};
 

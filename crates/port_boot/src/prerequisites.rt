@@ -4,10 +4,10 @@ ghost use Rattle.port_boot.specs.Laws.{Laws};
 use adapter::laws::law_port_register_accesses;
 use disk_page::laws::law_asking_is_of_one_port;
 use port_control::laws::law_what_is_told_of_engines_stays;
+use refinement::access_kinds::{law_controls_are_of_a_port, law_fragment_prerequisites};
 use refinement::fragments::{
     law_other_ports_are_left, law_tape_prerequisites, law_unused_slots_are_silent,
 };
-use refinement::kinds::{law_controls_are_of_a_port, law_fragment_prerequisites};
 use refinement::laws::law_writing_is_permitted;
 use refinement::port_facts::{
     law_adapter_stays, law_cleared_stays, law_faults_are_recorded, law_link_comes_up,

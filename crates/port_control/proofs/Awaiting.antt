@@ -25,17 +25,17 @@ module _ (start running : ℕ) (port : Port) where
     before = early;
     cleared = cleared;
     stuck = [];
-    here = ap (λ (accesses : List Access). early ++ accesses) is;
-    clears = zero;
-    number = refl;
-    all = All-nil (ReadsPortCmd (ShowsStillRunning start running) port);
+    accesses_are = ap (λ (accesses : List Access). early ++ accesses) is;
+    start_is_cleared = zero;
+    count_is = refl;
+    all_show_running = All-nil (ReadsPortCmd (ShowsStillRunning start running) port);
   }
 
   -- PxCMD is read
   module _ (n v : ℕ) (early late : List Access) (a : AwaitsEngineStop start running port n early) (is : late ≡ Reading (Px port Cmd) v ∷ []) where
     then_reads : early ++ late ≡ a.before ++ (Writing (Px port Cmd) a.cleared ∷ (a.stuck ++ Reading (Px port Cmd) v ∷ []))
     then_reads =
-        ap (λ (accesses : List Access). accesses ++ late) a.here
+        ap (λ (accesses : List Access). accesses ++ late) a.accesses_are
         ∙ (append_assoc a.before (Writing (Px port Cmd) a.cleared ∷ a.stuck) late
         ∙ ap (λ (accesses : List Access). a.before ++ (Writing (Px port Cmd) a.cleared ∷ (a.stuck ++ accesses))) is)
 
@@ -44,10 +44,10 @@ module _ (start running : ℕ) (port : Port) where
       before = a.before;
       cleared = a.cleared;
       stuck = a.stuck ++ Reading (Px port Cmd) v ∷ [];
-      here = then_reads;
-      clears = a.clears;
-      number = length-append a.stuck (Reading (Px port Cmd) v ∷ []) ∙ ap (λ (k : ℕ). k + 1) a.number;
-      all = All-push (ReadsPortCmd (ShowsStillRunning start running) port) a.stuck (Reading (Px port Cmd) v) a.all (refl, shows);
+      accesses_are = then_reads;
+      start_is_cleared = a.start_is_cleared;
+      count_is = length-append a.stuck (Reading (Px port Cmd) v ∷ []) ∙ ap (λ (k : ℕ). k + 1) a.count_is;
+      all_show_running = All-push (ReadsPortCmd (ShowsStillRunning start running) port) a.stuck (Reading (Px port Cmd) v) a.all_show_running (refl, shows);
     }
 
     pub awaits_falls : bit v running ≡ false → EngineFalls start running port (early ++ late)
@@ -57,8 +57,8 @@ module _ (start running : ℕ) (port : Port) where
       between = a.stuck;
       fallen = v;
       later = [];
-      here = then_reads;
-      clears = a.clears;
-      only = All-weaker (ReadsPortCmd (ShowsStillRunning start running) port) (DoesNotWrite (Px port Cmd)) (reading_spares (ShowsStillRunning start running) port) a.stuck a.all;
-      shown = zero;
+      accesses_are = then_reads;
+      start_is_cleared = a.start_is_cleared;
+      cmd_is_unwritten = All-weaker (ReadsPortCmd (ShowsStillRunning start running) port) (DoesNotWrite (Px port Cmd)) (reading_spares (ShowsStillRunning start running) port) a.stuck a.all_show_running;
+      stop_is_shown = zero;
     }

@@ -10,7 +10,7 @@ use Rattle.adapter.specs.Access.{Reads, Writes}
 use Rattle.adapter.specs.Access.Access.{Reading, Writing}
 use Rattle.adapter.specs.Device.{Device}
 use Rattle.adapter.specs.Rules.{IsOn, MayWrite, IsStable}
-use Rattle.refinement.specs.Driven.{AnyUse, OnPortWriting, IsSimulated}
+use Rattle.refinement.specs.Fragments.{AnyUse, IsPortAccessWriting, IsSimulated}
 use Rattle.refinement.specs.Links.{DoesNotWrite}
 use Rattle.port_control.specs.Ports.{IsErrorRegister, IsOnAndAgrees, ReceivesFises, SawDevice, ClearsErrors, HasClearErrors, ClearsErrorState}
 use Rattle.port_control.proofs.Using.{usable_after}
@@ -25,10 +25,10 @@ ones place small = ap (λ (n : ℕ). n == 1) (bit_at_ones 32 place small)
 
 module _ (laws : Laws) where
   pub serr_may : (port : Port) (v : ℕ) (d : Device) → IsOnAndAgrees AnyUse port d → IsStable (MayWrite (Px port Serr) v) d
-  serr_may port v d u = laws.write_stays (Px port Serr) v d (λ p e. cc) (u.on, u.there, tt)
+  serr_may port v d u = laws.write_stays (Px port Serr) v d (λ p e. cc) (u.adapter_is_on, u.has_port, tt)
 
   pub is_may : (port : Port) (v : ℕ) (d : Device) → IsOnAndAgrees AnyUse port d → IsStable (MayWrite (Px port Is) v) d
-  is_may port v d u = laws.write_stays (Px port Is) v d (λ p e. cc) (u.on, u.there, tt)
+  is_may port v d u = laws.write_stays (Px port Is) v d (λ p e. cc) (u.adapter_is_on, u.has_port, tt)
 
   -- what PxSSTS was read as stays
   saw_still : (port : Port) (r : PortReg) (v : ℕ) (old new : Device) → DoesNotWrite (Px port Sctl) (Writing (Px port r) v) → Writes (Px port r) v old new →
@@ -38,17 +38,17 @@ module _ (laws : Laws) where
       (ap (λ (n : ℕ). n % 16) link.0 ∙ saw.0, link.1 spares ∙ saw.1)
 
   module _ (port : Port) (old mid new : Device) (u : IsOnAndAgrees AnyUse port old) (serr : Writes (Px port Serr) 0xffffffff old mid) where
-    pub first : IsSimulated (OnPortWriting IsErrorRegister port) AnyUse old mid
+    pub first : IsSimulated (IsPortAccessWriting IsErrorRegister port) AnyUse old mid
     first = followed_write laws (Controlling Clearing port) (Px port Serr) 0xffffffff old mid (refl, inl refl) (serr_may port 0xffffffff old u) (λ uses is. tt) serr
 
     pub clearing : IsOnAndAgrees AnyUse port mid
     clearing = usable_after laws Clearing port old mid u first
 
     -- PxSERR tells no disk of before, whatever is cleared after it
-    pub since_clear : IsSimulated (OnPortWriting IsErrorRegister port) AnyUse mid new → (old.port port.0).link_due ≡ false → HasClearErrors port.0 old new
+    pub since_clear : IsSimulated (IsPortAccessWriting IsErrorRegister port) AnyUse mid new → (old.port port.0).link_due ≡ false → HasClearErrors port.0 old new
     since_clear second undue =
-        let s : Settles port old mid = settles laws port old mid u.on first.driven in
-        let t : Settles port mid new = settles laws port mid new clearing.on second.driven in
+        let s : Settles port old mid = settles laws port old mid u.adapter_is_on first.is_driven in
+        let t : Settles port mid new = settles laws port mid new clearing.adapter_is_on second.is_driven in
         let errors = laws.errors_cleared port 0xffffffff old mid serr in
         let c = t.change (s.undue undue) in
         record {
@@ -57,10 +57,10 @@ module _ (laws : Laws) where
         }
 
     module _ (is : Writes (Px port Is) 0xffffffff mid new) where
-      second : IsSimulated (OnPortWriting IsErrorRegister port) AnyUse mid new
+      second : IsSimulated (IsPortAccessWriting IsErrorRegister port) AnyUse mid new
       second = followed_write laws (Controlling Clearing port) (Px port Is) 0xffffffff mid new (refl, inr refl) (is_may port 0xffffffff mid clearing) (λ uses is. tt) is
 
-      pub clears : IsSimulated (OnPortWriting IsErrorRegister port) AnyUse old new
+      pub clears : IsSimulated (IsPortAccessWriting IsErrorRegister port) AnyUse old new
       clears = followed_then laws (Controlling Clearing port) old mid new first second
 
       pub cleared_saw : SawDevice (old.port port.0).notes → SawDevice (new.port port.0).notes
@@ -80,19 +80,19 @@ module _ (laws : Laws) where
   -- ---- and PxTFD is read then
 
   module _ (port : Port) (v : ℕ) (old mid new : Device) (u : IsOnAndAgrees AnyUse port old) (receives : ReceivesFises port.0 (old.port port.0))
-      (undue : (old.port port.0).link_due ≡ false) (det : (old.port port.0).sctl_det ≡ 0) (first : IsSimulated (OnPortWriting IsErrorRegister port) AnyUse old mid)
+      (undue : (old.port port.0).link_due ≡ false) (det : (old.port port.0).sctl_det ≡ 0) (first : IsSimulated (IsPortAccessWriting IsErrorRegister port) AnyUse old mid)
       (clears : ClearsErrors port old mid) (read : Reads (Px port Tfd) v mid new) where
     forgetting : IsOnAndAgrees AnyUse port mid
     forgetting = usable_after laws Clearing port old mid u first
 
-    then : IsSimulated (OnPortWriting IsErrorRegister port) AnyUse mid new
+    then : IsSimulated (IsPortAccessWriting IsErrorRegister port) AnyUse mid new
     then = followed_read laws (Controlling Clearing port) (Px port Tfd) v mid new refl read
 
-    pub forgets_followed : IsSimulated (OnPortWriting IsErrorRegister port) AnyUse old new
+    pub forgets_followed : IsSimulated (IsPortAccessWriting IsErrorRegister port) AnyUse old new
     forgets_followed = followed_then laws (Controlling Clearing port) old mid new first then
 
     pub forgets_on : IsOn new
-    forgets_on = (usable_after laws Clearing port mid new forgetting then).on
+    forgets_on = (usable_after laws Clearing port mid new forgetting then).adapter_is_on
 
     -- neither a write nor a reading of another register leaves another value of PxSSTS, or another count
     abbrev SameLink : Device → Device → Type 0
@@ -110,8 +110,8 @@ module _ (laws : Laws) where
 
     pub forgets : ((place : ℕ) → place < 32 → (mid.port port.0).is place ≡ false) → HasClearErrors port.0 old mid → ClearsErrorState port v old new
     forgets calm clear =
-        let s : Settles port old mid = settles laws port old mid u.on first.driven in
-        let t : Settles port mid new = settles laws port mid new forgetting.on then.driven in
+        let s : Settles port old mid = settles laws port old mid u.adapter_is_on first.is_driven in
+        let t : Settles port mid new = settles laws port mid new forgetting.adapter_is_on then.is_driven in
         let c = t.change (s.undue undue) in
         let still = s.receiving receives in
         let after = t.receiving still in
@@ -121,17 +121,17 @@ module _ (laws : Laws) where
           clears = clears;
           reads = read;
           receives = after;
-          file = laws.file_noted port v mid new read;
-          seen = same_link.0;
-          count = same_link.1;
-          calm = quiet;
-          clear = record {
+          last_tfd_is = laws.file_noted port v mid new read;
+          last_ssts_is_kept = same_link.0;
+          link_count_is_kept = same_link.1;
+          no_cause_is_set = quiet;
+          errors_are_clear = record {
             serr_n = λ none. let n = plugs_in_parts laws port.0 old mid new s.grows t.grows none in c.serr_n n.1 (clear.serr_n n.0);
             serr_x = λ none. let n = comes_in_parts laws port.0 old mid new s.grows t.grows none in c.serr_x n.1 (clear.serr_x n.0);
           };
-          quiet = record {
-            unflagged = (after.stopped.halted.cr, quiet 30 (omega arith));
-            linked = t.undue (s.undue undue);
+          is_clean_to_start = record {
+            tfes_is_clear = (after.stopped.halted.cr, quiet 30 (omega arith));
+            no_link_is_due = t.undue (s.undue undue);
             no_comreset = λ e. let d = t.det ∙ s.det ∙ det in absurd (omega (arith, e, d));
           };
         }

@@ -10,13 +10,13 @@ use Rattle.hba_regs.specs.Bits.{bit}
 use Rattle.hba_regs.specs.declared.reg.PortReg.{PortReg}
 use Rattle.hba_regs.specs.declared.reg.PortReg.TheVariants.{Tfd, Sig, Ssts}
 use Rattle.hba_regs.specs.declared.reg.Reg.TheVariants.{Px}
-use Rattle.adapter.specs.Access.{Reads, readings_counted, link_readings_counted}
+use Rattle.adapter.specs.Access.{Reads, count_after_reading, link_count_after_reading}
 use Rattle.adapter.specs.Access.Access.{Reading}
 use Rattle.adapter.specs.Device.{Notes, DevicePort, Device}
-use Rattle.refinement.specs.Driven.{AnyUse, OnPortWriting, IsSimulated}
+use Rattle.refinement.specs.Fragments.{AnyUse, IsPortAccessWriting, IsSimulated}
 use Rattle.refinement.specs.Errors.{NoDiskComes}
 use Rattle.refinement.specs.PortFacts.{ShowsDrqTillLink, IsCleanToStart, StoppedTfesClear}
-use Rattle.refinement.specs.Started.{IsUp, IsComingUp}
+use Rattle.refinement.specs.StartedPort.{IsUp, IsComingUp}
 use Rattle.port_control.specs.Ports.{IsErrorRegister, IsOnAndAgrees, HasLink, ShowsIdle, SawDevice, SawIdle, IsVainReading, ReadsInVain, ReadsUntil, ShowsSignature}
 use Rattle.port_control.proofs.Using.{usable_read}
 use Rattle.port_control.proofs.Ceasing.{counted_again}
@@ -28,7 +28,7 @@ use Rattle.port_control.proofs.Stretching.{followed_read, followed_then}
 
 -- so many readings of PxSSTS showed no device with a link
 pub record IsMissing (port : Port) (start : Device) (n : ℕ) (d : Device) : Type 0 where
-  pub followed : IsSimulated (OnPortWriting IsErrorRegister port) AnyUse start d
+  pub followed : IsSimulated (IsPortAccessWriting IsErrorRegister port) AnyUse start d
   pub usable : IsOnAndAgrees AnyUse port d
   pub on : IsOnAndAgrees AnyUse port start
   pub det : (d.port port.0).sctl_det ≡ 0
@@ -43,7 +43,7 @@ AwaitsEngineStop p = ShowsDrqTillLink p × StoppedTfesClear p
 
 -- so many readings of PxTFD showed BSY or DRQ
 pub record IsBusyStill (port : Port) (start : Device) (n : ℕ) (d : Device) : Type 0 where
-  pub followed : IsSimulated (OnPortWriting IsErrorRegister port) AnyUse start d
+  pub followed : IsSimulated (IsPortAccessWriting IsErrorRegister port) AnyUse start d
   pub usable : IsOnAndAgrees AnyUse port d
   pub det : (d.port port.0).sctl_det ≡ 0
   pub saw : SawDevice (d.port port.0).notes
@@ -53,7 +53,7 @@ pub record IsBusyStill (port : Port) (start : Device) (n : ℕ) (d : Device) : T
   pub awaits : AwaitsEngineStop (start.port port.0) → AwaitsEngineStop (d.port port.0)
   pub quiet : 0 < n → AwaitsEngineStop (start.port port.0) → bit (d.port port.0).notes.last_tfd 3 ≡ false → IsCleanToStart (d.port port.0)
 
-counted_far : (det n count : ℕ) → det ≢ 3 → n ≤ count → n < MOST_READINGS → (n + 1 ≤ link_readings_counted det count) × (link_readings_counted det count ≤ MOST_READINGS)
+counted_far : (det n count : ℕ) → det ≢ 3 → n ≤ count → n < MOST_READINGS → (n + 1 ≤ link_count_after_reading det count) × (link_count_after_reading det count ≤ MOST_READINGS)
 counted_far det n count far low small =
     elim (eqb_tells det 3) [
       | inl both ↦ absurd (far both.1)
@@ -61,55 +61,55 @@ counted_far det n count far low small =
     ]
 
 module _ (laws : Laws) where
-  pub looks : (port : Port) (r : PortReg) (v : ℕ) (old new : Device) → Reads (Px port r) v old new → IsSimulated (OnPortWriting IsErrorRegister port) AnyUse old new
+  pub looks : (port : Port) (r : PortReg) (v : ℕ) (old new : Device) → Reads (Px port r) v old new → IsSimulated (IsPortAccessWriting IsErrorRegister port) AnyUse old new
   looks port r v old new call = followed_read laws (Controlling Clearing port) (Px port r) v old new refl call
 
-  looks_more : (port : Port) (r : PortReg) (v : ℕ) (start d e : Device) → IsSimulated (OnPortWriting IsErrorRegister port) AnyUse start d → Reads (Px port r) v d e → IsSimulated (OnPortWriting IsErrorRegister port) AnyUse start e
+  looks_more : (port : Port) (r : PortReg) (v : ℕ) (start d e : Device) → IsSimulated (IsPortAccessWriting IsErrorRegister port) AnyUse start d → Reads (Px port r) v d e → IsSimulated (IsPortAccessWriting IsErrorRegister port) AnyUse start e
   looks_more port r v start d e f call = followed_then laws (Controlling Clearing port) start d e f (looks port r v d e call)
 
   -- ---- readings until something shows
 
   module _ (port : Port) (r : PortReg) (Shown : ℕ → Type 0) where
     pub without_none : (d : Device) → ReadsInVain port r Shown 0 d d
-    without_none d = record { reads = record { accesses = []; all = refl; only = All-nil (IsVainReading port r Shown) }; number = refl }
+    without_none d = record { reads = record { accesses = []; all_are_done = refl; accesses_are_of_kind = All-nil (IsVainReading port r Shown) }; count_is = refl }
 
     module _ {v : ℕ} {start d e : Device} (n : ℕ) where
       pub without_more : ReadsInVain port r Shown n start d → Reads (Px port r) v d e → (Shown v → ⊥) → ReadsInVain port r Shown (n + 1) start e
       without_more w call not = record {
         reads = record {
           accesses = w.reads.accesses ++ Reading (Px port r) v ∷ [];
-          all = laws.does_append w.reads.accesses (Reading (Px port r) v ∷ []) start d e w.reads.all (e, call, refl);
-          only = All-append (IsVainReading port r Shown) w.reads.accesses (Reading (Px port r) v ∷ []) w.reads.only
+          all_are_done = laws.does_append w.reads.accesses (Reading (Px port r) v ∷ []) start d e w.reads.all_are_done (e, call, refl);
+          accesses_are_of_kind = All-append (IsVainReading port r Shown) w.reads.accesses (Reading (Px port r) v ∷ []) w.reads.accesses_are_of_kind
               (All-cons (IsVainReading port r Shown) (Reading (Px port r) v) [] (refl, not) (All-nil (IsVainReading port r Shown)));
         };
-        number = length-append w.reads.accesses (Reading (Px port r) v ∷ []) ∙ ap (λ (k : ℕ). k + 1) w.number;
+        count_is = length-append w.reads.accesses (Reading (Px port r) v ∷ []) ∙ ap (λ (k : ℕ). k + 1) w.count_is;
       }
 
       pub until_shown : n < MOST_READINGS → ReadsInVain port r Shown n start d → Reads (Px port r) v d e → Shown v → ReadsUntil port r Shown start e
-      until_shown small w call is = record { count = n; few = small; waited = d; waits = w; value = v; shown = is; reads = call }
+      until_shown small w call is = record { count = n; count_is_allowed = small; waited = d; waits = w; value = v; shown = is; reads = call }
 
   module _ (port : Port) (start d e : Device) (v n : ℕ) (w : IsMissing port start n d) (call : Reads (Px port Ssts) v d e) where
     off : d.hr ≡ false
-    off = w.usable.on.no_reset
+    off = w.usable.adapter_is_on.no_reset
 
-    pub missing_followed : IsSimulated (OnPortWriting IsErrorRegister port) AnyUse start e
+    pub missing_followed : IsSimulated (IsPortAccessWriting IsErrorRegister port) AnyUse start e
     missing_followed = looks_more port Ssts v start d e w.followed call
 
-    missing_count : (e.port port.0).notes.link_count ≡ link_readings_counted (v % 16) (d.port port.0).notes.link_count
+    missing_count : (e.port port.0).notes.link_count ≡ link_count_after_reading (v % 16) (d.port port.0).notes.link_count
     missing_count =
         ap (λ (k : Notes). k.link_count) (laws.notes_read port Ssts v d e off call)
-        ∙ ap (λ (det : ℕ). if nat_eq det 0 then link_readings_counted (v % 16) (d.port port.0).notes.link_count else (d.port port.0).notes.link_count) w.det
+        ∙ ap (λ (det : ℕ). if nat_eq det 0 then link_count_after_reading (v % 16) (d.port port.0).notes.link_count else (d.port port.0).notes.link_count) w.det
 
     missing_last : (e.port port.0).notes.last_ssts ≡ v
     missing_last = ap (λ (k : Notes). k.last_ssts) (laws.notes_read port Ssts v d e off call)
 
     pub device_seen : v % 16 ≡ 3 → SawDevice (e.port port.0).notes
-    device_seen three = (ap (λ (k : ℕ). k % 16) missing_last ∙ three, missing_count ∙ ap (λ (k : ℕ). link_readings_counted k (d.port port.0).notes.link_count) three)
+    device_seen three = (ap (λ (k : ℕ). k % 16) missing_last ∙ three, missing_count ∙ ap (λ (k : ℕ). link_count_after_reading k (d.port port.0).notes.link_count) three)
 
     pub device_up : v % 16 ≡ 3 → NoDiskComes port.0 start e → IsComingUp (start.port port.0) → IsUp (e.port port.0)
     device_up three none coming =
-        let s : Settles port start d = settles laws port start d w.on.on w.followed.driven in
-        let t : Settles port d e = settles laws port d e w.usable.on (looks port Ssts v d e call).driven in
+        let s : Settles port start d = settles laws port start d w.on.adapter_is_on w.followed.is_driven in
+        let t : Settles port d e = settles laws port d e w.usable.adapter_is_on (looks port Ssts v d e call).is_driven in
         let parts = comes_in_parts laws port.0 start d e s.grows t.grows none in
         laws.up_is_found port v d e parts.1 call three (s.coming parts.0 coming)
 
@@ -124,7 +124,7 @@ module _ (laws : Laws) where
           followed = missing_followed;
           usable = usable_read laws AnyUse port Ssts v d e w.usable call;
           on = w.on;
-          det = (settles laws port d e w.usable.on (looks port Ssts v d e call).driven).det ∙ w.det;
+          det = (settles laws port d e w.usable.adapter_is_on (looks port Ssts v d e call).is_driven).det ∙ w.det;
           low = rw count one.0;
           high = λ _. rw count one.1;
           far = λ _ three. far (sym (ap (λ (k : ℕ). k % 16) missing_last) ∙ three);
@@ -133,9 +133,9 @@ module _ (laws : Laws) where
 
   module _ (port : Port) (start d e : Device) (v n : ℕ) (w : IsBusyStill port start n d) (call : Reads (Px port Tfd) v d e) where
     quiet : d.hr ≡ false
-    quiet = w.usable.on.no_reset
+    quiet = w.usable.adapter_is_on.no_reset
 
-    pub busy_followed : IsSimulated (OnPortWriting IsErrorRegister port) AnyUse start e
+    pub busy_followed : IsSimulated (IsPortAccessWriting IsErrorRegister port) AnyUse start e
     busy_followed = looks_more port Tfd v start d e w.followed call
 
     pub busy_saw : SawDevice (e.port port.0).notes
@@ -159,11 +159,11 @@ module _ (laws : Laws) where
         let one = counted_again (bit v 7 || bit v 3) n (d.port port.0).notes.busy_count busy w.low small in
         let count =
         ap (λ (k : Notes). k.busy_count) (laws.notes_read port Tfd v d e quiet call)
-        ∙ ap (λ (det : ℕ). if nat_eq det 0 then readings_counted (bit v 7 || bit v 3) (d.port port.0).notes.busy_count else (d.port port.0).notes.busy_count) w.det in
+        ∙ ap (λ (det : ℕ). if nat_eq det 0 then count_after_reading (bit v 7 || bit v 3) (d.port port.0).notes.busy_count else (d.port port.0).notes.busy_count) w.det in
         record {
           followed = busy_followed;
           usable = usable_read laws AnyUse port Tfd v d e w.usable call;
-          det = (settles laws port d e w.usable.on (looks port Tfd v d e call).driven).det ∙ w.det;
+          det = (settles laws port d e w.usable.adapter_is_on (looks port Tfd v d e call).is_driven).det ∙ w.det;
           saw = busy_saw;
           low = rw count one.0;
           high = λ _. rw count one.1;
@@ -176,7 +176,7 @@ module _ (laws : Laws) where
 
   module _ (port : Port) (d e : Device) (v : ℕ) (u : IsOnAndAgrees AnyUse port d) (call : Reads (Px port Sig) v d e) where
     signed : (e.port port.0).notes ≡ record (d.port port.0).notes { last_sig = v }
-    signed = laws.notes_read port Sig v d e u.on.no_reset call
+    signed = laws.notes_read port Sig v d e u.adapter_is_on.no_reset call
 
     pub sig_saw : SawDevice (d.port port.0).notes → SawDevice (e.port port.0).notes
     sig_saw saw = (ap (λ (k : Notes). k.last_ssts % 16) signed ∙ saw.0, ap (λ (k : Notes). k.link_count) signed ∙ saw.1)
@@ -192,4 +192,4 @@ module _ (laws : Laws) where
     sig_quiet was clear = laws.reads_quiet port.0 (Px port Sig) v d e call (was (ap (λ (k : Notes). bit k.last_tfd 3) (sym signed) ∙ clear))
 
     pub sig_shown : ShowsSignature (e.port port.0)
-    sig_shown = sig_last ∙ laws.shown_after port Sig v d e u.on.no_reset call
+    sig_shown = sig_last ∙ laws.shown_after port Sig v d e u.adapter_is_on.no_reset call

@@ -10,11 +10,11 @@ use Rattle.adapter.specs.Access.{Reads, Writes}
 use Rattle.adapter.specs.Access.Access.{Writing}
 use Rattle.adapter.specs.Device.{Device}
 use Rattle.adapter.specs.Rules.{IsOn, MayWrite, IsStable}
-use Rattle.refinement.specs.Driven.{AnyUse, OnPortWriting, IsSimulated}
+use Rattle.refinement.specs.Fragments.{AnyUse, IsPortAccessWriting, IsSimulated}
 use Rattle.refinement.specs.Errors.{NoDiskComes}
 use Rattle.refinement.specs.PortFacts.{ShowsDrqTillLink, IsCleanToStart, StoppedTfesClear}
-use Rattle.refinement.specs.Started.{IsUp, IsComingUp}
-use Rattle.refinement.specs.Driven.{TapeGrows}
+use Rattle.refinement.specs.StartedPort.{IsUp, IsComingUp}
+use Rattle.refinement.specs.Fragments.{TapeGrows}
 use Rattle.port_control.specs.Ports.{IsErrorRegister, IsResetRegister, IsOnAndAgrees, ReceivesFises, HasLink, ShowsIdle, ReadsInVain, ReadsUntil, ClearsErrors, FindsLink, FindsSignature, FindsBusy, SendsComresetThen, HasClearErrors, FindsAwaitedLink, IsDeviceFound}
 use Rattle.port_control.proofs.Using.{usable_after, receiving_write, stays_on, tape_gains}
 use Rattle.port_control.proofs.Settling.{comes_in_parts, plugs_in_parts, no_start, Settles, settles}
@@ -33,17 +33,17 @@ module _ (port : Port) (Then : Device → Device → Type 0) (old mid new : Devi
   reset_on =
       let longer = grows_longer mid new s.grows in
       let same = s.written in
-      let since = reset.since in
-      let marked = reset.marked in
+      let since = reset.sctl_written_in_call in
+      let marked = reset.sctl_time_in_tape in
       record {
         sent = reset.sent;
         sends = reset.sends;
         ended = reset.ended;
         ends = reset.ends;
-        rest = subst (λ (d : Device). Then d new) reset.rest then;
-        det = s.det ∙ reset.det;
-        since = omega (arith, same, since);
-        marked = omega (arith, same, marked, longer);
+        does_rest = subst (λ (d : Device). Then d new) reset.does_rest then;
+        no_comreset = s.det ∙ reset.no_comreset;
+        sctl_written_in_call = omega (arith, same, since);
+        sctl_time_in_tape = omega (arith, same, marked, longer);
       }
 
 -- and how it was found
@@ -59,28 +59,28 @@ finds_signature port signature {old} {linked} {idle} {new} links waits reads = r
 
 module _ (laws : Laws) where
   pub sctl_may : (port : Port) (v : ℕ) (d : Device) → IsOnAndAgrees AnyUse port d → ReceivesFises port.0 (d.port port.0) → (v % 16 ≡ 0) ⊎ (v % 16 ≡ 1) → IsStable (MayWrite (Px port Sctl) v) d
-  sctl_may port v d u r det = laws.write_stays (Px port Sctl) v d (λ p e. cc) (u.on, u.there, (r.stopped.halted.st, det))
+  sctl_may port v d u r det = laws.write_stays (Px port Sctl) v d (λ p e. cc) (u.adapter_is_on, u.has_port, (r.stopped.halted.st, det))
 
   module _ (port : Port) (old sent : Device) (u : IsOnAndAgrees AnyUse port old) (receives : ReceivesFises port.0 (old.port port.0)) (one : Writes (Px port Sctl) 1 old sent) where
-    first : IsSimulated (OnPortWriting IsResetRegister port) AnyUse old sent
+    first : IsSimulated (IsPortAccessWriting IsResetRegister port) AnyUse old sent
     first = followed_write laws (Controlling Resetting port) (Px port Sctl) 1 old sent (refl, inl refl) (sctl_may port 1 old u receives (inr refl)) (λ uses is. tt) one
 
     sending : IsOnAndAgrees AnyUse port sent
     sending = usable_after laws Resetting port old sent u first
 
     receives_still : ReceivesFises port.0 (sent.port port.0)
-    receives_still = receiving_write laws port Sctl 1 old sent u.on.no_reset (inl refl) one receives
+    receives_still = receiving_write laws port Sctl 1 old sent u.adapter_is_on.no_reset (inl refl) one receives
 
     pub ending_may : IsStable (MayWrite (Px port Sctl) 0) sent
     ending_may = sctl_may port 0 sent sending receives_still (inl refl)
 
     module _ (new : Device) (zero : Writes (Px port Sctl) 0 sent new) where
-      pub reset_followed : IsSimulated (OnPortWriting IsResetRegister port) AnyUse old new
+      pub reset_followed : IsSimulated (IsPortAccessWriting IsResetRegister port) AnyUse old new
       reset_followed = followed_then laws (Controlling Resetting port) old sent new first
           (followed_write laws (Controlling Resetting port) (Px port Sctl) 0 sent new (refl, inl refl) ending_may (λ uses is. tt) zero)
 
       pub reset_receives : ReceivesFises port.0 (new.port port.0)
-      reset_receives = receiving_write laws port Sctl 0 sent new sending.on.no_reset (inl refl) zero receives_still
+      reset_receives = receiving_write laws port Sctl 0 sent new sending.adapter_is_on.no_reset (inl refl) zero receives_still
 
       early : TapeGrows old sent
       early = laws.tape.access_grows (Writing (Px port Sctl) 1) old sent one
@@ -98,15 +98,15 @@ module _ (laws : Laws) where
             sends = one;
             ended = new;
             ends = zero;
-            rest = refl;
-            det = set.0;
-            since = rw at longer;
-            marked = omega (arith, at);
+            does_rest = refl;
+            no_comreset = set.0;
+            sctl_written_in_call = rw at longer;
+            sctl_time_in_tape = omega (arith, at);
           }
 
       pub reset_awaited : ShowsDrqTillLink (new.port port.0)
       reset_awaited = laws.writes_awaited port.0 (Px port Sctl) 0 sent new ending_may
-          (λ d steps. ((laws.law_step_lists_keep_what_steps_keep _ _ steps).port port.0).cr receives_still.stopped.halted.cr) zero
+          (λ d steps. ((laws.law_step_lists_keep_what_steps_keep _ _ steps).ports_are_kept port.0).cr receives_still.stopped.halted.cr) zero
           (laws.comreset_begins port 1 old sent receives.stopped.halted.cr refl one)
 
       pub reset_coming : NoDiskComes port.0 old new → IsComingUp (new.port port.0)
@@ -119,32 +119,32 @@ module _ (laws : Laws) where
   -- what was found since, where the link was coming up
   pub found_on : (port : ℕ) (old mid new : Device) → TapeGrows old mid → TapeGrows mid new → (NoDiskComes port old mid → IsComingUp (mid.port port)) → ShowsDrqTillLink (mid.port port) → FindsAwaitedLink port mid new → IsDeviceFound port old new
   found_on port old mid new early late coming awaited finds = record {
-    calm = finds.calm;
-    clear = record {
-      serr_n = λ none. let parts = plugs_in_parts laws port old mid new early late none in (finds.clear (coming (laws.tape.plugs_come port old mid parts.0))).serr_n parts.1;
-      serr_x = λ none. let parts = comes_in_parts laws port old mid new early late none in (finds.clear (coming parts.0)).serr_x parts.1;
+    no_cause_is_set = finds.no_cause_is_set;
+    errors_are_clear = record {
+      serr_n = λ none. let parts = plugs_in_parts laws port old mid new early late none in (finds.errors_are_clear (coming (laws.tape.plugs_come port old mid parts.0))).serr_n parts.1;
+      serr_x = λ none. let parts = comes_in_parts laws port old mid new early late none in (finds.errors_are_clear (coming parts.0)).serr_x parts.1;
     };
-    undue = λ none. let parts = comes_in_parts laws port old mid new early late none in finds.undue parts.1 (coming parts.0);
-    up = λ none. let parts = plugs_in_parts laws port old mid new early late none in finds.up parts.1 (coming (laws.tape.plugs_come port old mid parts.0));
-    quiet = finds.quiet awaited;
+    no_link_is_due = λ none. let parts = comes_in_parts laws port old mid new early late none in finds.no_link_is_due parts.1 (coming parts.0);
+    link_is_up = λ none. let parts = plugs_in_parts laws port old mid new early late none in finds.link_is_up parts.1 (coming (laws.tape.plugs_come port old mid parts.0));
+    is_clean_to_start = finds.is_clean_to_start awaited;
   }
 
   -- the two together
-  module _ (port : Port) (old mid new : Device) (u : IsOnAndAgrees AnyUse port old) (sends : IsSimulated (OnPortWriting IsResetRegister port) AnyUse old mid) (looks : IsSimulated (OnPortWriting IsErrorRegister port) AnyUse mid new) where
+  module _ (port : Port) (old mid new : Device) (u : IsOnAndAgrees AnyUse port old) (sends : IsSimulated (IsPortAccessWriting IsResetRegister port) AnyUse old mid) (looks : IsSimulated (IsPortAccessWriting IsErrorRegister port) AnyUse mid new) where
     pub looking : IsOnAndAgrees AnyUse port mid
     looking = usable_after laws Resetting port old mid u sends
 
     pub looked : Settles port mid new
-    looked = settles laws port mid new looking.on looks.driven
+    looked = settles laws port mid new looking.adapter_is_on looks.is_driven
 
-    pub both_followed : IsSimulated (OnPortWriting IsResetRegister port) AnyUse old new
+    pub both_followed : IsSimulated (IsPortAccessWriting IsResetRegister port) AnyUse old new
     both_followed = followed_then laws (Controlling Resetting port) old mid new sends (followed_wider laws Clearing Resetting port mid new (λ r is. inr is) looks)
 
     pub both_on : IsOn new
-    both_on = stays_on laws Resetting port old new both_followed.driven u.on
+    both_on = stays_on laws Resetting port old new both_followed.is_driven u.adapter_is_on
 
     sent_grows : TapeGrows old mid
-    sent_grows = tape_gains laws Resetting port old mid sends.driven
+    sent_grows = tape_gains laws Resetting port old mid sends.is_driven
 
     module _ (coming : NoDiskComes port.0 old mid → IsComingUp (mid.port port.0)) where
       pub both_coming : NoDiskComes port.0 old new → IsComingUp (new.port port.0)
@@ -174,7 +174,7 @@ module _ (laws : Laws) where
 
     -- where no disk came until the device was seen, no link is due from then on
     undue_seen : NoDiskComes port.0 old seen → IsComingUp (old.port port.0) → (seen.port port.0).link_due ≡ false
-    undue_seen none coming = (up none coming).linked
+    undue_seen none coming = (up none coming).no_link_is_due
 
     -- and what shows then came since
     clear_since : (seen.port port.0).link_due ≡ false → HasClearErrors port.0 seen new
@@ -187,8 +187,8 @@ module _ (laws : Laws) where
 
     pub has_device : FindsAwaitedLink port.0 old new
     has_device = record {
-      calm = λ place small. c.calm receives_cleared place (calm place small);
-      clear = λ coming. record {
+      no_cause_is_set = λ place small. c.calm receives_cleared place (calm place small);
+      errors_are_clear = λ coming. record {
         serr_n = λ none.
             let parts = plugs_in_parts laws port.0 old seen new a.grows late_half none in
             (clear_since (undue_seen (laws.tape.plugs_come port.0 old seen parts.0) coming)).serr_n parts.1;
@@ -196,12 +196,12 @@ module _ (laws : Laws) where
             let parts = comes_in_parts laws port.0 old seen new a.grows late_half none in
             (clear_since (undue_seen parts.0 coming)).serr_x parts.1;
       };
-      undue = λ none coming.
+      no_link_is_due = λ none coming.
           let parts = comes_in_parts laws port.0 old seen new a.grows late_half none in
           c.undue (b.undue (undue_seen parts.0 coming));
-      up = λ none coming.
+      link_is_up = λ none coming.
           let parts = plugs_in_parts laws port.0 old cleared new early_half c.grows none in
           let first = plugs_in_parts laws port.0 old seen cleared a.grows b.grows parts.0 in
           c.up parts.1 receives_cleared (b.up first.1 receives_seen (up (laws.tape.plugs_come port.0 old seen first.0) coming));
-      quiet = λ awaited. quiet (b.awaited (a.awaited awaited)) (receives_cleared.stopped.halted.cr, calm 30 (omega arith));
+      is_clean_to_start = λ awaited. quiet (b.awaited (a.awaited awaited)) (receives_cleared.stopped.halted.cr, calm 30 (omega arith));
     }

@@ -6,12 +6,12 @@ use Rattle.hba_regs.specs.declared.reg.Reg.TheVariants.{Px, Ghc}
 use Rattle.adapter.specs.Access.{Access, Does, DoesAll}
 use Rattle.adapter.specs.Device.{Device}
 use Rattle.adapter.specs.Rules.{IsOn}
-use Rattle.refinement.specs.Driven.{OnPortWriting, IsDrivenBy}
+use Rattle.refinement.specs.Fragments.{IsPortAccessWriting, IsDrivenBy}
 use Rattle.refinement.specs.Errors.{NoDiskComes, ChangesByDisks}
 use Rattle.refinement.specs.PortFacts.{ShowsDrqTillLink, IsCleanToStart}
 use Rattle.refinement.specs.Links.{DoesNotWrite, NoPlugEvents}
-use Rattle.refinement.specs.Started.{IsUp, IsComingUp, SetsNoStart}
-use Rattle.refinement.specs.Driven.{TapeGrows}
+use Rattle.refinement.specs.StartedPort.{IsUp, IsComingUp, SetsNoStart}
+use Rattle.refinement.specs.Fragments.{TapeGrows}
 use Rattle.port_control.specs.Ports.{IsErrorRegister, ReceivesFises}
 use Rattle.port_control.proofs.Using.{receiving_read, receiving_write}
 use Rattle.std.specs.Prelude.{All, List}
@@ -85,7 +85,7 @@ module _ (laws : Laws) where
     change = λ h. laws.tape.change_more port.0 a b c x.grows y.grows (x.change h) (y.change (x.undue h));
   }
 
-  module _ (port : Port) (access : Access) (old new : Device) (on : IsOn old) (kind : OnPortWriting IsErrorRegister port access) (does : Does access old new) where
+  module _ (port : Port) (access : Access) (old new : Device) (on : IsOn old) (kind : IsPortAccessWriting IsErrorRegister port access) (does : Does access old new) where
     control : DoesNotWrite (Px port Sctl) access
     control = laws.control_spares Clearing port Sctl spares_control access kind
 
@@ -126,13 +126,13 @@ module _ (laws : Laws) where
         }
 
   -- over a stretch
-  settles_over : (port : Port) (accesses : List Access) (old new : Device) → IsOn old → All (OnPortWriting IsErrorRegister port) accesses → DoesAll accesses old new → Settles port old new
+  settles_over : (port : Port) (accesses : List Access) (old new : Device) → IsOn old → All (IsPortAccessWriting IsErrorRegister port) accesses → DoesAll accesses old new → Settles port old new
   settles_over port [] old new on all is = subst (Settles port old) (sym is) (settles_none port old)
   settles_over port (access ∷ accesses) old new on all (mid, does, rest) =
-      let kind = All-head (OnPortWriting IsErrorRegister port) access accesses all in
+      let kind = All-head (IsPortAccessWriting IsErrorRegister port) access accesses all in
       let host = laws.of_spares_ghc port access (laws.control_of Clearing port access kind) in
       let later = laws.access_on access old mid on (λ v is. absurd (subst (DoesNotWrite Ghc) is host refl)) does in
-      settles_more port old mid new (access_settles port access old mid on kind does) (settles_over port accesses mid new later (All-tail (OnPortWriting IsErrorRegister port) access accesses all) rest)
+      settles_more port old mid new (access_settles port access old mid on kind does) (settles_over port accesses mid new later (All-tail (IsPortAccessWriting IsErrorRegister port) access accesses all) rest)
 
-  pub settles : (port : Port) (old new : Device) → IsOn old → IsDrivenBy (OnPortWriting IsErrorRegister port) old new → Settles port old new
-  settles port old new on driven = settles_over port driven.accesses old new on driven.only driven.all
+  pub settles : (port : Port) (old new : Device) → IsOn old → IsDrivenBy (IsPortAccessWriting IsErrorRegister port) old new → Settles port old new
+  settles port old new on driven = settles_over port driven.accesses old new on driven.accesses_are_of_kind driven.all_are_done

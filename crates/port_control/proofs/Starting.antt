@@ -5,20 +5,20 @@ use Rattle.ata_types.specs.declared.Port.{Port}
 use Rattle.hba_regs.specs.Bits.{bit}
 use Rattle.hba_regs.specs.declared.reg.PortReg.TheVariants.{Cmd, Sctl}
 use Rattle.hba_regs.specs.declared.reg.Reg.TheVariants.{Px}
-use Rattle.adapter.specs.Access.{Reads, Writes, port_written, with_st, with_fre}
+use Rattle.adapter.specs.Access.{Reads, Writes, port_after_write, port_after_st_write, port_after_fre_write}
 use Rattle.adapter.specs.Access.Access.{Reading, Writing}
 use Rattle.adapter.specs.Device.{Bases, Notes, DevicePort, Device}
 use Rattle.adapter.specs.Rules.{MayWrite, IsStable}
 use Rattle.adapter.specs.RegisterEffects.{PortRegisterRead, PortRegisterWritten}
-use Rattle.refinement.specs.Driven.{OnPortWriting, IsSimulated}
+use Rattle.refinement.specs.Fragments.{IsPortAccessWriting, IsSimulated}
 use Rattle.refinement.specs.Driver.{AllFree, LeavesUses}
 use Rattle.refinement.specs.Errors.{ChangesByDisks}
 use Rattle.refinement.specs.PortFacts.{IsCleanToStart, FaultsOnRecord}
 use Rattle.refinement.specs.Links.{NoPlugEvents}
-use Rattle.refinement.specs.Recovering.{IsLinked, RunsLinked}
+use Rattle.refinement.specs.HaltRecovery.{IsLinked, RunsLinked}
 use Rattle.refinement.specs.Slots.{SlotState, Free, SlotStates, IsOver, RelatesSlot, IsEmptySlot}
-use Rattle.refinement.specs.Started.{IsUp, IsStarted}
-use Rattle.refinement.specs.Driven.{TapeGrows}
+use Rattle.refinement.specs.StartedPort.{IsUp, IsStarted}
+use Rattle.refinement.specs.Fragments.{TapeGrows}
 use Rattle.port_control.specs.Ports.{IsCommandRegister, IsOnAndAgrees, ReceivesFises, IsRunning, SawIdle, SameButStart}
 use Rattle.port_control.proofs.Using.{usable_read, receiving_read, usable_by}
 use Rattle.port_control.proofs.Ceasing.{IsButAt, bit_four}
@@ -36,13 +36,13 @@ SameBases p q = (q.bases ≡ p.bases) × (q.sctl_det ≡ p.sctl_det)
 abbrev NoneUsed : Port → SlotStates → Type 0
 NoneUsed port uses = AllFree uses port.0
 
-command_bases : (v tape : ℕ) (p : DevicePort) → SameBases p (port_written Cmd v tape p)
+command_bases : (v tape : ℕ) (p : DevicePort) → SameBases p (port_after_write Cmd v tape p)
 command_bases v tape p = by (bit v 0) p.st refl
   where
-    by : (b s : Bool) → p.st ≡ s → SameBases p (with_fre (bit v 4) (with_st b tape p))
+    by : (b s : Bool) → p.st ≡ s → SameBases p (port_after_fre_write (bit v 4) (port_after_st_write b tape p))
     by false s is = (refl, refl)
-    by true true is = subst (λ (x : DevicePort). SameBases p (with_fre (bit v 4) x)) (sym (cond-true p.st p _ is)) (refl, refl)
-    by true false is = subst (λ (x : DevicePort). SameBases p (with_fre (bit v 4) x)) (sym (cond-false p.st p _ is)) (refl, refl)
+    by true true is = subst (λ (x : DevicePort). SameBases p (port_after_fre_write (bit v 4) x)) (sym (cond-true p.st p _ is)) (refl, refl)
+    by true false is = subst (λ (x : DevicePort). SameBases p (port_after_fre_write (bit v 4) x)) (sym (cond-false p.st p _ is)) (refl, refl)
 
 -- what PxCMD was read as, and then when ST was set
 start_notes : (old mid new : Notes) (last count at : ℕ) → mid ≡ record old { last_cmd = last; engine_count = count } → new ≡ record mid { st_set_at = at } →
@@ -62,19 +62,19 @@ module _ (laws : Laws) where
     here = usable_read laws (NoneUsed port) port Cmd was old mid u read
 
     still : ReceivesFises port.0 (mid.port port.0)
-    still = receiving_read laws port Cmd was old mid u.on.no_reset read receives
+    still = receiving_read laws port Cmd was old mid u.adapter_is_on.no_reset read receives
 
     fre : bit v 4 ≡ true
-    fre = bit_four was v others ∙ (laws.shown_after port Cmd was old mid u.on.no_reset read).1 ∙ still.fre
+    fre = bit_four was v others ∙ (laws.shown_after port Cmd was old mid u.adapter_is_on.no_reset read).1 ∙ still.fre
 
     same : (mid.port port.0).notes ≡ record (old.port port.0).notes { last_cmd = was; engine_count = (mid.port port.0).notes.engine_count }
-    same = let n = laws.notes_read port Cmd was old mid u.on.no_reset read in
+    same = let n = laws.notes_read port Cmd was old mid u.adapter_is_on.no_reset read in
         subst (λ (k : Notes). k ≡ record (old.port port.0).notes { last_cmd = was; engine_count = k.engine_count }) (sym n) refl
 
     pub start_may : IsStable (MayWrite (Px port Cmd) v) mid
-    start_may = laws.starting_may port was v mid here.on here.there (laws.command_noted port was old mid read)
+    start_may = laws.starting_may port was v mid here.adapter_is_on here.has_port (laws.command_noted port was old mid read)
         (record {
-          fallen = still.stopped.halted.cr;
+          cr_is_clear = still.stopped.halted.cr;
           receives = still.fre;
           programmed = record {
             clb = ap (λ (b : Bases). b.clb_set) still.bases;
@@ -82,50 +82,50 @@ module _ (laws : Laws) where
             fb = ap (λ (b : Bases). b.fb_set) still.bases;
             fbu = ap (λ (b : Bases). b.fbu_set) still.bases;
           };
-          link = ap (λ (n : Notes). n.last_ssts % 16) same ∙ linked;
+          link_was_seen = ap (λ (n : Notes). n.last_ssts % 16) same ∙ linked;
           not_busy = ap (λ (n : Notes). bit n.last_tfd 7 || bit n.last_tfd 3) same ∙ idle;
         })
         (record { start = one; receive = fre; others = λ k small st fre. others k small st })
 
     start_leaves : (uses : SlotStates) → NoneUsed port uses → LeavesUses uses (Px port Cmd) v mid
-    start_leaves uses free = record { start = λ on. inr free; receive = λ on. (here.there.0, ap (λ (b : Bases). b.fb) still.bases) }
+    start_leaves uses free = record { start = λ on. inr free; receive = λ on. (here.has_port.0, ap (λ (b : Bases). b.fb) still.bases) }
 
     module _ (new : Device) (write : Writes (Px port Cmd) v mid new) where
-      pub start_followed : IsSimulated (OnPortWriting IsCommandRegister port) (NoneUsed port) old new
+      pub start_followed : IsSimulated (IsPortAccessWriting IsCommandRegister port) (NoneUsed port) old new
       start_followed = followed_then laws (Starting port) old mid new (followed_read laws (Starting port) (Px port Cmd) was old mid refl read)
           (followed_write laws (Starting port) (Px port Cmd) v mid new (refl, refl) start_may start_leaves write)
 
       pub start_usable : IsOnAndAgrees (NoneUsed port) port new
-      start_usable = usable_by laws Commanding port old new (NoneUsed port) start_followed.driven (λ uses free. laws.fragments.agreed (Starting port) (λ uses. uses) uses old new free start_followed) u
+      start_usable = usable_by laws Commanding port old new (NoneUsed port) start_followed.is_driven (λ uses free. laws.fragments.agreed (Starting port) (λ uses. uses) uses old new free start_followed) u
 
       started : ((new.port port.0).cr ≡ true) × ((new.port port.0).notes.st_set_at ≡ length new.tape)
       started = laws.start_set port v mid new still.stopped.halted.st one write
 
       w : PortRegisterWritten port.0 Cmd v mid new
-      w = laws.put port Cmd v mid new write here.on.no_reset
+      w = laws.put port Cmd v mid new write here.adapter_is_on.no_reset
 
       pub start_runs : IsRunning port.0 (new.port port.0)
       start_runs =
-          let a = start_usable.agreed in
+          let a = start_usable.machine_is_related in
           let over : (slot : ℕ) → IsOver (new.port port.0) slot =
           λ slot.
-          let h : IsEmptySlot (new.port port.0) slot = over_free (RelatesSlot a.2.machine new.memory new.tape (new.port port.0) port.0 slot) (a.0 port.0 slot) (a.1 slot) (a.2.knows.agrees.slot port.0 slot) in
+          let h : IsEmptySlot (new.port port.0) slot = over_free (RelatesSlot a.2.machine new.memory new.tape (new.port port.0) port.0 slot) (a.0 port.0 slot) (a.1 slot) (a.2.driver_relation.state_relation.relates_slots port.0 slot) in
           record { issued = h.issued; free = h.free } in
           let set = laws.command_set port v mid new write in
           record {
             st = set.0 ∙ one;
             cr = started.0;
             fre = set.1 ∙ fre;
-            bases = ap (λ (p : DevicePort). p.bases) w.here ∙ (command_bases v _ (w.mid.port port.0)).0 ∙ (w.keeps.port port.0).bases ∙ still.bases;
+            bases = ap (λ (p : DevicePort). p.bases) w.port_is_written ∙ (command_bases v _ (w.mid.port port.0)).0 ∙ (w.keeps.ports_are_kept port.0).bases ∙ still.bases;
             ci = λ slot. (over slot).issued;
-            sact = λ slot. laws.free_unarmed a.0 a.2.machine new a.2.knows.agrees port.0 slot (a.1 slot);
+            sact = λ slot. laws.free_unarmed a.0 a.2.machine new a.2.driver_relation.state_relation port.0 slot (a.1 slot);
             taken = λ slot. (over slot).free;
           }
 
       pub start_same : SameButStart (old.port port.0) (new.port port.0)
       start_same =
-          let s : PortRegisterRead port.0 Cmd was old mid = laws.seen port Cmd was old mid read u.on.no_reset in (
-            ap (λ (p : DevicePort). p.sctl_det) w.here ∙ (command_bases v _ (w.mid.port port.0)).1 ∙ (w.keeps.on.controls port.0).sctl_det ∙ (s.keeps.on.controls port.0).sctl_det,
+          let s : PortRegisterRead port.0 Cmd was old mid = laws.seen port Cmd was old mid read u.adapter_is_on.no_reset in (
+            ap (λ (p : DevicePort). p.sctl_det) w.port_is_written ∙ (command_bases v _ (w.mid.port port.0)).1 ∙ (w.keeps.keeps_outside_reset.controls port.0).sctl_det ∙ (s.keeps.keeps_outside_reset.controls port.0).sctl_det,
             start_notes (old.port port.0).notes (mid.port port.0).notes (new.port port.0).notes _ _ _ same (laws.command_written_notes port v mid new write),
           )
 
@@ -147,15 +147,15 @@ module _ (laws : Laws) where
       pub start_well : IsUp (old.port port.0) → NoPlugEvents port.0 old new → IsStarted (new.port port.0)
       start_well up none =
           let parts = plugs_in_parts laws port.0 old mid new early late none in
-          laws.start_is_made port v mid new here.on.no_reset still.stopped.halted.st still.stopped.halted.cr one write
-          (laws.access_up port (Reading (Px port Cmd) was) old mid u.on.no_reset receives.stopped.halted.cr (λ n (e : Reading (Px port Cmd) was ≡ Writing (Px port Cmd) n). absurd (cc)) tt parts.0 read up)
+          laws.start_is_made port v mid new here.adapter_is_on.no_reset still.stopped.halted.st still.stopped.halted.cr one write
+          (laws.access_up port (Reading (Px port Cmd) was) old mid u.adapter_is_on.no_reset receives.stopped.halted.cr (λ n (e : Reading (Px port Cmd) was ≡ Writing (Px port Cmd) n). absurd (cc)) tt parts.0 read up)
           parts.1
 
       pub start_linked : IsLinked (old.port port.0) → NoPlugEvents port.0 old new → RunsLinked (new.port port.0)
       start_linked link none =
           let parts = plugs_in_parts laws port.0 old mid new early late none in
-          laws.start_runs_linked port v mid new here.on.no_reset still.stopped.halted.st still.stopped.halted.cr one parts.1 write
-          (laws.access_linked port (Reading (Px port Cmd) was) old mid u.on.no_reset tt parts.0 read link)
+          laws.start_runs_linked port v mid new here.adapter_is_on.no_reset still.stopped.halted.st still.stopped.halted.cr one parts.1 write
+          (laws.access_linked port (Reading (Px port Cmd) was) old mid u.adapter_is_on.no_reset tt parts.0 read link)
 
       -- ---- what was there before: nothing new comes while ST is set
 
@@ -165,15 +165,15 @@ module _ (laws : Laws) where
           (laws.access_clear port place (Reading (Px port Cmd) was) old mid receives.stopped.halted.cr read clear)
 
       undue_mid : (old.port port.0).link_due ≡ false → (mid.port port.0).link_due ≡ false
-      undue_mid undue = laws.tape.access_undue port (Reading (Px port Cmd) was) old mid u.on.no_reset undue tt read
+      undue_mid undue = laws.tape.access_undue port (Reading (Px port Cmd) was) old mid u.adapter_is_on.no_reset undue tt read
 
       pub start_undue : (old.port port.0).link_due ≡ false → (new.port port.0).link_due ≡ false
-      start_undue undue = laws.tape.access_undue port (Writing (Px port Cmd) v) mid new here.on.no_reset (undue_mid undue) (λ (e : Px port Cmd ≡ Px port Sctl). absurd (cc)) write
+      start_undue undue = laws.tape.access_undue port (Writing (Px port Cmd) v) mid new here.adapter_is_on.no_reset (undue_mid undue) (λ (e : Px port Cmd ≡ Px port Sctl). absurd (cc)) write
 
       pub start_changes : (old.port port.0).link_due ≡ false → ChangesByDisks port.0 old new
       start_changes undue = laws.tape.change_more port.0 old mid new early late
-          (laws.tape.access_change port (Reading (Px port Cmd) was) old mid u.on.no_reset undue read)
-          (laws.tape.access_change port (Writing (Px port Cmd) v) mid new here.on.no_reset (undue_mid undue) write)
+          (laws.tape.access_change port (Reading (Px port Cmd) was) old mid u.adapter_is_on.no_reset undue read)
+          (laws.tape.access_change port (Writing (Px port Cmd) v) mid new here.adapter_is_on.no_reset (undue_mid undue) write)
 
       -- ST is set on a quiet port
       pub start_recorded : IsCleanToStart (old.port port.0) → FaultsOnRecord new.tape (new.port port.0) port.0

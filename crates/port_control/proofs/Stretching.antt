@@ -4,7 +4,7 @@ use Rattle.ata_types.specs.declared.Port.{Port}
 use Rattle.hba_regs.specs.declared.reg.PortReg.{PortReg}
 use Rattle.adapter.specs.Access.{Access, Reads, Writes}
 use Rattle.adapter.specs.Device.{Device}
-use Rattle.refinement.specs.Driven.{AnyUse, OnPortWriting, IsSimulated, IsSimulatedAlong}
+use Rattle.refinement.specs.Fragments.{AnyUse, IsPortAccessWriting, IsSimulated, IsSimulatedAlong}
 use Rattle.port_control.specs.Laws.{Laws, RegisterSet, AccessPurpose, slot_uses_for, accesses_for, registers_of}
 use Rattle.port_control.specs.Laws.AccessPurpose.{Controlling}
 use Rattle.refinement.specs.Driver.{LeavesUses}
@@ -23,16 +23,16 @@ module _ (laws : Laws) where
       IsSimulatedAlong First (accesses_for kind) (slot_uses_for kind) old mid → IsSimulatedAlong Second (accesses_for kind) (slot_uses_for kind) mid new → IsSimulatedAlong Tells (accesses_for kind) (slot_uses_for kind) old new
   told_both First Second Tells join kind old mid new a b =
       let f = laws.fragments.both kind kind (λ uses. uses) (λ uses. uses) (λ access may. may) (λ uses fits. fits) old mid new a.followed b.followed in
-      record { followed = f.followed; tells = subst Tells (sym f.tells) (join a.followed.driven.accesses b.followed.driven.accesses a.tells b.tells) }
+      record { followed = f.followed; tells = subst Tells (sym f.tells) (join a.followed.is_driven.accesses b.followed.is_driven.accesses a.tells b.tells) }
 
   -- where more registers may be written
   module _ (set more : RegisterSet) (port : Port) (old new : Device) (wider : (r : PortReg) → registers_of set r → registers_of more r) where
-    pub told_wider : (Tells : List Access → Type 0) → IsSimulatedAlong Tells (OnPortWriting (registers_of set) port) AnyUse old new → IsSimulatedAlong Tells (OnPortWriting (registers_of more) port) AnyUse old new
+    pub told_wider : (Tells : List Access → Type 0) → IsSimulatedAlong Tells (IsPortAccessWriting (registers_of set) port) AnyUse old new → IsSimulatedAlong Tells (IsPortAccessWriting (registers_of more) port) AnyUse old new
     told_wider Tells a =
         let f = laws.fragments.wider (Controlling set port) (Controlling more port) (λ uses. uses) (laws.control_wider set more port wider) (λ uses fits. fits) old new a.followed in
         record { followed = f.followed; tells = subst Tells (sym f.tells) a.tells }
 
-    pub followed_wider : IsSimulated (OnPortWriting (registers_of set) port) AnyUse old new → IsSimulated (OnPortWriting (registers_of more) port) AnyUse old new
+    pub followed_wider : IsSimulated (IsPortAccessWriting (registers_of set) port) AnyUse old new → IsSimulated (IsPortAccessWriting (registers_of more) port) AnyUse old new
     followed_wider a = (told_wider (λ made. Unit {0}) (record { followed = a; tells = tt })).followed
 
   -- ---- one access

@@ -7,13 +7,13 @@ use Rattle.hba_regs.specs.Bits.{bit}
 use Rattle.hba_regs.specs.declared.reg.PortReg.{PortReg}
 use Rattle.hba_regs.specs.declared.reg.PortReg.TheVariants.{Is, Cmd, Sctl, Sact}
 use Rattle.hba_regs.specs.declared.reg.Reg.TheVariants.{Px}
-use Rattle.adapter.specs.Access.{Access, Reads, Writes, port_written, with_st, with_fre}
+use Rattle.adapter.specs.Access.{Access, Reads, Writes, port_after_write, port_after_st_write, port_after_fre_write}
 use Rattle.adapter.specs.Access.Access.{Reading, Writing, Loading, Storing}
 use Rattle.adapter.specs.Device.{Notes, DevicePort, Device}
-use Rattle.adapter.specs.Kept.{KeepsPort, KeepsControls}
+use Rattle.adapter.specs.KeptBySteps.{KeepsPort, KeepsControls}
 use Rattle.adapter.specs.Rules.{HasPort, MayWrite, IsStable, IsOn}
 use Rattle.adapter.specs.RegisterEffects.{PortRegisterRead, PortRegisterWritten}
-use Rattle.refinement.specs.Driven.{AnyUse, IsRelated, OnPortWriting, IsSimulated, AnyAccess, TapeGrows, IsDrivenBy, SparesOtherPorts}
+use Rattle.refinement.specs.Fragments.{AnyUse, IsRelated, IsPortAccessWriting, IsSimulated, AnyAccess, TapeGrows, IsDrivenBy, SparesOtherPorts}
 use Rattle.refinement.specs.Links.{SameAdapter}
 use Rattle.refinement.specs.Slots.{SlotStates}
 use Rattle.port_control.specs.Engines.{AwaitsEngineStop, FailsToStop, FailsToStopReceiving, EngineFalls, ShowsStillRunning, ReadsPortCmd, ShowsStuck, EngineSticks}
@@ -37,7 +37,7 @@ beside_then a b c x y =
 
 pub stopped_on : {p q : DevicePort} → KeepsPort p q → IsStopped p → IsStopped q
 stopped_on k h = record {
-  halted = record { st = k.st h.halted.st; cr = k.cr h.halted.cr; ci = λ slot. k.ci slot (h.halted.ci slot); taken = k.idle h.halted.cr h.halted.taken };
+  halted = record { st = k.st h.halted.st; cr = k.cr h.halted.cr; ci = λ slot. k.ci slot (h.halted.ci slot); taken = k.stays_without_commands h.halted.cr h.halted.taken };
   sact = λ slot. k.sact slot (h.sact slot);
 }
 
@@ -45,8 +45,8 @@ pub receiving_on : {port : ℕ} {p q : DevicePort} → KeepsPort p q → KeepsCo
 receiving_on k c h = record { stopped = stopped_on k h.stopped; fre = c.fre ∙ h.fre; bases = k.bases ∙ h.bases }
 
 -- a write with ST 0 leaves PxSCTL.DET and the addresses
-pub command_off : (v tape : ℕ) (p : DevicePort) → bit v 0 ≡ false → ((port_written Cmd v tape p).sctl_det ≡ p.sctl_det) × ((port_written Cmd v tape p).bases ≡ p.bases)
-command_off v tape p off = (ap (λ (b : Bool). (with_fre (bit v 4) (with_st b tape p)).sctl_det) off, ap (λ (b : Bool). (with_fre (bit v 4) (with_st b tape p)).bases) off)
+pub command_off : (v tape : ℕ) (p : DevicePort) → bit v 0 ≡ false → ((port_after_write Cmd v tape p).sctl_det ≡ p.sctl_det) × ((port_after_write Cmd v tape p).bases ≡ p.bases)
+command_off v tape p off = (ap (λ (b : Bool). (port_after_fre_write (bit v 4) (port_after_st_write b tape p)).sctl_det) off, ap (λ (b : Bool). (port_after_fre_write (bit v 4) (port_after_st_write b tape p)).bases) off)
 
 -- PxSCTL, PxSERR or PxIS is written
 module _ (port : ℕ) (v tape : ℕ) (p : DevicePort) (h : ReceivesFises port p) where
@@ -65,10 +65,10 @@ module _ (port : ℕ) (v tape : ℕ) (p : DevicePort) (h : ReceivesFises port p)
     bases = bases ∙ h.bases;
   }
 
-  written_receiving : (r : PortReg) → IsResetRegister r → ReceivesFises port (port_written r v tape p)
-  written_receiving r (inl e) = subst (λ (z : PortReg). ReceivesFises port (port_written z v tape p)) (sym e) (same_receiving _ refl refl refl refl refl refl refl)
-  written_receiving r (inr (inl e)) = subst (λ (z : PortReg). ReceivesFises port (port_written z v tape p)) (sym e) (same_receiving _ refl refl refl refl refl refl refl)
-  written_receiving r (inr (inr e)) = subst (λ (z : PortReg). ReceivesFises port (port_written z v tape p)) (sym e) (same_receiving _ refl refl refl refl refl refl refl)
+  written_receiving : (r : PortReg) → IsResetRegister r → ReceivesFises port (port_after_write r v tape p)
+  written_receiving r (inl e) = subst (λ (z : PortReg). ReceivesFises port (port_after_write z v tape p)) (sym e) (same_receiving _ refl refl refl refl refl refl refl)
+  written_receiving r (inr (inl e)) = subst (λ (z : PortReg). ReceivesFises port (port_after_write z v tape p)) (sym e) (same_receiving _ refl refl refl refl refl refl refl)
+  written_receiving r (inr (inr e)) = subst (λ (z : PortReg). ReceivesFises port (port_after_write z v tape p)) (sym e) (same_receiving _ refl refl refl refl refl refl refl)
 
 -- an engine that was awaited for 64 readings is stuck
 awaits_sticks : (start running : ℕ) → ((v : ℕ) → ShowsStillRunning start running v → ShowsStuck v) → (port : Port) (accesses : List Access) → AwaitsEngineStop start running port MOST_READINGS accesses → EngineSticks port accesses
@@ -76,10 +76,10 @@ awaits_sticks start running shows port accesses a = record {
   before = a.before ++ Writing (Px port Cmd) a.cleared ∷ [];
   stuck = a.stuck;
   later = [];
-  here = a.here ∙ (sym (append_assoc a.before (Writing (Px port Cmd) a.cleared ∷ []) a.stuck)
+  accesses_are = a.accesses_are ∙ (sym (append_assoc a.before (Writing (Px port Cmd) a.cleared ∷ []) a.stuck)
       ∙ ap (λ (rest : List Access). (a.before ++ Writing (Px port Cmd) a.cleared ∷ []) ++ rest) (sym (append-nil a.stuck)));
-  number = a.number;
-  all = All-weaker (ReadsPortCmd (ShowsStillRunning start running) port) (ReadsPortCmd ShowsStuck port) reading a.stuck a.all;
+  count_is = a.count_is;
+  all_show_stuck = All-weaker (ReadsPortCmd (ShowsStillRunning start running) port) (ReadsPortCmd ShowsStuck port) reading a.stuck a.all_show_running;
 }
   where
     reading : (access : Access) → ReadsPortCmd (ShowsStillRunning start running) port access → ReadsPortCmd ShowsStuck port access
@@ -104,12 +104,12 @@ module _ (early late : List Access) where
     between = f.between;
     fallen = f.fallen;
     later = f.later ++ late;
-    here = ap (λ (accesses : List Access). accesses ++ late) f.here
+    accesses_are = ap (λ (accesses : List Access). accesses ++ late) f.accesses_are
         ∙ (append_assoc f.before (Writing (Px port Cmd) f.cleared ∷ (f.between ++ (Reading (Px port Cmd) f.fallen ∷ f.later))) late
         ∙ ap (λ (accesses : List Access). f.before ++ (Writing (Px port Cmd) f.cleared ∷ accesses)) (append_assoc f.between (Reading (Px port Cmd) f.fallen ∷ f.later) late));
-    clears = f.clears;
-    only = f.only;
-    shown = f.shown;
+    start_is_cleared = f.start_is_cleared;
+    cmd_is_unwritten = f.cmd_is_unwritten;
+    stop_is_shown = f.stop_is_shown;
   }
 
   pub falls_since : (start running : ℕ) (port : Port) → EngineFalls start running port late → EngineFalls start running port (early ++ late)
@@ -119,11 +119,11 @@ module _ (early late : List Access) where
     between = f.between;
     fallen = f.fallen;
     later = f.later;
-    here = ap (λ (accesses : List Access). early ++ accesses) f.here
+    accesses_are = ap (λ (accesses : List Access). early ++ accesses) f.accesses_are
         ∙ sym (append_assoc early f.before (Writing (Px port Cmd) f.cleared ∷ (f.between ++ (Reading (Px port Cmd) f.fallen ∷ f.later))));
-    clears = f.clears;
-    only = f.only;
-    shown = f.shown;
+    start_is_cleared = f.start_is_cleared;
+    cmd_is_unwritten = f.cmd_is_unwritten;
+    stop_is_shown = f.stop_is_shown;
   }
 
   pub sticks_then : (port : Port) → EngineSticks port early → EngineSticks port (early ++ late)
@@ -131,10 +131,10 @@ module _ (early late : List Access) where
     before = s.before;
     stuck = s.stuck;
     later = s.later ++ late;
-    here = ap (λ (accesses : List Access). accesses ++ late) s.here
+    accesses_are = ap (λ (accesses : List Access). accesses ++ late) s.accesses_are
         ∙ (append_assoc s.before (s.stuck ++ s.later) late ∙ ap (λ (accesses : List Access). s.before ++ accesses) (append_assoc s.stuck s.later late));
-    number = s.number;
-    all = s.all;
+    count_is = s.count_is;
+    all_show_stuck = s.all_show_stuck;
   }
 
   pub sticks_since : (port : Port) → EngineSticks port late → EngineSticks port (early ++ late)
@@ -142,69 +142,69 @@ module _ (early late : List Access) where
     before = early ++ s.before;
     stuck = s.stuck;
     later = s.later;
-    here = ap (λ (accesses : List Access). early ++ accesses) s.here ∙ sym (append_assoc early s.before (s.stuck ++ s.later));
-    number = s.number;
-    all = s.all;
+    accesses_are = ap (λ (accesses : List Access). early ++ accesses) s.accesses_are ∙ sym (append_assoc early s.before (s.stuck ++ s.later));
+    count_is = s.count_is;
+    all_show_stuck = s.all_show_stuck;
   }
 
 module _ (laws : Laws) where
   -- ---- what goes on
 
   module _ (set : RegisterSet) (port : Port) (old new : Device) where
-    pub stays_on : IsDrivenBy (OnPortWriting (registers_of set) port) old new → IsOn old → IsOn new
+    pub stays_on : IsDrivenBy (IsPortAccessWriting (registers_of set) port) old new → IsOn old → IsOn new
     stays_on driven on = laws.of_on port old new on
-        (record { accesses = driven.accesses; all = driven.all; only = All-weaker (OnPortWriting (registers_of set) port) (SparesOtherPorts port) (laws.control_of set port) driven.accesses driven.only })
+        (record { accesses = driven.accesses; all_are_done = driven.all_are_done; accesses_are_of_kind = All-weaker (IsPortAccessWriting (registers_of set) port) (SparesOtherPorts port) (laws.control_of set port) driven.accesses driven.accesses_are_of_kind })
 
-    any : IsDrivenBy (OnPortWriting (registers_of set) port) old new → IsDrivenBy AnyAccess old new
-    any driven = record { accesses = driven.accesses; all = driven.all; only = All-weaker (OnPortWriting (registers_of set) port) AnyAccess (λ access may. tt) driven.accesses driven.only }
+    any : IsDrivenBy (IsPortAccessWriting (registers_of set) port) old new → IsDrivenBy AnyAccess old new
+    any driven = record { accesses = driven.accesses; all_are_done = driven.all_are_done; accesses_are_of_kind = All-weaker (IsPortAccessWriting (registers_of set) port) AnyAccess (λ access may. tt) driven.accesses driven.accesses_are_of_kind }
 
-    pub same_adapter : IsDrivenBy (OnPortWriting (registers_of set) port) old new → SameAdapter old new
+    pub same_adapter : IsDrivenBy (IsPortAccessWriting (registers_of set) port) old new → SameAdapter old new
     same_adapter driven = laws.same_over old new (any driven)
 
-    pub tape_gains : IsDrivenBy (OnPortWriting (registers_of set) port) old new → TapeGrows old new
+    pub tape_gains : IsDrivenBy (IsPortAccessWriting (registers_of set) port) old new → TapeGrows old new
     tape_gains driven = laws.tape_over old new (any driven)
 
-    pub usable_by : (Fits : SlotStates → Type 0) → IsDrivenBy (OnPortWriting (registers_of set) port) old new → ((uses : SlotStates) → Fits uses → IsRelated uses old → IsRelated uses new) → IsOnAndAgrees Fits port old → IsOnAndAgrees Fits port new
+    pub usable_by : (Fits : SlotStates → Type 0) → IsDrivenBy (IsPortAccessWriting (registers_of set) port) old new → ((uses : SlotStates) → Fits uses → IsRelated uses old → IsRelated uses new) → IsOnAndAgrees Fits port old → IsOnAndAgrees Fits port new
     usable_by Fits driven agrees u = record {
-      on = stays_on driven u.on;
-      there = there_after (same_adapter driven) u.there;
-      agreed = (u.agreed.0, u.agreed.1, agrees u.agreed.0 u.agreed.1 u.agreed.2);
+      adapter_is_on = stays_on driven u.adapter_is_on;
+      has_port = there_after (same_adapter driven) u.has_port;
+      machine_is_related = (u.machine_is_related.0, u.machine_is_related.1, agrees u.machine_is_related.0 u.machine_is_related.1 u.machine_is_related.2);
     }
 
-    pub usable_after : IsOnAndAgrees AnyUse port old → IsSimulated (OnPortWriting (registers_of set) port) AnyUse old new → IsOnAndAgrees AnyUse port new
-    usable_after u f = usable_by AnyUse f.driven (λ uses fits. laws.fragments.agreed (Controlling set port) (λ uses. uses) uses old new fits f) u
+    pub usable_after : IsOnAndAgrees AnyUse port old → IsSimulated (IsPortAccessWriting (registers_of set) port) AnyUse old new → IsOnAndAgrees AnyUse port new
+    usable_after u f = usable_by AnyUse f.is_driven (λ uses fits. laws.fragments.agreed (Controlling set port) (λ uses. uses) uses old new fits f) u
 
   -- over a reading, whatever uses fit
   pub usable_read : (Fits : SlotStates → Type 0) (port : Port) (r : PortReg) (v : ℕ) (old new : Device) → IsOnAndAgrees Fits port old → Reads (Px port r) v old new → IsOnAndAgrees Fits port new
   usable_read Fits port r v old new u call =
       let f = followed_read laws (Controlling Commanding port) (Px port r) v old new refl call in
-      usable_by Commanding port old new Fits f.driven (λ uses fits. laws.fragments.agreed (Controlling Commanding port) (λ uses. uses) uses old new tt f) u
+      usable_by Commanding port old new Fits f.is_driven (λ uses fits. laws.fragments.agreed (Controlling Commanding port) (λ uses. uses) uses old new tt f) u
 
   -- PxCMD is read
   pub beside_read : (port : Port) (v : ℕ) (old new : Device) → old.hr ≡ false → Reads (Px port Cmd) v old new → SameSctlAndNotes (old.port port.0) (new.port port.0)
   beside_read port v old new off call =
       let s : PortRegisterRead port.0 Cmd v old new = laws.seen port Cmd v old new call off in
-      ((s.keeps.on.controls port.0).sctl_det, subst (SameButCmdNotes (old.port port.0).notes) (sym (laws.notes_read port Cmd v old new off call)) refl)
+      ((s.keeps.keeps_outside_reset.controls port.0).sctl_det, subst (SameButCmdNotes (old.port port.0).notes) (sym (laws.notes_read port Cmd v old new off call)) refl)
 
   module _ (port : Port) (v : ℕ) (old new : Device) (off : old.hr ≡ false) (zero : bit v 0 ≡ false) (call : Writes (Px port Cmd) v old new) where
     pub beside_command : SameSctlAndNotes (old.port port.0) (new.port port.0)
     beside_command =
         let w : PortRegisterWritten port.0 Cmd v old new = laws.put port Cmd v old new call off in
         let same = laws.written_notes port Cmd v old new (λ (e : Cmd ≡ Sctl). absurd (cc)) (λ (e : Cmd ≡ Is). absurd (cc)) (λ _. zero) call in (
-          ap (λ (p : DevicePort). p.sctl_det) w.here ∙ (command_off v _ (w.mid.port port.0) zero).0 ∙ (w.keeps.on.controls port.0).sctl_det,
+          ap (λ (p : DevicePort). p.sctl_det) w.port_is_written ∙ (command_off v _ (w.mid.port port.0) zero).0 ∙ (w.keeps.keeps_outside_reset.controls port.0).sctl_det,
           subst (SameButCmdNotes (old.port port.0).notes) (sym same) refl,
         )
 
     pub bases_command : (new.port port.0).bases ≡ (old.port port.0).bases
     bases_command =
         let w : PortRegisterWritten port.0 Cmd v old new = laws.put port Cmd v old new call off in
-        ap (λ (p : DevicePort). p.bases) w.here ∙ (command_off v _ (w.mid.port port.0) zero).1 ∙ (w.keeps.port port.0).bases
+        ap (λ (p : DevicePort). p.bases) w.port_is_written ∙ (command_off v _ (w.mid.port port.0) zero).1 ∙ (w.keeps.ports_are_kept port.0).bases
 
   pub stopped_read : (port : Port) (r : PortReg) (v : ℕ) (old new : Device) → old.hr ≡ false → Reads (Px port r) v old new → IsStopped (old.port port.0) → IsStopped (new.port port.0)
-  stopped_read port r v old new off call h = stopped_on ((laws.seen port r v old new call off).keeps.port port.0) h
+  stopped_read port r v old new off call h = stopped_on ((laws.seen port r v old new call off).keeps.ports_are_kept port.0) h
 
   pub receiving_read : (port : Port) (r : PortReg) (v : ℕ) (old new : Device) → old.hr ≡ false → Reads (Px port r) v old new → ReceivesFises port.0 (old.port port.0) → ReceivesFises port.0 (new.port port.0)
-  receiving_read port r v old new off call h = let s = laws.seen port r v old new call off in receiving_on (s.keeps.port port.0) (s.keeps.on.controls port.0) h
+  receiving_read port r v old new off call h = let s = laws.seen port r v old new call off in receiving_on (s.keeps.ports_are_kept port.0) (s.keeps.keeps_outside_reset.controls port.0) h
 
   -- any register but PxSACT is written, PxCMD with ST 0
   pub stopped_write : (port : Port) (r : PortReg) (v : ℕ) (old new : Device) → IsStable (MayWrite (Px port r) v) old → (r ≡ Cmd → bit v 0 ≡ false) → r ≢ Sact → Writes (Px port r) v old new →
@@ -217,4 +217,4 @@ module _ (laws : Laws) where
   pub receiving_write : (port : Port) (r : PortReg) (v : ℕ) (old new : Device) → old.hr ≡ false → IsResetRegister r → Writes (Px port r) v old new → ReceivesFises port.0 (old.port port.0) → ReceivesFises port.0 (new.port port.0)
   receiving_write port r v old new off kind call h =
       let w : PortRegisterWritten port.0 r v old new = laws.put port r v old new call off in
-      subst (ReceivesFises port.0) (sym w.here) (written_receiving port.0 v _ (w.mid.port port.0) (receiving_on (w.keeps.port port.0) (w.keeps.on.controls port.0) h) r kind)
+      subst (ReceivesFises port.0) (sym w.port_is_written) (written_receiving port.0 v _ (w.mid.port port.0) (receiving_on (w.keeps.ports_are_kept port.0) (w.keeps.keeps_outside_reset.controls port.0) h) r kind)

@@ -5,13 +5,13 @@ use Rattle.ata_types.specs.declared.limits.TheConstants.{MOST_READINGS}
 use Rattle.ata_types.specs.declared.memory.TheConstants.{DRIVER_BYTES}
 use Rattle.adapter.specs.Device.{Device}
 use Rattle.adapter.specs.Rules.{IsOn, HasPort}
-use Rattle.refinement.specs.Driven.{RelatesWith, AnyUse}
+use Rattle.refinement.specs.Fragments.{RelatesWith, AnyUse}
 use Rattle.refinement.specs.Driver.{AllFree}
 use Rattle.refinement.specs.Errors.{NoDiskComes, ChangesByDisks}
 use Rattle.refinement.specs.PortFacts.{IsCleanToStart, FaultsOnRecord}
 use Rattle.refinement.specs.Links.{NoPlugEvents}
-use Rattle.refinement.specs.Recovering.{IsLinked, RunsLinked}
-use Rattle.refinement.specs.Started.{IsUp, IsComingUp, IsStarted}
+use Rattle.refinement.specs.HaltRecovery.{IsLinked, RunsLinked}
+use Rattle.refinement.specs.StartedPort.{IsUp, IsComingUp, IsStarted}
 use Rattle.port_control.specs.Ports.{FindsSignature, HasClearErrors, IsDeviceFound, IsRunning, IsStopped, SeesResetFault, ReceivesFises, SameSctlAndNotes, SameButStart, SawDevice, SawIdle, BacksFault, ShowsSignature, SendsComresetThen}
 use Rattle.port_control.specs.declared.PortFault.{PortFault}
 use Rattle.port_control.specs.declared.PortFault.TheVariants.{NoDevice, EngineStuck, NotAta}
@@ -21,11 +21,11 @@ use Rattle.port_control.specs.declared.PortFault.TheVariants.{NoDevice, EngineSt
 -- A port may be set to receive FISes: it is stopped, and memory has room for the driver's areas (AHCI 1.3.1, 10.1.2 and
 -- 10.3.2).
 pub record MayBeginReceiving (port : Port) (d : Device) : Type 0 where
-  pub on : IsOn d
-  pub there : HasPort d port.0
-  pub agreed : RelatesWith AnyUse d
+  pub adapter_is_on : IsOn d
+  pub has_port : HasPort d port.0
+  pub machine_is_related : RelatesWith AnyUse d
   pub stopped : IsStopped (d.port port.0)
-  pub room : DRIVER_BYTES ≤ d.size
+  pub driver_memory_fits : DRIVER_BYTES ≤ d.size
 
 -- Whether it receives FISes then or not: it is stopped still, and PxSCTL.DET and what readings noted, but of PxCMD, are
 -- as they were.
@@ -37,75 +37,75 @@ pub record StaysStopped (port : Port) (old new : Device) : Type 0 where
 
 -- A port may forget its errors: it is stopped and receives FISes, and no COMRESET is under way (AHCI 1.3.1, 6.2.2).
 pub record MayClearErrorState (port : Port) (d : Device) : Type 0 where
-  pub on : IsOn d
-  pub there : HasPort d port.0
-  pub agreed : RelatesWith AnyUse d
+  pub adapter_is_on : IsOn d
+  pub has_port : HasPort d port.0
+  pub machine_is_related : RelatesWith AnyUse d
   pub receives : ReceivesFises port.0 (d.port port.0)
-  pub undue : (d.port port.0).link_due ≡ false
-  pub det : (d.port port.0).sctl_det ≡ 0
+  pub no_link_is_due : (d.port port.0).link_due ≡ false
+  pub no_comreset : (d.port port.0).sctl_det ≡ 0
 
 -- Whether a device shows in a port was asked, and PxSERR cleared before: one is there with a link; or none was seen,
 -- as after 64 readings that found none. A stopped port is stopped still (AHCI 1.3.1, 3.3.10 and 3.3.12).
 pub record AsksForDevice (port : Port) (found : Bool) (old new : Device) : Type 0 where
   pub stopped : IsStopped (old.port port.0) → IsStopped (new.port port.0)
-  pub clear : (old.port port.0).link_due ≡ false → HasClearErrors port.0 old new
-  pub there : found ≡ true → (new.port port.0).ssts_det ≡ 3
-  pub none : found ≡ false → (old.port port.0).notes.link_count ≡ MOST_READINGS
+  pub errors_are_clear : (old.port port.0).link_due ≡ false → HasClearErrors port.0 old new
+  pub device_is_shown : found ≡ true → (new.port port.0).ssts_det ≡ 3
+  pub no_device_is_backed : found ≡ false → (old.port port.0).notes.link_count ≡ MOST_READINGS
       → BacksFault NoDevice (new.port port.0).notes
 
 -- ---- COMRESET
 
 -- A port's link may be reset: it is stopped, and receives FISes (AHCI 1.3.1, 10.4.2).
 pub record MayResetLink (port : Port) (d : Device) : Type 0 where
-  pub on : IsOn d
-  pub there : HasPort d port.0
-  pub agreed : RelatesWith AnyUse d
+  pub adapter_is_on : IsOn d
+  pub has_port : HasPort d port.0
+  pub machine_is_related : RelatesWith AnyUse d
   pub receives : ReceivesFises port.0 (d.port port.0)
 
 -- Whatever was found then: it receives FISes still; and where no disk came meanwhile, its link is coming up, or is up.
 pub record StaysReceiving (port : Port) (old new : Device) : Type 0 where
   pub receives : ReceivesFises port.0 (new.port port.0)
-  pub coming : NoDiskComes port.0 old new → IsComingUp (new.port port.0)
+  pub link_is_coming_up : NoDiskComes port.0 old new → IsComingUp (new.port port.0)
 
 -- COMRESET was sent, and an ATA disk was found that is idle, as the readings since showed (AHCI 1.3.1, 10.1.2 and
 -- 10.4.2).
 pub record FindsDisk (port : Port) (old new : Device) : Type 0 where
   pub reset : SendsComresetThen port (FindsSignature port 0x101) old new
-  pub ready : let notes = (new.port port.0).notes in SawDevice notes × SawIdle notes × (notes.last_sig ≡ 0x101)
-  pub found : IsDeviceFound port.0 old new
-  pub signature : ShowsSignature (new.port port.0)
+  pub disk_is_seen : let notes = (new.port port.0).notes in SawDevice notes × SawIdle notes × (notes.last_sig ≡ 0x101)
+  pub device_is_found : IsDeviceFound port.0 old new
+  pub signature_is_shown : ShowsSignature (new.port port.0)
 
 -- COMRESET was sent, and the readings since showed this fault in place of such a disk.
 pub record FindsFault (port : Port) (told : PortFault) (old new : Device) : Type 0 where
   pub reset : SendsComresetThen port (SeesResetFault port told) old new
-  pub fault : BacksFault told (new.port port.0).notes × (told ≢ EngineStuck)
-  pub found : told ≢ NoDevice → IsDeviceFound port.0 old new
-  pub signature : (signature : ℕ) → told ≡ NotAta signature → ShowsSignature (new.port port.0)
+  pub fault_is_backed : BacksFault told (new.port port.0).notes × (told ≢ EngineStuck)
+  pub device_is_found : told ≢ NoDevice → IsDeviceFound port.0 old new
+  pub signature_is_shown : (signature : ℕ) → told ≡ NotAta signature → ShowsSignature (new.port port.0)
 
 -- ---- to work on the command list
 
 -- A port may be started: it is stopped and receives FISes, none of its slots is used, and the last readings showed a
 -- device with a link, neither busy nor asking for a transfer (AHCI 1.3.1, 10.3.1).
 pub record MayBeStarted (port : Port) (d : Device) : Type 0 where
-  pub on : IsOn d
-  pub there : HasPort d port.0
-  pub agreed : RelatesWith (λ uses. AllFree uses port.0) d
+  pub adapter_is_on : IsOn d
+  pub has_port : HasPort d port.0
+  pub machine_is_related : RelatesWith (λ uses. AllFree uses port.0) d
   pub receives : ReceivesFises port.0 (d.port port.0)
-  pub linked : (d.port port.0).notes.last_ssts % 16 ≡ 3
-  pub idle : SawIdle (d.port port.0).notes
+  pub link_was_seen : (d.port port.0).notes.last_ssts % 16 ≡ 3
+  pub disk_was_idle : SawIdle (d.port port.0).notes
 
 -- It was started: it runs, ST was set last of all, and what was read before is as it was. Its link is up as it was
 -- before, where no disk went or came; no cause is told that wasn't; and what had no error has none, but for disks that
 -- went or came (AHCI 1.3.1, 10.3.1).
 pub record Starts (port : Port) (old new : Device) : Type 0 where
   pub runs : IsRunning port.0 (new.port port.0)
-  pub same : SameButStart (old.port port.0) (new.port port.0)
-  pub set : (new.port port.0).notes.st_set_at ≡ length new.tape
-  pub marked : (old.port port.0).notes.sctl_written_at ≤ length old.tape
+  pub other_notes_are_kept : SameButStart (old.port port.0) (new.port port.0)
+  pub st_set_is_last : (new.port port.0).notes.st_set_at ≡ length new.tape
+  pub sctl_time_in_tape : (old.port port.0).notes.sctl_written_at ≤ length old.tape
       → (new.port port.0).notes.sctl_written_at ≤ length new.tape
-  pub well : IsUp (old.port port.0) → NoPlugEvents port.0 old new → IsStarted (new.port port.0)
-  pub linked : IsLinked (old.port port.0) → NoPlugEvents port.0 old new → RunsLinked (new.port port.0)
-  pub recorded : IsCleanToStart (old.port port.0) → FaultsOnRecord new.tape (new.port port.0) port.0
-  pub calm : (place : ℕ) → (old.port port.0).is place ≡ false → (new.port port.0).is place ≡ false
-  pub undue : (old.port port.0).link_due ≡ false → (new.port port.0).link_due ≡ false
-  pub changes : (old.port port.0).link_due ≡ false → ChangesByDisks port.0 old new
+  pub port_is_started : IsUp (old.port port.0) → NoPlugEvents port.0 old new → IsStarted (new.port port.0)
+  pub link_stays_up : IsLinked (old.port port.0) → NoPlugEvents port.0 old new → RunsLinked (new.port port.0)
+  pub faults_are_on_record : IsCleanToStart (old.port port.0) → FaultsOnRecord new.tape (new.port port.0) port.0
+  pub no_cause_rises : (place : ℕ) → (old.port port.0).is place ≡ false → (new.port port.0).is place ≡ false
+  pub no_link_is_due : (old.port port.0).link_due ≡ false → (new.port port.0).link_due ≡ false
+  pub errors_change_by_disks : (old.port port.0).link_due ≡ false → ChangesByDisks port.0 old new

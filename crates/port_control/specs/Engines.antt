@@ -18,10 +18,11 @@ pub record EngineFalls (start running : ℕ) (port : Port) (accesses : List Acce
   pub between : List Access
   pub fallen : ℕ
   pub later : List Access
-  pub here : accesses ≡ before ++ (Writing (Px port Cmd) cleared ∷ (between ++ (Reading (Px port Cmd) fallen ∷ later)))
-  pub clears : bit cleared start ≡ false
-  pub only : All (DoesNotWrite (Px port Cmd)) between
-  pub shown : bit fallen running ≡ false
+  pub accesses_are : accesses ≡ before ++ (Writing (Px port Cmd) cleared
+      ∷ (between ++ (Reading (Px port Cmd) fallen ∷ later)))
+  pub start_is_cleared : bit cleared start ≡ false
+  pub cmd_is_unwritten : All (DoesNotWrite (Px port Cmd)) between
+  pub stop_is_shown : bit fallen running ≡ false
 
 -- ST was cleared, and CR was read 0
 abbrev pub Stops : Port → List Access → Type 0
@@ -54,10 +55,10 @@ pub record AwaitsEngineStop (start running : ℕ) (port : Port) (count : ℕ) (a
   pub before : List Access
   pub cleared : ℕ
   pub stuck : List Access
-  pub here : accesses ≡ before ++ (Writing (Px port Cmd) cleared ∷ stuck)
-  pub clears : bit cleared start ≡ false
-  pub number : length stuck ≡ count
-  pub all : All (ReadsPortCmd (ShowsStillRunning start running) port) stuck
+  pub accesses_are : accesses ≡ before ++ (Writing (Px port Cmd) cleared ∷ stuck)
+  pub start_is_cleared : bit cleared start ≡ false
+  pub count_is : length stuck ≡ count
+  pub all_show_running : All (ReadsPortCmd (ShowsStillRunning start running) port) stuck
 
 -- ST was cleared, and then 64 readings, the last of the accesses, showed CR still
 abbrev pub FailsToStop : Port → List Access → Type 0
@@ -72,6 +73,6 @@ pub record EngineSticks (port : Port) (accesses : List Access) : Type 0 where
   pub before : List Access
   pub stuck : List Access
   pub later : List Access
-  pub here : accesses ≡ before ++ (stuck ++ later)
-  pub number : length stuck ≡ MOST_READINGS
-  pub all : All (ReadsPortCmd ShowsStuck port) stuck
+  pub accesses_are : accesses ≡ before ++ (stuck ++ later)
+  pub count_is : length stuck ≡ MOST_READINGS
+  pub all_show_stuck : All (ReadsPortCmd ShowsStuck port) stuck

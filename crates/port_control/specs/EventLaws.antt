@@ -10,20 +10,20 @@ use Rattle.hba_regs.specs.declared.reg.Reg.TheVariants.{Ghc, Px}
 use Rattle.adapter.specs.Access.{Access, Does, PortShows, Reads, Stores, Writes}
 use Rattle.adapter.specs.Access.Access.{Writing}
 use Rattle.adapter.specs.Device.{DevicePort, Device}
-use Rattle.adapter.specs.Kept.{Keeps}
+use Rattle.adapter.specs.KeptBySteps.{Keeps}
 use Rattle.adapter.specs.Rules.{IsOn, MayWrite, IsStable}
 use Rattle.adapter.specs.RegisterEffects.{PortRegisterWritten}
 use Rattle.adapter.specs.Steps.{Steps}
 use Rattle.refinement.specs.Laws.{FragmentLaws, TapeLaws}
-use Rattle.refinement.specs.Driven.{AnyAccess, AnyUse, IsDrivenBy, SparesOtherPorts, SameUses, LeavesPort}
+use Rattle.refinement.specs.Fragments.{AnyAccess, AnyUse, IsDrivenBy, SparesOtherPorts, SameUses, LeavesPort}
 use Rattle.refinement.specs.Errors.{ChangesByErrors, NoneFails, StaysClear}
 use Rattle.refinement.specs.PortFacts.{IsFaulted, FaultsOnRecord, RunsWell, ShowsNoTrouble, TellsNoTrouble, Undisturbed}
 use Rattle.refinement.specs.Links.{LeavesControls, LeavesLink, NoPlugEvents, SameAdapter, DoesNotWrite}
-use Rattle.refinement.specs.Noted.{LeavesNotes}
+use Rattle.refinement.specs.PortNotes.{LeavesNotes}
 use Rattle.refinement.specs.Slots.{SlotStates}
-use Rattle.refinement.specs.Started.{ClearsNoStart, IsStarted}
-use Rattle.port_control.specs.Looks.{IsLooking}
-use Rattle.port_control.specs.Services.{IsService, HidesNoPlugEvent, HidesNoFatal}
+use Rattle.refinement.specs.StartedPort.{ClearsNoStart, IsStarted}
+use Rattle.port_control.specs.PortEvents.{IsEventAccess}
+use Rattle.port_control.specs.ServiceAccesses.{IsServiceAccess, HidesNoPlugEvent, HidesNoFatal}
 
 -- a look at a port, whatever the slots are used for; or ports are served, whose slots are used so
 pub data AccessPurpose : Type 0 where
@@ -31,8 +31,8 @@ pub data AccessPurpose : Type 0 where
   Serving : SlotStates → AccessPurpose
 
 abbrev pub accesses_for : AccessPurpose → Access → Type 0
-accesses_for (Looking port) = IsLooking port
-accesses_for (Serving uses) = IsService
+accesses_for (Looking port) = IsEventAccess port
+accesses_for (Serving uses) = IsServiceAccess
 
 abbrev pub slot_uses_for : AccessPurpose → SlotStates → Type 0
 slot_uses_for (Looking port) = AnyUse

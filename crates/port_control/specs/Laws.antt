@@ -5,7 +5,7 @@ use Rattle.adapter.specs.Access.{Access, Does, DoesAll, PortShows, Reads, Writes
 use Rattle.refinement.specs.Laws.{FragmentLaws, TapeLaws}
 use Rattle.refinement.specs.Relation.{StateRelation}
 use Rattle.refinement.specs.Driver.{AllFree, KeepsOtherCmdBits}
-use Rattle.refinement.specs.Driven.{AnyAccess, AnyUse, OnPortWriting, IsDrivenBy, SparesOtherPorts}
+use Rattle.refinement.specs.Fragments.{AnyAccess, AnyUse, IsPortAccessWriting, IsDrivenBy, SparesOtherPorts}
 use Rattle.refinement.specs.Errors.{NoDiskComes}
 use Rattle.hba_regs.specs.declared.reg.PortReg.TheVariants.{Ci, Clb, Clbu, Cmd, Fb, Fbu, Is, Sact, Sctl, Serr, Ssts, Tfd}
 use Rattle.adapter.specs.Device.{Device, DevicePort}
@@ -15,13 +15,13 @@ use Rattle.hba_regs.specs.declared.reg.Reg.TheVariants.{Ghc, Px}
 use Rattle.adapter.specs.Rules.{HasPort, IsOn, MaySetFre, MayStart, MayStopReceiving, MayWrite, IsStable}
 use Rattle.refinement.specs.PortFacts.{IsQuiescentPort, ShowsDrqTillLink, IsEngineStopped, IsCleanToStart, FaultsOnRecord, StoppedTfesClear, KeepsFaultRecord}
 use Rattle.port_control.specs.Ports.{IsErrorRegister, IsPlacingRegister, IsResetRegister, IsCommandRegister}
-use Rattle.refinement.specs.Recovering.{IsLinked, RunsLinked}
-use Rattle.refinement.specs.Started.{IsComingUp, IsStarted, IsUp, SetsNoStart}
+use Rattle.refinement.specs.HaltRecovery.{IsLinked, RunsLinked}
+use Rattle.refinement.specs.StartedPort.{IsComingUp, IsStarted, IsUp, SetsNoStart}
 use Rattle.block_machine.specs.Histories.{IsReachable}
-use Rattle.adapter.specs.Kept.{Keeps}
+use Rattle.adapter.specs.KeptBySteps.{Keeps}
 use Rattle.ata_types.specs.declared.memory.TheConstants.{LIST_BYTES, RECEIVED_FIS_BYTES}
 use Rattle.refinement.specs.Links.{LeavesControls, NoPlugEvents, SameAdapter, DoesNotWrite}
-use Rattle.refinement.specs.Noted.{LeavesNotes}
+use Rattle.refinement.specs.PortNotes.{LeavesNotes}
 use Rattle.block_machine.specs.State.{Machine}
 use Rattle.hba_regs.specs.declared.reg.PortReg.{PortReg}
 use Rattle.adapter.specs.RegisterEffects.{PortRegisterWritten, PortRegisterRead}
@@ -29,7 +29,7 @@ use Rattle.adapter.specs.Access.Access.{Reading, Writing}
 use Rattle.hba_regs.specs.declared.reg.Reg.{Reg}
 use Rattle.adapter.specs.Steps.{Steps}
 use Rattle.hba_regs.specs.Bits.{bit}
-use Rattle.refinement.specs.Places.{list_of, received_of}
+use Rattle.refinement.specs.MemoryLayout.{list_of, received_of}
 
 -- ---- kinds of accesses
 
@@ -52,8 +52,8 @@ pub data AccessPurpose : Type 0 where
   Starting : Port → AccessPurpose
 
 abbrev pub accesses_for : AccessPurpose → Access → Type 0
-accesses_for (Controlling set port) = OnPortWriting (registers_of set) port
-accesses_for (Starting port) = OnPortWriting IsCommandRegister port
+accesses_for (Controlling set port) = IsPortAccessWriting (registers_of set) port
+accesses_for (Starting port) = IsPortAccessWriting IsCommandRegister port
 
 abbrev pub slot_uses_for : AccessPurpose → SlotStates → Type 0
 slot_uses_for (Controlling set port) = AnyUse
@@ -201,14 +201,15 @@ pub record Laws : Type 0 where
   pub of_spares_ghc : (port : Port) (access : Access) → SparesOtherPorts port access → DoesNotWrite Ghc access
   -- this crate's kinds of accesses
   pub control_either : (set : RegisterSet) (port : Port) (access : Access)
-      → OnPortWriting (registers_of set) port access
+      → IsPortAccessWriting (registers_of set) port access
       → ((r : PortReg) × (v : ℕ) × (access ≡ Reading (Px port r) v))
       ⊎ ((r : PortReg) × (v : ℕ) × (access ≡ Writing (Px port r) v) × registers_of set r)
-  pub control_of : (set : RegisterSet) (port : Port) (access : Access) → OnPortWriting (registers_of set) port access
+  pub control_of : (set : RegisterSet) (port : Port) (access : Access)
+      → IsPortAccessWriting (registers_of set) port access
       → SparesOtherPorts port access
   pub control_spares : (set : RegisterSet) (port : Port) (r : PortReg) → (registers_of set r → ⊥) → (access : Access)
-      → OnPortWriting (registers_of set) port access → DoesNotWrite (Px port r) access
+      → IsPortAccessWriting (registers_of set) port access → DoesNotWrite (Px port r) access
   pub control_wider : (set more : RegisterSet) (port : Port)
       → ((r : PortReg) → registers_of set r → registers_of more r) → (access : Access)
-      → OnPortWriting (registers_of set) port access → OnPortWriting (registers_of more) port access
+      → IsPortAccessWriting (registers_of set) port access → IsPortAccessWriting (registers_of more) port access
   pub fragments : FragmentLaws AccessPurpose accesses_for slot_uses_for

@@ -11,13 +11,13 @@ use Rattle.adapter.specs.Access.{Access, Reads, Writes}
 use Rattle.adapter.specs.Access.Access.{Reading}
 use Rattle.adapter.specs.Device.{Bases, Notes, DevicePort, Device}
 use Rattle.adapter.specs.Rules.{IsOn, HasPort}
-use Rattle.refinement.specs.Driven.{RelatesWith, AnyUse, OnPortWriting, IsDrivenBy, IsSimulatedAlong}
+use Rattle.refinement.specs.Fragments.{RelatesWith, AnyUse, IsPortAccessWriting, IsDrivenBy, IsSimulatedAlong}
 use Rattle.refinement.specs.Errors.{NoDiskComes}
 use Rattle.refinement.specs.PortFacts.{ShowsDrqTillLink, IsEngineStopped, IsCleanToStart}
 use Rattle.refinement.specs.Links.{NoPlugEvents}
-use Rattle.refinement.specs.Places.{list_of, received_of}
+use Rattle.refinement.specs.MemoryLayout.{list_of, received_of}
 use Rattle.refinement.specs.Slots.{SlotStates}
-use Rattle.refinement.specs.Started.{IsUp, IsComingUp}
+use Rattle.refinement.specs.StartedPort.{IsUp, IsComingUp}
 use Rattle.port_control.specs.Engines.{FailsToStop, FailsToStopReceiving, Stops, StopsReceiving}
 use Rattle.port_control.specs.declared.PortFault.{PortFault}
 use Rattle.port_control.specs.declared.PortFault.TheVariants.{NoDevice, Busy, EngineStuck, NotAta}
@@ -44,9 +44,9 @@ IsResetRegister r = (r ≡ Sctl) ⊎ IsErrorRegister r
 
 -- The adapter is on and has the port; and some machine agrees with its device, with uses of the slots that fit.
 pub record IsOnAndAgrees (Fits : SlotStates → Type 0) (port : Port) (d : Device) : Type 0 where
-  pub on : IsOn d
-  pub there : HasPort d port.0
-  pub agreed : RelatesWith Fits d
+  pub adapter_is_on : IsOn d
+  pub has_port : HasPort d port.0
+  pub machine_is_related : RelatesWith Fits d
 
 -- where the port has its command list and its received FIS area
 abbrev pub programmed : ℕ → Bases
@@ -138,12 +138,12 @@ IsVainReading port r Shown access = ⊥
 -- The register was read so many times, and no value showed this; nothing else was done.
 pub record ReadsInVain (port : Port) (r : PortReg) (Shown : ℕ → Type 0) (count : ℕ) (old new : Device) : Type 0 where
   pub reads : IsDrivenBy (IsVainReading port r Shown) old new
-  pub number : length reads.accesses ≡ count
+  pub count_is : length reads.accesses ≡ count
 
 -- The register was read until its value showed this, 64 times at most.
 pub record ReadsUntil (port : Port) (r : PortReg) (Shown : ℕ → Type 0) (old new : Device) : Type 0 where
   pub count : ℕ
-  pub few : count < MOST_READINGS
+  pub count_is_allowed : count < MOST_READINGS
   pub waited : Device
   pub waits : ReadsInVain port r Shown count old waited
   pub value : ℕ
@@ -192,10 +192,10 @@ pub record SendsComresetThen (port : Port) (Then : Device → Device → Type 0)
   pub sends : Writes (Px port Sctl) 1 old sent
   pub ended : Device
   pub ends : Writes (Px port Sctl) 0 sent ended
-  pub rest : Then ended new
-  pub det : (new.port port.0).sctl_det ≡ 0
-  pub since : length old.tape ≤ (new.port port.0).notes.sctl_written_at
-  pub marked : (new.port port.0).notes.sctl_written_at ≤ length new.tape
+  pub does_rest : Then ended new
+  pub no_comreset : (new.port port.0).sctl_det ≡ 0
+  pub sctl_written_in_call : length old.tape ≤ (new.port port.0).notes.sctl_written_at
+  pub sctl_time_in_tape : (new.port port.0).notes.sctl_written_at ≤ length new.tape
 
 -- PxSERR shows N only where a disk of the port went or came since, and X only where one came: nothing is left of what
 -- was before (AHCI 1.3.1, 3.3.12).
@@ -207,19 +207,19 @@ pub record HasClearErrors (port : ℕ) (old new : Device) : Type 0 where
 -- any more; where none went either, it is up, with the disk's first FIS received. And whatever went or came: once PxTFD
 -- is read without DRQ, which it shows from COMRESET until the link comes up, the link isn't due, so that ST may be set.
 pub record IsDeviceFound (port : ℕ) (old new : Device) : Type 0 where
-  pub calm : (place : ℕ) → place < 32 → (new.port port).is place ≡ false
-  pub clear : HasClearErrors port old new
-  pub undue : NoDiskComes port old new → (new.port port).link_due ≡ false
-  pub up : NoPlugEvents port old new → IsUp (new.port port)
-  pub quiet : bit (new.port port).notes.last_tfd 3 ≡ false → IsCleanToStart (new.port port)
+  pub no_cause_is_set : (place : ℕ) → place < 32 → (new.port port).is place ≡ false
+  pub errors_are_clear : HasClearErrors port old new
+  pub no_link_is_due : NoDiskComes port old new → (new.port port).link_due ≡ false
+  pub link_is_up : NoPlugEvents port old new → IsUp (new.port port)
+  pub is_clean_to_start : bit (new.port port).notes.last_tfd 3 ≡ false → IsCleanToStart (new.port port)
 
 -- So it is where the link was coming up before, and was awaited.
 pub record FindsAwaitedLink (port : ℕ) (old new : Device) : Type 0 where
-  pub calm : (place : ℕ) → place < 32 → (new.port port).is place ≡ false
-  pub clear : IsComingUp (old.port port) → HasClearErrors port old new
-  pub undue : NoDiskComes port old new → IsComingUp (old.port port) → (new.port port).link_due ≡ false
-  pub up : NoPlugEvents port old new → IsComingUp (old.port port) → IsUp (new.port port)
-  pub quiet : ShowsDrqTillLink (old.port port) → bit (new.port port).notes.last_tfd 3 ≡ false
+  pub no_cause_is_set : (place : ℕ) → place < 32 → (new.port port).is place ≡ false
+  pub errors_are_clear : IsComingUp (old.port port) → HasClearErrors port old new
+  pub no_link_is_due : NoDiskComes port old new → IsComingUp (old.port port) → (new.port port).link_due ≡ false
+  pub link_is_up : NoPlugEvents port old new → IsComingUp (old.port port) → IsUp (new.port port)
+  pub is_clean_to_start : ShowsDrqTillLink (old.port port) → bit (new.port port).notes.last_tfd 3 ≡ false
       → IsCleanToStart (new.port port)
 
 -- Each bit of PxSERR and PxIS was cleared, and PxTFD was read with this value. The port receives FISes still; nothing
@@ -229,12 +229,12 @@ pub record ClearsErrorState (port : Port) (shown : ℕ) (old new : Device) : Typ
   pub clears : ClearsErrors port old cleared
   pub reads : Reads (Px port Tfd) shown cleared new
   pub receives : ReceivesFises port.0 (new.port port.0)
-  pub file : (new.port port.0).notes.last_tfd ≡ shown
-  pub seen : (new.port port.0).notes.last_ssts ≡ (old.port port.0).notes.last_ssts
-  pub count : (new.port port.0).notes.link_count ≡ (old.port port.0).notes.link_count
-  pub calm : (place : ℕ) → place < 32 → (new.port port.0).is place ≡ false
-  pub clear : HasClearErrors port.0 old new
-  pub quiet : IsCleanToStart (new.port port.0)
+  pub last_tfd_is : (new.port port.0).notes.last_tfd ≡ shown
+  pub last_ssts_is_kept : (new.port port.0).notes.last_ssts ≡ (old.port port.0).notes.last_ssts
+  pub link_count_is_kept : (new.port port.0).notes.link_count ≡ (old.port port.0).notes.link_count
+  pub no_cause_is_set : (place : ℕ) → place < 32 → (new.port port.0).is place ≡ false
+  pub errors_are_clear : HasClearErrors port.0 old new
+  pub is_clean_to_start : IsCleanToStart (new.port port.0)
 
 -- the signature that was read last is the one that the port shows
 abbrev pub ShowsSignature : DevicePort → Type 0
@@ -244,23 +244,24 @@ ShowsSignature p = p.notes.last_sig ≡ p.sig
 
 -- The port was stopped: CR fell, as was read after ST was cleared.
 pub record PortStops (port : Port) (old new : Device) : Type 0 where
-  pub told : IsSimulatedAlong (Stops port) (OnPortWriting IsCommandRegister port) AnyUse old new
+  pub is_simulated : IsSimulatedAlong (Stops port) (IsPortAccessWriting IsCommandRegister port) AnyUse old new
   pub stopped : IsStopped (new.port port.0)
 
 -- The port was to stop, and CR didn't fall in 64 readings, the last of the accesses.
 pub record FailsToStopPort (port : Port) (old new : Device) : Type 0 where
-  pub told : IsSimulatedAlong (FailsToStop port) (OnPortWriting IsCommandRegister port) AnyUse old new
-  pub stuck : BacksFault EngineStuck (new.port port.0).notes
+  pub is_simulated : IsSimulatedAlong (FailsToStop port) (IsPortAccessWriting IsCommandRegister port) AnyUse old new
+  pub stuck_is_backed : BacksFault EngineStuck (new.port port.0).notes
 
 -- A stopped port receives FISes, with its areas in their places: FR fell, as was read after FRE was cleared.
-pub record Receives (port : Port) (old new : Device) : Type 0 where
-  pub told : IsSimulatedAlong (StopsReceiving port) (OnPortWriting IsPlacingRegister port) AnyUse old new
+pub record BeginsReceiving (port : Port) (old new : Device) : Type 0 where
+  pub is_simulated : IsSimulatedAlong (StopsReceiving port) (IsPortAccessWriting IsPlacingRegister port) AnyUse old new
   pub receives : ReceivesFises port.0 (new.port port.0)
 
 -- A stopped port was to receive FISes, and FR didn't fall in 64 readings, the last of the accesses. FRE is 0, and the
 -- addresses are as they were.
 pub record FailsToReceive (port : Port) (old new : Device) : Type 0 where
-  pub told : IsSimulatedAlong (FailsToStopReceiving port) (OnPortWriting IsPlacingRegister port) AnyUse old new
-  pub stuck : BacksFault EngineStuck (new.port port.0).notes
+  pub is_simulated : IsSimulatedAlong (FailsToStopReceiving port) (IsPortAccessWriting IsPlacingRegister port) AnyUse
+      old new
+  pub stuck_is_backed : BacksFault EngineStuck (new.port port.0).notes
   pub fre : (new.port port.0).fre ≡ false
   pub bases : (new.port port.0).bases ≡ (old.port port.0).bases

@@ -3,16 +3,16 @@
 //! `take_event` is for ready ports, and acknowledges what it has read. `has_device` and
 //! `has_changed` are for others, and write nothing. No call asks for a machine, and none hides
 //! trouble that it hasn't read. Here stand, too, the words and laws on accesses that serve ports
-//! (`IsService`, `law_services_keep_ports_running`): they let these write PxCI, since it is between issues that
+//! (`IsServiceAccess`, `law_services_keep_ports_running`): they let these write PxCI, since it is between issues that
 //! ports are looked at.
 ghost use Rattle.std.specs.Prelude.{◌≡◌, ◌||◌, ◌==◌, ◌%◌, not};
 ghost use Rattle.adapter.specs.Rules.{IsOn, HasPort};
-ghost use Rattle.refinement.specs.Driven.{AnyUse, IsSimulated};
+ghost use Rattle.refinement.specs.Fragments.{AnyUse, IsSimulated};
 ghost use Rattle.hba_regs.specs.Bits.{bit};
-ghost use Rattle.port_control.specs.Glances.{FindsChange, FindsDevice};
-ghost use Rattle.port_control.specs.Looks.{port_event_of, IsLooking, LooksAt};
-ghost use Rattle.adapter.specs.Counted.{MakesAtMost};
-ghost use Rattle.port_control.specs.LookCosts.{CHANGE_CHECK_ACCESSES, LOOK_ACCESSES};
+ghost use Rattle.port_control.specs.DeviceChecks.{FindsChange, FindsDevice};
+ghost use Rattle.port_control.specs.PortEvents.{port_event_of, IsEventAccess, TakesEvent};
+ghost use Rattle.adapter.specs.AccessBounds.{MakesAtMost};
+ghost use Rattle.port_control.specs.EventCosts.{CHANGE_CHECK_ACCESSES, TAKE_EVENT_ACCESSES};
 
 use adapter::Adapter;
 use ata_types::Port;
@@ -86,9 +86,9 @@ pub fn take_event<A: Adapter>(adapter: &mut A, port: Port) -> PortEvent
     requires on { IsOn (A.device adapter.old) }
     requires there { HasPort (A.device adapter.old) port.0 }
     ensures on { IsOn (A.device adapter.new) }
-    ensures looks { LooksAt port result (A.device adapter.old) (A.device adapter.new) }
-    ensures followed { IsSimulated (IsLooking port) AnyUse (A.device adapter.old) (A.device adapter.new) }
-    ensures cost { MakesAtMost LOOK_ACCESSES (A.access_count adapter.old) (A.access_count adapter.new) }
+    ensures looks { TakesEvent port result (A.device adapter.old) (A.device adapter.new) }
+    ensures followed { IsSimulated (IsEventAccess port) AnyUse (A.device adapter.old) (A.device adapter.new) }
+    ensures cost { MakesAtMost TAKE_EVENT_ACCESSES (A.access_count adapter.old) (A.access_count adapter.new) }
 {
     law_prerequisites();
     let interrupts = PortInterrupts(adapter.read(Reg::Px(port, PortReg::Is)));
@@ -105,7 +105,7 @@ pub fn has_device<A: Adapter>(adapter: &mut A, port: Port) -> bool
     requires there { HasPort (A.device adapter.old) port.0 }
     ensures on { IsOn (A.device adapter.new) }
     ensures finds { FindsDevice port result (A.device adapter.old) (A.device adapter.new) }
-    ensures followed { IsSimulated (IsLooking port) AnyUse (A.device adapter.old) (A.device adapter.new) }
+    ensures followed { IsSimulated (IsEventAccess port) AnyUse (A.device adapter.old) (A.device adapter.new) }
     ensures cost { MakesAtMost 1 (A.access_count adapter.old) (A.access_count adapter.new) }
 {
     law_prerequisites();
@@ -121,7 +121,7 @@ pub fn has_changed<A: Adapter>(adapter: &mut A, port: Port) -> bool
     requires there { HasPort (A.device adapter.old) port.0 }
     ensures on { IsOn (A.device adapter.new) }
     ensures finds { FindsChange port result (A.device adapter.old) (A.device adapter.new) }
-    ensures followed { IsSimulated (IsLooking port) AnyUse (A.device adapter.old) (A.device adapter.new) }
+    ensures followed { IsSimulated (IsEventAccess port) AnyUse (A.device adapter.old) (A.device adapter.new) }
     ensures cost { MakesAtMost CHANGE_CHECK_ACCESSES (A.access_count adapter.old) (A.access_count adapter.new) }
 {
     law_prerequisites();

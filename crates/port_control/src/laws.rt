@@ -2,7 +2,7 @@
 ghost use Rattle.std.specs.Prelude.{ℕ, ◌++◌, List};
 ghost use Rattle.ata_types.specs.declared.Port.{Port};
 ghost use Rattle.adapter.specs.Access.{Access};
-ghost use Rattle.refinement.specs.Driven.{OnPortWriting, SparesOtherPorts};
+ghost use Rattle.refinement.specs.Fragments.{IsPortAccessWriting, SparesOtherPorts};
 ghost use Rattle.refinement.specs.Links.{DoesNotWrite};
 ghost use Rattle.hba_regs.specs.declared.reg.PortReg.TheVariants.{Sctl};
 ghost use Rattle.hba_regs.specs.declared.reg.Reg.TheVariants.{Px};
@@ -32,11 +32,11 @@ pub fn law_what_is_told_of_engines_stays()
 /// No call touches a register of another port, nor another port's bit of IS: so what is said of such accesses
 /// (`SparesOtherPorts`) is so of each. Those that stop and start, and those that receive FISes, don't write PxSCTL.
 pub fn law_calls_are_of_one_port()
-    ensures commanding { (port : Port) (access : Access) → OnPortWriting IsCommandRegister port access
+    ensures commanding { (port : Port) (access : Access) → IsPortAccessWriting IsCommandRegister port access
         → SparesOtherPorts port access × DoesNotWrite (Px port Sctl) access }
-    ensures placing { (port : Port) (access : Access) → OnPortWriting IsPlacingRegister port access
+    ensures placing { (port : Port) (access : Access) → IsPortAccessWriting IsPlacingRegister port access
         → SparesOtherPorts port access × DoesNotWrite (Px port Sctl) access }
-    ensures resetting { (port : Port) (access : Access) → OnPortWriting IsResetRegister port access
+    ensures resetting { (port : Port) (access : Access) → IsPortAccessWriting IsResetRegister port access
         → SparesOtherPorts port access }
 {
     law_prerequisites();

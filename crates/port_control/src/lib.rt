@@ -10,14 +10,14 @@
 ghost use Rattle.std.specs.Prelude.{ℕ, ◌≡◌, ◌≢◌, ◌<◌, ◌≤◌, ◌||◌, true, false, IfOk, IfErr, OnOk};
 ghost use Rattle.hba_regs.specs.Bits.{bit};
 ghost use Rattle.adapter.specs.Rules.{IsOn};
-ghost use Rattle.refinement.specs.Driven.{AnyUse, OnPortWriting, IsSimulated, IsSimulatedAlong};
+ghost use Rattle.refinement.specs.Fragments.{AnyUse, IsPortAccessWriting, IsSimulated, IsSimulatedAlong};
 ghost use Rattle.refinement.specs.Driver.{AllFree};
 ghost use Rattle.refinement.specs.PortFacts.{IsQuiescentPort};
 ghost use Rattle.port_control.specs.Calls.{AsksForDevice, FindsDisk, FindsFault, MayBeginReceiving, MayBeStarted, MayClearErrorState, MayResetLink, StaysReceiving, Starts, StaysStopped};
 ghost use Rattle.port_control.specs.Engines.{FailsToStopReceiving, StopsReceiving};
-ghost use Rattle.port_control.specs.Parts.{AwaitsIdle, ClearsFre, DeviceComes, LeavesNoError, MissesDevice, PlacesAreas, SeesDisk, SeesFault, SendsComreset};
-ghost use Rattle.port_control.specs.Ports.{FailsToStopPort, FailsToReceive, PortStops, Receives, IsCommandRegister, IsPlacingRegister, IsErrorRegister, IsResetRegister, IsOnAndAgrees, IsStopped, ReceivesFises, SawDevice, BacksFault, SameSctlAndNotes, HasStCleared, ClearsErrorState, programmed};
-ghost use Rattle.adapter.specs.Counted.{MakesAtMost};
+ghost use Rattle.port_control.specs.CallParts.{AwaitsIdle, ClearsFre, DeviceComes, LeavesNoError, MissesDevice, PlacesAreas, FindsDiskAfterReset, FindsFaultAfterReset, SendsComreset};
+ghost use Rattle.port_control.specs.Ports.{FailsToStopPort, FailsToReceive, PortStops, BeginsReceiving, IsCommandRegister, IsPlacingRegister, IsErrorRegister, IsResetRegister, IsOnAndAgrees, IsStopped, ReceivesFises, SawDevice, BacksFault, SameSctlAndNotes, HasStCleared, ClearsErrorState, programmed};
+ghost use Rattle.adapter.specs.AccessBounds.{MakesAtMost};
 ghost use Rattle.port_control.specs.Costs.{AWAIT_DEVICE_ACCESSES, CLEAR_ACCESSES, COMRESET_ACCESSES, ERROR_STATE_ACCESSES, RECEIVE_ACCESSES, DETECT_ACCESSES, START_ACCESSES, STOP_ACCESSES};
 
 use adapter::Adapter;
@@ -116,7 +116,7 @@ pub fn stop<A: Adapter>(adapter: &mut A, port: Port) -> Result<Stopped, PortFaul
     adapter.write(Reg::Px(port, PortReg::Cmd), command.without_start().0);
     for _reading in 0..MOST_READINGS {
         let shown = PortCommand(adapter.read(Reg::Px(port, PortReg::Cmd)));
-        if !shown.list_running() {
+        if !shown.is_list_running() {
             return Ok(Stopped { port });
         }
     }
@@ -128,11 +128,12 @@ fn stop_receiving<A: Adapter>(adapter: &mut A, port: Port) -> bool
     requires usable { IsOnAndAgrees AnyUse port (A.device adapter.old) }
     requires stopped { IsStopped ((A.device adapter.old).port port.0) }
     ensures clears { ClearsFre ((A.device adapter.old).port port.0) ((A.device adapter.new).port port.0) }
-    ensures stops { result ≡ true → IsSimulatedAlong (StopsReceiving port) (OnPortWriting IsCommandRegister port) AnyUse
+    ensures stops { result ≡ true → IsSimulatedAlong (StopsReceiving port) (IsPortAccessWriting IsCommandRegister port)
+        AnyUse
         (A.device adapter.old) (A.device adapter.new) }
     ensures fallen { result ≡ true → ((A.device adapter.new).port port.0).fr ≡ false }
     ensures sticks { result ≡ false
-        → IsSimulatedAlong (FailsToStopReceiving port) (OnPortWriting IsCommandRegister port) AnyUse
+        → IsSimulatedAlong (FailsToStopReceiving port) (IsPortAccessWriting IsCommandRegister port) AnyUse
         (A.device adapter.old) (A.device adapter.new)
         × BacksFault PortFault.EngineStuck ((A.device adapter.new).port port.0).notes }
     ensures cost { MakesAtMost STOP_ACCESSES (A.access_count adapter.old) (A.access_count adapter.new) }
@@ -142,7 +143,7 @@ fn stop_receiving<A: Adapter>(adapter: &mut A, port: Port) -> bool
     adapter.write(Reg::Px(port, PortReg::Cmd), command.without_receive().0);
     for _reading in 0..MOST_READINGS {
         let shown = PortCommand(adapter.read(Reg::Px(port, PortReg::Cmd)));
-        if !shown.receive_running() {
+        if !shown.is_receive_running() {
             return true;
         }
     }
@@ -154,7 +155,7 @@ fn place<A: Adapter>(adapter: &mut A, port: Port)
     requires usable { IsOnAndAgrees AnyUse port (A.device adapter.old) }
     requires quiet { IsQuiescentPort ((A.device adapter.old).port port.0) }
     requires room { DRIVER_BYTES ≤ (A.device adapter.old).size }
-    ensures followed { IsSimulated (OnPortWriting IsPlacingRegister port) AnyUse (A.device adapter.old)
+    ensures followed { IsSimulated (IsPortAccessWriting IsPlacingRegister port) AnyUse (A.device adapter.old)
         (A.device adapter.new) }
     ensures places { PlacesAreas port.0 ((A.device adapter.old).port port.0) ((A.device adapter.new).port port.0) }
     ensures cost { MakesAtMost 4 (A.access_count adapter.old) (A.access_count adapter.new) }
@@ -172,7 +173,7 @@ fn start_receiving<A: Adapter>(adapter: &mut A, port: Port)
     requires usable { IsOnAndAgrees AnyUse port (A.device adapter.old) }
     requires quiet { IsQuiescentPort ((A.device adapter.old).port port.0) }
     requires bases { ((A.device adapter.old).port port.0).bases ≡ programmed port.0 }
-    ensures followed { IsSimulated (OnPortWriting IsCommandRegister port) AnyUse (A.device adapter.old)
+    ensures followed { IsSimulated (IsPortAccessWriting IsCommandRegister port) AnyUse (A.device adapter.old)
         (A.device adapter.new) }
     ensures receives { ReceivesFises port.0 ((A.device adapter.new).port port.0) }
     ensures same { SameSctlAndNotes ((A.device adapter.old).port port.0) ((A.device adapter.new).port port.0) }
@@ -196,7 +197,7 @@ pub fn receive<A: Adapter>(
     ensures on { IsOn (A.device adapter.new) }
     ensures stays { StaysStopped stopped.port (A.device adapter.old) (A.device adapter.new) }
     ensures names { IfOk result (λ token. token.port ≡ stopped.port) }
-    ensures receives { OnOk result (Receives stopped.port (A.device adapter.old) (A.device adapter.new)) }
+    ensures receives { OnOk result (BeginsReceiving stopped.port (A.device adapter.old) (A.device adapter.new)) }
     ensures fails { IfErr result (λ fault. (fault.0 ≡ PortFault.EngineStuck) × (fault.1 ≡ stopped)
         × FailsToReceive stopped.port (A.device adapter.old) (A.device adapter.new)) }
     ensures cost { MakesAtMost RECEIVE_ACCESSES (A.access_count adapter.old) (A.access_count adapter.new) }
@@ -215,7 +216,7 @@ pub fn receive<A: Adapter>(
 fn send_comreset<A: Adapter>(adapter: &mut A, port: Port)
     requires usable { IsOnAndAgrees AnyUse port (A.device adapter.old) }
     requires receives { ReceivesFises port.0 ((A.device adapter.old).port port.0) }
-    ensures followed { IsSimulated (OnPortWriting IsResetRegister port) AnyUse (A.device adapter.old)
+    ensures followed { IsSimulated (IsPortAccessWriting IsResetRegister port) AnyUse (A.device adapter.old)
         (A.device adapter.new) }
     ensures sends { SendsComreset port (A.device adapter.old) (A.device adapter.new) }
     ensures cost { MakesAtMost 2 (A.access_count adapter.old) (A.access_count adapter.new) }
@@ -229,7 +230,7 @@ fn send_comreset<A: Adapter>(adapter: &mut A, port: Port)
 fn wait_for_device<A: Adapter>(adapter: &mut A, port: Port) -> bool
     requires usable { IsOnAndAgrees AnyUse port (A.device adapter.old) }
     requires det { ((A.device adapter.old).port port.0).sctl_det ≡ 0 }
-    ensures followed { IsSimulated (OnPortWriting IsErrorRegister port) AnyUse (A.device adapter.old)
+    ensures followed { IsSimulated (IsPortAccessWriting IsErrorRegister port) AnyUse (A.device adapter.old)
         (A.device adapter.new) }
     ensures finds { result ≡ true → DeviceComes port (A.device adapter.old) (A.device adapter.new) }
     ensures misses { result ≡ false → MissesDevice port (A.device adapter.old) (A.device adapter.new) }
@@ -249,7 +250,7 @@ fn wait_for_device<A: Adapter>(adapter: &mut A, port: Port) -> bool
 fn clear_errors<A: Adapter>(adapter: &mut A, port: Port)
     requires usable { IsOnAndAgrees AnyUse port (A.device adapter.old) }
     requires receives { ReceivesFises port.0 ((A.device adapter.old).port port.0) }
-    ensures followed { IsSimulated (OnPortWriting IsErrorRegister port) AnyUse (A.device adapter.old)
+    ensures followed { IsSimulated (IsPortAccessWriting IsErrorRegister port) AnyUse (A.device adapter.old)
         (A.device adapter.new) }
     ensures saw { SawDevice ((A.device adapter.old).port port.0).notes → SawDevice
         ((A.device adapter.new).port port.0).notes }
@@ -266,7 +267,7 @@ fn clear_errors<A: Adapter>(adapter: &mut A, port: Port)
 /// due.
 pub fn clear_error_state<A: Adapter>(adapter: &mut A, port: Port) -> TaskFile
     requires may { MayClearErrorState port (A.device adapter.old) }
-    ensures followed { IsSimulated (OnPortWriting IsErrorRegister port) AnyUse (A.device adapter.old)
+    ensures followed { IsSimulated (IsPortAccessWriting IsErrorRegister port) AnyUse (A.device adapter.old)
         (A.device adapter.new) }
     ensures on { IsOn (A.device adapter.new) }
     ensures forgets { ClearsErrorState port result.0 (A.device adapter.old) (A.device adapter.new) }
@@ -282,7 +283,7 @@ pub fn clear_error_state<A: Adapter>(adapter: &mut A, port: Port) -> TaskFile
 pub fn clear_serr_and_detect<A: Adapter>(adapter: &mut A, port: Port) -> bool
     requires usable { IsOnAndAgrees AnyUse port (A.device adapter.old) }
     ensures on { IsOn (A.device adapter.new) }
-    ensures followed { IsSimulated (OnPortWriting IsErrorRegister port) AnyUse (A.device adapter.old)
+    ensures followed { IsSimulated (IsPortAccessWriting IsErrorRegister port) AnyUse (A.device adapter.old)
         (A.device adapter.new) }
     ensures asks { AsksForDevice port result (A.device adapter.old) (A.device adapter.new) }
     ensures cost { MakesAtMost DETECT_ACCESSES (A.access_count adapter.old) (A.access_count adapter.new) }
@@ -298,7 +299,7 @@ fn wait_until_idle<A: Adapter>(adapter: &mut A, port: Port) -> bool
     requires usable { IsOnAndAgrees AnyUse port (A.device adapter.old) }
     requires det { ((A.device adapter.old).port port.0).sctl_det ≡ 0 }
     requires saw { SawDevice ((A.device adapter.old).port port.0).notes }
-    ensures followed { IsSimulated (OnPortWriting IsErrorRegister port) AnyUse (A.device adapter.old)
+    ensures followed { IsSimulated (IsPortAccessWriting IsErrorRegister port) AnyUse (A.device adapter.old)
         (A.device adapter.new) }
     ensures awaits { AwaitsIdle port result (A.device adapter.old) (A.device adapter.new) }
     ensures cost { MakesAtMost MOST_READINGS (A.access_count adapter.old) (A.access_count adapter.new) }
@@ -318,10 +319,11 @@ fn look<A: Adapter>(adapter: &mut A, port: Port) -> Result<(), PortFault>
     requires usable { IsOnAndAgrees AnyUse port (A.device adapter.old) }
     requires receives { ReceivesFises port.0 ((A.device adapter.old).port port.0) }
     requires det { ((A.device adapter.old).port port.0).sctl_det ≡ 0 }
-    ensures followed { IsSimulated (OnPortWriting IsErrorRegister port) AnyUse (A.device adapter.old)
+    ensures followed { IsSimulated (IsPortAccessWriting IsErrorRegister port) AnyUse (A.device adapter.old)
         (A.device adapter.new) }
-    ensures sees { OnOk result (SeesDisk port (A.device adapter.old) (A.device adapter.new)) }
-    ensures fault { IfErr result (λ fault. SeesFault port fault (A.device adapter.old) (A.device adapter.new)) }
+    ensures sees { OnOk result (FindsDiskAfterReset port (A.device adapter.old) (A.device adapter.new)) }
+    ensures fault { IfErr result (λ fault. FindsFaultAfterReset port fault (A.device adapter.old)
+        (A.device adapter.new)) }
     ensures cost { MakesAtMost AWAIT_DEVICE_ACCESSES (A.access_count adapter.old) (A.access_count adapter.new) }
 {
     law_prerequisites();
@@ -360,7 +362,7 @@ pub fn comreset<A: Adapter>(
     receiving: Receiving,
 ) -> Result<Receiving, (PortFault, Receiving)>
     requires may { MayResetLink receiving.port (A.device adapter.old) }
-    ensures followed { IsSimulated (OnPortWriting IsResetRegister receiving.port) AnyUse (A.device adapter.old)
+    ensures followed { IsSimulated (IsPortAccessWriting IsResetRegister receiving.port) AnyUse (A.device adapter.old)
         (A.device adapter.new) }
     ensures on { IsOn (A.device adapter.new) }
     ensures resets { StaysReceiving receiving.port (A.device adapter.old) (A.device adapter.new) }
@@ -387,7 +389,7 @@ pub fn comreset<A: Adapter>(
 /// set ST again after an error needs no COMRESET.
 pub fn start<A: Adapter>(adapter: &mut A, receiving: Receiving) -> Running
     requires may { MayBeStarted receiving.port (A.device adapter.old) }
-    ensures followed { IsSimulated (OnPortWriting IsCommandRegister receiving.port)
+    ensures followed { IsSimulated (IsPortAccessWriting IsCommandRegister receiving.port)
         (λ uses. AllFree uses receiving.port.0)
         (A.device adapter.old) (A.device adapter.new) }
     ensures on { IsOn (A.device adapter.new) }

@@ -4,11 +4,11 @@ ghost use Rattle.port_control.specs.Laws.{Laws};
 use adapter::laws::{
     law_accesses_compose, law_port_register_accesses, law_step_lists_keep_what_steps_keep,
 };
+use refinement::access_kinds::{law_controls_are_of_a_port, law_fragment_prerequisites};
 use refinement::fragments::{
     law_causes_stay_clear, law_other_ports_are_left, law_tape_prerequisites, law_written_notes_stay,
 };
 use refinement::giving_up::law_stopped_slots_tell;
-use refinement::kinds::{law_controls_are_of_a_port, law_fragment_prerequisites};
 use refinement::laws::{
     law_clear_bits_stay, law_placing_areas_is_permitted, law_slots_are_disarmed,
     law_writing_cmd_is_permitted, law_writing_is_permitted,

@@ -4,7 +4,7 @@ use Rattle.ata_types.specs.declared.Port.{Port}
 use Rattle.ata_types.specs.declared.PortState.{PortState}
 use Rattle.ata_types.specs.declared.PortState.TheVariants.{Absent, Dead, Foreign, Ready, Unfit}
 use Rattle.adapter.specs.Device.{Device}
-use Rattle.refinement.specs.Driven.{AnyUse, IsSimulated}
+use Rattle.refinement.specs.Fragments.{AnyUse, IsSimulated}
 use Rattle.block_machine.specs.declared.due.QueueMode.{QueueMode}
 use Rattle.error_recovery.specs.declared.Next.{Next}
 use Rattle.error_recovery.specs.declared.Next.TheVariants as next
@@ -14,12 +14,12 @@ use Rattle.host_boot.specs.declared.ProbeResult.TheVariants.{Unready}
 use Rattle.identify.specs.declared.wanted.Wanted.{Wanted}
 use Rattle.port_control.specs.declared.Running.{Running}
 use Rattle.port_control.specs.declared.Stopped.{Stopped}
-use Rattle.port_control.specs.Looks.{IsLooking}
+use Rattle.port_control.specs.PortEvents.{IsEventAccess}
 use Rattle.server_history.specs.ErrorHandling.{HasNoUsedSlot}
-use Rattle.server_history.specs.Server.{ServerState, SettledInvariant}
+use Rattle.server_history.specs.ServerState.{ServerState, SettledInvariant}
 use Rattle.server_history.specs.Probing.{ProbesAnew, IsProbedAnew, IsLookedAt, ProbesPort}
 use Rattle.server_history.specs.Turns.{ProbesUnready}
-use Rattle.slots.specs.Uses.{PortSlots}
+use Rattle.slots.specs.SlotUses.{PortSlots}
 
 -- what is to be booted isn't dead
 pub booted_alive : (state : PortState) (port : Port) (old new : Device) → IsLookedAt state port true old new → state ≢ Dead
@@ -47,41 +47,41 @@ found_anew s new found mode slots number = record s {
 
 -- what the law says of a port that was tried
 abbrev pub SettlesTried : Type 0
-SettlesTried = (s new : ServerState) (port : Port) → SettledInvariant s → (probes : ProbesPort port s new) → (probes.state ≢ Dead → IsSimulated (IsLooking port) AnyUse s.device probes.seen) → ProbesUnready port s new × SettledInvariant new
+SettlesTried = (s new : ServerState) (port : Port) → SettledInvariant s → (probes : ProbesPort port s new) → (probes.state ≢ Dead → IsSimulated (IsEventAccess port) AnyUse s.device probes.seen) → ProbesUnready port s new × SettledInvariant new
 
 module _ (law : SettlesTried) (s : ServerState) (port : Port) (state : PortState) (is : probe_result_of s.ports port.0 ≡ Unready state) (settled : SettledInvariant s) (seen : Device) where
   -- where nothing shows, that was all
-  pub left_settles : IsLookedAt state port false s.device seen → IsSimulated (IsLooking port) AnyUse s.device seen → ProbesUnready port s (record s { device = seen }) × SettledInvariant (record s { device = seen })
+  pub left_settles : IsLookedAt state port false s.device seen → IsSimulated (IsEventAccess port) AnyUse s.device seen → ProbesUnready port s (record s { device = seen }) × SettledInvariant (record s { device = seen })
   left_settles looks followed = law s (record s { device = seen }) port settled probes (λ alive. followed)
     where
       probes : ProbesPort port s (record s { device = seen })
       probes = record {
         state = state;
-        is = is;
+        unready_state_is = is;
         result = false;
         seen = seen;
-        looks = looks;
+        is_looked_at = looks;
         left = λ none. refl;
         boots = λ booted. let z : false ≡ true = booted in absurd cc;
       }
 
-  module _ (looks : IsLookedAt state port true s.device seen) (followed : IsSimulated (IsLooking port) AnyUse s.device seen) (new : Device) (found : ProbeResult) (mode : QueueMode) (slots : PortSlots)
+  module _ (looks : IsLookedAt state port true s.device seen) (followed : IsSimulated (IsEventAccess port) AnyUse s.device seen) (new : Device) (found : ProbeResult) (mode : QueueMode) (slots : PortSlots)
       (finds : ProbesAnew (wanted_of s.wanted port.0) port found mode seen new) (unused : HasNoUsedSlot mode slots) where
     boots_so : ProbesPort port s (found_anew s new found mode slots port.0)
     boots_so = record {
       state = state;
-      is = is;
+      unready_state_is = is;
       result = true;
       seen = seen;
-      looks = looks;
+      is_looked_at = looks;
       left = λ none. let z : true ≡ false = none in absurd cc;
       boots = λ booted. record {
         found = found;
         mode = mode;
-        anew = finds;
+        probes_anew = finds;
         slots = slots;
-        unused = unused;
-        server = refl;
+        has_no_used_slot = unused;
+        server_is = refl;
       };
     }
 

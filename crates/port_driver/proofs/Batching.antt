@@ -11,21 +11,21 @@ use Rattle.ata_types.specs.declared.request.Frame.{Frame}
 use Rattle.ata_types.specs.declared.request.Op.{Op}
 use Rattle.ata_types.specs.declared.request.Op.TheVariants.{Read, Write, Trim, Flush}
 use Rattle.adapter.specs.Device.{Device}
-use Rattle.adapter.specs.Counted.{MakesAtMost}
-use Rattle.block_machine.specs.Due.{AreAllDueInOrder, IsDue, due_of, is_plain, with_issued}
+use Rattle.adapter.specs.AccessBounds.{MakesAtMost}
+use Rattle.block_machine.specs.DueRequests.{AreAllDueInOrder, IsDue, due_of, is_plain, with_issued}
 use Rattle.block_machine.specs.declared.due.QueueMode.{QueueMode}
 use Rattle.block_machine.specs.declared.due.Unanswered.{Unanswered}
 use Rattle.commands.specs.Costs.{ISSUE_ACCESSES}
 use Rattle.commands.specs.Tasks.{IsFitTransfer, IsTransfer}
 use Rattle.host_boot.specs.declared.ProbeResult.{ProbeResult}
 use Rattle.commands.specs.Batches.{PlacedTask}
-use Rattle.request_queue.specs.Entries.{BookEntry, BookIsInOrder, IsAccepted, asks, asks_of, due_ids, issue, update_if_id}
+use Rattle.request_queue.specs.BookEntries.{BookEntry, BookIsInOrder, IsAccepted, as_unanswered, unanswered_of, due_ids, issued_entry, update_if_id}
 use Rattle.request_queue.specs.declared.PendingRequest.{PendingRequest}
-use Rattle.server_history.specs.Served.{IssuesTogetherIfAny, IssuesTogether, ChangesSlotsAndBook, PutsInSlot, PutsInSlots, task_of, use_for}
-use Rattle.server_history.specs.Server.{InCallInvariant, ServerState, mode_in, no_slots, slots_at, state_of}
-use Rattle.slots.specs.Uses.{IsLowestFree, PortSlots, with_use}
+use Rattle.server_history.specs.IssuingAndAnswering.{IssuesTogetherIfAny, IssuesTogether, ChangesSlotsAndBook, PutsInSlot, PutsInSlots, task_of, use_for}
+use Rattle.server_history.specs.ServerState.{InCallInvariant, ServerState, mode_in, no_slots, slots_at, state_of}
+use Rattle.slots.specs.SlotUses.{IsLowestFree, PortSlots, with_use}
 use Rattle.port_driver.specs.Issuing.{IssuesWhatIsDue, MayIssueDue}
-use Rattle.port_driver.specs.Ports.{HasFoundPort, with_port_slots}
+use Rattle.port_driver.specs.LentSlots.{HasFoundPort, with_port_slots}
 use Rattle.port_driver.specs.declared.served_port.ServedPort.{ServedPort}
 use Rattle.port_driver.proofs.Sending as sending
 
@@ -35,10 +35,10 @@ put_length port [] [] old new same = ap (λ (s : ServerState). length s.book) sa
 put_length port [] (u ∷ tasks) old new none = absurd none
 put_length port (i ∷ ids) [] old new none = absurd none
 put_length port (i ∷ ids) (u ∷ tasks) old new (mid, one, rest) =
-    put_length port ids tasks mid new rest ∙ (ap (λ (s : ServerState). length s.book) one.server ∙ length-map old.book (update_if_id i issue))
+    put_length port ids tasks mid new rest ∙ (ap (λ (s : ServerState). length s.book) one.server_is ∙ length-map old.book (update_if_id i issued_entry))
 
 issued_length : (port : Port) (ids : List RequestId) (old new : ServerState) → IssuesTogether port ids old new → length new.book ≡ length old.book
-issued_length port ids old new issues = ap (λ (s : ServerState). length s.book) issues.server ∙ put_length port ids issues.tasks old issues.taken issues.puts
+issued_length port ids old new issues = ap (λ (s : ServerState). length s.book) issues.server_is ∙ put_length port ids issues.tasks old issues.taken issues.puts
 
 -- ---- one more is put in a slot
 
@@ -83,16 +83,16 @@ module _ (x : Preparing) (s : ServerState) (l : HasFoundPort s x.start x.first_b
   mid = with_port_slots s x.start x.book x.slots x.port
 
   pub mid_slots : slots_at mid.slots x.port.0 ≡ x.slots
-  mid_slots = get_or-set_same s.slots x.port.0 x.slots no_slots (sending.ready_listed s x.port l.kept (ap state_of l.found_is ∙ x.ready))
+  mid_slots = get_or-set_same s.slots x.port.0 x.slots no_slots (sending.ready_listed s x.port l.in_call_invariant (ap state_of l.found_is ∙ x.ready))
 
-  pub mid_due : IsDue (mode_in mid x.port) (asks_of mid.book) (asks e.entry)
-  mid_due = subst (λ (m : QueueMode). IsDue m (asks_of x.book) (asks e.entry)) (sym l.mode_is) x.turn.4
+  pub mid_due : IsDue (mode_in mid x.port) (unanswered_of mid.book) (as_unanswered e.entry)
+  mid_due = subst (λ (m : QueueMode). IsDue m (unanswered_of x.book) (as_unanswered e.entry)) (sym l.mode_is) x.turn.4
 
   -- the request as its entry was found
   module _ (goes_on : ChangesSlotsAndBook s mid) (one : (entries : List BookEntry) (a b : BookEntry) → BookIsInOrder entries → Contains entries a → Contains entries b → a.entry.id ≡ b.entry.id → a ≡ b)
       (r : PendingRequest) (frames : List Frame) (held : Contains x.book (record { entry = r; frames = frames })) (same : r.id ≡ x.id) (queued : is_plain x.mode e.entry.op ≡ false) where
     found_is : record { entry = r; frames = frames } ≡ e
-    found_is = one x.book (record { entry = r; frames = frames }) e goes_on.ordered held x.turn.1 (same ∙ sym x.turn.2)
+    found_is = one x.book (record { entry = r; frames = frames }) e goes_on.book_is_in_order held x.turn.1 (same ∙ sym x.turn.2)
 
     -- its task, as it is made
     pub task_made : (slot : ℕ) (made : List Frame) → made ≡ frames
@@ -105,11 +105,11 @@ module _ (x : Preparing) (s : ServerState) (l : HasFoundPort s x.start x.first_b
 
   pub fits : ChangesSlotsAndBook s mid → is_plain x.mode e.entry.op ≡ false → (slot : ℕ) → (is_plain x.mode e.entry.op ≡ true → slot ≡ 0) → IsFitTransfer (task_of x.mode e) e.frames
   fits goes_on queued slot head =
-      (sending.may_go s.table e (All-contains (IsAccepted s.table) x.book e goes_on.accepted x.turn.1) x.mode slot head (not (is_plain x.mode e.entry.op)) refl e.entry refl e.frames refl).transfer
+      (sending.may_go s.table e (All-contains (IsAccepted s.table) x.book e goes_on.requests_are_accepted x.turn.1) x.mode slot head (not (is_plain x.mode e.entry.op)) refl e.entry refl e.frames refl).transfer
       (transfers_of x.mode e.entry.op queued)
 
   -- it is put in a slot
-  module _ (slot : ℕ) (small : slot < 32) (lowest : IsLowestFree x.slots slot) (later : List BookEntry) (later_is : later ≡ map (update_if_id x.id issue) x.book)
+  module _ (slot : ℕ) (small : slot < 32) (lowest : IsLowestFree x.slots slot) (later : List BookEntry) (later_is : later ≡ map (update_if_id x.id issued_entry) x.book)
       (used : PortSlots) (used_is : used ≡ with_use x.slots slot (Some (use_for x.mode (sending.with_id x.id e)))) where
     abbrev t : PlacedTask
     t = record { slot = slot; task = task_of x.mode e; frames = e.frames }
@@ -132,18 +132,18 @@ MorePut = (s mid new : ServerState) (port : Port) (ids : List RequestId) (tasks 
 
 abbrev Together : Type 0
 Together = (s mid : ServerState) (port : Port) (ids : List RequestId) (tasks : List PlacedTask) (request : BookEntry) → InCallInvariant s → PutsInSlots port ids tasks s mid → Contains mid.book request
-    → request.entry.port ≡ port → IsDue (mode_in mid port) (asks_of mid.book) (asks request.entry)
+    → request.entry.port ≡ port → IsDue (mode_in mid port) (unanswered_of mid.book) (as_unanswered request.entry)
     → (tasks ≡ [] → ⊥) → (is_plain (mode_in s port) request.entry.op ≡ false) × All (λ t. t.task.queued ≡ true) tasks
 
 -- the first of several is queued, since the second is due once it was issued
 pub first_queued : (x : Preparing) (s : ServerState) (l : HasFoundPort s x.start x.first_book x.first_slots x.port x.mode x.found) (slot : ℕ) → slot < 32 → IsLowestFree x.slots slot
-    → ((entries : List BookEntry) (id : RequestId) → asks_of (map (update_if_id id issue) entries) ≡ with_issued id (asks_of entries)) → MorePut → Together
-    → (items : List RequestId) (place : ℕ) (d : RequestId) → place + 1 < length items → x.id ≡ get_or items place d → AreAllDueInOrder x.mode x.port (drop place items) (asks_of x.book)
+    → ((entries : List BookEntry) (id : RequestId) → unanswered_of (map (update_if_id id issued_entry) entries) ≡ with_issued id (unanswered_of entries)) → MorePut → Together
+    → (items : List RequestId) (place : ℕ) (d : RequestId) → place + 1 < length items → x.id ≡ get_or items place d → AreAllDueInOrder x.mode x.port (drop place items) (unanswered_of x.book)
     → is_plain x.mode x.turn.0.entry.op ≡ false
 first_queued x s l slot small lowest issues more together items place d low id_is turns = by (is_plain x.mode x.turn.0.entry.op) refl
   where
     later : List BookEntry
-    later = map (update_if_id x.id issue) x.book
+    later = map (update_if_id x.id issued_entry) x.book
 
     used : PortSlots
     used = with_use x.slots slot (Some (use_for x.mode (sending.with_id x.id x.turn.0)))
@@ -157,19 +157,19 @@ first_queued x s l slot small lowest issues more together items place d low id_i
     both : PutsInSlots x.port (x.ids ++ x.id ∷ []) (x.tasks ++ task ∷ []) s then
     both = more s (mid x s l) then x.port x.ids x.tasks x.id task (x.puts s l) (puts_it x s l slot small lowest later refl used refl)
 
-    rest : AreAllDueInOrder x.mode x.port (get_or items place d ∷ drop (place + 1) items) (asks_of x.book)
-    rest = subst (λ (ids : List RequestId). AreAllDueInOrder x.mode x.port ids (asks_of x.book)) (sending.next_there items place d (omega (arith, low))) turns
+    rest : AreAllDueInOrder x.mode x.port (get_or items place d ∷ drop (place + 1) items) (unanswered_of x.book)
+    rest = subst (λ (ids : List RequestId). AreAllDueInOrder x.mode x.port ids (unanswered_of x.book)) (sending.next_there items place d (omega (arith, low))) turns
 
-    due_then : AreAllDueInOrder x.mode x.port (drop (place + 1) items) (asks_of later)
+    due_then : AreAllDueInOrder x.mode x.port (drop (place + 1) items) (unanswered_of later)
     due_then = subst (λ (us : List Unanswered). AreAllDueInOrder x.mode x.port (drop (place + 1) items) us)
-        (sym (issues x.book x.id ∙ ap (λ (i : RequestId). with_issued i (asks_of x.book)) id_is)) rest.1
+        (sym (issues x.book x.id ∙ ap (λ (i : RequestId). with_issued i (unanswered_of x.book)) id_is)) rest.1
 
     second : sending.IsTurn later x.port x.mode (get_or items (place + 1) d)
     second = sending.next_due later x.port x.mode items (place + 1) d low due_then
 
     all : All (λ t. t.task.queued ≡ true) (x.tasks ++ task ∷ [])
-    all = (together s then x.port (x.ids ++ x.id ∷ []) (x.tasks ++ task ∷ []) second.0 l.kept both second.1 second.3
-        (subst (λ (m : QueueMode). IsDue m (asks_of later) (asks second.0.entry)) (sym l.mode_is) second.4) (not_empty x.tasks task)).1
+    all = (together s then x.port (x.ids ++ x.id ∷ []) (x.tasks ++ task ∷ []) second.0 l.in_call_invariant both second.1 second.3
+        (subst (λ (m : QueueMode). IsDue m (unanswered_of later) (as_unanswered second.0.entry)) (sym l.mode_is) second.4) (not_empty x.tasks task)).1
 
     its : task.task.queued ≡ true
     its = All-contains (λ t. t.task.queued ≡ true) (x.tasks ++ task ∷ []) task all (Contains-append_right x.tasks (task ∷ []) task (0, omega arith, refl))
@@ -187,34 +187,34 @@ as_batch port (id ∷ ids) old new some issues = issues
 
 module _ {A : Type 0} (device : A → Device) (accesses : A → ℕ) (port : Port) (self : ServedPort) (before : A) (book : List BookEntry) (may : MayIssueDue device port self before book) where
   -- how many are due
-  as_long : (ids : List RequestId) → due_ids self.mode port (asks_of book) ≡ ids → length (due_of self.mode port (asks_of book)) ≡ length ids
-  as_long ids is = sym (length-map (due_of self.mode port (asks_of book)) (λ r. r.id)) ∙ ap length is
+  as_long : (ids : List RequestId) → due_ids self.mode port (unanswered_of book) ≡ ids → length (due_of self.mode port (unanswered_of book)) ≡ length ids
+  as_long ids is = sym (length-map (due_of self.mode port (unanswered_of book)) (λ r. r.id)) ∙ ap length is
 
-  pub none_due : due_ids self.mode port (asks_of book) ≡ [] → IssuesWhatIsDue device accesses port self self before before book book
+  pub none_due : due_ids self.mode port (unanswered_of book) ≡ [] → IssuesWhatIsDue device accesses port self self before before book book
   none_due none = record {
     issues = λ s l.
         let after : ServerState = with_port_slots s (device before) book self.slots port in
-        let M : QueueMode → Type 0 = λ mode. IssuesTogetherIfAny port (due_ids mode port (asks_of s.book)) s after in
-        subst M (sym l.mode_is) (subst (λ (ids : List RequestId). IssuesTogetherIfAny port ids s after) (sym (ap (λ (b : List BookEntry). due_ids self.mode port (asks_of b)) l.book_is ∙ none))
+        let M : QueueMode → Type 0 = λ mode. IssuesTogetherIfAny port (due_ids mode port (unanswered_of s.book)) s after in
+        subst M (sym l.mode_is) (subst (λ (ids : List RequestId). IssuesTogetherIfAny port ids s after) (sym (ap (λ (b : List BookEntry). due_ids self.mode port (unanswered_of b)) l.book_is ∙ none))
         (sending.lent_same s (device before) book self.slots port self.mode self.found may.ready l));
-    rest = refl;
-    as_many = refl;
-    none = λ none. refl;
-    each = omega arith;
+    only_slots_change = refl;
+    book_length_is_kept = refl;
+    none_due_no_access = λ none. refl;
+    cost_is_by_due = omega arith;
     cost = omega arith;
   }
 
-  pub one_due : (new : ServedPort) (after : A) (left : List BookEntry) (id : RequestId) → due_ids self.mode port (asks_of book) ≡ id ∷ []
+  pub one_due : (new : ServedPort) (after : A) (left : List BookEntry) (id : RequestId) → due_ids self.mode port (unanswered_of book) ≡ id ∷ []
       → ((s : ServerState) → HasFoundPort s (device before) book self.slots port self.mode self.found → IssuesTogether port (id ∷ []) s (with_port_slots s (device after) left new.slots port))
       → new ≡ record self { slots = new.slots } → MakesAtMost ISSUE_ACCESSES (accesses before) (accesses after) → IssuesWhatIsDue device accesses port self new before after book left
   one_due new after left id only issues rest cost = record {
     issues = λ s l.
         let then : ServerState = with_port_slots s (device after) left new.slots port in
-        let M : QueueMode → Type 0 = λ mode. IssuesTogetherIfAny port (due_ids mode port (asks_of s.book)) s then in
-        subst M (sym l.mode_is) (subst (λ (ids : List RequestId). IssuesTogetherIfAny port ids s then) (sym (ap (λ (b : List BookEntry). due_ids self.mode port (asks_of b)) l.book_is ∙ only)) (issues s l));
-    rest = rest;
-    as_many = issued_length port (id ∷ []) may.lends.0 _ (issues may.lends.0 may.lends.1) ∙ ap (λ (b : List BookEntry). length b) may.lends.1.book_is;
-    none = λ none. absurd (let long = as_long (id ∷ []) only in let least : length (due_of self.mode port (asks_of book)) ≡ 0 = ap length none in omega (arith, long, least));
-    each = let long = as_long (id ∷ []) only in omega (arith, long, cost);
+        let M : QueueMode → Type 0 = λ mode. IssuesTogetherIfAny port (due_ids mode port (unanswered_of s.book)) s then in
+        subst M (sym l.mode_is) (subst (λ (ids : List RequestId). IssuesTogetherIfAny port ids s then) (sym (ap (λ (b : List BookEntry). due_ids self.mode port (unanswered_of b)) l.book_is ∙ only)) (issues s l));
+    only_slots_change = rest;
+    book_length_is_kept = issued_length port (id ∷ []) may.has_found_port.0 _ (issues may.has_found_port.0 may.has_found_port.1) ∙ ap (λ (b : List BookEntry). length b) may.has_found_port.1.book_is;
+    none_due_no_access = λ none. absurd (let long = as_long (id ∷ []) only in let least : length (due_of self.mode port (unanswered_of book)) ≡ 0 = ap length none in omega (arith, long, least));
+    cost_is_by_due = let long = as_long (id ∷ []) only in omega (arith, long, cost);
     cost = omega (arith, cost);
   }

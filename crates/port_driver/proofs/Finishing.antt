@@ -16,14 +16,14 @@ use Rattle.hba_regs.specs.Bits.{bit}
 use Rattle.adapter.specs.Device.{Device}
 use Rattle.block_machine.specs.declared.due.QueueMode.{QueueMode}
 use Rattle.refinement.specs.Slots.{IsOver}
-use Rattle.port_driver.specs.Ports.{AnswersDoneSlots, AnswersSlot, HasFoundPort, HasDonePort, with_answers, with_port_slots}
-use Rattle.dma_frames.specs.Table.{LendsOnly, Table}
+use Rattle.port_driver.specs.LentSlots.{AnswersDoneSlots, AnswersSlot, HasFoundPort, HasDonePort, with_answers, with_port_slots}
+use Rattle.dma_frames.specs.FrameTables.{LendsOnly, FrameOwnership}
 use Rattle.host_boot.specs.TakeOver.{probe_result_of}
 use Rattle.host_boot.specs.declared.ProbeResult.{ProbeResult}
-use Rattle.request_queue.specs.Entries.{BookEntry, IsEarlier, BookIsInOrder, has_id, without_entry}
-use Rattle.server_history.specs.Served.{AnswersDone, AnswersEach, AnswersOne, IssuesAll, done_reply}
-use Rattle.server_history.specs.Server.{ServerState, InCallInvariant, mode_in, no_slots, state_of, used_for}
-use Rattle.slots.specs.Uses.{PortSlots, HasLeastId, use_at, with_use}
+use Rattle.request_queue.specs.BookEntries.{BookEntry, IsEarlier, BookIsInOrder, has_id, without_entry}
+use Rattle.server_history.specs.IssuingAndAnswering.{AnswersDone, AnswersEach, AnswersOne, IssuesAll, done_reply}
+use Rattle.server_history.specs.ServerState.{ServerState, InCallInvariant, mode_in, no_slots, state_of, used_for}
+use Rattle.slots.specs.SlotUses.{PortSlots, HasLeastId, use_at, with_use}
 use Rattle.slots.specs.declared.SlotUse.{SlotUse}
 use Rattle.port_driver.proofs.Sending.{ready_listed, ready_there}
 
@@ -74,25 +74,25 @@ shorter id book e here same =
 
 -- ---- one request
 
-module _ (s : ServerState) (table : Table) (book : List BookEntry) (slots : PortSlots) (port : Port) (done : ℕ) (l : HasDonePort s table book slots port done) where
+module _ (s : ServerState) (table : FrameOwnership) (book : List BookEntry) (slots : PortSlots) (port : Port) (done : ℕ) (l : HasDonePort s table book slots port done) where
   -- what is lent is where it was
   pub answers_same : with_answers s table book slots port ≡ s
   answers_same =
       (λ i. record s { table = sym l.table_is i; slots = set s.slots port.0 (sym l.slots_are i); book = sym l.book_is i })
       ∙ ap (λ (list : List PortSlots). record s { slots = list }) (set-get_or s.slots port.0 no_slots)
 
-  pub answers_again : (t : Table) (b : List BookEntry) (u : PortSlots) (t' : Table) (b' : List BookEntry) (u' : PortSlots)
+  pub answers_again : (t : FrameOwnership) (b : List BookEntry) (u : PortSlots) (t' : FrameOwnership) (b' : List BookEntry) (u' : PortSlots)
       → with_answers (with_answers s t b u port) t' b' u' port ≡ with_answers s t' b' u' port
   answers_again t b u t' b' u' = ap (λ (list : List PortSlots). record s { table = t'; slots = list; book = b' }) (set-set s.slots port.0 u u')
 
   -- other parts in its place
-  pub lends_then : (t : Table) (b : List BookEntry) (u : PortSlots) → InCallInvariant (with_answers s t b u port) → HasDonePort (with_answers s t b u port) t b u port done
+  pub lends_then : (t : FrameOwnership) (b : List BookEntry) (u : PortSlots) → InCallInvariant (with_answers s t b u port) → HasDonePort (with_answers s t b u port) t b u port done
   lends_then t b u kept = record {
-    kept = kept;
+    in_call_invariant = kept;
     ready = l.ready;
     table_is = refl;
     book_is = refl;
-    slots_are = get_or-set_same s.slots port.0 u no_slots (ready_listed s port l.kept l.ready);
+    slots_are = get_or-set_same s.slots port.0 u no_slots (ready_listed s port l.in_call_invariant l.ready);
     over = l.over;
   }
 
@@ -101,26 +101,26 @@ module _ (s : ServerState) (table : Table) (book : List BookEntry) (slots : Port
     served = ap (λ (u : PortSlots). use_at u slot) l.slots_are ∙ taken
 
     its : (request : BookEntry) × Contains book request × (request.entry.id ≡ used.id) × (request.entry.port ≡ port)
-    its = let x = have s port slot used l.kept l.ready served in (x.0, subst (λ (b : List BookEntry). Contains b x.0) l.book_is x.1, x.2, x.3)
+    its = let x = have s port slot used l.in_call_invariant l.ready served in (x.0, subst (λ (b : List BookEntry). Contains b x.0) l.book_is x.1, x.2, x.3)
 
     pub unanswered : (request : BookEntry) × Contains book request × (request.entry.id ≡ used.id)
     unanswered = (its.0, its.1, its.2)
 
     -- this one was taken out of the book, its frames were given back, and its slot is free
-    pub answered : IdsDiffer → slot < 32 → (e : BookEntry) → Contains book e → e.entry.id ≡ used.id → (new : Table) → LendsOnly table new e.frames None
+    pub answered : IdsDiffer → slot < 32 → (e : BookEntry) → Contains book e → e.entry.id ≡ used.id → (new : FrameOwnership) → LendsOnly table new e.frames None
         → (later : List BookEntry) → later ≡ without_entry used.id book → (u : PortSlots) → u ≡ with_use slots slot None → AnswersSlot port slot (record { id = used.id; client = e.entry.client; outcome = Ok }) s (with_answers s new later u port)
     answered one small e here id_is new lent later later_is u freed = record {
       request = e;
       answers = record {
-        here = subst (λ (b : List BookEntry). Contains b e) (sym l.book_is) here;
-        port_is = subst (λ (x : BookEntry). x.entry.port ≡ port) (one book its.0 e (subst BookIsInOrder l.book_is l.kept.ordered) its.1 here (its.2 ∙ sym id_is)) its.3;
+        is_in_book = subst (λ (b : List BookEntry). Contains b e) (sym l.book_is) here;
+        port_is = subst (λ (x : BookEntry). x.entry.port ≡ port) (one book its.0 e (subst BookIsInOrder l.book_is l.in_call_invariant.book_is_in_order) its.1 here (its.2 ∙ sym id_is)) its.3;
         slot = slot;
-        small = small;
+        slot_is_below_32 = small;
         used = used;
-        served = served;
+        slot_use_is = served;
         id_is = sym id_is;
-        lent = subst (λ (t : Table). LendsOnly t new e.frames None) (sym l.table_is) lent;
-        server = λ i. record s {
+        lends_only = subst (λ (t : FrameOwnership). LendsOnly t new e.frames None) (sym l.table_is) lent;
+        server_is = λ i. record s {
           table = new;
           slots = set s.slots port.0 ((freed ∙ ap (λ (x : PortSlots). with_use x slot None) (sym l.slots_are)) i);
           book = (later_is ∙ ap (λ (b : List BookEntry). without_entry used.id b) (sym l.book_is) ∙ ap (λ (i : RequestId). without_entry i s.book) (sym id_is)) i;
@@ -152,7 +152,7 @@ is_none : {used : SlotUse} → None ≡ Some used → ⊥
 is_none same = cc
 
 -- What was answered so far of what was found done: what is still to be answered comes after it.
-pub record AnswersSome (port : Port) (done : ℕ) (before after : List Reply) (old new : ServerState) (table : Table) (book : List BookEntry) (slots : PortSlots) : Type 0 where
+pub record AnswersSome (port : Port) (done : ℕ) (before after : List Reply) (old new : ServerState) (table : FrameOwnership) (book : List BookEntry) (slots : PortSlots) : Type 0 where
   pub requests : List BookEntry
   pub told : after ≡ before ++ map done_reply requests
   pub ordered : AllPairs IsEarlier requests
@@ -161,7 +161,7 @@ pub record AnswersSome (port : Port) (done : ℕ) (before after : List Reply) (o
   pub later : (slot : ℕ) (used : SlotUse) → slot < 32 → bit done slot ≡ true → use_at slots slot ≡ Some used → AllBefore requests used.id
 
 -- none, at first
-pub none_answered : (s : ServerState) (table : Table) (book : List BookEntry) (slots : PortSlots) (port : Port) (done : ℕ) → HasDonePort s table book slots port done → (before : List Reply)
+pub none_answered : (s : ServerState) (table : FrameOwnership) (book : List BookEntry) (slots : PortSlots) (port : Port) (done : ℕ) → HasDonePort s table book slots port done → (before : List Reply)
     → AnswersSome port done before before s (with_answers s table book slots port) table book slots
 none_answered s table book slots port done l before = record {
   requests = [];
@@ -173,20 +173,20 @@ none_answered s table book slots port done l before = record {
 }
 
 -- all, once no slot of it is used
-pub all_answered : (port : Port) (done : ℕ) (before after : List Reply) (old new : ServerState) (table : Table) (book : List BookEntry) (slots : PortSlots) → AnswersSome port done before after old new table book slots
+pub all_answered : (port : Port) (done : ℕ) (before after : List Reply) (old new : ServerState) (table : FrameOwnership) (book : List BookEntry) (slots : PortSlots) → AnswersSome port done before after old new table book slots
     → ((slot : ℕ) → slot < 32 → bit_at done slot ≡ 1 → use_at slots slot ≡ None) → AnswersDoneSlots port done before after old new
 all_answered port done before after old new table book slots some none = record {
   requests = some.requests;
-  told = some.told;
+  replies_are = some.told;
   ordered = some.ordered;
-  each = some.each;
-  free = λ slot small its_bit. ap (λ (u : PortSlots). use_at u slot) some.lends.slots_are ∙ none slot small (eqb-true (bit_at done slot) 1 its_bit);
+  answers_each = some.each;
+  done_slots_are_free = λ slot small its_bit. ap (λ (u : PortSlots). use_at u slot) some.lends.slots_are ∙ none slot small (eqb-true (bit_at done slot) 1 its_bit);
 }
 
 -- the earliest of those that are left is answered
-module _ (have : HaveRequests) (keep : AnswersKeep) (leaves : LeavesOthers) (port : Port) (done : ℕ) (before after : List Reply) (old s : ServerState) (table : Table) (book : List BookEntry) (slots : PortSlots)
+module _ (have : HaveRequests) (keep : AnswersKeep) (leaves : LeavesOthers) (port : Port) (done : ℕ) (before after : List Reply) (old s : ServerState) (table : FrameOwnership) (book : List BookEntry) (slots : PortSlots)
     (some : AnswersSome port done before after old s table book slots) (slot : ℕ) (earliest : HasLeastId slots done slot)
-    (reply : Reply) (t : Table) (b : List BookEntry) (u : PortSlots) (answers : AnswersSlot port slot reply s (with_answers s t b u port)) (freed : u ≡ with_use slots slot None) where
+    (reply : Reply) (t : FrameOwnership) (b : List BookEntry) (u : PortSlots) (answers : AnswersSlot port slot reply s (with_answers s t b u port)) (freed : u ≡ with_use slots slot None) where
   abbrev new : ServerState
   new = with_answers s t b u port
 
@@ -194,16 +194,16 @@ module _ (have : HaveRequests) (keep : AnswersKeep) (leaves : LeavesOthers) (por
   e = answers.request
 
   its_bit : bit done slot ≡ true
-  its_bit = eq-eqb (bit_at done slot) 1 earliest.marked
+  its_bit = eq-eqb (bit_at done slot) 1 earliest.mask_has_slot
 
   kept : InCallInvariant new
-  kept = keep s new port e some.lends.kept some.lends.ready answers.answers
-      (subst (IsOver (s.device.port port.0)) (sym answers.slot_is) (some.lends.over slot earliest.small its_bit))
+  kept = keep s new port e some.lends.in_call_invariant some.lends.ready answers.answers
+      (subst (IsOver (s.device.port port.0)) (sym answers.slot_is) (some.lends.over slot earliest.slot_in_range its_bit))
 
   -- the slot is used for the request
-  id_is : earliest.used.id ≡ e.entry.id
+  id_is : earliest.slot_use.id ≡ e.entry.id
   id_is =
-      ap id_of (sym earliest.taken ∙ ap (λ (u : PortSlots). use_at u slot) (sym some.lends.slots_are) ∙ ap (λ (n : ℕ). used_for s.slots port.0 n) (sym answers.slot_is) ∙ answers.answers.served)
+      ap id_of (sym earliest.use_is ∙ ap (λ (u : PortSlots). use_at u slot) (sym some.lends.slots_are) ∙ ap (λ (n : ℕ). used_for s.slots port.0 n) (sym answers.slot_is) ∙ answers.answers.slot_use_is)
       ∙ answers.answers.id_is
 
   -- what is used then was used before, for a later one
@@ -215,15 +215,15 @@ module _ (have : HaveRequests) (keep : AnswersKeep) (leaves : LeavesOthers) (por
         (cases_eq k slot)
       where
         places : length slots.places ≡ 32
-        places = ap (λ (x : PortSlots). length x.places) (sym some.lends.slots_are) ∙ (some.lends.kept.slots port.0 (ready_there s port some.lends.kept some.lends.ready).0).places
+        places = ap (λ (x : PortSlots). length x.places) (sym some.lends.slots_are) ∙ (some.lends.in_call_invariant.slots port.0 (ready_there s port some.lends.in_call_invariant some.lends.ready).0).places
 
         gone : k ≡ slot → use_at u k ≡ None
-        gone same = ap (λ (n : ℕ). use_at u n) same ∙ ap (λ (x : PortSlots). use_at x slot) freed ∙ get_or-set_same slots.places slot None None (let p = places in let e = earliest.small in omega (arith, p, e))
+        gone same = ap (λ (n : ℕ). use_at u n) same ∙ ap (λ (x : PortSlots). use_at x slot) freed ∙ get_or-set_same slots.places slot None None (let p = places in let e = earliest.slot_in_range in omega (arith, p, e))
 
     differs : used.id ≢ e.entry.id
     differs =
         let x = have new port k used kept some.lends.ready (ap (λ (x : PortSlots). use_at x k) (lends_then s table book slots port done some.lends t b u kept).slots_are ∙ taken) in
-        let left : Contains (without_entry e.entry.id s.book) x.0 = subst (λ (c : List BookEntry). Contains c x.0) (ap (λ (x : ServerState). x.book) answers.answers.server) x.1 in
+        let left : Contains (without_entry e.entry.id s.book) x.0 = subst (λ (c : List BookEntry). Contains c x.0) (ap (λ (x : ServerState). x.book) answers.answers.server_is) x.1 in
         λ same. ((leaves s.book e.entry.id x.0).0 left).1 (x.2 ∙ same)
 
     comes_later : e.entry.id.0 < used.id.0
@@ -241,7 +241,7 @@ module _ (have : HaveRequests) (keep : AnswersKeep) (leaves : LeavesOthers) (por
     told = ap (λ (rs : List Reply). rs ++ reply ∷ []) some.told ∙ append_assoc before (map done_reply some.requests) (reply ∷ [])
         ∙ ap (λ (rs : List Reply). before ++ rs) (ap (λ (r : Reply). map done_reply some.requests ++ r ∷ []) answers.reply_is ∙ sym (map_push done_reply some.requests e));
     ordered = all_pairs_push IsEarlier some.requests e some.ordered
-        (λ place d low. subst (λ (id : RequestId). (get_or some.requests place d).entry.id.0 < id.0) id_is (some.later slot earliest.used earliest.small its_bit earliest.taken place d low));
+        (λ place d low. subst (λ (id : RequestId). (get_or some.requests place d).entry.id.0 < id.0) id_is (some.later slot earliest.slot_use earliest.slot_in_range its_bit earliest.use_is place d low));
     each = each_more port done some.requests old s new e some.each answers.answers (subst (λ (n : ℕ). bit done n ≡ true) (sym answers.slot_is) its_bit);
     lends = lends_then s table book slots port done some.lends t b u kept;
     later = λ k used small marked taken.
@@ -251,20 +251,20 @@ module _ (have : HaveRequests) (keep : AnswersKeep) (leaves : LeavesOthers) (por
 -- ---- what was found done on the port
 
 -- it was answered, and what is due then is issued
-module _ (s : ServerState) (port : Port) (done : ℕ) (before after : List Reply) (table : Table) (book : List BookEntry) (slots : PortSlots)
+module _ (s : ServerState) (port : Port) (done : ℕ) (before after : List Reply) (table : FrameOwnership) (book : List BookEntry) (slots : PortSlots)
     (answers : AnswersDoneSlots port done before after s (with_answers s table book slots port)) (lent : HasDonePort (with_answers s table book slots port) table book slots port done) where
   pub lends_on : (mode : QueueMode) → mode_in s port ≡ mode → (found : ProbeResult) → probe_result_of s.ports port.0 ≡ found → HasFoundPort (with_answers s table book slots port) s.device book slots port mode found
-  lends_on mode mode_is found found_is = record { kept = lent.kept; found_is = found_is; device_is = refl; book_is = refl; slots_are = lent.slots_are; mode_is = mode_is }
+  lends_on mode mode_is found found_is = record { in_call_invariant = lent.in_call_invariant; found_is = found_is; device_is = refl; book_is = refl; slots_are = lent.slots_are; mode_is = mode_is }
 
   pub finishes : (device : Device) (later : List BookEntry) (u : PortSlots) → IssuesAll port (with_answers s table book slots port) (with_port_slots (with_answers s table book slots port) device later u port)
       → (number : ℕ) → number ≡ port.0 → AnswersDone port done (map done_reply answers.requests) s (record s { device = device; table = table; slots = set s.slots number u; book = later })
   finishes device later u issues number is = record {
     requests = answers.requests;
-    told = refl;
+    replies_are = refl;
     ordered = answers.ordered;
     mid = with_answers s table book slots port;
-    each = answers.each;
-    free = answers.free;
+    answers_each = answers.answers_each;
+    done_slots_are_free = answers.done_slots_are_free;
     issued = subst (λ (n : ℕ). IssuesAll port (with_answers s table book slots port) (record s { device = device; table = table; slots = set s.slots n u; book = later })) (sym is)
         (subst (λ (list : List PortSlots). IssuesAll port (with_answers s table book slots port) (record s { device = device; table = table; slots = list; book = later })) (set-set s.slots port.0 slots u) issues);
   }

@@ -7,9 +7,9 @@ use Rattle.std.proofs.lemmas.List.{get_or_default, length-append}
 use Rattle.std.proofs.lemmas.List.Elements.{All-contains, Contains-append_cases, Contains-append_left, Contains-append_right}
 use Rattle.ata_types.specs.declared.request.Frame.{Frame}
 use Rattle.dma_frames.specs.Loan.{Lending}
-use Rattle.dma_frames.specs.Table.{LendsOnly, Table, lent_to}
-use Rattle.server_history.specs.Kept.{LoansEndInTurn, TakesBack}
-use Rattle.server_history.specs.Server.{DifferInRequest, IsLentOut}
+use Rattle.dma_frames.specs.FrameTables.{LendsOnly, FrameOwnership, lent_to}
+use Rattle.server_history.specs.KeptLoans.{LoansEndInTurn, TakesBack}
+use Rattle.server_history.specs.ServerState.{DifferInRequest, IsLentOut}
 
 -- a list of one loan has no other
 only : (loan other : Lending) → Contains (loan ∷ []) other → other ≡ loan
@@ -18,16 +18,16 @@ only loan other here =
     sym here.2 ∙ ap (λ (n : ℕ). get_or (loan ∷ []) n other) head
 
 -- a loan that is given back ends alone
-one_back : (old new : Table) (loan : Lending) → LendsOnly old new loan.frames None → TakesBack old new (Contains (loan ∷ []))
+one_back : (old new : FrameOwnership) (loan : Lending) → LendsOnly old new loan.frames None → TakesBack old new (Contains (loan ∷ []))
 one_back old new loan lends = record {
-  owners = lends.owners;
-  none = λ other f here inside. All-contains (λ (g : Frame). lent_to new g ≡ None) loan.frames f lends.these (subst (λ (l : Lending). Contains l.frames f) (only loan other here) inside);
-  others = λ f apart. lends.others f (λ here. apart loan (0, omega arith, refl) here);
+  owners_are_kept = lends.owners_are_kept;
+  their_frames_are_free = λ other f here inside. All-contains (λ (g : Frame). lent_to new g ≡ None) loan.frames f lends.these_are_lent (subst (λ (l : Lending). Contains l.frames f) (only loan other here) inside);
+  other_loans_are_kept = λ f apart. lends.others_are_kept f (λ here. apart loan (0, omega arith, refl) here);
 }
 
 -- where no loan ends, nothing changes
-pub none_back : (table : Table) → TakesBack table table (Contains [])
-none_back table = record { owners = refl; none = λ loan f such here. absurd (let low = such.1 in omega (arith, low)); others = λ f apart. refl }
+pub none_back : (table : FrameOwnership) → TakesBack table table (Contains [])
+none_back table = record { owners_are_kept = refl; their_frames_are_free = λ loan f such here. absurd (let low = such.1 in omega (arith, low)); other_loans_are_kept = λ f apart. refl }
 
 -- ---- the last of a list
 
@@ -64,7 +64,7 @@ module _ (rest : List Lending) (loan : Lending) where
         ∙ sym (ap (λ (x : Lending). x.request) (get_or-append_seam rest loan [] other)))
 
   -- The last one is given back, and then the others.
-  module _ (law : LoansEndInTurn) (old mid : Table) (lent : All (IsLentOut old) all) (two : AllPairs DifferInRequest all) (lends : LendsOnly old mid loan.frames None) where
+  module _ (law : LoansEndInTurn) (old mid : FrameOwnership) (lent : All (IsLentOut old) all) (two : AllPairs DifferInRequest all) (lends : LendsOnly old mid loan.frames None) where
     out : (other : Lending) → Contains all other → IsLentOut old other
     out other here = All-contains (IsLentOut old) all other lent here
 
@@ -76,5 +76,5 @@ module _ (rest : List Lending) (loan : Lending) where
         (λ other ended. subst (λ (l : Lending). IsLentOut old l × DifferInRequest l b) (sym (only loan other ended)) (out loan is_last, two_last two b here))
         (out b (Contains-append_left rest (loan ∷ []) b here))
 
-    pub all_back : (new : Table) → TakesBack mid new (Contains rest) → TakesBack old new (Contains all)
+    pub all_back : (new : FrameOwnership) → TakesBack mid new (Contains rest) → TakesBack old new (Contains all)
     all_back new given = law.alike old new ((loan ∷ []) ++ rest) all (law.both old mid new (loan ∷ []) rest (one_back old mid loan lends) lent_left given) first_or_last

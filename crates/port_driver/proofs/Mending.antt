@@ -9,7 +9,7 @@ use Rattle.std.proofs.lemmas.List.{drop_all, get_or_past, length-append, length-
 use Rattle.std.proofs.lemmas.List.Sorted.{IsPermutation-sym, length_permutation}
 use Rattle.ata_types.specs.declared.request.Reply.{Reply}
 use Rattle.server_history.specs.ErrorHandling.{AreAllQueuedAs}
-use Rattle.slots.specs.Uses.{PortSlots, use_at}
+use Rattle.slots.specs.SlotUses.{PortSlots, use_at}
 
 -- ---- slots
 

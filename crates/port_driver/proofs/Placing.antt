@@ -9,9 +9,9 @@ use Rattle.host_boot.specs.declared.ProbeResult.{ProbeResult}
 use Rattle.host_boot.specs.declared.ProbeResult.TheVariants.{Unserved}
 use Rattle.identify.specs.declared.wanted.Wanted.{Wanted}
 use Rattle.identify.specs.declared.wanted.Wanted.TheVariants.{Nothing}
-use Rattle.server_history.specs.Server.{ServerState, no_slots, plain_mode}
-use Rattle.slots.specs.Uses.{PortSlots}
-use Rattle.port_driver.specs.Parts.{HasPortAt, IsSettledWith, with_served_port}
+use Rattle.server_history.specs.ServerState.{ServerState, no_slots, plain_mode}
+use Rattle.slots.specs.SlotUses.{PortSlots}
+use Rattle.port_driver.specs.PortAndShared.{HasPortAt, IsSettledWith, with_served_port}
 use Rattle.port_driver.specs.declared.served_port.ServedPort.{ServedPort}
 use Rattle.port_driver.specs.declared.served_port.Shared.{Shared}
 
@@ -100,6 +100,6 @@ on_device s device number p has = record {
 -- a settled server has its parts on its own device
 pub on_its_device : (s : ServerState) (shared : Shared) (port : Port) (p : ServedPort) {device : Device} → IsSettledWith s device shared port p → IsSettledWith s s.device shared port p
 on_its_device s shared port p its = record {
-  settled = its.settled;
+  settled_invariant = its.settled_invariant;
   parts = record { device_is = refl; table_is = its.parts.table_is; book_is = its.parts.book_is; port_is = its.parts.port_is };
 }

@@ -11,16 +11,16 @@ use Rattle.ata_types.specs.declared.PortState.TheVariants.{Absent, Ready as Read
 use Rattle.ata_types.specs.declared.request.Reply.{Reply}
 use Rattle.ata_types.specs.declared.limits.TheConstants.{MOST_READINGS}
 use Rattle.adapter.specs.Device.{Device}
-use Rattle.refinement.specs.Driven.{AnyUse, IsSimulated}
+use Rattle.refinement.specs.Fragments.{AnyUse, IsSimulated}
 use Rattle.block_machine.specs.declared.due.QueueMode.{QueueMode}
 use Rattle.dma_frames.specs.Loan.{Lending}
-use Rattle.dma_frames.specs.Table.{Table}
+use Rattle.dma_frames.specs.FrameTables.{FrameOwnership}
 use Rattle.error_recovery.specs.Recovery.{EndsAsNext}
 use Rattle.error_recovery.specs.declared.Next.{Next}
 use Rattle.error_recovery.specs.declared.Next.TheVariants.{Restart}
 use Rattle.host_boot.specs.TakeOver.{probe_result_of, wanted_of}
 use Rattle.host_boot.specs.declared.ProbeResult.{ProbeResult}
-use Rattle.host_boot.specs.Again.{RebootsPort}
+use Rattle.host_boot.specs.Reboots.{RebootsPort}
 use Rattle.host_boot.specs.declared.Booted.{Booted}
 use Rattle.host_boot.specs.declared.ProbeResult.TheVariants.{Ready, Unready, Unserved}
 use Rattle.identify.specs.declared.DiskInfo.{DiskInfo}
@@ -28,35 +28,35 @@ use Rattle.identify.specs.declared.wanted.Wanted.{Wanted}
 use Rattle.port_boot.specs.States.{IsBootable}
 use Rattle.port_control.specs.Ports.{IsStopped}
 use Rattle.port_control.specs.declared.Stopped.{Stopped}
-use Rattle.port_control.specs.Looks.{IsLooking}
-use Rattle.request_queue.specs.Entries.{BookEntry, is_of_port}
+use Rattle.port_control.specs.PortEvents.{IsEventAccess}
+use Rattle.request_queue.specs.BookEntries.{BookEntry, is_of_port}
 use Rattle.request_queue.specs.Dispositions.{BookAndLoans, AreResolved, disposition_of}
 use Rattle.request_queue.specs.declared.disposition.FailedRequest.{FailedRequest}
 use Rattle.request_queue.specs.declared.disposition.Revalidation.{Revalidation}
 use Rattle.server_history.specs.ErrorHandling.{BootsAfter, IsFailedRequest, IsRevalidated, IsRevalidation, IsErrorHandled, HasResolved, HandlesPortError, requests_of, with_port_found}
-use Rattle.server_history.specs.Served.{IssuesAll, done_reply}
-use Rattle.server_history.specs.Server.{ServerState, InCallInvariant, SettledInvariant, quarantined_at, mode_at, probed_mode, mode_in, no_slots, plain_mode, slots_at, state_of}
-use Rattle.server_history.specs.Turns.{IsPortTurn, InRestart, ServesPort}
+use Rattle.server_history.specs.IssuingAndAnswering.{IssuesAll, done_reply}
+use Rattle.server_history.specs.ServerState.{ServerState, InCallInvariant, SettledInvariant, quarantined_at, mode_at, probed_mode, mode_in, no_slots, plain_mode, slots_at, state_of}
+use Rattle.server_history.specs.Turns.{IsPortTurn, InRestart, ServicesPort}
 use Rattle.port_control.specs.declared.events.PortError.{PortError}
 use Rattle.port_control.specs.declared.events.PortError.TheVariants.{FatalError, TaskFileError, TimedOut, LinkChanged}
-use Rattle.slots.specs.Uses.{PortSlots, use_at}
-use Rattle.port_driver.specs.Dispositions.{HaveLoanRoom, BookIsSound, book_and_loans}
-use Rattle.port_driver.specs.Ports.{HasFoundPort, with_port_slots}
+use Rattle.slots.specs.SlotUses.{PortSlots, use_at}
+use Rattle.port_driver.specs.LoanRoom.{HaveLoanRoom, BookIsSound, book_and_loans}
+use Rattle.port_driver.specs.LentSlots.{HasFoundPort, with_port_slots}
 use Rattle.port_driver.specs.Recovery.{HandlesPortErrorOf, CompletesAndRecovers, SeesPortError}
 use Rattle.port_driver.proofs.Sending.{ready_there}
 
 -- what laws say of what comes after a recovery
 pub record RestoringLaws : Type 0 where
   pub bootable : (s mid : ServerState) (device : Device) (port : Port) (token : Stopped) → InCallInvariant s → state_of (probe_result_of s.ports port.0) ≡ ReadyState → (r : IsErrorHandled port s mid device)
-      → IsSimulated (IsLooking port) AnyUse s.device r.seen → r.result.next ≡ Restart token → IsBootable port device × IsStopped (device.port port.0) × ((device.port port.0).notes.link_count ≡ MOST_READINGS)
+      → IsSimulated (IsEventAccess port) AnyUse s.device r.seen → r.result.next ≡ Restart token → IsBootable port device × IsStopped (device.port port.0) × ((device.port port.0).notes.link_count ≡ MOST_READINGS)
   pub mode : (s mid : ServerState) (device : Device) (port : Port) → InCallInvariant s → state_of (probe_result_of s.ports port.0) ≡ ReadyState → (r : IsErrorHandled port s mid device)
-      → IsSimulated (IsLooking port) AnyUse s.device r.seen → mode_in s port ≡ probed_mode device.cap (probe_result_of s.ports port.0)
+      → IsSimulated (IsEventAccess port) AnyUse s.device r.seen → mode_in s port ≡ probed_mode device.cap (probe_result_of s.ports port.0)
   pub places : (s : ServerState) (port : Port) → InCallInvariant s → state_of (probe_result_of s.ports port.0) ≡ ReadyState
       → (quarantined_at s.kept port.0 ≡ []) × (count_by (λ (e : BookEntry). e.entry.issued) (requests_of port s.book) ≤ 32)
   pub settled : (s new : ServerState) (port : Port) (later : List Reply) → InCallInvariant s → state_of (probe_result_of s.ports port.0) ≡ ReadyState → (a : HasResolved port later s new)
-      → IsSimulated (IsLooking port) AnyUse s.device a.error_handled.seen → InCallInvariant new
+      → IsSimulated (IsEventAccess port) AnyUse s.device a.error_handled.seen → InCallInvariant new
   pub error_handled : (s new : ServerState) (port : Port) (replies : List Reply) → SettledInvariant s → state_of (probe_result_of s.ports port.0) ≡ ReadyState → (r : HandlesPortError port replies s new)
-      → r.settled.error_handled.port_error ≢ TimedOut → IsSimulated (IsLooking port) AnyUse s.device r.settled.error_handled.seen → ServesPort port replies s new × SettledInvariant new
+      → r.settled.error_handled.port_error ≢ TimedOut → IsSimulated (IsEventAccess port) AnyUse s.device r.settled.error_handled.seen → ServicesPort port replies s new × SettledInvariant new
   pub restarted : (s new : ServerState) (port : Port) (replies : List Reply) → SettledInvariant s → state_of (probe_result_of s.ports port.0) ≡ ReadyState → (r : HandlesPortError port replies s new)
       → r.settled.error_handled.port_error ≡ TimedOut → IsPortTurn InRestart port replies s new × SettledInvariant new
 
@@ -88,7 +88,7 @@ pub record Recovery : Type 0 where
   pub told : List Reply
   pub failed : Option FailedRequest
   pub next : Next
-  pub t : Table
+  pub t : FrameOwnership
   pub b : List BookEntry
   pub u : PortSlots
   pub one : Device
@@ -132,31 +132,31 @@ pub record Ordered (x : Recovery) (y : Restoration x) : Type 0 where
 
 module _ (x : Recovery) where
   low : x.port.0 < 4
-  low = (ready_there x.s x.port x.sees.kept x.sees.ready).0
+  low = (ready_there x.s x.port x.sees.in_call_invariant x.sees.ready).0
 
   mid_ready : state_of (probe_result_of x.rest.mid.ports x.port.0) ≡ ReadyState
   mid_ready = ap (λ (n : ServerState). state_of (probe_result_of n.ports x.port.0)) x.rest.mid_is ∙ x.sees.ready
 
   pub mode_then : (mode : QueueMode) → mode ≡ mode_at x.s.modes x.port.0 → mode ≡ probed_mode x.one.cap (Ready x.was)
-  mode_then mode said = said ∙ x.laws.mode x.s x.rest.mid x.one x.port x.sees.kept x.sees.ready x.rest.error_handled x.rest.followed ∙ ap (probed_mode x.one.cap) x.is_ready
+  mode_then mode said = said ∙ x.laws.mode x.s x.rest.mid x.one x.port x.sees.in_call_invariant x.sees.ready x.rest.error_handled x.rest.is_simulated ∙ ap (probed_mode x.one.cap) x.is_ready
 
   -- the token is of the port
   pub token_of : (stopped : Stopped) → x.next ≡ Restart stopped → stopped.port ≡ x.port
-  token_of stopped is = (subst (λ (way : Next). EndsAsNext x.rest.error_handled.queued x.port way x.rest.mid.device x.one) (x.rest.next_is ∙ is) x.rest.error_handled.handling.leaves.ends).0
+  token_of stopped is = (subst (λ (way : Next). EndsAsNext x.rest.error_handled.queued x.port way x.rest.mid.device x.one) (x.rest.next_is ∙ is) x.rest.error_handled.handling.leaves.ends_as_next).0
 
   pub bootable : (stopped : Stopped) → x.next ≡ Restart stopped → IsBootable stopped.port x.one × IsStopped (x.one.port stopped.port.0) × ((x.one.port stopped.port.0).notes.link_count ≡ MOST_READINGS)
   bootable stopped is =
       subst (λ (q : Port). IsBootable q x.one × IsStopped (x.one.port q.0) × ((x.one.port q.0).notes.link_count ≡ MOST_READINGS)) (sym (token_of stopped is))
-      (x.laws.bootable x.s x.rest.mid x.one x.port stopped x.sees.kept x.sees.ready x.rest.error_handled x.rest.followed (x.rest.next_is ∙ is))
+      (x.laws.bootable x.s x.rest.mid x.one x.port stopped x.sees.in_call_invariant x.sees.ready x.rest.error_handled x.rest.is_simulated (x.rest.next_is ∙ is))
 
   pub sound : BookIsSound x.t x.b
-  sound = subst (λ (n : ServerState). BookIsSound n.table n.book) x.rest.mid_is (record { ordered = x.rest.kept.ordered; accepted = x.rest.kept.accepted })
+  sound = subst (λ (n : ServerState). BookIsSound n.table n.book) x.rest.mid_is (record { book_is_in_order = x.rest.in_call_invariant.book_is_in_order; requests_are_accepted = x.rest.in_call_invariant.requests_are_accepted })
 
   places : (quarantined_at x.s.kept x.port.0 ≡ []) × (count_by (λ (e : BookEntry). e.entry.issued) (requests_of x.port x.b) ≤ 32)
-  places = subst (λ (n : ServerState). (quarantined_at n.kept x.port.0 ≡ []) × (count_by (λ (e : BookEntry). e.entry.issued) (requests_of x.port n.book) ≤ 32)) x.rest.mid_is (x.laws.places x.rest.mid x.port x.rest.kept mid_ready)
+  places = subst (λ (n : ServerState). (quarantined_at n.kept x.port.0 ≡ []) × (count_by (λ (e : BookEntry). e.entry.issued) (requests_of x.port n.book) ≤ 32)) x.rest.mid_is (x.laws.places x.rest.mid x.port x.rest.in_call_invariant mid_ready)
 
   pub kept_said : (number : ℕ) → number ≡ x.port.0 → (default : List Lending) → quarantined_at x.s.kept x.port.0 ≡ get_or x.s.kept number default
-  kept_said number is default = let f = x.sees.kept.four_kept in let l = low in get_or_default x.s.kept x.port.0 [] default (omega (arith, f, l)) ∙ ap (λ (n : ℕ). get_or x.s.kept n default) (sym is)
+  kept_said number is default = let f = x.sees.in_call_invariant.four_kept in let l = low in get_or_default x.s.kept x.port.0 [] default (omega (arith, f, l)) ∙ ap (λ (n : ℕ). get_or x.s.kept n default) (sym is)
 
   pub have_places : (number : ℕ) → number ≡ x.port.0 → (default : List Lending) → HaveLoanRoom (filter (λ (e : BookEntry). is_of_port x.port e.entry) x.b) (get_or x.s.kept number default)
   have_places number is default =
@@ -167,25 +167,25 @@ module _ (x : Recovery) where
   module _ (y : Restoration x) where
     pub settled_after : HasResolved x.port y.later x.s (then x y)
     settled_after = record {
-      was = x.was;
+      disk_before = x.was;
       ready = x.is_ready;
       mid = x.rest.mid;
       device = x.one;
       error_handled = x.rest.error_handled;
       found = y.found;
-      is = subst (λ (its : PortError). IsRevalidated (wanted_of x.s.wanted x.port.0) x.port its x.was x.rest.error_handled.result.next x.one y.two y.found) (sym x.rest.trouble_is)
+      is_revalidated = subst (λ (its : PortError). IsRevalidated (wanted_of x.s.wanted x.port.0) x.port its x.was x.rest.error_handled.result.next x.one y.two y.found) (sym x.rest.port_error_is)
           (subst (λ (way : Next). IsRevalidated (wanted_of x.s.wanted x.port.0) x.port x.port_error x.was way x.one y.two y.found) (sym x.rest.next_is) y.is_found);
       mode = y.mode;
       mode_is = y.mode_is;
       slots = y.fresh;
-      unused = record { usable = y.usable; places = y.as_many; free = y.free };
+      has_no_used_slot = record { usable = y.usable; places = y.as_many; free = y.free };
       failed = x.failed;
-      names = subst (λ (n : PortSlots). IsFailedRequest n x.rest.error_handled.result.failed x.failed) (sym slots_mid) x.rest.names;
+      failed_request_is = subst (λ (n : PortSlots). IsFailedRequest n x.rest.error_handled.result.failed x.failed) (sym slots_mid) x.rest.failed_request_is;
       revalidation = y.revalidation;
-      expects = subst (λ (its : PortError). IsRevalidation its x.was y.found y.revalidation) (sym x.rest.trouble_is) y.expects;
-      now = y.now;
-      meets = subst (λ (n : ServerState). AreResolved (disposition_of x.failed y.revalidation) (requests_of x.port n.book) y.later (book_and_loans n.book n.table (quarantined_at n.kept x.port.0)) y.now) (sym x.rest.mid_is) y.meets;
-      server = (λ i. record (then x y) { slots = sym (set-set x.s.slots x.port.0 x.u y.fresh) i }) ∙ (λ i. put (sym x.rest.mid_is i));
+      is_revalidation = subst (λ (its : PortError). IsRevalidation its x.was y.found y.revalidation) (sym x.rest.port_error_is) y.expects;
+      book_and_loans_after = y.now;
+      are_resolved = subst (λ (n : ServerState). AreResolved (disposition_of x.failed y.revalidation) (requests_of x.port n.book) y.later (book_and_loans n.book n.table (quarantined_at n.kept x.port.0)) y.now) (sym x.rest.mid_is) y.meets;
+      server_is = (λ i. record (then x y) { slots = sym (set-set x.s.slots x.port.0 x.u y.fresh) i }) ∙ (λ i. put (sym x.rest.mid_is i));
     }
       where
         put : ServerState → ServerState
@@ -201,20 +201,20 @@ module _ (x : Recovery) where
         }
 
         slots_mid : slots_at x.rest.mid.slots x.port.0 ≡ x.u
-        slots_mid = ap (λ (n : ServerState). slots_at n.slots x.port.0) x.rest.mid_is ∙ get_or-set_same x.s.slots x.port.0 x.u no_slots (let f = x.sees.kept.four in let l = low in omega (arith, f, l))
+        slots_mid = ap (λ (n : ServerState). slots_at n.slots x.port.0) x.rest.mid_is ∙ get_or-set_same x.s.slots x.port.0 x.u no_slots (let f = x.sees.in_call_invariant.four_slots in let l = low in omega (arith, f, l))
 
     pub then_kept : InCallInvariant (then x y)
     unfolding settled_after
-    then_kept = x.laws.settled x.s (then x y) x.port y.later x.sees.kept x.sees.ready settled_after x.rest.followed
+    then_kept = x.laws.settled x.s (then x y) x.port y.later x.sees.in_call_invariant x.sees.ready settled_after x.rest.is_simulated
 
     pub lends_found : HasFoundPort (then x y) y.two y.now.book y.fresh x.port y.mode y.found
     lends_found = record {
-      kept = then_kept;
+      in_call_invariant = then_kept;
       found_is = get_or-set_same x.s.ports x.port.0 y.found Unserved in_list;
       device_is = refl;
       book_is = refl;
-      slots_are = get_or-set_same x.s.slots x.port.0 y.fresh no_slots (let f = x.sees.kept.four in let l = low in omega (arith, f, l));
-      mode_is = get_or-set_same x.s.modes x.port.0 y.mode plain_mode (let f = x.sees.kept.four_modes in let l = low in omega (arith, f, l));
+      slots_are = get_or-set_same x.s.slots x.port.0 y.fresh no_slots (let f = x.sees.in_call_invariant.four_slots in let l = low in omega (arith, f, l));
+      mode_is = get_or-set_same x.s.modes x.port.0 y.mode plain_mode (let f = x.sees.in_call_invariant.four_modes in let l = low in omega (arith, f, l));
     }
       where
         in_list : x.port.0 < length x.s.ports
@@ -226,7 +226,7 @@ module _ (x : Recovery) where
     -- what is due was issued, and the replies stand in order
     module _ (o : Ordered x y) where
       told_all : o.all ≡ x.before ++ (map done_reply x.rest.error_handled.requests ++ y.later)
-      told_all = o.all_is ∙ ap (λ (list : List Reply). list ++ y.later) x.rest.told ∙ append_assoc x.before (map done_reply x.rest.error_handled.requests) y.later
+      told_all = o.all_is ∙ ap (λ (list : List Reply). list ++ y.later) x.rest.replies_are ∙ append_assoc x.before (map done_reply x.rest.error_handled.requests) y.later
 
       pub replies_are : o.after ≡ x.before ++ o.its
       replies_are = o.sorted ∙ ap (λ (list : List Reply). take (length x.before) list ++ o.its) told_all ∙ ap (λ (list : List Reply). list ++ o.its) (take-append_seam x.before (map done_reply x.rest.error_handled.requests ++ y.later))
@@ -246,18 +246,18 @@ module _ (x : Recovery) where
         mid = then x y;
         settled = settled_after;
         issued = o.issues;
-        told = subst (IsPermutation o.its) (ap (drop (length x.before)) told_all ∙ drop-append_seam x.before (map done_reply x.rest.error_handled.requests ++ y.later)) o.moved;
+        replies_are = subst (IsPermutation o.its) (ap (drop (length x.before)) told_all ∙ drop-append_seam x.before (map done_reply x.rest.error_handled.requests ++ y.later)) o.moved;
         ordered = o.ordered;
       }
 
       -- it goes on, whatever the trouble was
       goes_on : (its_trouble : PortError) → x.rest.error_handled.port_error ≡ its_trouble → SettledInvariant (with_port_slots (then x y) o.three o.book o.slots x.port)
       unfolding settled_after recovers_port
-      goes_on TaskFileError is = (x.laws.error_handled x.s (with_port_slots (then x y) o.three o.book o.slots x.port) x.port o.its o.settled x.sees.ready recovers_port (λ hung. let z : TaskFileError ≡ TimedOut = sym is ∙ hung in cc) x.rest.followed).1
-      goes_on FatalError is = (x.laws.error_handled x.s (with_port_slots (then x y) o.three o.book o.slots x.port) x.port o.its o.settled x.sees.ready recovers_port (λ hung. let z : FatalError ≡ TimedOut = sym is ∙ hung in cc) x.rest.followed).1
-      goes_on LinkChanged is = (x.laws.error_handled x.s (with_port_slots (then x y) o.three o.book o.slots x.port) x.port o.its o.settled x.sees.ready recovers_port (λ hung. let z : LinkChanged ≡ TimedOut = sym is ∙ hung in cc) x.rest.followed).1
+      goes_on TaskFileError is = (x.laws.error_handled x.s (with_port_slots (then x y) o.three o.book o.slots x.port) x.port o.its o.settled x.sees.ready recovers_port (λ hung. let z : TaskFileError ≡ TimedOut = sym is ∙ hung in cc) x.rest.is_simulated).1
+      goes_on FatalError is = (x.laws.error_handled x.s (with_port_slots (then x y) o.three o.book o.slots x.port) x.port o.its o.settled x.sees.ready recovers_port (λ hung. let z : FatalError ≡ TimedOut = sym is ∙ hung in cc) x.rest.is_simulated).1
+      goes_on LinkChanged is = (x.laws.error_handled x.s (with_port_slots (then x y) o.three o.book o.slots x.port) x.port o.its o.settled x.sees.ready recovers_port (λ hung. let z : LinkChanged ≡ TimedOut = sym is ∙ hung in cc) x.rest.is_simulated).1
       goes_on TimedOut is = (x.laws.restarted x.s (with_port_slots (then x y) o.three o.book o.slots x.port) x.port o.its o.settled x.sees.ready recovers_port is).1
 
       pub error_handled : HandlesPortErrorOf x.port x.port_error o.its x.s (with_port_slots (then x y) o.three o.book o.slots x.port) × SettledInvariant (with_port_slots (then x y) o.three o.book o.slots x.port)
       unfolding settled_after recovers_port
-      error_handled = (record { handling = recovers_port; trouble_is = x.rest.trouble_is; followed = x.rest.followed }, goes_on x.port_error x.rest.trouble_is)
+      error_handled = (record { handling = recovers_port; port_error_is = x.rest.port_error_is; is_simulated = x.rest.is_simulated }, goes_on x.port_error x.rest.port_error_is)

@@ -8,19 +8,19 @@ use Rattle.std.proofs.lemmas.Option.{same_Some}
 use Rattle.ata_types.specs.declared.Port.{Port}
 use Rattle.hba_regs.specs.Bits.{bit}
 use Rattle.adapter.specs.Device.{Device}
-use Rattle.port_control.specs.Looks.{LooksAt}
+use Rattle.port_control.specs.PortEvents.{TakesEvent}
 use Rattle.port_control.specs.declared.events.PortEvent.{PortEvent}
 use Rattle.port_control.specs.declared.events.PortEvent.TheVariants as look
 use Rattle.server_history.specs.ErrorHandling.{ErrorIsFound}
-use Rattle.server_history.specs.Served.{IsEmptyMask, IsMaskOf, is_used}
+use Rattle.server_history.specs.IssuingAndAnswering.{IsEmptyMask, IsMaskOf, is_used}
 use Rattle.port_control.specs.declared.events.PortError.{PortError}
 use Rattle.port_control.specs.declared.events.PortError.TheVariants.{FatalError, TaskFileError, TimedOut, LinkChanged}
-use Rattle.slots.specs.Uses.{PortSlots, IsTaken, use_at}
+use Rattle.slots.specs.SlotUses.{PortSlots, IsTaken, use_at}
 use Rattle.slots.specs.declared.SlotUse.{SlotUse}
 use Rattle.port_driver.specs.Recovery.{error_of}
 
 -- what a look tells is found out by it, and isn't that a request is hung
-pub found_out : (told : PortEvent) (port_error : PortError) (port : Port) (old seen : Device) → error_of told ≡ Some port_error → LooksAt port told old seen
+pub found_out : (told : PortEvent) (port_error : PortError) (port : Port) (old seen : Device) → error_of told ≡ Some port_error → TakesEvent port told old seen
     → ErrorIsFound port port_error old seen × (port_error ≢ TimedOut)
 found_out look.TaskFileError port_error port old seen is looks =
     subst (λ (its : PortError). ErrorIsFound port its old seen × (its ≢ TimedOut)) (same_Some TaskFileError port_error is) (looks, λ hung. let z : TaskFileError ≡ TimedOut = hung in cc)
@@ -32,7 +32,7 @@ found_out look.NoEvent port_error port old seen is looks = let z : None ≡ Some
 
 -- a look that tells no trouble tells that there is none
 pub undisturbed : (told : PortEvent) (result : Option PortError) (port : Port) (old seen : Device) → result ≡ error_of told → ((port_error : PortError) → result ≡ Some port_error → ⊥)
-    → LooksAt port told old seen → LooksAt port look.NoEvent old seen
+    → TakesEvent port told old seen → TakesEvent port look.NoEvent old seen
 undisturbed look.TaskFileError result port old seen is none looks = absurd (none TaskFileError is)
 undisturbed look.FatalError result port old seen is none looks = absurd (none FatalError is)
 undisturbed look.LinkChanged result port old seen is none looks = absurd (none LinkChanged is)

@@ -10,11 +10,11 @@ use Rattle.std.proofs.lemmas.List.Elements.{All-contains, All-contains_itself, A
 use Rattle.std.specs.Prelude.{◌↔◌, if◌then◌else◌, count_by}
 use Rattle.ata_types.specs.declared.request.Reply.{Reply}
 use Rattle.dma_frames.specs.Loan.{Lending}
-use Rattle.dma_frames.specs.Table.{Table, LendsOnly}
+use Rattle.dma_frames.specs.FrameTables.{FrameOwnership, LendsOnly}
 use Rattle.ata_types.specs.declared.request.RequestId.{RequestId}
 use Rattle.std.specs.List.{All, AllPairs, Contains}
 use Rattle.port_driver.proofs.Finishing as finishing
-use Rattle.request_queue.specs.Entries.{HasFewIssues, BookEntry, IsAccepted, IsEarlier, BookIsInOrder, update_if_id, ids_where, requeued_entry, without_entry}
+use Rattle.request_queue.specs.BookEntries.{HasFewIssues, BookEntry, IsAccepted, IsEarlier, BookIsInOrder, update_if_id, ids_where, requeued_entry, without_entry}
 use Rattle.request_queue.specs.Dispositions.{KeepsOrEndsLoan, BookAndLoans, AreResolved, IsResolved, disposition_of, disposition_of_unfailed, keeps_loan, reply_to}
 use Rattle.request_queue.specs.declared.PendingRequest.{PendingRequest}
 use Rattle.request_queue.specs.declared.disposition.Disposition.{Disposition}
@@ -22,7 +22,7 @@ use Rattle.request_queue.specs.declared.disposition.Disposition.TheVariants.{Com
 use Rattle.request_queue.specs.declared.disposition.FailedRequest.{FailedRequest}
 use Rattle.request_queue.specs.declared.disposition.Revalidation.{Revalidation}
 use Rattle.request_queue.specs.declared.disposition.Revalidation.TheVariants.{Dead, DiskLost, SameDisk}
-use Rattle.port_driver.specs.Dispositions.{HasLoanRoom, HaveLoanRoom, BookIsSound, MayAnswerAll, book_and_loans}
+use Rattle.port_driver.specs.LoanRoom.{HasLoanRoom, HaveLoanRoom, BookIsSound, MayAnswerAll, book_and_loans}
 
 -- a loan is kept of an issued request alone
 pub kept_issued : (outcome : Outcome) (e : PendingRequest) → keeps_loan outcome e ≡ true → e.issued ≡ true
@@ -56,7 +56,7 @@ again_of (Some failed) revalidation e is = by (failed.id.0 == e.id.0) is
 pub may_go_again : (failed : Option FailedRequest) (revalidation : Revalidation) (e : BookEntry) (book : List BookEntry) → BookIsInOrder book → Contains book e → disposition_of failed revalidation e.entry ≡ Requeue → (e.entry.issued ≡ true) × (e.entry.issues < 4)
 may_go_again failed revalidation e book order here is =
     let a = again_of failed revalidation e.entry is in
-    let few = (All-contains (λ (x : BookEntry). HasFewIssues x.entry) book e order.issues here).0 in
+    let few = (All-contains (λ (x : BookEntry). HasFewIssues x.entry) book e order.issues_are_few here).0 in
     let other = eqb-false e.entry.issues 4 a.1 in
     (a.0, omega (arith, few, other))
 
@@ -79,7 +79,7 @@ pub places_left : (request : BookEntry) (rest : List BookEntry) (kept : List Len
 places_left request rest kept places = let c = issued_cons request rest in omega (arith, places, c)
 
 -- the request waits again
-pub again : (named id : RequestId) (book later : List BookEntry) (table : Table) (kept : List Lending) → id ≡ named → later ≡ map (update_if_id named requeued_entry) book
+pub again : (named id : RequestId) (book later : List BookEntry) (table : FrameOwnership) (kept : List Lending) → id ≡ named → later ≡ map (update_if_id named requeued_entry) book
     → book_and_loans later table kept ≡ record (book_and_loans book table kept) { book = map (update_if_id id requeued_entry) book }
 again named id book later table kept same is = λ i. book_and_loans ((is ∙ ap (λ (x : RequestId). map (update_if_id x requeued_entry) book) (sym same)) i) table kept
 
@@ -88,7 +88,7 @@ pub shorter : (id : RequestId) (book later : List BookEntry) (taken : BookEntry)
 shorter id book later taken here its is = subst (λ (b : List BookEntry). length b < length book) (sym is) (finishing.shorter id book taken here its)
 
 -- the request that left the book is this one, and its loan was kept, or its frames were given back
-module _ (request : BookEntry) (outcome : Outcome) (book later : List BookEntry) (old new : Table) (kept more : List Lending) (loan : Lending)
+module _ (request : BookEntry) (outcome : Outcome) (book later : List BookEntry) (old new : FrameOwnership) (kept more : List Lending) (loan : Lending)
     (its : record { entry = request.entry; frames = loan.frames } ≡ request) (whose : loan.request ≡ request.entry.id) (rest : later ≡ without_entry request.entry.id book) where
   frames_are : loan.frames ≡ request.frames
   frames_are = ap (λ (e : BookEntry). e.frames) its
@@ -112,12 +112,12 @@ module _ (request : BookEntry) (outcome : Outcome) (book later : List BookEntry)
   )
 
 -- and what is left is sound, once its frames were given back
-pub sound_back : (id : RequestId) (book later : List BookEntry) (taken : BookEntry) (old new : Table) → ((old new : Table) (entries : List BookEntry) (e : BookEntry) → Contains entries e → LendsOnly old new e.frames None
+pub sound_back : (id : RequestId) (book later : List BookEntry) (taken : BookEntry) (old new : FrameOwnership) → ((old new : FrameOwnership) (entries : List BookEntry) (e : BookEntry) → Contains entries e → LendsOnly old new e.frames None
     → All (IsAccepted old) entries → All (IsAccepted new) (without_entry e.entry.id entries)) → BookIsInOrder (without_entry id book) → All (IsAccepted old) book → Contains book taken → taken.entry.id ≡ id → LendsOnly old new taken.frames None → later ≡ without_entry id book
     → BookIsSound new later
 sound_back id book later taken old new still ordered accepted here its lends rest = subst (BookIsSound new) (sym rest) (record {
-  ordered = ordered;
-  accepted = subst (λ (i : RequestId). All (IsAccepted new) (without_entry i book)) its (still old new book taken here lends accepted);
+  book_is_in_order = ordered;
+  requests_are_accepted = subst (λ (i : RequestId). All (IsAccepted new) (without_entry i book)) its (still old new book taken here lends accepted);
 })
 
 -- ---- one after another
@@ -127,7 +127,7 @@ pub of_book : (passes : PendingRequest → Bool) (book : List BookEntry) (e : Bo
 of_book passes book e here = All-contains (Contains book) (filter (λ (x : BookEntry). passes x.entry) book) e (All-filter (λ (x : BookEntry). passes x.entry) (Contains book) book (All-contains_itself book)) here
 
 pub passing_ordered : (passes : PendingRequest → Bool) (book : List BookEntry) → BookIsInOrder book → AllPairs IsEarlier (filter (λ (x : BookEntry). passes x.entry) book)
-passing_ordered passes book order = AllPairs-filter IsEarlier (λ (x : BookEntry). passes x.entry) book order.ordered
+passing_ordered passes book order = AllPairs-filter IsEarlier (λ (x : BookEntry). passes x.entry) book order.ids_rise
 
 -- the one at a place is next
 pub next_of : (all : List BookEntry) (place : ℕ) → place < length all → (r : BookEntry) × (drop place all ≡ r ∷ drop (place + 1) all) × ((d : RequestId) → get_or (map (λ (e : BookEntry). e.entry.id) all) place d ≡ r.entry.id)

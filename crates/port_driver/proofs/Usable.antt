@@ -4,7 +4,7 @@ use Rattle.hba_regs.specs.Bits.{bit}
 use Rattle.block_machine.specs.declared.due.QueueMode.{QueueMode}
 use Rattle.host_boot.specs.declared.ProbeResult.{ProbeResult}
 use Rattle.host_boot.specs.declared.ProbeResult.TheVariants.{Ready, Unready, Unserved}
-use Rattle.server_history.specs.Server.{probed_mode}
+use Rattle.server_history.specs.ServerState.{probed_mode}
 
 abbrev either_mode : Bool → ℕ → ℕ → QueueMode
 either_mode queues slots depth = if queues then record { queued = true; usable = min slots (min depth 32) } else record { queued = false; usable = 1 }

@@ -2,11 +2,11 @@
 use Rattle.ata_types.specs.declared.limits.TheConstants.{SLOTS}
 use Rattle.std.specs.Prelude.{ℕ, ◌+◌, ◌*◌}
 use Rattle.error_recovery.specs.Costs.{RECOVER_ACCESSES}
-use Rattle.host_boot.specs.Costs.{BOOT_AGAIN_ACCESSES, BOOT_IF_THERE_ACCESSES}
+use Rattle.host_boot.specs.Costs.{REBOOT_ACCESSES, REBOOT_IF_PRESENT_ACCESSES}
 use Rattle.command_table.specs.Costs.{TABLE_ACCESSES}
 use Rattle.commands.specs.Costs.{BATCH_ACCESSES, DONE_ACCESSES}
 use Rattle.port_control.specs.Costs.{STOP_ACCESSES}
-use Rattle.port_control.specs.LookCosts.{LOOK_ACCESSES}
+use Rattle.port_control.specs.EventCosts.{TAKE_EVENT_ACCESSES}
 use Rattle.port_control.specs.declared.events.PortError.{PortError}
 use Rattle.port_control.specs.declared.events.PortError.TheVariants.{TaskFileError, LinkChanged}
 
@@ -21,8 +21,8 @@ handling_accesses _ = STOP_ACCESSES
 
 -- and then it is booted: one whose disk was lost only where a device shows
 abbrev pub booting_accesses : PortError → ℕ
-booting_accesses LinkChanged = BOOT_IF_THERE_ACCESSES
-booting_accesses _ = BOOT_AGAIN_ACCESSES
+booting_accesses LinkChanged = REBOOT_IF_PRESENT_ACCESSES
+booting_accesses _ = REBOOT_ACCESSES
 
 -- what is done is found out, its error is handled, it is booted, and what is due is issued
 abbrev pub port_error_accesses : PortError → ℕ
@@ -31,4 +31,4 @@ port_error_accesses port_error =
 
 -- a port is looked at, and its trouble is a command that failed: no other turn of a port in a service has as many
 abbrev pub TURN_ACCESSES : ℕ
-TURN_ACCESSES = LOOK_ACCESSES + port_error_accesses TaskFileError
+TURN_ACCESSES = TAKE_EVENT_ACCESSES + port_error_accesses TaskFileError

@@ -2,23 +2,23 @@
 use Rattle.std.specs.Prelude.{ℕ, ◌≡◌, ◌+◌, ◌*◌, List, [], length}
 use Rattle.ata_types.specs.declared.Port.{Port}
 use Rattle.ata_types.specs.declared.PortState.TheVariants.{Ready}
-use Rattle.adapter.specs.Counted.{MakesAtMost}
+use Rattle.adapter.specs.AccessBounds.{MakesAtMost}
 use Rattle.adapter.specs.Device.{Device}
-use Rattle.block_machine.specs.Due.{due_of}
+use Rattle.block_machine.specs.DueRequests.{due_of}
 use Rattle.command_table.specs.Costs.{TABLE_ACCESSES}
 use Rattle.commands.specs.Costs.{BATCH_ACCESSES}
-use Rattle.request_queue.specs.Entries.{BookEntry, asks_of}
-use Rattle.server_history.specs.Served.{IssuesAll}
-use Rattle.server_history.specs.Server.{ServerState, state_of}
+use Rattle.request_queue.specs.BookEntries.{BookEntry, unanswered_of}
+use Rattle.server_history.specs.IssuingAndAnswering.{IssuesAll}
+use Rattle.server_history.specs.ServerState.{ServerState, state_of}
 use Rattle.port_driver.specs.Costs.{ISSUE_DUE_ACCESSES}
-use Rattle.port_driver.specs.Ports.{HasFoundPort, with_port_slots}
+use Rattle.port_driver.specs.LentSlots.{HasFoundPort, with_port_slots}
 use Rattle.port_driver.specs.declared.served_port.ServedPort.{ServedPort}
 
 -- The port is ready, and is a part of some server with this adapter and this book.
 pub record MayIssueDue {A : Type 0} (device : A → Device) (port : Port) (self : ServedPort) (adapter : A)
     (book : List BookEntry) : Type 0 where
   pub ready : state_of self.found ≡ Ready
-  pub lends : (s : ServerState) × HasFoundPort s (device adapter) book self.slots port self.mode self.found
+  pub has_found_port : (s : ServerState) × HasFoundPort s (device adapter) book self.slots port self.mode self.found
 
 -- The port's due requests were issued, in order of acceptance, in slots of its own: so it is of each server that the
 -- port, the adapter and the book may be a part of. Nothing else of the port changed, and no request came or went.
@@ -28,9 +28,10 @@ pub record IssuesWhatIsDue {A : Type 0} (device : A → Device) (accesses : A �
     (before after : A) (book left : List BookEntry) : Type 0 where
   pub issues : (s : ServerState) → HasFoundPort s (device before) book old.slots port old.mode old.found
       → IssuesAll port s (with_port_slots s (device after) left new.slots port)
-  pub rest : new ≡ record old { slots = new.slots }
-  pub as_many : length left ≡ length book
-  pub none : due_of old.mode port (asks_of book) ≡ [] → after ≡ before
-  pub each : MakesAtMost (TABLE_ACCESSES * length (due_of old.mode port (asks_of book)) + BATCH_ACCESSES)
+  pub only_slots_change : new ≡ record old { slots = new.slots }
+  pub book_length_is_kept : length left ≡ length book
+  pub none_due_no_access : due_of old.mode port (unanswered_of book) ≡ [] → after ≡ before
+  pub cost_is_by_due : MakesAtMost (TABLE_ACCESSES * length (due_of old.mode port (unanswered_of book)) +
+      BATCH_ACCESSES)
       (accesses before) (accesses after)
   pub cost : MakesAtMost ISSUE_DUE_ACCESSES (accesses before) (accesses after)

@@ -1,7 +1,7 @@
-pub mod Parts
-pub mod Ports
+pub mod PortAndShared
+pub mod LentSlots
 pub mod Issuing
 pub mod Modes
-pub mod Dispositions
+pub mod LoanRoom
 pub mod Recovery
 pub mod Costs

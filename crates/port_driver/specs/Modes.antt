@@ -3,7 +3,7 @@ use Rattle.std.specs.Prelude.{ℕ, Bool, true, if◌then◌else◌, ◌&&◌, mi
 use Rattle.block_machine.specs.declared.due.QueueMode.{QueueMode}
 use Rattle.host_boot.specs.declared.ProbeResult.{ProbeResult}
 use Rattle.host_boot.specs.declared.ProbeResult.TheVariants.{Ready}
-use Rattle.server_history.specs.Server.{plain_mode}
+use Rattle.server_history.specs.ServerState.{plain_mode}
 
 -- How a port that was found so takes commands, by an adapter with so many slots a port, which queues or doesn't: queued
 -- where adapter and disk both can, in as many slots as both have, 32 at most; else one at a time.

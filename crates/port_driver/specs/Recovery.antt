@@ -4,23 +4,23 @@ use Rattle.ata_types.specs.declared.Port.{Port}
 use Rattle.ata_types.specs.declared.PortState.TheVariants.{Ready}
 use Rattle.ata_types.specs.declared.request.Reply.{Reply}
 use Rattle.adapter.specs.Device.{Device}
-use Rattle.refinement.specs.Driven.{AnyUse, IsSimulated}
-use Rattle.dma_frames.specs.Table.{Table}
+use Rattle.refinement.specs.Fragments.{AnyUse, IsSimulated}
+use Rattle.dma_frames.specs.FrameTables.{FrameOwnership}
 use Rattle.error_recovery.specs.declared.Next.{Next}
 use Rattle.host_boot.specs.TakeOver.{probe_result_of}
-use Rattle.port_control.specs.Looks.{IsLooking}
+use Rattle.port_control.specs.PortEvents.{IsEventAccess}
 use Rattle.port_control.specs.declared.events.PortEvent.{PortEvent}
 use Rattle.port_control.specs.declared.events.PortEvent.TheVariants as look
-use Rattle.request_queue.specs.Entries.{BookEntry}
+use Rattle.request_queue.specs.BookEntries.{BookEntry}
 use Rattle.request_queue.specs.declared.disposition.FailedRequest.{FailedRequest}
 use Rattle.server_history.specs.ErrorHandling.{IsFailedRequest, ErrorIsFound, IsErrorHandled, HandlesPortError}
-use Rattle.server_history.specs.Served.{done_reply}
-use Rattle.server_history.specs.Server.{ServerState, InCallInvariant, state_of}
+use Rattle.server_history.specs.IssuingAndAnswering.{done_reply}
+use Rattle.server_history.specs.ServerState.{ServerState, InCallInvariant, state_of}
 use Rattle.port_control.specs.declared.events.PortError.{PortError}
 use Rattle.port_control.specs.declared.events.PortError.TheVariants.{FatalError, TaskFileError, LinkChanged}
-use Rattle.slots.specs.Uses.{PortSlots}
-use Rattle.port_driver.specs.Parts.{IsSettledWith}
-use Rattle.port_driver.specs.Ports.{with_answers}
+use Rattle.slots.specs.SlotUses.{PortSlots}
+use Rattle.port_driver.specs.PortAndShared.{IsSettledWith}
+use Rattle.port_driver.specs.LentSlots.{with_answers}
 use Rattle.port_driver.specs.declared.served_port.ServedPort.{ServedPort}
 use Rattle.port_driver.specs.declared.served_port.Shared.{Shared}
 
@@ -34,38 +34,38 @@ error_of look.NoEvent = None
 -- the server keeps what it keeps, and this trouble of its port, which is ready, was found out; so it came to this
 -- device
 pub record SeesPortError (s : ServerState) (port : Port) (port_error : PortError) (device : Device) : Type 0 where
-  pub kept : InCallInvariant s
+  pub in_call_invariant : InCallInvariant s
   pub ready : state_of (probe_result_of s.ports port.0) ≡ Ready
   pub finds : ErrorIsFound port port_error s.device device
-  pub followed : IsSimulated (IsLooking port) AnyUse s.device device
+  pub is_simulated : IsSimulated (IsEventAccess port) AnyUse s.device device
 
 -- The server was settled when this error of its port was found out, and has these loans and requests; its port is this
 -- one.
 pub record IsInError (s : ServerState) (device : Device) (shared : Shared) (port : Port) (p : ServedPort)
     (port_error : PortError) : Type 0 where
-  pub before : IsSettledWith s s.device shared port p
-  pub sees : SeesPortError s port port_error device
+  pub is_settled_with : IsSettledWith s s.device shared port p
+  pub sees_port_error : SeesPortError s port port_error device
 
 -- What was done was answered by replies that came after others, and the port's error was handled; the server keeps what
 -- it keeps until then. So it came to these loans, this book and these slots, and to this device; to the request whose
 -- command failed, and to what the port has to go through.
 pub record CompletesAndRecovers (port : Port) (port_error : PortError) (before after : List Reply)
     (failed : Option FailedRequest)
-    (next : Next) (s : ServerState) (table : Table) (book : List BookEntry)
+    (next : Next) (s : ServerState) (table : FrameOwnership) (book : List BookEntry)
     (slots : PortSlots) (new : Device) : Type 0 where
   pub mid : ServerState
-  pub kept : InCallInvariant mid
+  pub in_call_invariant : InCallInvariant mid
   pub error_handled : IsErrorHandled port s mid new
-  pub trouble_is : error_handled.port_error ≡ port_error
-  pub followed : IsSimulated (IsLooking port) AnyUse s.device error_handled.seen
+  pub port_error_is : error_handled.port_error ≡ port_error
+  pub is_simulated : IsSimulated (IsEventAccess port) AnyUse s.device error_handled.seen
   pub mid_is : mid ≡ with_answers (record s { device = error_handled.found }) table book slots port
   pub next_is : error_handled.result.next ≡ next
-  pub names : IsFailedRequest slots error_handled.result.failed failed
-  pub told : after ≡ before ++ map done_reply error_handled.requests
+  pub failed_request_is : IsFailedRequest slots error_handled.result.failed failed
+  pub replies_are : after ≡ before ++ map done_reply error_handled.requests
 
 -- This error of the port was handled, which was found out by accesses of a look alone.
 pub record HandlesPortErrorOf (port : Port) (port_error : PortError) (replies : List Reply)
     (old new : ServerState) : Type 0 where
   pub handling : HandlesPortError port replies old new
-  pub trouble_is : handling.settled.error_handled.port_error ≡ port_error
-  pub followed : IsSimulated (IsLooking port) AnyUse old.device handling.settled.error_handled.seen
+  pub port_error_is : handling.settled.error_handled.port_error ≡ port_error
+  pub is_simulated : IsSimulated (IsEventAccess port) AnyUse old.device handling.settled.error_handled.seen

@@ -1,9 +1,9 @@
 // What becomes of a port's requests where its adapter is reset.
 ghost use Rattle.std.specs.Prelude.{◌≡◌, ◌≤◌, ◌+◌, ◌++◌, List, length};
 ghost use Rattle.ata_types.specs.declared.request.Reply.{Reply};
-ghost use Rattle.port_driver.specs.Parts.{HasPortAndShared, with_served_port};
+ghost use Rattle.port_driver.specs.PortAndShared.{HasPortAndShared, with_served_port};
 ghost use Rattle.server_history.specs.Resets.{IsResetRevalidation, MayResolve, ResolvesPort};
-ghost use Rattle.server_history.specs.Server.{ServerState};
+ghost use Rattle.server_history.specs.ServerState.{ServerState};
 
 use crate::recovery::is_same_disk;
 use crate::served_port::{ServedPort, Shared};

@@ -1,10 +1,10 @@
 // What is done on a port is answered.
 ghost use Rattle.std.specs.Prelude.{ℕ, ◌≡◌, ◌≤◌, ◌<◌, ◌+◌, length, None, Some, true};
 ghost use Rattle.ata_types.specs.declared.Port.{Port};
-ghost use Rattle.port_driver.specs.Ports.{AnswersDoneSlots, AnswersSlot, HasDonePort, with_answers};
+ghost use Rattle.port_driver.specs.LentSlots.{AnswersDoneSlots, AnswersSlot, HasDonePort, with_answers};
 ghost use Rattle.hba_regs.specs.Bits.{bit};
-ghost use Rattle.server_history.specs.Server.{ServerState};
-ghost use Rattle.slots.specs.Uses.{use_at, with_use};
+ghost use Rattle.server_history.specs.ServerState.{ServerState};
+ghost use Rattle.slots.specs.SlotUses.{use_at, with_use};
 ghost use Rattle.slots.specs.declared.SlotUse.{SlotUse};
 
 use ata_types::{MOST_UNANSWERED, Outcome, Replies, Reply, Slot};

@@ -3,13 +3,13 @@
 ghost use Rattle.std.specs.Prelude.{◌≡◌, ◌≢◌, ◌++◌, ◌∷◌, Contains, List, filter};
 ghost use Rattle.ata_types.specs.declared.request.Outcome.TheVariants.{Revoked};
 ghost use Rattle.ata_types.specs.declared.request.Reply.{Reply};
-ghost use Rattle.port_driver.specs.Dispositions.{HasLoanRoom, HaveLoanRoom, MayAnswerAll, book_and_loans};
+ghost use Rattle.port_driver.specs.LoanRoom.{HasLoanRoom, HaveLoanRoom, MayAnswerAll, book_and_loans};
 ghost use Rattle.dma_frames.specs.Loan.{Lending};
-ghost use Rattle.request_queue.specs.Entries.{BookEntry, IsUnanswered, is_of_port, waits_under};
+ghost use Rattle.request_queue.specs.BookEntries.{BookEntry, IsUnanswered, is_of_port, waits_under};
 ghost use Rattle.request_queue.specs.Dispositions.{CompletesAllWith, AreResolved, IsResolved, disposition_of};
 ghost use Rattle.request_queue.specs.declared.disposition.Disposition.TheVariants.{Complete};
 
-use crate::kept::Quarantine;
+use crate::quarantine::Quarantine;
 use crate::served_port::Shared;
 use ata_types::{ClientId, Outcome, Port, Replies, Reply, RequestId};
 use request_queue::laws::{
@@ -101,7 +101,7 @@ impl Shared {
             (book_and_loans self.new.book self.new.table.value kept) }
     {
         law_answers_of_one_outcome_are_one_change();
-        let waiting = self.book.waiting_of(client, number);
+        let waiting = self.book.waiting_ids_under(client, number);
         for place in 0..waiting.len() {
             self.cancel_revoked_request(waiting[place], replies);
         }

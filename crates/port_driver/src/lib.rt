@@ -21,14 +21,14 @@
 mod after_reset;
 mod answering;
 mod dispositions;
-mod kept;
+mod issuing;
 mod modes;
-mod port;
 mod probing;
+mod quarantine;
 mod recovery;
 mod served_port;
 mod turn;
 
-pub use kept::Quarantine;
 pub use modes::probed_mode;
+pub use quarantine::Quarantine;
 pub use served_port::{ServedPort, Shared};

@@ -2,7 +2,7 @@
 ghost use Rattle.std.specs.Prelude.{ℕ, ◌≡◌, ◌≤◌, ◌+◌, ◌/◌, ◌%◌};
 ghost use Rattle.hba_regs.specs.Bits.{bit};
 ghost use Rattle.port_driver.specs.Modes.{mode_from_slots};
-ghost use Rattle.server_history.specs.Server.{probed_mode};
+ghost use Rattle.server_history.specs.ServerState.{probed_mode};
 
 use ata_types::SLOTS;
 use block_machine::QueueMode;

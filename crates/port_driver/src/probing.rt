@@ -2,19 +2,19 @@
 ghost use Rattle.std.specs.Prelude.{true, ◌≡◌, ◌+◌};
 ghost use Rattle.adapter.specs.Device.{Device};
 ghost use Rattle.adapter.specs.Rules.{HasPort, IsOn};
-ghost use Rattle.refinement.specs.Driven.{RelatesWith, AnyUse, IsSimulated};
+ghost use Rattle.refinement.specs.Fragments.{RelatesWith, AnyUse, IsSimulated};
 ghost use Rattle.server_history.specs.Probing.{ProbesAnew};
 ghost use Rattle.error_recovery.specs.Recovery.{StopsForReset};
 ghost use Rattle.error_recovery.specs.declared.Recovered as recovered_record;
 ghost use Rattle.port_boot.specs.States.{IsBootable};
 ghost use Rattle.port_control.specs.Ports.{IsStopped};
 ghost use Rattle.port_control.specs.declared.Stopped as stopped_token;
-ghost use Rattle.port_control.specs.Looks.{IsLooking};
+ghost use Rattle.port_control.specs.PortEvents.{IsEventAccess};
 ghost use Rattle.server_history.specs.Probing.{IsLookedAt};
-ghost use Rattle.adapter.specs.Counted.{MakesAtMost};
-ghost use Rattle.host_boot.specs.Costs.{BOOT_AGAIN_ACCESSES};
+ghost use Rattle.adapter.specs.AccessBounds.{MakesAtMost};
+ghost use Rattle.host_boot.specs.Costs.{REBOOT_ACCESSES};
 ghost use Rattle.port_control.specs.Costs.{STOP_ACCESSES};
-ghost use Rattle.port_control.specs.LookCosts.{CHANGE_CHECK_ACCESSES};
+ghost use Rattle.port_control.specs.EventCosts.{CHANGE_CHECK_ACCESSES};
 
 use super::modes::{PLAIN, probed_mode};
 use adapter::Adapter;
@@ -33,7 +33,7 @@ pub(crate) fn needs_probe<A: Adapter>(adapter: &mut A, port: Port, state: PortSt
     requires there { HasPort (A.device adapter.old) port.0 }
     ensures on { IsOn (A.device adapter.new) }
     ensures looks { IsLookedAt state port result (A.device adapter.old) (A.device adapter.new) }
-    ensures followed { IsSimulated (IsLooking port) AnyUse (A.device adapter.old) (A.device adapter.new) }
+    ensures followed { IsSimulated (IsEventAccess port) AnyUse (A.device adapter.old) (A.device adapter.new) }
     ensures dead { state ≡ PortState.Dead → adapter.new ≡ adapter.old }
     ensures cost { MakesAtMost CHANGE_CHECK_ACCESSES (A.access_count adapter.old) (A.access_count adapter.new) }
 {
@@ -62,7 +62,7 @@ pub(crate) fn probe_anew<A: Adapter>(
         → (token.port ≡ port) × IsBootable port stopped × IsStopped (stopped.port port.0) }
     ensures on { IsOn (A.device adapter.new) }
     ensures finds { ProbesAnew wanted.now port result.0 result.1 (A.device adapter.old) (A.device adapter.new) }
-    ensures cost { MakesAtMost (STOP_ACCESSES + BOOT_AGAIN_ACCESSES)
+    ensures cost { MakesAtMost (STOP_ACCESSES + REBOOT_ACCESSES)
         (A.access_count adapter.old) (A.access_count adapter.new) }
 {
     let recovered = stop_for_reset(adapter, port, 0);

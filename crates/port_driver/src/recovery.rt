@@ -3,7 +3,7 @@
 ghost use Rattle.std.specs.Prelude.{ℕ, ◌≡◌, ◌≤◌, ◌+◌, ◌++◌, IsTrue, ◌↔◌, Some, List, AllPairs, IsPermutation, drop, length, take};
 ghost use Rattle.ata_types.specs.declared.request.Reply.{Reply};
 ghost use Rattle.port_driver.specs.Recovery.{CompletesAndRecovers, IsInError, error_of};
-ghost use Rattle.server_history.specs.Server.{ServerState};
+ghost use Rattle.server_history.specs.ServerState.{ServerState};
 ghost use Rattle.ata_types.specs.declared.Port.{Port};
 ghost use Rattle.adapter.specs.Rules.{IsOn};
 ghost use Rattle.identify.specs.declared.error_log.FailedSlot.{FailedSlot};
@@ -13,10 +13,10 @@ ghost use Rattle.port_boot.specs.States.{IsBootable};
 ghost use Rattle.port_control.specs.Ports.{IsStopped};
 ghost use Rattle.port_control.specs.declared.Stopped as stopped_token;
 ghost use Rattle.server_history.specs.ErrorHandling.{AreAllQueuedAs, BootsAfter, IsFailedRequest, IsRevalidated, IsRevalidation, IsSameDisk, TellsErrorHandling};
-ghost use Rattle.server_history.specs.Server.{probed_mode};
-ghost use Rattle.slots.specs.Uses.{use_at};
+ghost use Rattle.server_history.specs.ServerState.{probed_mode};
+ghost use Rattle.slots.specs.SlotUses.{use_at};
 ghost use Rattle.slots.specs.declared.SlotUse.{SlotUse};
-ghost use Rattle.adapter.specs.Counted.{MakesAtMost};
+ghost use Rattle.adapter.specs.AccessBounds.{MakesAtMost};
 ghost use Rattle.commands.specs.Costs.{DONE_ACCESSES};
 ghost use Rattle.port_driver.specs.Costs.{booting_accesses, handling_accesses};
 
@@ -111,7 +111,7 @@ impl ServedPort {
         let outstanding = self.slots.taken();
         let queued = are_queued(&self.slots);
         let recovered = recover_or_stop(adapter, port, port_error, outstanding, queued);
-        let failed = failed_in(&self.slots, &recovered.failed);
+        let failed = failed_request_in(&self.slots, &recovered.failed);
         (failed, recovered.next)
     }
 }
@@ -142,7 +142,7 @@ pub(crate) fn are_queued(slots: &Slots) -> bool
 }
 
 /// The request of the slot whose command is named, with the bytes that were told of it.
-pub(crate) fn failed_in(slots: &Slots, named: &Option<FailedSlot>) -> Option<FailedRequest>
+pub(crate) fn failed_request_in(slots: &Slots, named: &Option<FailedSlot>) -> Option<FailedRequest>
     requires { (its : FailedSlot) → named.now ≡ Some its → (used : SlotUse)
         × (use_at slots.now its.slot.0 ≡ Some used) }
     ensures { IsFailedRequest slots.now named.now result }

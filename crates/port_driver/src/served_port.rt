@@ -1,13 +1,13 @@
 // A port that a server drives, and what all its ports share.
 ghost use Rattle.std.specs.Prelude.{◌≡◌, ◌≤◌};
-ghost use Rattle.port_driver.specs.Parts.{NotesProbeResult, no_port};
+ghost use Rattle.port_driver.specs.PortAndShared.{NotesProbeResult, no_port};
 ghost use Rattle.server_history.specs.ErrorHandling.{HasNoUsedSlot};
-ghost use Rattle.server_history.specs.Server.{last_disk_of, plain_mode};
+ghost use Rattle.server_history.specs.ServerState.{last_disk_of, plain_mode};
 ghost use Rattle.server_history.specs.StuckServer.{found_after_stuck_reset};
 ghost use Rattle.server_history.specs.Turns.{is_ready};
 
-use crate::kept::Quarantine;
 use crate::modes::PLAIN;
+use crate::quarantine::Quarantine;
 use ata_types::PortState;
 use block_machine::QueueMode;
 use dma_frames::FrameTable;

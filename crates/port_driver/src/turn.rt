@@ -1,16 +1,16 @@
 // A port's turn in a service, or in a tick.
 ghost use Rattle.std.specs.Prelude.{ℕ, ◌≡◌, ◌⊎◌, ◌<◌, ◌≤◌, ◌+◌, ◌↔◌, IsTrue, List, length, true, false};
-ghost use Rattle.adapter.specs.Counted.{MakesAtMost};
+ghost use Rattle.adapter.specs.AccessBounds.{MakesAtMost};
 ghost use Rattle.ata_types.specs.declared.PortState.TheVariants.{Ready};
 ghost use Rattle.port_driver.specs.Costs.{ISSUE_DUE_ACCESSES, TURN_ACCESSES, port_error_accesses};
-ghost use Rattle.port_driver.specs.Parts.{IsSettledWith, TakesTurn, TurnInService, TurnInTick, with_served_port};
+ghost use Rattle.port_driver.specs.PortAndShared.{IsSettledWith, TakesTurn, TurnInService, TurnInTick, with_served_port};
 ghost use Rattle.port_driver.specs.Recovery.{HandlesPortErrorOf, IsInError};
 ghost use Rattle.hba_regs.specs.Bits.{bit};
 ghost use Rattle.refinement.specs.Slots.{IsOver};
-ghost use Rattle.request_queue.specs.Entries.{BookEntry, IsOverdue};
-ghost use Rattle.server_history.specs.Served.{AnswersDone};
-ghost use Rattle.server_history.specs.Server.{ServerState, SettledInvariant, state_of};
-ghost use Rattle.server_history.specs.Turns.{ProbesUnready, ServesPort, is_ready};
+ghost use Rattle.request_queue.specs.BookEntries.{BookEntry, IsOverdue};
+ghost use Rattle.server_history.specs.IssuingAndAnswering.{AnswersDone};
+ghost use Rattle.server_history.specs.ServerState.{ServerState, SettledInvariant, state_of};
+ghost use Rattle.server_history.specs.Turns.{ProbesUnready, ServicesPort, is_ready};
 
 use crate::answering::answer_done;
 use crate::probing::{needs_probe, probe_anew};
@@ -29,7 +29,7 @@ use server_history::laws::{
 impl ServedPort {
     /// Answers the requests of a ready port whose slots were found done (bit k is slot k), in order of acceptance:
     /// their frames are given back. Then what is due on the port is issued.
-    fn finish<A: Adapter>(
+    fn answer_and_issue<A: Adapter>(
         &mut self,
         adapter: &mut A,
         shared: &mut Shared,
@@ -108,7 +108,7 @@ impl ServedPort {
 
     /// Looks at a ready port. Where commands of what it has issued are done, those requests are answered, and then what
     /// is due is issued. Where the look tells an error, it is handled.
-    fn serve<A: Adapter>(
+    fn service_ready<A: Adapter>(
         &mut self,
         adapter: &mut A,
         shared: &mut Shared,
@@ -119,7 +119,7 @@ impl ServedPort {
         requires settled { (s : ServerState) × IsSettledWith s (A.device adapter.old) shared.old port self.old }
         requires room { length replies.old.items + length shared.old.book ≤ MOST_UNANSWERED }
         ensures serves { (s : ServerState) → IsSettledWith s (A.device adapter.old) shared.old port self.old
-            → TakesTurn (ServesPort port) replies.old.items replies.new.items s
+            → TakesTurn (ServicesPort port) replies.old.items replies.new.items s
             (with_served_port s (A.device adapter.new) shared.new port self.new) }
         ensures room { length replies.new.items + length shared.new.book ≤ MOST_UNANSWERED }
         ensures cost { MakesAtMost TURN_ACCESSES (A.access_count adapter.old) (A.access_count adapter.new) }
@@ -136,7 +136,7 @@ impl ServedPort {
         }
         let finished = done(adapter, port, used);
         if finished != 0 {
-            self.finish(adapter, shared, port, finished, replies);
+            self.answer_and_issue(adapter, shared, port, finished, replies);
         }
     }
 
@@ -182,7 +182,7 @@ impl ServedPort {
         ensures cost { MakesAtMost TURN_ACCESSES (A.access_count adapter.old) (A.access_count adapter.new) }
     {
         match self.found {
-            ProbeResult::Ready(_) => self.serve(adapter, shared, port, replies),
+            ProbeResult::Ready(_) => self.service_ready(adapter, shared, port, replies),
             ProbeResult::Unready(state) => self.probe(adapter, port, state),
             ProbeResult::Unserved => {}
         }

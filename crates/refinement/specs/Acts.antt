@@ -57,9 +57,9 @@ IsOneAct (Some access) steps = AllByDevice steps ⊎ ((own before : List Step) �
 -- The act is done, from a machine that agrees with what the driver knew: its steps lead to one that agrees with what it
 -- knows then.
 pub record IsActDone (k : DriverState) (m : Machine) (act : Act) : Type 0 where
-  pub leads : AccessLeads act.access k.device act.later.device
-  pub one : IsOneAct act.access act.steps
-  pub goes : DriverAdvances k m act.steps act.later
+  pub access_leads : AccessLeads act.access k.device act.later.device
+  pub is_one_act : IsOneAct act.access act.steps
+  pub driver_advances : DriverAdvances k m act.steps act.later
 
 -- one act after another, from the one machine to the next
 abbrev pub AreActsDone : List Act → DriverState → Machine → DriverState → Type 0
@@ -67,13 +67,13 @@ AreActsDone [] k m later = later ≡ k
 AreActsDone (act ∷ acts) k m later = IsActDone k m act × AreActsDone acts act.later (after m act.steps) later
 
 -- the accesses that were made, in their order
-abbrev pub with_access : Option Access → List Access → List Access
-with_access None accesses = accesses
-with_access (Some access) accesses = access ∷ accesses
+abbrev pub prepend_access : Option Access → List Access → List Access
+prepend_access None accesses = accesses
+prepend_access (Some access) accesses = access ∷ accesses
 
 abbrev pub accesses_of : List Act → List Access
 accesses_of [] = []
-accesses_of (act ∷ acts) = with_access act.access (accesses_of acts)
+accesses_of (act ∷ acts) = prepend_access act.access (accesses_of acts)
 
 -- all the machine's steps, the last one first
 abbrev pub act_steps : List Act → List Step
@@ -96,7 +96,7 @@ driver_state s d = record { uses = s.uses; parked = s.parked; device = d }
 pub record ActsReach (accesses : List Access) (k : DriverState) (m : Machine) (later : DriverState) (Tells : List Act
     → Type 0) : Type 0 where
   pub acts : List Act
-  pub done : AreActsDone acts k m later
+  pub acts_are_done : AreActsDone acts k m later
   pub accesses_are : accesses_of acts ≡ accesses
   pub tells : Tells acts
 
@@ -111,13 +111,13 @@ ActsReachWith accesses Fits next Tells old new = (s : DriverSlots) (m : Machine)
 -- a part of a call, which made these accesses, from the old device to the new
 pub record Performs (accesses : List Access) (Fits : DriverSlots → Machine → Type 0) (next : DriverSlots → DriverSlots)
     (Tells : DriverSlots → Machine → List Act → Type 0) (old new : Device) : Type 0 where
-  pub does : DoesAll accesses old new
-  pub comes : ActsReachWith accesses Fits next Tells old new
+  pub accesses_are_done : DoesAll accesses old new
+  pub acts_reach : ActsReachWith accesses Fits next Tells old new
 
 -- whatever is in the slots
 abbrev pub AnySlots : DriverSlots → Machine → Type 0
 AnySlots s m = Unit {0}
 
 -- the device alone makes steps
-abbrev pub ByDeviceAlone : DriverSlots → Machine → List Act → Type 0
-ByDeviceAlone s m acts = AllByDevice (act_steps acts)
+abbrev pub ActsByDeviceAlone : DriverSlots → Machine → List Act → Type 0
+ActsByDeviceAlone s m acts = AllByDevice (act_steps acts)

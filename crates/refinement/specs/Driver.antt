@@ -14,19 +14,19 @@ use Rattle.adapter.specs.declared.command.Operation.{Operation}
 use Rattle.adapter.specs.declared.tape.Entry.{Entry}
 use Rattle.block_machine.specs.State.{Pending, Machine}
 use Rattle.block_machine.specs.declared.due.QueueMode.{QueueMode}
-use Rattle.block_machine.specs.Due.{is_plain}
-use Rattle.block_machine.specs.Steps.{Step, Issue, May}
+use Rattle.block_machine.specs.DueRequests.{is_plain}
+use Rattle.block_machine.specs.Steps.{Step, Issue, IsEnabled}
 use Rattle.block_machine.specs.Expected.{after, AllStepsFaithful}
-use Rattle.block_machine.specs.Events.{AllMay, AllByDevice}
-use Rattle.refinement.specs.Places.{list_of, received_of, table_of, scratch_of, IsTableByte, IsScratch}
-use Rattle.refinement.specs.Slots.{Free, Armed, Own, Serves, SlotStates, put, SlotDecodesTo, MeansRequest, HasTrimBlock, HasListInPlace, op_of}
+use Rattle.block_machine.specs.Events.{AllEnabled, AllByDevice}
+use Rattle.refinement.specs.MemoryLayout.{list_of, received_of, table_of, scratch_of, IsTableByte, IsScratch}
+use Rattle.refinement.specs.Slots.{Free, Armed, Own, Serves, SlotStates, set_slot_state, SlotDecodesTo, MeansRequest, HasTrimBlock, HasListInPlace, op_of}
 use Rattle.refinement.specs.Relation.{StateRelation, HaveSlots}
 use Rattle.refinement.specs.Tape.{TellsDeviceSteps, PutsInDisks}
 
 -- ---- stores
 
 -- bytes of the header or of the table of a free slot
-pub record InFreeTable (uses : SlotStates) (at n : ℕ) : Type 0 where
+pub record IsInFreeTable (uses : SlotStates) (at n : ℕ) : Type 0 where
   pub port : ℕ
   pub slot : ℕ
   pub below : port < 4
@@ -36,7 +36,7 @@ pub record InFreeTable (uses : SlotStates) (at n : ℕ) : Type 0 where
       ⊎ ((table_of port slot ≤ at) × (at + n ≤ table_of port slot + TABLE_BYTES))
 
 -- bytes of the scratch frame of a port whose slot 0 is free
-pub record InFreeScratch (uses : SlotStates) (at n : ℕ) : Type 0 where
+pub record IsInFreeScratch (uses : SlotStates) (at n : ℕ) : Type 0 where
   pub port : ℕ
   pub below : port < 4
   pub free : uses port 0 ≡ Free
@@ -45,7 +45,7 @@ pub record InFreeScratch (uses : SlotStates) (at n : ℕ) : Type 0 where
 
 -- what the driver may store for itself
 abbrev pub MayStore : SlotStates → ℕ → ℕ → Type 0
-MayStore uses at n = InFreeTable uses at n ⊎ InFreeScratch uses at n
+MayStore uses at n = IsInFreeTable uses at n ⊎ IsInFreeScratch uses at n
 
 -- ---- writes that leave the slots to their uses
 
@@ -85,31 +85,31 @@ pub record DriverState : Type 0 where
 
 -- the machine agrees with what the driver knows
 pub record DriverRelation (m : Machine) (k : DriverState) : Type 0 where
-  pub agrees : StateRelation k.uses m k.device
-  pub have : (port : ℕ) → HaveSlots k.uses m port (k.parked port)
+  pub state_relation : StateRelation k.uses m k.device
+  pub have_slots : (port : ℕ) → HaveSlots k.uses m port (k.parked port)
 
 -- The tape's new entries tell of the device's steps among these; reads moved what their disks hold, where these tell
 -- it; and the disks that were put in are the device's.
 pub record IsBacked (old new : Device) (m : Machine) (steps : List Step) : Type 0 where
   pub telling : new.telling ≡ old.telling
-  pub gained : List Entry
-  pub tape : new.tape ≡ old.tape ++ gained
-  pub tells : TellsDeviceSteps m gained steps
-  pub told : old.telling ≡ true → AllStepsFaithful m steps
+  pub new_entries : List Entry
+  pub tape_is : new.tape ≡ old.tape ++ new_entries
+  pub tells_device_steps : TellsDeviceSteps m new_entries steps
+  pub steps_are_faithful : old.telling ≡ true → AllStepsFaithful m steps
   pub plugged : (port : ℕ) → (disks : List device.Disk) × ((new.port port).plugged ≡ (old.port port).plugged ++ disks)
       × PutsInDisks port disks steps
 
 -- The device backs the steps, and all of them are its own: the driver made none.
-pub record ByDevice (old new : Device) (m : Machine) (steps : List Step) : Type 0 where
-  pub backed : IsBacked old new m steps
+pub record IsBackedByDeviceAlone (old new : Device) (m : Machine) (steps : List Step) : Type 0 where
+  pub is_backed : IsBacked old new m steps
   pub only : AllByDevice steps
 
 -- The driver goes from what it knew to what it knows then: from this machine each of these steps may come, the device
 -- backs them, and the machine after them agrees with what the driver knows then.
 pub record DriverAdvances (k : DriverState) (m : Machine) (steps : List Step) (later : DriverState) : Type 0 where
-  pub may : AllMay m steps
-  pub backed : IsBacked k.device later.device m steps
-  pub knows : DriverRelation (after m steps) later
+  pub steps_are_enabled : AllEnabled m steps
+  pub is_backed : IsBacked k.device later.device m steps
+  pub driver_relation : DriverRelation (after m steps) later
 
 -- What the device leaves of what is not in use: all headers, but for PRDBC, and all tables; and the scratch frame where
 -- slot 0 has no command of the driver's own.
@@ -133,51 +133,51 @@ MissesScratch port at n = (place : ℕ) → IsScratch port place → at ≤ plac
 -- has the slot's bit alone.
 pub record IsPrepared (uses : SlotStates) (m : Machine) (d : Device) (port slot : ℕ) (mode : QueueMode) (e : Pending)
     (v : ℕ) : Type 0 where
-  pub may : May m (Issue mode e)
+  pub may : IsEnabled m (Issue mode e)
   pub port_is : e.request.port.0 ≡ port
   pub free : uses port slot ≡ (if is_plain mode e.request.asked.op then Free else Armed)
   pub usable : slot < mode.usable
-  pub head : is_plain mode e.request.asked.op ≡ true → slot ≡ 0
-  pub started : (d.port port).st ≡ true
-  pub placed : HasListInPlace (d.port port) port slot
+  pub plain_is_in_slot_0 : is_plain mode e.request.asked.op ≡ true → slot ≡ 0
+  pub st_is_set : (d.port port).st ≡ true
+  pub list_is_in_place : HasListInPlace (d.port port) port slot
   pub command : Meaning
   pub places : List ℕ
-  pub told : SlotDecodesTo d.memory (d.port port).bases.clb port slot command places
+  pub slot_decodes_to : SlotDecodesTo d.memory (d.port port).bases.clb port slot command places
   pub means : MeansRequest port slot e.request command places
   pub kind : is_queued command.operation ≡ not (is_plain mode e.request.asked.op)
   pub block : HasTrimBlock e.request.asked.op d.memory port e.request
-  pub here : bit v slot ≡ true
-  pub alone : (k : ℕ) → k ≢ slot → bit v k ≡ false
+  pub bit_is_set : bit v slot ≡ true
+  pub no_other_bit_is_set : (k : ℕ) → k ≢ slot → bit v k ≡ false
 
 -- The same for a command of the driver's own, in slot 0.
 pub record IsOwnPrepared (uses : SlotStates) (d : Device) (port : ℕ) (o : Operation) (v : ℕ) : Type 0 where
   pub own : op_of o ≡ None
   pub free : uses port 0 ≡ Free
-  pub started : (d.port port).st ≡ true
-  pub placed : HasListInPlace (d.port port) port 0
+  pub st_is_set : (d.port port).st ≡ true
+  pub list_is_in_place : HasListInPlace (d.port port) port 0
   pub command : Meaning
   pub operation_is : command.operation ≡ o
-  pub told : SlotDecodesTo d.memory (d.port port).bases.clb port 0 command (scratch_of port ∷ [])
-  pub known : (d.port port).notes.st_set_at ≤ length d.tape
-  pub here : bit v 0 ≡ true
-  pub alone : (k : ℕ) → k ≢ 0 → bit v k ≡ false
+  pub slot_decodes_to : SlotDecodesTo d.memory (d.port port).bases.clb port 0 command (scratch_of port ∷ [])
+  pub st_set_is_on_tape : (d.port port).notes.st_set_at ≤ length d.tape
+  pub bit_is_set : bit v 0 ≡ true
+  pub no_other_bit_is_set : (k : ℕ) → k ≢ 0 → bit v k ≡ false
 
 -- What an access adds that ends with steps of the driver's own: steps of the device first, and then these, the last one
 -- first, after which the machine agrees with what the driver knows then.
 pub record EndsInSteps (k : DriverState) (m : Machine) (own : List Step) (later : DriverState) : Type 0 where
   pub steps : List Step
   pub only : AllByDevice steps
-  pub may : AllMay m (own ++ steps)
-  pub backed : IsBacked k.device later.device m (own ++ steps)
-  pub knows : DriverRelation (after m (own ++ steps)) later
+  pub steps_are_enabled : AllEnabled m (own ++ steps)
+  pub is_backed : IsBacked k.device later.device m (own ++ steps)
+  pub driver_relation : DriverRelation (after m (own ++ steps)) later
 
 -- the same, where it ends with one step
 abbrev pub EndsInStep : DriverState → Machine → Step → DriverState → Type 0
 EndsInStep k m step later = EndsInSteps k m (step ∷ []) later
 
 -- the driver knows that the slot serves the request
-abbrev pub serving : DriverState → ℕ → ℕ → RequestId → Device → DriverState
-serving k port slot id new = record k { uses = put k.uses port slot (Serves id); device = new }
+abbrev pub with_slot_serving : DriverState → ℕ → ℕ → RequestId → Device → DriverState
+with_slot_serving k port slot id new = record k { uses = set_slot_state k.uses port slot (Serves id); device = new }
 
 -- ---- deciding
 
@@ -196,14 +196,14 @@ ForgetsAtMostKept m parked later = (port : ℕ) (other : RequestId) → Contains
     → ((e : Pending) → Contains m.kept e → e.request.id ≢ other) → Contains (later port) other
 
 -- the slot was given up, and its request isn't decided yet
-abbrev pub parking : DriverState → ℕ → ℕ → RequestId → DriverState
-parking k port slot id =
-    record k { uses = put k.uses port slot Free; parked = changed k.parked port (id ∷ k.parked port) }
+abbrev pub with_slot_parked : DriverState → ℕ → ℕ → RequestId → DriverState
+with_slot_parked k port slot id =
+    record k { uses = set_slot_state k.uses port slot Free; parked = changed k.parked port (id ∷ k.parked port) }
 
 -- the slot was given up
-abbrev pub freeing : DriverState → ℕ → ℕ → DriverState
-freeing k port slot = record k { uses = put k.uses port slot Free }
+abbrev pub with_slot_freed : DriverState → ℕ → ℕ → DriverState
+with_slot_freed k port slot = record k { uses = set_slot_state k.uses port slot Free }
 
 -- what the driver knows of a device that it takes over: no slot is used
-abbrev pub idle : Device → DriverState
-idle d = record { uses = λ port slot. Free; parked = λ port. []; device = d }
+abbrev pub idle_driver_state : Device → DriverState
+idle_driver_state d = record { uses = λ port slot. Free; parked = λ port. []; device = d }

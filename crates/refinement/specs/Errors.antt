@@ -8,7 +8,7 @@ use Rattle.refinement.specs.Links.{NoPlugEvents}
 
 -- each bit of PxIS that is set stays so, and so do N and X of PxSERR
 pub record KeepsErrors (old new : DevicePort) : Type 0 where
-  pub is : (place : ℕ) → old.is place ≡ true → new.is place ≡ true
+  pub pxis_is_kept : (place : ℕ) → old.is place ≡ true → new.is place ≡ true
   pub serr_n : old.serr_n ≡ true → new.serr_n ≡ true
   pub serr_x : old.serr_x ≡ true → new.serr_x ≡ true
 
@@ -19,9 +19,9 @@ IsDiskComing port _ = ⊥
 
 -- the tape gained no entry of a disk of the port that comes
 pub record NoDiskComes (port : ℕ) (old new : Device) : Type 0 where
-  pub gained : List Entry
-  pub tape : new.tape ≡ old.tape ++ gained
-  pub none : All (λ e. IsDiskComing port e → ⊥) gained
+  pub new_entries : List Entry
+  pub tape_is : new.tape ≡ old.tape ++ new_entries
+  pub no_such_entry : All (λ e. IsDiskComing port e → ⊥) new_entries
 
 -- N of PxSERR rises only for a disk that goes or comes, and X only for one that comes. Where no disk has come and
 -- PxSSTS.DET is 3, it was 3 before, and none has gone.
@@ -35,7 +35,7 @@ pub record ChangesByDisks (port : ℕ) (old new : Device) : Type 0 where
 pub record StaysClear (old new : DevicePort) : Type 0 where
   pub serr_n : old.serr_n ≡ false → new.serr_n ≡ false
   pub serr_x : old.serr_x ≡ false → new.serr_x ≡ false
-  pub is : (place : ℕ) → 27 ≤ place → place ≤ 30 → old.is place ≡ false → new.is place ≡ false
+  pub pxis_stays_clear : (place : ℕ) → 27 ≤ place → place ≤ 30 → old.is place ≡ false → new.is place ≡ false
 
 -- a fatal error of the port
 abbrev pub IsFatalOf : ℕ → Entry → Type 0
@@ -45,15 +45,15 @@ IsFatalOf port _ = ⊥
 -- The tape gained no fatal error of the port. It counts on the tape: so what holds of a fragment of accesses holds of
 -- each of its parts.
 pub record NoneFatal (port : ℕ) (old new : Device) : Type 0 where
-  pub gained : List Entry
-  pub tape : new.tape ≡ old.tape ++ gained
-  pub none : All (λ e. IsFatalOf port e → ⊥) gained
+  pub new_entries : List Entry
+  pub tape_is : new.tape ≡ old.tape ++ new_entries
+  pub no_such_entry : All (λ e. IsFatalOf port e → ⊥) new_entries
 
 -- the tape gained no fault of the port
 pub record NoneFails (port : ℕ) (old new : Device) : Type 0 where
-  pub gained : List Entry
-  pub tape : new.tape ≡ old.tape ++ gained
-  pub none : All (λ e. IsFaultOf port e → ⊥) gained
+  pub new_entries : List Entry
+  pub tape_is : new.tape ≡ old.tape ++ new_entries
+  pub no_such_entry : All (λ e. IsFaultOf port e → ⊥) new_entries
 
 -- What the tape tells nothing of in two parts of a call it tells nothing of in the whole, and the other way round,
 -- where the tape only grows; and where nothing was done it tells nothing of it.
@@ -74,8 +74,8 @@ pub record ChangesByErrors (port : ℕ) (old new : Device) : Type 0 where
 
 -- A port as a reset of its adapter leaves it, before anything else comes (AHCI 1.3.1, 3.3 and 10.4.3).
 pub record IsLeftByReset (p : DevicePort) : Type 0 where
-  pub stopped : IsQuiescentPort p
-  pub is : (place : ℕ) → p.is place ≡ false
+  pub is_quiescent : IsQuiescentPort p
+  pub pxis_is_clear : (place : ℕ) → p.is place ≡ false
   pub serr_n : p.serr_n ≡ false
   pub serr_x : p.serr_x ≡ false
   pub sctl_det : p.sctl_det ≡ 0
@@ -88,9 +88,9 @@ pub record IsLeftByReset (p : DevicePort) : Type 0 where
 -- What a port shows after it while its engine stands: no bit of PxIS, and PxSCTL.DET 0; and until X tells of a disk or
 -- a link that came, no device in PxSSTS, and task file and signature as the reset left them.
 pub record ShowsResetState (p : DevicePort) : Type 0 where
-  pub is : (place : ℕ) → p.is place ≡ false
+  pub pxis_is_clear : (place : ℕ) → p.is place ≡ false
   pub sctl_det : p.sctl_det ≡ 0
-  pub calm : p.serr_x ≡ false → (p.ssts_det ≡ 0) × (p.tfd ≡ 0x7f) × (p.sig ≡ 0xffffffff)
+  pub shows_no_link_until_x : p.serr_x ≡ false → (p.ssts_det ≡ 0) × (p.tfd ≡ 0x7f) × (p.sig ≡ 0xffffffff)
 
 -- ---- the engine's work
 

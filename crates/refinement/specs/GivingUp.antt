@@ -11,16 +11,16 @@ use Rattle.refinement.specs.Driver.{DriverState}
 use Rattle.refinement.specs.Slots.{SlotState, Free, Armed, Own, Serves, SlotStates, IsOver}
 
 -- the request that a slot serves, if any, before these
-abbrev pub with_request_of_slot : SlotState → List RequestId → List RequestId
-with_request_of_slot Free ids = ids
-with_request_of_slot Armed ids = ids
-with_request_of_slot (Own o) ids = ids
-with_request_of_slot (Serves id) ids = id ∷ ids
+abbrev pub prepend_slot_request : SlotState → List RequestId → List RequestId
+prepend_slot_request Free ids = ids
+prepend_slot_request Armed ids = ids
+prepend_slot_request (Own o) ids = ids
+prepend_slot_request (Serves id) ids = id ∷ ids
 
 -- the requests that slots of the port below n serve
 abbrev pub ids_in_slots : SlotStates → ℕ → ℕ → List RequestId
 ids_in_slots uses port zero = []
-ids_in_slots uses port (suc n) = with_request_of_slot (uses port n) (ids_in_slots uses port n)
+ids_in_slots uses port (suc n) = prepend_slot_request (uses port n) (ids_in_slots uses port n)
 
 -- Each slot of the port is over, and none is armed while ST is one.
 abbrev pub AreSlotsOver : SlotStates → DevicePort → ℕ → Type 0
@@ -34,8 +34,8 @@ with_all_parked k port = record k {
 }
 
 -- what is in the slots then, and parked
-abbrev pub given_up : ℕ → DriverSlots → DriverSlots
-given_up port s = record {
+abbrev pub with_all_given_up : ℕ → DriverSlots → DriverSlots
+with_all_given_up port s = record {
   uses = changed s.uses port (λ slot. Free);
   parked = changed s.parked port
       (ids_in_slots s.uses port 32 ++ s.parked port);
@@ -44,7 +44,7 @@ given_up port s = record {
 -- a request of the port that the device may move, and hasn't ended
 pub record IsUnended (m : Machine) (port : ℕ) (id : RequestId) : Type 0 where
   pub pending : Pending
-  pub moves : MayStillMove m pending
+  pub may_still_move : MayStillMove m pending
   pub id_is : pending.request.id ≡ id
   pub port_is : pending.request.port.0 ≡ port
   pub unended : pending.ended ≡ false
@@ -53,6 +53,6 @@ pub record IsUnended (m : Machine) (port : ℕ) (id : RequestId) : Type 0 where
 -- bit of the slot is set in PxCI or PxSACT.
 pub record IsOutstanding (uses : SlotStates) (m : Machine) (p : DevicePort) (port slot : ℕ) : Type 0 where
   pub below : slot < 32
-  pub whose : ((o : Operation) × (uses port slot ≡ Own o) × (slot ≡ 0))
+  pub is_own_or_unended : ((o : Operation) × (uses port slot ≡ Own o) × (slot ≡ 0))
       ⊎ ((id : RequestId) × (uses port slot ≡ Serves id) × IsUnended m port id)
-  pub shown : p.st ≡ true → (p.ci slot ≡ true) ⊎ (p.sact slot ≡ true)
+  pub bit_is_set_while_st : p.st ≡ true → (p.ci slot ≡ true) ⊎ (p.sact slot ≡ true)

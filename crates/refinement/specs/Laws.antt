@@ -10,16 +10,16 @@ use Rattle.adapter.specs.Device.{Device}
 use Rattle.adapter.specs.Rules.{MayWrite, IsStable}
 use Rattle.adapter.specs.declared.command.Operation.{Operation}
 use Rattle.adapter.specs.declared.tape.Entry.{Entry}
-use Rattle.refinement.specs.Acts.{ByDeviceAlone, Performs}
-use Rattle.refinement.specs.Driven.{TapeGrows, IsRelated, IsSimulated, IsSimulatedTo, IsSimulatedAlong, IsSimulatedAlongTo, NoneWrites, GainsNoMove}
+use Rattle.refinement.specs.Acts.{ActsByDeviceAlone, Performs}
+use Rattle.refinement.specs.Fragments.{TapeGrows, IsRelated, IsSimulated, IsSimulatedChangingUses, IsSimulatedAlong, IsSimulatedAlongChangingUses, NoneWrites, GainsNoMove}
 use Rattle.refinement.specs.Driver.{AllFree, IsOwnPrepared, LeavesUses, MayStore}
 use Rattle.refinement.specs.Errors.{ChangesByDisks, NoDiskComes, NoneFails, NoneFatal}
 use Rattle.refinement.specs.PortFacts.{IsEngineStopped, Undisturbed}
-use Rattle.refinement.specs.GivingUp.{given_up}
+use Rattle.refinement.specs.GivingUp.{with_all_given_up}
 use Rattle.refinement.specs.Links.{NoPlugEvents}
 use Rattle.refinement.specs.Links.{DoesNotWrite}
-use Rattle.refinement.specs.Recovering.{WorksPlainly}
-use Rattle.refinement.specs.Slots.{Free, IsOver, Own, SlotStates, op_of, put}
+use Rattle.refinement.specs.HaltRecovery.{WorksPlainly}
+use Rattle.refinement.specs.Slots.{Free, IsOver, Own, SlotStates, op_of, set_slot_state}
 
 -- Fragments of accesses of these kinds, which may be made with the uses of slots that fit them.
 pub record FragmentLaws (Kind : Type 0) (may : Kind → Access → Type 0)
@@ -36,48 +36,51 @@ pub record FragmentLaws (Kind : Type 0) (may : Kind → Access → Type 0)
   pub asks : (kind : Kind) (port : Port) (o : Operation) (v : ℕ) (old new : Device) → may kind (Writing (Px port Ci) v)
       → old.hr ≡ false
       → ((uses : SlotStates) → fits kind uses → IsOwnPrepared uses old port.0 o v) → Writes (Px port Ci) v old new
-      → IsSimulatedTo (may kind) (fits kind) (λ uses. put uses port.0 0 (Own o)) old new
+      → IsSimulatedChangingUses (may kind) (fits kind) (λ uses. set_slot_state uses port.0 0 (Own o)) old new
   pub stores : (kind : Kind) (at : ℕ) (bytes : List ℕ) (old new : Device) → may kind (Storing at bytes)
       → ((uses : SlotStates) → fits kind uses → MayStore uses at (length bytes)) → Stores at bytes old new
       → IsSimulated (may kind) (fits kind) old new
   pub both : (kind then : Kind) (first second : SlotStates → SlotStates)
       → ((access : Access) → may then access → may kind access)
       → ((uses : SlotStates) → fits kind uses → fits then (first uses)) → (old mid new : Device)
-      → (a : IsSimulatedTo (may kind) (fits kind) first old mid)
-      → (b : IsSimulatedTo (may then) (fits then) second mid new)
-      → IsSimulatedAlongTo (λ made. made ≡ a.driven.accesses ++ b.driven.accesses) (may kind) (fits kind)
+      → (a : IsSimulatedChangingUses (may kind) (fits kind) first old mid)
+      → (b : IsSimulatedChangingUses (may then) (fits then) second mid new)
+      → IsSimulatedAlongChangingUses (λ made. made ≡ a.is_driven.accesses ++ b.is_driven.accesses) (may kind)
+      (fits kind)
       (λ uses. second (first uses)) old new
   pub wider : (kind more : Kind) (next : SlotStates → SlotStates)
       → ((access : Access) → may kind access → may more access)
       → ((uses : SlotStates) → fits more uses → fits kind uses) → (old new : Device)
-      → (a : IsSimulatedTo (may kind) (fits kind) next old new)
-      → IsSimulatedAlongTo (λ made. made ≡ a.driven.accesses) (may more) (fits more) next old new
+      → (a : IsSimulatedChangingUses (may kind) (fits kind) next old new)
+      → IsSimulatedAlongChangingUses (λ made. made ≡ a.is_driven.accesses) (may more) (fits more) next old new
   pub over : (kind : Kind) (port : Port) (o : Operation) (v : ℕ) (old new : Device) → may kind (Writing (Px port Ci) v)
       → ((uses : SlotStates) → fits kind uses → uses port.0 0 ≡ Free) → IsOver (new.port port.0) 0
-      → (a : IsSimulatedTo (may kind) (fits kind) (λ uses. put uses port.0 0 (Own o)) old new)
-      → IsSimulatedAlong (λ made. made ≡ a.driven.accesses) (may kind) (fits kind) old new
+      → (a : IsSimulatedChangingUses (may kind) (fits kind) (λ uses. set_slot_state uses port.0 0 (Own o)) old new)
+      → IsSimulatedAlong (λ made. made ≡ a.is_driven.accesses) (may kind) (fits kind) old new
   pub agreed : (kind : Kind) (next : SlotStates → SlotStates) (uses : SlotStates) (old new : Device) → fits kind uses
-      → IsSimulatedTo (may kind) (fits kind) next old new → IsRelated uses old → IsRelated (next uses) new
+      → IsSimulatedChangingUses (may kind) (fits kind) next old new → IsRelated uses old → IsRelated (next uses) new
   pub silent : (kind : Kind) (next : SlotStates → SlotStates) (uses : SlotStates) (port : Port) (o : Operation)
       (old new : Device)
       → fits kind uses → NoneWrites (may kind) (Px port Ci) → NoneWrites (may kind) (Px port Sact) → op_of o ≡ None
-      → (uses port.0 0 ≡ Own o → ⊥) → IsSimulatedTo (may kind) (fits kind) next old new → IsRelated uses old
+      → (uses port.0 0 ≡ Own o → ⊥) → IsSimulatedChangingUses (may kind) (fits kind) next old new → IsRelated uses old
       → GainsNoMove port.0 o old new
   pub plain : (kind : Kind) (next : SlotStates → SlotStates) (uses : SlotStates) (port : Port) (old new : Device)
       → fits kind uses
-      → NoneWrites (may kind) (Px port Sact) → IsSimulatedTo (may kind) (fits kind) next old new
+      → NoneWrites (may kind) (Px port Sact) → IsSimulatedChangingUses (may kind) (fits kind) next old new
       → IsRelated uses old → WorksPlainly (old.port port.0) → WorksPlainly (new.port port.0)
   -- as parts of a call
   pub one : (kind : Kind) (next : SlotStates → SlotStates) (old new : Device)
-      → (a : IsSimulatedTo (may kind) (fits kind) next old new)
-      → Performs a.driven.accesses (λ s m. fits kind s.uses) (λ s. record s { uses = next s.uses }) ByDeviceAlone old
+      → (a : IsSimulatedChangingUses (may kind) (fits kind) next old new)
+      → Performs a.is_driven.accesses (λ s m. fits kind s.uses) (λ s. record s { uses = next s.uses })
+      ActsByDeviceAlone old
       new
   pub giving_up : (kind then : Kind) (next : SlotStates → SlotStates) (port : ℕ) (old mid new : Device)
       → (a : IsSimulated (may kind) (fits kind) old mid) → IsEngineStopped (mid.port port)
       → ((uses : SlotStates) → AllFree uses port → fits then uses)
-      → (b : IsSimulatedTo (may then) (fits then) next mid new)
-      → Performs (a.driven.accesses ++ b.driven.accesses)
-      (λ s m. fits kind s.uses) (λ s. record (given_up port s) { uses = next (given_up port s).uses }) ByDeviceAlone
+      → (b : IsSimulatedChangingUses (may then) (fits then) next mid new)
+      → Performs (a.is_driven.accesses ++ b.is_driven.accesses)
+      (λ s m. fits kind s.uses) (λ s. record (with_all_given_up port s)
+      { uses = next (with_all_given_up port s).uses }) ActsByDeviceAlone
       old new
 
 -- what the tape tells of a part of a call, and of the whole

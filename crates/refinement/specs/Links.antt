@@ -53,9 +53,9 @@ IsPlugEvent port _ = ⊥
 
 -- the tape gained no entry of a disk of the port that goes or comes
 pub record NoPlugEvents (port : ℕ) (old new : Device) : Type 0 where
-  pub gained : List Entry
-  pub tape : new.tape ≡ old.tape ++ gained
-  pub none : All (λ e. IsPlugEvent port e → ⊥) gained
+  pub new_entries : List Entry
+  pub tape_is : new.tape ≡ old.tape ++ new_entries
+  pub no_such_entry : All (λ e. IsPlugEvent port e → ⊥) new_entries
 
 -- the same disk is in, or out, with as many sectors
 pub record LeavesDisk (old new : DevicePort) : Type 0 where

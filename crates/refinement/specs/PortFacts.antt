@@ -18,7 +18,7 @@ use Rattle.adapter.specs.declared.tape.Entry.TheVariants as entry
 use Rattle.adapter.specs.declared.tape.Fault as tape_fault
 use Rattle.block_machine.specs.State.{Pending, Machine}
 use Rattle.block_machine.specs.Steps.{MayStillMove, AllTouched, NoneQuarantined}
-use Rattle.refinement.specs.Follows.{SimulatesSteps}
+use Rattle.refinement.specs.Simulation.{SimulatesSteps}
 use Rattle.refinement.specs.Slots.{Serves, SlotStates, IsOver, PageStandsInScratch}
 
 -- ---- an engine that has stopped
@@ -33,7 +33,7 @@ pub record IsEngineStopped (p : DevicePort) : Type 0 where
 -- A port after a reset of its adapter: halted, with no bit of SACT, and the engine that receives FISes is stopped, too
 -- (AHCI 1.3.1, 10.4.3).
 pub record IsQuiescentPort (p : DevicePort) : Type 0 where
-  pub halted : IsEngineStopped p
+  pub engine_is_stopped : IsEngineStopped p
   pub sact : (slot : ℕ) → p.sact slot ≡ false
   pub fre : p.fre ≡ false
   pub fr : p.fr ≡ false
@@ -44,12 +44,12 @@ pub record IsQuiescentPort (p : DevicePort) : Type 0 where
 -- the port, it is in the book.
 pub record EndedIn (m : Machine) (port : Port) (id : RequestId) : Type 0 where
   pub pending : Pending
-  pub moves : MayStillMove m pending
+  pub may_still_move : MayStillMove m pending
   pub id_is : pending.request.id ≡ id
   pub port_is : pending.request.port ≡ port
   pub ended : pending.ended ≡ true
-  pub touched : AllTouched pending
-  pub booked : NoneQuarantined m port → Contains m.book pending
+  pub all_are_touched : AllTouched pending
+  pub stands_in_book : NoneQuarantined m port → Contains m.book pending
 
 -- the slot's command is over, and its bit of SACT is clear
 pub record IsSlotClear (p : DevicePort) (slot : ℕ) : Type 0 where
@@ -59,9 +59,9 @@ pub record IsSlotClear (p : DevicePort) (slot : ℕ) : Type 0 where
 -- What CI tells of a command of the driver's own: the machine follows, and the command is over and has brought its page
 -- since ST was set.
 pub record FindsOwnPage (uses : SlotStates) (m : Machine) (port : ℕ) (o : Operation) (old new : Device) : Type 0 where
-  pub follows : SimulatesSteps uses m old new
-  pub clear : IsSlotClear (new.port port) 0
-  pub brought : PageStandsInScratch new.memory new.tape port o (new.port port).notes.st_set_at
+  pub simulates_steps : SimulatesSteps uses m old new
+  pub slot_is_clear : IsSlotClear (new.port port) 0
+  pub page_is_in_scratch : PageStandsInScratch new.memory new.tape port o (new.port port).notes.st_set_at
 
 -- ---- frames that the device leaves alone
 
@@ -81,7 +81,7 @@ CommandsAreOver uses d id = (port slot : ℕ) → uses port slot ≡ Serves id �
 pub record ShowsNoTrouble (p : DevicePort) : Type 0 where
   pub serr_n : p.serr_n ≡ false
   pub serr_x : p.serr_x ≡ false
-  pub quiet : (place : ℕ) → 27 ≤ place → place ≤ 30 → p.is place ≡ false
+  pub no_error_bit_is_set : (place : ℕ) → 27 ≤ place → place ≤ 30 → p.is place ≡ false
 
 -- The port runs, its disk is there with its link up and no other link due, no error has stopped it, and no bit tells of
 -- one.
@@ -91,10 +91,10 @@ pub record RunsWell (p : DevicePort) : Type 0 where
   pub det : p.ssts_det ≡ 3
   pub present : p.present ≡ true
   pub fresh : p.fresh ≡ true
-  pub linked : p.link_due ≡ false
-  pub running : p.halt ≡ NotHalted
-  pub whole : p.broken ≡ false
-  pub quiet : ShowsNoTrouble p
+  pub no_link_is_due : p.link_due ≡ false
+  pub is_not_halted : p.halt ≡ NotHalted
+  pub is_not_broken : p.broken ≡ false
+  pub shows_no_trouble : ShowsNoTrouble p
 
 -- a fault or a fatal error of the port, or its disk goes or comes
 abbrev pub IsDisturbance : ℕ → Entry → Type 0
@@ -106,21 +106,21 @@ IsDisturbance port _ = ⊥
 
 -- the tape gained no disturbance of the port
 pub record Undisturbed (port : ℕ) (old new : Device) : Type 0 where
-  pub gained : List Entry
-  pub tape : new.tape ≡ old.tape ++ gained
-  pub calm : All (λ e. IsDisturbance port e → ⊥) gained
+  pub new_entries : List Entry
+  pub tape_is : new.tape ≡ old.tape ++ new_entries
+  pub no_disturbance : All (λ e. IsDisturbance port e → ⊥) new_entries
 
 -- A value of PxIS tells of none: neither PCS, which shows X, and PRCS, which shows N, nor those four (AHCI 1.3.1,
 -- 3.3.5).
 pub record TellsNoTrouble (v : ℕ) : Type 0 where
-  pub change : bit v 6 ≡ false
-  pub ready : bit v 22 ≡ false
-  pub quiet : (place : ℕ) → 27 ≤ place → place ≤ 30 → bit v place ≡ false
+  pub pcs_is_clear : bit v 6 ≡ false
+  pub prcs_is_clear : bit v 22 ≡ false
+  pub no_error_bit_is_set : (place : ℕ) → 27 ≤ place → place ≤ 30 → bit v place ≡ false
 
 -- a write clears no bit that tells of the port's trouble
 pub record ClearsNoTrouble (port : Port) (r : Reg) (v : ℕ) : Type 0 where
-  pub is : r ≡ Px port Is → (place : ℕ) → 27 ≤ place → place ≤ 30 → bit v place ≡ false
-  pub serr : r ≡ Px port Serr → (bit v 16 ≡ false) × (bit v 26 ≡ false)
+  pub pxis_trouble_is_kept : r ≡ Px port Is → (place : ℕ) → 27 ≤ place → place ≤ 30 → bit v place ≡ false
+  pub serr_trouble_is_kept : r ≡ Px port Serr → (bit v 16 ≡ false) × (bit v 26 ≡ false)
 
 -- ---- faults since ST was set
 
@@ -139,21 +139,21 @@ pub record ShowsFault (entries : List Entry) (p : DevicePort) (port : ℕ) : Typ
   pub before : List Entry
   pub fault : tape_fault.Fault
   pub later : List Entry
-  pub here : entries ≡ before ++ entry.Fault fault ∷ later
+  pub entries_are_split : entries ≡ before ++ entry.Fault fault ∷ later
   pub port_is : fault.port.0 ≡ port
-  pub last : All (λ e. IsFaultOf port e → ⊥) later
-  pub fits : (fault.status < 256) × (fault.error < 256)
-  pub shown : p.tfd ≡ fault.status + 256 * fault.error
-  pub used : InUse p fault.slot.0
+  pub no_later_fault : All (λ e. IsFaultOf port e → ⊥) later
+  pub bytes_fit : (fault.status < 256) × (fault.error < 256)
+  pub tfd_is : p.tfd ≡ fault.status + 256 * fault.error
+  pub slot_is_in_use : InUse p fault.slot.0
 
 -- What the tape has of a port whose ST is 1. TFES, bit 30 of PxIS, tells that a fault has halted the port; and then the
 -- task file shows the last one since ST was set. No link is due, so none comes up and ends the halt. It goes by the
 -- halt, which lasts until the disk goes on, since the driver clears TFES before it reads PxTFD.
 pub record RecordsFaults (tape : List Entry) (p : DevicePort) (port : ℕ) : Type 0 where
-  pub known : p.notes.st_set_at ≤ length tape
-  pub linked : p.link_due ≡ false
-  pub flag : p.is 30 ≡ true → IsFaulted p.halt
-  pub fault : IsFaulted p.halt → ShowsFault (drop p.notes.st_set_at tape) p port
+  pub st_set_is_on_tape : p.notes.st_set_at ≤ length tape
+  pub no_link_is_due : p.link_due ≡ false
+  pub tfes_tells_fault : p.is 30 ≡ true → IsFaulted p.halt
+  pub shows_last_fault : IsFaulted p.halt → ShowsFault (drop p.notes.st_set_at tape) p port
 
 -- so it is while ST is 1
 abbrev pub FaultsOnRecord : List Entry → DevicePort → ℕ → Type 0
@@ -169,8 +169,8 @@ StoppedTfesClear p = (p.cr ≡ false) × (p.is 30 ≡ false)
 
 -- Nothing of the past would be taken for news of the next start: the engine stands, TFES is clear, and no link is due.
 pub record IsCleanToStart (p : DevicePort) : Type 0 where
-  pub unflagged : StoppedTfesClear p
-  pub linked : p.link_due ≡ false
+  pub tfes_is_clear : StoppedTfesClear p
+  pub no_link_is_due : p.link_due ≡ false
   pub no_comreset : p.sctl_det ≢ 1
 
 -- What is asked of a write, beside the register's rules: ST is set on a quiet port, and SCTL is written while the

@@ -9,7 +9,7 @@ use Rattle.adapter.specs.Steps.{WereHeld}
 use Rattle.adapter.specs.declared.tape.Entry.{Entry}
 use Rattle.block_machine.specs.State.{Pending, Machine}
 use Rattle.block_machine.specs.Steps.{MayStillMove, HoldsOrHeldSinceFlush}
-use Rattle.refinement.specs.Places.{received_of}
+use Rattle.refinement.specs.MemoryLayout.{received_of}
 use Rattle.refinement.specs.Slots.{Serves, SlotStates, RelatesSlot}
 
 -- the port of a number
@@ -29,9 +29,9 @@ pub record IsDiskOf (m : Machine) (p : DevicePort) (port : ℕ) : Type 0 where
 
 -- the disk tells its sectors, and they hold what the machine's do
 pub record SameSectors (m : Machine) (disk : Disk) (port : ℕ) : Type 0 where
-  pub told : ℕ → List ℕ
-  pub tells : disk.sectors ≡ Some told
-  pub same : (k b : ℕ) → k < disk.size → b < 512 → slice_index (told k) b ≡ m.disks (port_at port) k b
+  pub told_sectors : ℕ → List ℕ
+  pub disk_tells : disk.sectors ≡ Some told_sectors
+  pub bytes_are_same : (k b : ℕ) → k < disk.size → b < 512 → slice_index (told_sectors k) b ≡ m.disks (port_at port) k b
 
 -- what a sector of the port's disk may come back with, the machine's disk holds there or has held
 abbrev pub HasLasting : Machine → List Entry → DevicePort → ℕ → Type 0
@@ -52,13 +52,13 @@ ServeApart uses = (port slot other_port other_slot : ℕ) (id : RequestId) → u
 -- disks are the same, and client frames hold the same bytes; so do the sectors of an adapter whose disks tell them, and
 -- what those may come back with, the machine knows.
 pub record StateRelation (uses : SlotStates) (m : Machine) (d : Device) : Type 0 where
-  pub slot : (port slot : ℕ) → RelatesSlot m d.memory d.tape (d.port port) port slot (uses port slot)
-  pub apart : ServeApart uses
-  pub received : (port : ℕ) → (d.port port).fre ≡ true → HasReceivedArea (d.port port) port
-  pub disk : (port : ℕ) → IsDiskOf m (d.port port) port
-  pub memory : SameMemory m d.memory
-  pub sectors : d.telling ≡ true → (port : ℕ) → SameSectors m (d.port port).disk port
-  pub lasting : d.telling ≡ true → (port : ℕ) → HasLasting m d.tape (d.port port) port
+  pub relates_slots : (port slot : ℕ) → RelatesSlot m d.memory d.tape (d.port port) port slot (uses port slot)
+  pub serve_apart : ServeApart uses
+  pub received_areas_are_placed : (port : ℕ) → (d.port port).fre ≡ true → HasReceivedArea (d.port port) port
+  pub disks_are_same : (port : ℕ) → IsDiskOf m (d.port port) port
+  pub memory_is_same : SameMemory m d.memory
+  pub sectors_are_same : d.telling ≡ true → (port : ℕ) → SameSectors m (d.port port).disk port
+  pub has_lasting : d.telling ≡ true → (port : ℕ) → HasLasting m d.tape (d.port port) port
 
 -- ---- what stands beside it, by port
 

@@ -17,7 +17,7 @@ use Rattle.adapter.specs.declared.tape.Entry.TheVariants as entry
 use Rattle.adapter.specs.declared.tape.Move as tape_move
 use Rattle.block_machine.specs.State.{Accepted, Pending, Machine}
 use Rattle.block_machine.specs.Steps.{MayStillMove, AllTouched}
-use Rattle.refinement.specs.Places.{list_of, table_of, scratch_of, place_in}
+use Rattle.refinement.specs.MemoryLayout.{list_of, table_of, scratch_of, place_in}
 
 -- What the driver has put into a slot: nothing, its bit of PxSACT alone, a command of its own (IDENTIFY DEVICE or READ
 -- LOG EXT), or the request of this id.
@@ -32,8 +32,8 @@ abbrev pub SlotStates : Type 0
 SlotStates = ℕ → ℕ → SlotState
 
 -- one slot put to another use
-abbrev pub put : SlotStates → ℕ → ℕ → SlotState → SlotStates
-put uses port slot u = changed uses port (changed (uses port) slot u)
+abbrev pub set_slot_state : SlotStates → ℕ → ℕ → SlotState → SlotStates
+set_slot_state uses port slot u = changed uses port (changed (uses port) slot u)
 
 -- the slot serves a request
 abbrev pub is_serving : SlotState → Bool
@@ -62,27 +62,27 @@ op_of operation.ReadLog = None
 -- ---- the command of a slot
 
 -- Where a request's bytes lie: its sectors at their places in its frames, a trim's block in the scratch frame.
-abbrev pub ArePlaces : Op → ℕ → Accepted → List ℕ → Type 0
-ArePlaces Read port r places = (length places ≡ r.asked.count)
+abbrev pub AreRequestPlaces : Op → ℕ → Accepted → List ℕ → Type 0
+AreRequestPlaces Read port r places = (length places ≡ r.asked.count)
     × ((i : ℕ) → i < r.asked.count → slice_index places i ≡ place_in r.asked.frames.items i)
-ArePlaces Write port r places = (length places ≡ r.asked.count)
+AreRequestPlaces Write port r places = (length places ≡ r.asked.count)
     × ((i : ℕ) → i < r.asked.count → slice_index places i ≡ place_in r.asked.frames.items i)
-ArePlaces Trim port r places = places ≡ scratch_of port ∷ []
-ArePlaces Flush port r places = places ≡ []
+AreRequestPlaces Trim port r places = places ≡ scratch_of port ∷ []
+AreRequestPlaces Flush port r places = places ≡ []
 
 -- The command is the request's. Only slot 0 has a block in the scratch frame.
 pub record MeansRequest (port slot : ℕ) (r : Accepted) (c : Meaning) (places : List ℕ) : Type 0 where
-  pub op : op_of c.operation ≡ Some r.asked.op
-  pub first : is_ranged c.operation ≡ true → c.first ≡ r.asked.first.0
-  pub places_are : ArePlaces r.asked.op port r places
-  pub head : r.asked.op ≡ Trim → slot ≡ 0
+  pub op_is : op_of c.operation ≡ Some r.asked.op
+  pub first_sector_is : is_ranged c.operation ≡ true → c.first ≡ r.asked.first.0
+  pub places_are : AreRequestPlaces r.asked.op port r places
+  pub trim_is_in_slot_0 : r.asked.op ≡ Trim → slot ≡ 0
 
 -- Header and table of the slot say the command, and the table is the slot's. So they do at each stage, also once the
 -- command is taken, has ended or was given up: what a slot in use has is never stored to.
 pub record SlotDecodesTo (memory : ℕ → ℕ) (list port slot : ℕ) (c : Meaning) (places : List ℕ) : Type 0 where
-  pub says : DecodesTo memory list slot c places
-  pub table_is : says.table ≡ table_of port slot
-  pub few : length says.prds ≤ MOST_REQUEST_FRAMES
+  pub decodes_to : DecodesTo memory list slot c places
+  pub table_is : decodes_to.table ≡ table_of port slot
+  pub prds_are_few : length decodes_to.prds ≤ MOST_REQUEST_FRAMES
 
 -- the port's command list is where it belongs
 pub record HasListInPlace (p : DevicePort) (port slot : ℕ) : Type 0 where
@@ -106,7 +106,7 @@ HasTrimBlock Trim memory port r = MeansRange (bytes_at memory (scratch_of port) 
 HasTrimBlock _ memory port r = Unit {0}
 
 -- issued, and not taken yet: the request isn't ended
-pub record Waits (memory : ℕ → ℕ) (p : DevicePort) (port slot : ℕ) (e : Pending) (c : Meaning) : Type 0 where
+pub record AwaitsFetch (memory : ℕ → ℕ) (p : DevicePort) (port slot : ℕ) (e : Pending) (c : Meaning) : Type 0 where
   pub started : p.st ≡ true
   pub issued : p.ci slot ≡ true
   pub free : p.taken slot ≡ None
@@ -116,14 +116,14 @@ pub record Waits (memory : ℕ → ℕ) (p : DevicePort) (port slot : ℕ) (e : 
   pub unended : e.ended ≡ false
 
 -- what a taken command has moved, or cleared, was touched
-abbrev pub Progress : Op → (ℕ → ℕ) → ℕ → Pending → FetchedCommand → Type 0
-Progress Read memory port e t = TouchedUpTo e.touched t.moved
-Progress Write memory port e t = TouchedUpTo e.touched t.moved
-Progress Trim memory port e t =
+abbrev pub TouchedAsMoved : Op → (ℕ → ℕ) → ℕ → Pending → FetchedCommand → Type 0
+TouchedAsMoved Read memory port e t = TouchedUpTo e.touched t.moved
+TouchedAsMoved Write memory port e t = TouchedUpTo e.touched t.moved
+TouchedAsMoved Trim memory port e t =
     TouchedUpTo e.touched t.cleared
     × (((t.moved ≡ 0) × (t.cleared ≡ 0) × MeansRange (bytes_at memory (scratch_of port) 512) e.request)
     ⊎ ((t.moved ≡ 1) × MeansRange t.block e.request))
-Progress Flush memory port e t = Unit {0}
+TouchedAsMoved Flush memory port e t = Unit {0}
 
 -- taken by the device: the request isn't ended, also where all its sectors were touched
 pub record IsTakenFor (memory : ℕ → ℕ) (p : DevicePort) (port slot : ℕ) (e : Pending) (c : Meaning)
@@ -135,7 +135,7 @@ pub record IsTakenFor (memory : ℕ → ℕ) (p : DevicePort) (port slot : ℕ) 
   pub running : p.cr ≡ true
   pub issued : p.ci slot ≡ p.st && not (is_queued c.operation)
   pub sact : p.sact slot ≡ p.st && is_queued c.operation
-  pub progress : Progress e.request.asked.op memory port e command
+  pub progress : TouchedAsMoved e.request.asked.op memory port e command
   pub unended : e.ended ≡ false
 
 -- ended, its bits clear
@@ -155,22 +155,23 @@ pub record IsDropped (p : DevicePort) (slot : ℕ) (e : Pending) : Type 0 where
   pub unended : e.ended ≡ false
 
 -- a request's command waits, is taken, has ended, or was given up
-abbrev pub Stage : (ℕ → ℕ) → DevicePort → ℕ → ℕ → Pending → Meaning → List ℕ → Type 0
-Stage memory p port slot e c places =
-    Waits memory p port slot e c ⊎ (IsTakenFor memory p port slot e c places ⊎ (IsEnded p slot e ⊎ IsDropped p slot e))
+abbrev pub IsInSomeStage : (ℕ → ℕ) → DevicePort → ℕ → ℕ → Pending → Meaning → List ℕ → Type 0
+IsInSomeStage memory p port slot e c places =
+    AwaitsFetch memory p port slot e c ⊎ (IsTakenFor memory p port slot e c places
+    ⊎ (IsEnded p slot e ⊎ IsDropped p slot e))
 
 -- The slot serves the request of this id: its bytes say the request's command.
 pub record ServesRequest (m : Machine) (memory : ℕ → ℕ) (p : DevicePort) (port slot : ℕ) (id : RequestId) : Type 0 where
   pub pending : Pending
-  pub moves : MayStillMove m pending
+  pub may_still_move : MayStillMove m pending
   pub id_is : pending.request.id ≡ id
   pub port_is : pending.request.port.0 ≡ port
-  pub placed : HasListInPlace p port slot
+  pub list_is_in_place : HasListInPlace p port slot
   pub command : Meaning
   pub places : List ℕ
-  pub told : SlotDecodesTo memory p.bases.clb port slot command places
+  pub slot_decodes_to : SlotDecodesTo memory p.bases.clb port slot command places
   pub means : MeansRequest port slot pending.request command places
-  pub stage : Stage memory p port slot pending command places
+  pub stage : IsInSomeStage memory p port slot pending command places
 
 -- ---- the driver's own commands
 
@@ -189,49 +190,50 @@ IsMove port o _ = ⊥
 pub record PageStandsInScratch (memory : ℕ → ℕ) (tape : List Entry) (port : ℕ) (o : Operation) (since : ℕ) : Type 0
   where
     pub before : List Entry
-    pub after : since ≤ length before
+    pub came_since : since ≤ length before
     pub move : tape_move.Move
     pub later : List Entry
-    pub here : tape ≡ before ++ entry.Move move ∷ later
+    pub tape_is_split : tape ≡ before ++ entry.Move move ∷ later
     pub is_move : IsMove port o (entry.Move move)
     pub last : All (λ e. IsMove port o e → ⊥) later
     pub bytes : bytes_at memory (scratch_of port) 512 ≡ move.bytes.value
 
 -- issued, and not taken yet
-pub record OwnWaits (p : DevicePort) (slot : ℕ) : Type 0 where
+pub record OwnAwaitsFetch (p : DevicePort) (slot : ℕ) : Type 0 where
   pub started : p.st ≡ true
   pub issued : p.ci slot ≡ true
   pub free : p.taken slot ≡ None
 
 -- taken by the device
-pub record OwnTaken (memory : ℕ → ℕ) (tape : List Entry) (p : DevicePort) (port slot : ℕ) (c : Meaning) : Type 0 where
+pub record OwnIsTaken (memory : ℕ → ℕ) (tape : List Entry) (p : DevicePort) (port slot : ℕ) (c : Meaning) : Type 0 where
   pub command : FetchedCommand
   pub taken : p.taken slot ≡ Some command
   pub meaning : command.meaning ≡ c
   pub places_are : command.places ≡ scratch_of port ∷ []
   pub running : p.cr ≡ true
   pub issued : p.ci slot ≡ p.st
-  pub brought : (command.moved ≡ 0) ⊎ ((command.moved ≡ 1) × PageStandsInScratch memory tape port c.operation
+  pub page_is_brought : (command.moved ≡ 0) ⊎ ((command.moved ≡ 1) × PageStandsInScratch memory tape port c.operation
       p.notes.st_set_at)
 
 -- over: on a running port the device has brought its page since ST was set
-pub record OwnOver (memory : ℕ → ℕ) (tape : List Entry) (p : DevicePort) (port slot : ℕ) (c : Meaning) : Type 0 where
+pub record OwnIsOver (memory : ℕ → ℕ) (tape : List Entry) (p : DevicePort) (port slot : ℕ) (c : Meaning) : Type 0 where
   pub over : IsOver p slot
-  pub brought : (p.st ≡ false) ⊎ PageStandsInScratch memory tape port c.operation p.notes.st_set_at
+  pub page_is_brought : (p.st ≡ false) ⊎ PageStandsInScratch memory tape port c.operation p.notes.st_set_at
 
 -- The slot has a command of the driver's own, which is plain and has its page in the scratch frame. Only slot 0 has
 -- one.
 pub record ServesOwn (memory : ℕ → ℕ) (tape : List Entry) (p : DevicePort) (port slot : ℕ)
     (o : Operation) : Type 0 where
   pub own : op_of o ≡ None
-  pub head : slot ≡ 0
-  pub placed : HasListInPlace p port slot
+  pub slot_is_0 : slot ≡ 0
+  pub list_is_in_place : HasListInPlace p port slot
   pub command : Meaning
   pub operation_is : command.operation ≡ o
-  pub told : SlotDecodesTo memory p.bases.clb port slot command (scratch_of port ∷ [])
+  pub slot_decodes_to : SlotDecodesTo memory p.bases.clb port slot command (scratch_of port ∷ [])
   pub unqueued : p.sact slot ≡ false
-  pub known : p.notes.st_set_at ≤ length tape
-  pub stage : OwnWaits p slot ⊎ (OwnTaken memory tape p port slot command ⊎ OwnOver memory tape p port slot command)
+  pub st_set_is_on_tape : p.notes.st_set_at ≤ length tape
+  pub stage : OwnAwaitsFetch p slot ⊎ (OwnIsTaken memory tape p port slot command
+      ⊎ OwnIsOver memory tape p port slot command)
 
 -- no command is issued or taken, and no bit of SACT is set
 pub record IsEmptySlot (p : DevicePort) (slot : ℕ) : Type 0 where

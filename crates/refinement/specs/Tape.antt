@@ -13,23 +13,23 @@ use Rattle.block_machine.specs.State.{DiskBytes, Pending, Machine, frame_at, sec
 use Rattle.block_machine.specs.Steps.{Step, Touch, End, Unplug, Replace, MayStillMove, touch}
 use Rattle.block_machine.specs.Expected.{after}
 use Rattle.block_machine.specs.Events.{IsByDevice}
-use Rattle.refinement.specs.Places.{scratch_of, place_in}
+use Rattle.refinement.specs.MemoryLayout.{scratch_of, place_in}
 use Rattle.refinement.specs.Slots.{op_of}
 
 -- Sector number i of a request that may move went between its place on the disk and its place in memory, in the
 -- operation's direction, and the frame there is lent to the request.
 pub record MovesSector (m : Machine) (op : Op) (move : tape_move.Move) (steps : List Step) : Type 0 where
   pub pending : Pending
-  pub moves : MayStillMove m pending
+  pub may_still_move : MayStillMove m pending
   pub port_is : pending.request.port ≡ move.port
   pub op_is : pending.request.asked.op ≡ op
-  pub number : ℕ
-  pub within : number < pending.request.asked.count
-  pub sector_is : move.sector ≡ sector_of pending.request number
-  pub place_is : move.address ≡ place_in pending.request.asked.frames.items number
+  pub sector_number : ℕ
+  pub number_is_in_range : sector_number < pending.request.asked.count
+  pub sector_is : move.sector ≡ sector_of pending.request sector_number
+  pub place_is : move.address ≡ place_in pending.request.asked.frames.items sector_number
   pub direction_is : move.direction ≡ direction_of move.operation
-  pub lent : m.lent (frame_at pending.request.asked.frames.items (number / 8)) ≡ Some pending.request.id
-  pub step : steps ≡ Touch pending number (slice_index move.bytes.value) ∷ []
+  pub frame_is_lent : m.lent (frame_at pending.request.asked.frames.items (sector_number / 8)) ≡ Some pending.request.id
+  pub step_is : steps ≡ Touch pending sector_number (slice_index move.bytes.value) ∷ []
 
 -- A move, by the client's operation that its command does. A page, or a trim's block, goes between disk and scratch
 -- frame: that is no step of the machine.
@@ -52,22 +52,22 @@ touch_steps e from (suc n) = Touch (touched_by e from n) (from + n) (λ b. 0) �
 -- sectors of a trim became zero
 pub record ClearsSectors (m : Machine) (clear : tape_clear.Clear) (steps : List Step) : Type 0 where
   pub pending : Pending
-  pub moves : MayStillMove m pending
+  pub may_still_move : MayStillMove m pending
   pub port_is : pending.request.port ≡ clear.port
   pub op_is : pending.request.asked.op ≡ Trim
-  pub from : ℕ
-  pub within : from + clear.count ≤ pending.request.asked.count
-  pub first_is : clear.first ≡ sector_of pending.request from
-  pub step : steps ≡ touch_steps pending from clear.count
+  pub first_number : ℕ
+  pub numbers_are_in_range : first_number + clear.count ≤ pending.request.asked.count
+  pub first_is : clear.first ≡ sector_of pending.request first_number
+  pub step_is : steps ≡ touch_steps pending first_number clear.count
 
 -- A request's command ended. The tape ties it to no slot: which request ended follows from the slots, since none whose
 -- command waits, is taken or was given up has.
 pub record EndsPending (m : Machine) (op : Op) (done : tape_done.Done) (steps : List Step) : Type 0 where
   pub pending : Pending
-  pub moves : MayStillMove m pending
+  pub may_still_move : MayStillMove m pending
   pub port_is : pending.request.port ≡ done.port
   pub op_is : pending.request.asked.op ≡ op
-  pub step : steps ≡ End pending ∷ []
+  pub step_is : steps ≡ End pending ∷ []
 
 -- an end, by the client's operation that its command does
 abbrev pub TellsDone : Option Op → Machine → tape_done.Done → List Step → Type 0

@@ -18,15 +18,15 @@ use Rattle.adapter.specs.Steps.{Steps, device_after}
 use Rattle.adapter.specs.Steps.DeviceTransition.{Fetch}
 use Rattle.adapter.specs.declared.command.Operation.TheVariants.{ReadQueued}
 use Rattle.block_machine.specs.declared.due.QueueMode.{QueueMode}
-use Rattle.block_machine.specs.Events.{AllMay}
+use Rattle.block_machine.specs.Events.{AllEnabled}
 use Rattle.block_machine.specs.Histories.{IsReachable}
 use Rattle.block_machine.specs.State.{Pending, Machine}
 use Rattle.block_machine.specs.Steps.{Issue, MayStillMove}
 use Rattle.refinement.specs.Relation.{port_at}
-use Rattle.refinement.specs.Driver.{DriverState, DriverRelation, idle}
-use Rattle.refinement.specs.Places.{table_of}
-use Rattle.refinement.specs.Slots.{Free, Serves, put, Armed, SlotDecodesTo, SlotStates}
-use Rattle.refinement.specs.Witness.{first_id, ready_with}
+use Rattle.refinement.specs.Driver.{DriverState, DriverRelation, idle_driver_state}
+use Rattle.refinement.specs.MemoryLayout.{table_of}
+use Rattle.refinement.specs.Slots.{Free, Serves, set_slot_state, Armed, SlotDecodesTo, SlotStates}
+use Rattle.refinement.specs.ReadWitness.{first_id, ready_device}
 
 -- request 2
 abbrev pub second_id : RequestId
@@ -56,7 +56,7 @@ two_memory = patched (patched (patched (patched first_memory 0x1000 (queued_byte
 -- Such a device: PxSACT was written with bit 0 and with bit 1, then PxCI with bit 0, and then with bit 1; and slot 0's
 -- command is taken.
 abbrev pub two_armed : Device
-two_armed = written (Px (port_at 0) Sact) 2 (written (Px (port_at 0) Sact) 1 (ready_with two_memory))
+two_armed = written (Px (port_at 0) Sact) 2 (written (Px (port_at 0) Sact) 1 (ready_device two_memory))
 
 abbrev pub one_issued : Device
 one_issued = written (Px (port_at 0) Ci) 1 two_armed
@@ -69,12 +69,16 @@ one_taken = device_after (Fetch 0 0 (queued_read 100) (piece_addresses 0x64000 8
 
 -- slots 0 and 1 of port 0 are armed
 abbrev pub armed_uses : SlotStates
-armed_uses = put (put (λ port slot. Free) 0 0 Armed) 0 1 Armed
+armed_uses = set_slot_state (set_slot_state (λ port slot. Free) 0 0 Armed) 0 1 Armed
 
 -- slot 0 of port 0 serves request 1, and slot 1 request 2
-abbrev pub two_known : Device → DriverState
-two_known d =
-    record { uses = put (put armed_uses 0 0 (Serves first_id)) 0 1 (Serves second_id); parked = λ port. []; device = d }
+abbrev pub two_reads_driver_state : Device → DriverState
+two_reads_driver_state d =
+    record {
+      uses = set_slot_state (set_slot_state armed_uses 0 0 (Serves first_id)) 0 1 (Serves second_id);
+      parked = λ port. [];
+      device = d;
+    }
 
 -- A machine is reached that agrees with the driver where both slots are armed; and one that has issued both requests,
 -- which have no frame in common. Each write of PxCI is permitted; this machine agrees with the driver when both
@@ -85,17 +89,17 @@ pub record TwoReadsWitness : Type 0 where
   pub armed : DriverRelation before (record { uses = armed_uses; parked = λ port. []; device = two_armed })
   pub machine : Machine
   pub reached : IsReachable machine
-  pub first : Pending
-  pub second : Pending
-  pub moves : MayStillMove machine first × MayStillMove machine second
-  pub ids : (first.request.id ≡ first_id) × (second.request.id ≡ second_id)
-  pub apart : (frame : Frame) → Contains first.request.asked.frames.items frame
-      → Contains second.request.asked.frames.items frame → ⊥
+  pub first_request : Pending
+  pub second_request : Pending
+  pub may_still_move : MayStillMove machine first_request × MayStillMove machine second_request
+  pub ids : (first_request.request.id ≡ first_id) × (second_request.request.id ≡ second_id)
+  pub apart : (frame : Frame) → Contains first_request.request.asked.frames.items frame
+      → Contains second_request.request.asked.frames.items frame → ⊥
   pub first_permitted : IsStable (MayWrite (Px (port_at 0) Ci) 1) two_armed
   pub second_permitted : IsStable (MayWrite (Px (port_at 0) Ci) 2) one_issued
-  pub issued : DriverRelation machine (two_known two_issued)
+  pub issued : DriverRelation machine (two_reads_driver_state two_issued)
   pub takes : Steps two_issued one_taken
-  pub knows : DriverRelation machine (two_known one_taken)
+  pub driver_relation : DriverRelation machine (two_reads_driver_state one_taken)
   pub command : FetchedCommand
   pub taken : (one_taken.port 0).taken 0 ≡ Some command
   pub queued : is_queued command.meaning.operation ≡ true
@@ -114,14 +118,14 @@ pub record ReadsIntoFrame (first frame : ℕ) (e : Pending) : Type 0 where
 pub record TwoStoredReads : Type 0 where
   pub machine : Machine
   pub reached : IsReachable machine
-  pub knows : DriverRelation machine (idle (ready_with two_memory))
+  pub driver_relation : DriverRelation machine (idle_driver_state (ready_device two_memory))
   pub mode : QueueMode
   pub queued : mode.queued ≡ true
   pub usable : 1 < mode.usable
-  pub first : Pending
-  pub second : Pending
-  pub first_asks : ReadsIntoFrame 100 100 first
-  pub second_asks : ReadsIntoFrame 108 101 second
-  pub may : AllMay machine (Issue mode second ∷ Issue mode first ∷ [])
+  pub first_request : Pending
+  pub second_request : Pending
+  pub first_asks : ReadsIntoFrame 100 100 first_request
+  pub second_asks : ReadsIntoFrame 108 101 second_request
+  pub may : AllEnabled machine (Issue mode second_request ∷ Issue mode first_request ∷ [])
   pub first_says : SlotDecodesTo two_memory 0 0 0 (queued_read 100) (piece_addresses 0x64000 8)
   pub second_says : SlotDecodesTo two_memory 0 0 1 (queued_read 108) (piece_addresses 0x65000 8)

@@ -4,7 +4,7 @@ use Rattle.adapter.specs.Device.{DevicePort}
 
 -- no disk is in, and PxSSTS shows none
 pub record IsVacant (p : DevicePort) : Type 0 where
-  pub out : p.present ≡ false
+  pub no_disk_is_in : p.present ≡ false
   pub det : p.ssts_det ≢ 3
 
 -- where PxSSTS.DET is 3, the first FIS of the disk has come

@@ -9,12 +9,12 @@ ghost use Rattle.block_machine.specs.Events.{AllByDevice, IsByDevice};
 ghost use Rattle.block_machine.specs.Histories.{IsReachable, IsSimulatedBySteps};
 ghost use Rattle.block_machine.specs.Expected.{after};
 ghost use Rattle.block_machine.specs.State.{Machine};
-ghost use Rattle.block_machine.specs.Steps.{Step, May, after_step};
+ghost use Rattle.block_machine.specs.Steps.{Step, IsEnabled, after_step};
 ghost use Rattle.refinement.specs.Acts.{Act, IsActDone, AreActsDone, IsOneDecision, accesses_of, act_steps};
-ghost use Rattle.refinement.specs.Driven.{GainsNoMove};
-ghost use Rattle.refinement.specs.Driver.{DriverState, DriverRelation, ByDevice, DriverAdvances, EndsInSteps};
+ghost use Rattle.refinement.specs.Fragments.{GainsNoMove};
+ghost use Rattle.refinement.specs.Driver.{DriverState, DriverRelation, IsBackedByDeviceAlone, DriverAdvances, EndsInSteps};
 ghost use Rattle.refinement.specs.Links.{DoesNotWrite};
-ghost use Rattle.refinement.specs.Recovering.{WorksPlainly};
+ghost use Rattle.refinement.specs.HaltRecovery.{WorksPlainly};
 ghost use Rattle.refinement.specs.Slots.{Own, op_of};
 
 use super::prerequisites::law_prerequisites;
@@ -24,7 +24,7 @@ use super::prerequisites::law_prerequisites;
 /// else.
 pub fn law_accesses_and_decisions_are_acts()
     ensures access { (k later : DriverState) (m : Machine) (access : Access)
-        → IsSimulatedBySteps DriverRelation k later (ByDevice k.device later.device) → IsReachable m
+        → IsSimulatedBySteps DriverRelation k later (IsBackedByDeviceAlone k.device later.device) → IsReachable m
         → DriverRelation m k
         → Does access k.device later.device → (steps : List Step) × AllByDevice steps
         × IsActDone k m (record { access = Some access; steps = steps; later = later }) }
@@ -32,7 +32,7 @@ pub fn law_accesses_and_decisions_are_acts()
         → (e : EndsInSteps k m own later) → IsOneDecision access own
         → Does access k.device later.device
         → IsActDone k m (record { access = Some access; steps = own ++ e.steps; later = later }) }
-    ensures own { (k later : DriverState) (m : Machine) (step : Step) → (IsByDevice step → ⊥) → May m step
+    ensures own { (k later : DriverState) (m : Machine) (step : Step) → (IsByDevice step → ⊥) → IsEnabled m step
         → later.device ≡ k.device → DriverRelation (after_step m step) later
         → IsActDone k m (record { access = None; steps = step ∷ []; later = later }) }
     ensures still { (k later : DriverState) (m : Machine) → later.device ≡ k.device → DriverRelation m later
@@ -41,8 +41,8 @@ pub fn law_accesses_and_decisions_are_acts()
 
 /// Parts of a call compose: no act is one, and so is one after another, with the accesses and the steps of both.
 pub fn law_acts_compose()
-    ensures none { (k : DriverState) (m : Machine) → AreActsDone [] k m k }
-    ensures more { (early late : List Act) (a b c : DriverState) (m : Machine) → AreActsDone early a m b
+    ensures no_act { (k : DriverState) (m : Machine) → AreActsDone [] k m k }
+    ensures acts_join { (early late : List Act) (a b c : DriverState) (m : Machine) → AreActsDone early a m b
         → AreActsDone late b (after m (act_steps early)) c → AreActsDone (early ++ late) a m c }
     ensures accesses { (early late : List Act) → accesses_of (early ++ late) ≡ accesses_of early ++ accesses_of late }
     ensures steps { (early late : List Act) → act_steps (early ++ late) ≡ act_steps late ++ act_steps early }

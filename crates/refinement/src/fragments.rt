@@ -13,12 +13,12 @@ ghost use Rattle.adapter.specs.Rules.{IsOn, MayWrite, IsStable};
 ghost use Rattle.adapter.specs.Steps.{Steps};
 ghost use Rattle.adapter.specs.declared.command.Operation.{Operation};
 ghost use Rattle.adapter.specs.declared.tape.Entry.{Entry};
-ghost use Rattle.refinement.specs.Driven.{AnyAccess, TapeGrows, AnyUse, SameUses, IsRelated, IsDrivenBy, OnPortWriting, IsSimulated, IsSimulatedTo, SparesOtherPorts, LeavesPort, HasNoCommand, GainsNoMove};
+ghost use Rattle.refinement.specs.Fragments.{AnyAccess, TapeGrows, AnyUse, SameUses, IsRelated, IsDrivenBy, IsPortAccessWriting, IsSimulated, IsSimulatedChangingUses, SparesOtherPorts, LeavesPort, HasNoCommand, GainsNoMove};
 ghost use Rattle.refinement.specs.Driver.{LeavesUses, MayStore};
 ghost use Rattle.refinement.specs.PortFacts.{FaultsOnRecord};
 ghost use Rattle.refinement.specs.Laws.{TapeLaws};
 ghost use Rattle.refinement.specs.Links.{SameAdapter, DoesNotWrite};
-ghost use Rattle.refinement.specs.Slots.{SlotStates, Free, IsOver, Own, op_of, put};
+ghost use Rattle.refinement.specs.Slots.{SlotStates, Free, IsOver, Own, op_of, set_slot_state};
 
 use super::port_facts::{
     law_errors_rise_by_disks, law_tape_absence_composes, law_undisturbed_ports_tell_nothing,
@@ -39,15 +39,17 @@ pub fn law_other_ports_are_left()
         → FaultsOnRecord old.tape (old.port q) q → FaultsOnRecord new.tape (new.port q) q }
     ensures silent { (port q : Port) (uses : SlotStates) (next : SlotStates → SlotStates) (o : Operation)
         (old new : Device)
-        → q.0 ≢ port.0 → IsSimulatedTo (SparesOtherPorts port) (SameUses uses) next old new → IsRelated uses old
+        → q.0 ≢ port.0 → IsSimulatedChangingUses (SparesOtherPorts port) (SameUses uses) next old new
+        → IsRelated uses old
         → op_of o ≡ None
         → (uses q.0 0 ≡ Own o → ⊥) → GainsNoMove q.0 o old new }
-    ensures none { (p : DevicePort) → LeavesPort p p }
-    ensures more { (old mid new : DevicePort) → LeavesPort old mid → LeavesPort mid new → LeavesPort old new }
+    ensures reflexive { (p : DevicePort) → LeavesPort p p }
+    ensures transitive { (old mid new : DevicePort) → LeavesPort old mid → LeavesPort mid new → LeavesPort old new }
     ensures spares { (port q : Port) (r : PortReg) → q.0 ≢ port.0 → (access : Access) → SparesOtherPorts port access
         → DoesNotWrite (Px q r) access }
     ensures spares_host { (port : Port) (access : Access) → SparesOtherPorts port access → DoesNotWrite Ghc access }
-    ensures on { (port : Port) (old new : Device) → IsOn old → IsDrivenBy (SparesOtherPorts port) old new → IsOn new }
+    ensures adapter_stays_on { (port : Port) (old new : Device) → IsOn old → IsDrivenBy (SparesOtherPorts port) old new
+        → IsOn new }
     ensures adapter { (old new : Device) → IsDrivenBy AnyAccess old new → SameAdapter old new }
     ensures tape { (old new : Device) → IsDrivenBy AnyAccess old new → (gained : List Entry)
         × (new.tape ≡ old.tape ++ gained) }
@@ -63,15 +65,15 @@ pub fn law_agreeing_goes_on()
         → IsSimulated AnyAccess (SameUses uses) old new
         → IsRelated uses old → IsRelated uses new }
     ensures released { (uses : SlotStates) (port : ℕ) (o : Operation) (d : Device) → uses port 0 ≡ Free
-        → IsOver (d.port port) 0 → IsRelated (put uses port 0 (Own o)) d → IsRelated uses d }
+        → IsOver (d.port port) 0 → IsRelated (set_slot_state uses port 0 (Own o)) d → IsRelated uses d }
     ensures idle { (d : Device) → IsIdle d → TellsDisks d → IsRelated (λ port slot. Free) d }
 {}
 
 /// The tape only gains: over none, over each access, and over one fragment after another.
 pub fn law_tapes_grow()
-    ensures none { (d : Device) → TapeGrows d d }
+    ensures reflexive { (d : Device) → TapeGrows d d }
     ensures access { (access : Access) (old new : Device) → Does access old new → TapeGrows old new }
-    ensures more { (old mid new : Device) → TapeGrows old mid → TapeGrows mid new → TapeGrows old new }
+    ensures transitive { (old mid new : Device) → TapeGrows old mid → TapeGrows mid new → TapeGrows old new }
 {}
 
 /// What laws say of the tape, for the proofs of the crates above.
@@ -114,9 +116,9 @@ pub fn law_unused_slots_are_silent()
     ensures access { (port : ℕ) (o : Operation) (access : Access) (old new : Device) → HasNoCommand (old.port port)
         → Does access old new → GainsNoMove port o old new }
     ensures controls { (port : Port) (o : Operation) (old new : Device)
-        → IsDrivenBy (OnPortWriting (λ r. r ≢ Ci) port) old new → HasNoCommand (old.port port.0)
+        → IsDrivenBy (IsPortAccessWriting (λ r. r ≢ Ci) port) old new → HasNoCommand (old.port port.0)
         → GainsNoMove port.0 o old new × HasNoCommand (new.port port.0) }
-    ensures more { (port : ℕ) (o : Operation) (old mid new : Device) → GainsNoMove port o old mid
+    ensures transitive { (port : ℕ) (o : Operation) (old mid new : Device) → GainsNoMove port o old mid
         → GainsNoMove port o mid new → GainsNoMove port o old new }
 {
     law_prerequisites();

@@ -21,27 +21,27 @@ ghost use Rattle.adapter.specs.Memory.{patched};
 ghost use Rattle.adapter.specs.Rules.{IsUnowned, IsOn, HasPort, MayStart, MaySetFre, MayStopReceiving, MayWrite, IsStable};
 ghost use Rattle.adapter.specs.Steps.{Steps};
 ghost use Rattle.adapter.specs.declared.command.Operation.{Operation};
-ghost use Rattle.block_machine.specs.Due.{is_plain, issued_count};
+ghost use Rattle.block_machine.specs.DueRequests.{is_plain, issued_count};
 ghost use Rattle.adapter.specs.declared.tape.Entry.{Entry};
-ghost use Rattle.block_machine.specs.Events.{IsByDevice, AllByDevice, AllMay, changes_disk};
+ghost use Rattle.block_machine.specs.Events.{IsByDevice, AllByDevice, AllEnabled, changes_disk};
 ghost use Rattle.block_machine.specs.Histories.{IsReachable, IsSimulatedBySteps};
 ghost use Rattle.block_machine.specs.Expected.{IsInitial, after, AllStepsFaithful};
 ghost use Rattle.block_machine.specs.Refusals.{MayAccessFrame};
 ghost use Rattle.block_machine.specs.State.{Accepted, Pending, Machine, unanswered};
-ghost use Rattle.block_machine.specs.Steps.{Step, Accept, Issue, Age, Again, Answer, Release, Store, Load, May, NoneQuarantined, older, after_step, stays, MayStillMove, Revoke};
+ghost use Rattle.block_machine.specs.Steps.{Step, Accept, Issue, Age, WaitAgain, Answer, Release, Store, Load, IsEnabled, NoneQuarantined, aged_pending, after_step, is_kept_at_answer, MayStillMove, Revoke};
 ghost use Rattle.block_machine.specs.declared.due.QueueMode.{QueueMode};
 ghost use Rattle.refinement.specs.Relation.{StateRelation, IsDiskOf, SameMemory, SameSectors, HaveSlots, ServeApart, port_at};
-ghost use Rattle.refinement.specs.Returning.{replug_candidates};
+ghost use Rattle.refinement.specs.Replug.{replug_candidates};
 ghost use Rattle.refinement.specs.Acts.{IsIssueStep};
-ghost use Rattle.refinement.specs.Driver.{MayStore, LeavesUses, KeepsTables, DriverState, DriverRelation, IsBacked, ByDevice, DriverAdvances, IsOwnPrepared, EndsInStep, HasNoSlot, ForgetsAtMost, ForgetsAtMostKept, parking, freeing, idle, KeepsOtherCmdBits, MissesTable, MissesScratch};
-ghost use Rattle.refinement.specs.Follows.{SimulatesSteps};
+ghost use Rattle.refinement.specs.Driver.{MayStore, LeavesUses, KeepsTables, DriverState, DriverRelation, IsBacked, IsBackedByDeviceAlone, DriverAdvances, IsOwnPrepared, EndsInStep, HasNoSlot, ForgetsAtMost, ForgetsAtMostKept, with_slot_parked, with_slot_freed, idle_driver_state, KeepsOtherCmdBits, MissesTable, MissesScratch};
+ghost use Rattle.refinement.specs.Simulation.{SimulatesSteps};
 ghost use Rattle.refinement.specs.Links.{IsPlugEvent};
-ghost use Rattle.refinement.specs.Places.{list_of, scratch_of, received_of};
-ghost use Rattle.refinement.specs.Trimmed.{TrimAgrees};
-ghost use Rattle.refinement.specs.Witness.{PreparedReadWitness, FirstReadWitness, KeptReadAgrees, ParkedReadWitness, EndedReadAgrees, OwnCommandAgrees};
+ghost use Rattle.refinement.specs.MemoryLayout.{list_of, scratch_of, received_of};
+ghost use Rattle.refinement.specs.TrimWitness.{TrimAgrees};
+ghost use Rattle.refinement.specs.ReadWitness.{PreparedReadWitness, FirstReadWitness, KeptReadAgrees, ParkedReadWitness, EndedReadAgrees, OwnCommandAgrees};
 ghost use Rattle.refinement.specs.TwoReads.{TwoReadsWitness, TwoStoredReads};
-ghost use Rattle.refinement.specs.Slots.{SlotState, Free, Armed, Own, Serves, SlotStates, put, serving_count, SlotDecodesTo, HasTrimBlock, IsOver, op_of, IsMove};
-ghost use Rattle.refinement.specs.Spares.{IsFurther, AllFurther, SparesBook, IsOfAnother};
+ghost use Rattle.refinement.specs.Slots.{SlotState, Free, Armed, Own, Serves, SlotStates, set_slot_state, serving_count, SlotDecodesTo, HasTrimBlock, IsOver, op_of, IsMove};
+ghost use Rattle.refinement.specs.SparedBook.{IsFurther, AllFurther, SparesBook, IsOfAnother};
 ghost use Rattle.refinement.specs.Tape.{OneAtMost, TellsDeviceSteps};
 
 use super::prerequisites::law_prerequisites;
@@ -58,20 +58,20 @@ pub fn law_device_is_followed()
 /// What the device does by itself is a part of a call, in which it alone makes steps.
 pub fn law_device_steps_are_parts()
     ensures { (k : DriverState) (new : Device) → Steps k.device new
-        → IsSimulatedBySteps DriverRelation k (record k { device = new }) (ByDevice k.device new) }
+        → IsSimulatedBySteps DriverRelation k (record k { device = new }) (IsBackedByDeviceAlone k.device new) }
 {}
 
 /// Over any reading of a register the two go on agreeing: the machine makes the device's steps and no others.
 pub fn law_reading_is_followed()
     ensures { (k : DriverState) (r : Reg) (v : ℕ) (new : Device) → Reads r v k.device new
-        → IsSimulatedBySteps DriverRelation k (record k { device = new }) (ByDevice k.device new) }
+        → IsSimulatedBySteps DriverRelation k (record k { device = new }) (IsBackedByDeviceAlone k.device new) }
 {}
 
 /// Once ST is cleared, an armed slot is free again. A free slot has no bit of PxSACT.
 pub fn law_slots_are_disarmed()
     ensures disarmed { (k : DriverState) (m : Machine) → DriverRelation m k → (port slot : ℕ)
         → (k.device.port port).st ≡ false
-        → k.uses port slot ≡ Armed → DriverRelation m (freeing k port slot) }
+        → k.uses port slot ≡ Armed → DriverRelation m (with_slot_freed k port slot) }
     ensures free { (uses : SlotStates) (m : Machine) (d : Device) → StateRelation uses m d → (port slot : ℕ)
         → uses port slot ≡ Free
         → (d.port port).sact slot ≡ false }
@@ -81,7 +81,7 @@ pub fn law_slots_are_disarmed()
 pub fn law_client_store_is_followed()
     ensures { (k : DriverState) (m : Machine) (client : ClientId) (frame : Frame) (offset : ℕ) (bytes : List ℕ)
         (new : Device)
-        → IsReachable m → DriverRelation m k → May m (Store client frame offset bytes)
+        → IsReachable m → DriverRelation m k → IsEnabled m (Store client frame offset bytes)
         → Stores (FRAME_BYTES * frame.0 + offset) bytes k.device new
         → EndsInStep k m (Store client frame offset bytes) (record k { device = new }) }
 {
@@ -106,10 +106,11 @@ pub fn law_own_steps_are_backed()
 
 /// What backs two fragments backs both; nothing is backed by nothing; and so with what the device does alone.
 pub fn law_backing_composes()
-    ensures none { (d : Device) (m : Machine) → IsBacked d d m [] }
-    ensures device { (old mid new : Device) (m : Machine) (early late : List Step) → ByDevice old mid m early
-        → ByDevice mid new (after m early) late → ByDevice old new m (late ++ early) }
-    ensures parts { (old mid new : Device) (m : Machine) (early late : List Step) → IsBacked old mid m early
+    ensures reflexive { (d : Device) (m : Machine) → IsBacked d d m [] }
+    ensures device_parts_join { (old mid new : Device) (m : Machine) (early late : List Step)
+        → IsBackedByDeviceAlone old mid m early
+        → IsBackedByDeviceAlone mid new (after m early) late → IsBackedByDeviceAlone old new m (late ++ early) }
+    ensures backings_join { (old mid new : Device) (m : Machine) (early late : List Step) → IsBacked old mid m early
         → IsBacked mid new (after m early) late → IsBacked old new m (late ++ early) }
 {}
 
@@ -118,29 +119,30 @@ pub fn law_backing_composes()
 /// own; and by what any access or part of a call adds. And what goes so from each machine that agrees is a part of a
 /// call. The machine that is gone to is reached.
 pub fn law_advances_compose()
-    ensures none { (k : DriverState) (m : Machine) → DriverRelation m k → DriverAdvances k m [] k }
-    ensures more { (a b c : DriverState) (m : Machine) (early late : List Step) → DriverAdvances a m early b
+    ensures reflexive { (k : DriverState) (m : Machine) → DriverRelation m k → DriverAdvances k m [] k }
+    ensures transitive { (a b c : DriverState) (m : Machine) (early late : List Step) → DriverAdvances a m early b
         → DriverAdvances b (after m early) late c → DriverAdvances a m (late ++ early) c }
-    ensures still { (k later : DriverState) (m : Machine) → later.device ≡ k.device → DriverRelation m later
+    ensures same_device { (k later : DriverState) (m : Machine) → later.device ≡ k.device → DriverRelation m later
         → DriverAdvances k m [] later }
-    ensures own { (k later : DriverState) (m : Machine) (step : Step) → (IsByDevice step → ⊥) → May m step
+    ensures own_step { (k later : DriverState) (m : Machine) (step : Step) → (IsByDevice step → ⊥) → IsEnabled m step
         → later.device ≡ k.device → DriverRelation (after_step m step) later → DriverAdvances k m (step ∷ []) later }
-    ensures device { (k later : DriverState) (m : Machine) (steps : List Step) → AllMay m steps
-        → ByDevice k.device later.device m steps → DriverRelation (after m steps) later
+    ensures device { (k later : DriverState) (m : Machine) (steps : List Step) → AllEnabled m steps
+        → IsBackedByDeviceAlone k.device later.device m steps → DriverRelation (after m steps) later
         → DriverAdvances k m steps later }
-    ensures follows { (k : DriverState) (m : Machine) (new : Device) → DriverRelation m k
+    ensures device_steps { (k : DriverState) (m : Machine) (new : Device) → DriverRelation m k
         → (f : SimulatesSteps k.uses m k.device new)
         → DriverAdvances k m f.steps (record k { device = new }) }
-    ensures ends { (k later : DriverState) (m : Machine) (step : Step) → (e : EndsInStep k m step later)
+    ensures ends_in_step { (k later : DriverState) (m : Machine) (step : Step) → (e : EndsInStep k m step later)
         → DriverAdvances k m (step ∷ e.steps) later }
     ensures access { (k later : DriverState) (m : Machine)
-        → IsSimulatedBySteps DriverRelation k later (ByDevice k.device later.device)
+        → IsSimulatedBySteps DriverRelation k later (IsBackedByDeviceAlone k.device later.device)
         → IsReachable m → DriverRelation m k → (steps : List Step) × AllByDevice steps
         × DriverAdvances k m steps later }
-    ensures part { (k later : DriverState) (m : Machine)
+    ensures simulated_part { (k later : DriverState) (m : Machine)
         → IsSimulatedBySteps DriverRelation k later (IsBacked k.device later.device)
         → IsReachable m → DriverRelation m k → (steps : List Step) × DriverAdvances k m steps later }
-    ensures adds { (k later : DriverState) → ((m : Machine) → IsReachable m → DriverRelation m k → (steps : List Step)
+    ensures simulates_each { (k later : DriverState) → ((m : Machine) → IsReachable m → DriverRelation m k
+        → (steps : List Step)
         × DriverAdvances k m steps later)
         → IsSimulatedBySteps DriverRelation k later (IsBacked k.device later.device) }
     ensures reached { (k later : DriverState) (m : Machine) (steps : List Step) → IsReachable m
@@ -169,18 +171,19 @@ pub fn law_revoking_agrees()
 /// A slot whose command is over is given up, and its request is decided on later.
 pub fn law_parking_agrees()
     ensures { (k : DriverState) (m : Machine) → DriverRelation m k → (port slot : ℕ) → IsOver (k.device.port port) slot
-        → (id : RequestId) → k.uses port slot ≡ Serves id → DriverRelation m (parking k port slot id) }
+        → (id : RequestId) → k.uses port slot ≡ Serves id → DriverRelation m (with_slot_parked k port slot id) }
 {}
 
 /// A slot that is put to another use has it, and every other slot goes on as it was used. So a request that no slot
 /// serves has none then either, unless the slot is put to it.
 pub fn law_putting_is_of_one_slot()
-    ensures here { (uses : SlotStates) (port slot : ℕ) (u : SlotState) → put uses port slot u port slot ≡ u }
+    ensures here { (uses : SlotStates) (port slot : ℕ) (u : SlotState) → set_slot_state uses port slot u port slot ≡ u }
     ensures others { (uses : SlotStates) (port slot : ℕ) (u : SlotState) (other_port other_slot : ℕ)
-        → (other_port ≡ port → other_slot ≡ slot → ⊥) → put uses port slot u other_port other_slot ≡ uses other_port
+        → (other_port ≡ port → other_slot ≡ slot → ⊥) → set_slot_state uses port slot u other_port other_slot
+        ≡ uses other_port
         other_slot }
     ensures unserved { (uses : SlotStates) (port slot : ℕ) (u : SlotState) (id : RequestId) → HasNoSlot uses id
-        → ((other : RequestId) → u ≡ Serves other → other ≢ id) → HasNoSlot (put uses port slot u) id }
+        → ((other : RequestId) → u ≡ Serves other → other ≢ id) → HasNoSlot (set_slot_state uses port slot u) id }
 {}
 
 /// Once the slot of a request is parked, no slot serves it, and it is among the parked; nor does a slot then serve a
@@ -188,18 +191,18 @@ pub fn law_putting_is_of_one_slot()
 pub fn law_parking_frees()
     ensures frees { (k : DriverState) (port slot : ℕ) (id : RequestId) → ServeApart k.uses
         → k.uses port slot ≡ Serves id
-        → HasNoSlot (parking k port slot id).uses id }
+        → HasNoSlot (with_slot_parked k port slot id).uses id }
     ensures leaves { (k : DriverState) (port slot : ℕ) (id other : RequestId) → HasNoSlot k.uses other
-        → HasNoSlot (parking k port slot id).uses other }
+        → HasNoSlot (with_slot_parked k port slot id).uses other }
     ensures parks { (k : DriverState) (port slot : ℕ) (id : RequestId)
-        → Contains ((parking k port slot id).parked port) id }
+        → Contains ((with_slot_parked k port slot id).parked port) id }
 {}
 
 /// A request that no slot serves may be answered: its frames are given back.
 pub fn law_answering_agrees()
     ensures { (k : DriverState) (m : Machine) (e : Pending) (outcome : Outcome) (later : ℕ → List RequestId)
         → IsReachable m
-        → DriverRelation m k → Contains m.book e → stays e outcome ≡ false → HasNoSlot k.uses e.request.id
+        → DriverRelation m k → Contains m.book e → is_kept_at_answer e outcome ≡ false → HasNoSlot k.uses e.request.id
         → ForgetsAtMost e.request.id k.parked later
         → DriverRelation (after_step m (Answer e outcome)) (record k { parked = later }) }
 {}
@@ -208,7 +211,7 @@ pub fn law_answering_agrees()
 pub fn law_keeping_agrees()
     ensures { (k : DriverState) (m : Machine) (e : Pending) (outcome : Outcome) → IsReachable m → DriverRelation m k
         → Contains m.book e
-        → stays e outcome ≡ true → DriverRelation (after_step m (Answer e outcome)) k }
+        → is_kept_at_answer e outcome ≡ true → DriverRelation (after_step m (Answer e outcome)) k }
 {}
 
 /// A request that no slot serves may wait again.
@@ -216,7 +219,7 @@ pub fn law_going_again_agrees()
     ensures { (k : DriverState) (m : Machine) (e : Pending) (later : ℕ → List RequestId) → IsReachable m
         → DriverRelation m k
         → Contains m.book e → HasNoSlot k.uses e.request.id → ForgetsAtMost e.request.id k.parked later
-        → DriverRelation (after_step m (Again e)) (record k { parked = later }) }
+        → DriverRelation (after_step m (WaitAgain e)) (record k { parked = later }) }
 {}
 
 /// The frames of kept requests may be given back where no slot serves one of them. Those that were parked needn't be so
@@ -237,14 +240,14 @@ pub fn law_waiting_has_no_slot()
 /// no two the same. So no more serve than are issued; and just as many, where each that is issued has a slot, and these
 /// are below n.
 pub fn law_slots_are_counted()
-    ensures most { (uses : SlotStates) (m : Machine) (d : Device) → IsReachable m → StateRelation uses m d
+    ensures no_more_serve { (uses : SlotStates) (m : Machine) (d : Device) → IsReachable m → StateRelation uses m d
         → (port : Port)
         → NoneQuarantined m port → (n : ℕ) → serving_count uses port.0 n ≤ issued_count (map unanswered m.book) port }
     ensures issued { (uses : SlotStates) (m : Machine) (d : Device) → StateRelation uses m d → (port : Port)
         → NoneQuarantined m port
         → (slot : ℕ) (id : RequestId) → uses port.0 slot ≡ Serves id
         → (e : Pending) × Contains m.book e × (e.issued ≡ true) × (e.request.id ≡ id) × (e.request.port ≡ port) }
-    ensures all { (uses : SlotStates) (m : Machine) (d : Device) → IsReachable m → StateRelation uses m d
+    ensures as_many_serve { (uses : SlotStates) (m : Machine) (d : Device) → IsReachable m → StateRelation uses m d
         → (port : Port)
         → NoneQuarantined m port → (n : ℕ) → HaveSlots uses m port.0 []
         → ((slot : ℕ) (id : RequestId) → uses port.0 slot ≡ Serves id → slot < n)
@@ -255,12 +258,12 @@ pub fn law_slots_are_counted()
 /// a queued one some slot that is usable.
 pub fn law_due_finds_free_slot()
     ensures plain { (uses : SlotStates) (m : Machine) (d : Device) → IsReachable m → StateRelation uses m d
-        → (mode : QueueMode) (e : Pending) → May m (Issue mode e)
+        → (mode : QueueMode) (e : Pending) → IsEnabled m (Issue mode e)
         → ((o : Operation) → uses e.request.port.0 0 ≡ Own o → ⊥)
         → ((slot : ℕ) → uses e.request.port.0 slot ≡ Armed → ⊥) → is_plain mode e.request.asked.op ≡ true
         → uses e.request.port.0 0 ≡ Free }
     ensures queued { (uses : SlotStates) (m : Machine) (d : Device) → IsReachable m → StateRelation uses m d
-        → (mode : QueueMode) (e : Pending) → May m (Issue mode e)
+        → (mode : QueueMode) (e : Pending) → IsEnabled m (Issue mode e)
         → ((o : Operation) → uses e.request.port.0 0 ≡ Own o → ⊥)
         → ((slot : ℕ) → uses e.request.port.0 slot ≡ Armed → ⊥) → is_plain mode e.request.asked.op ≡ false
         → (slot : ℕ) × (slot < mode.usable) × (uses e.request.port.0 slot ≡ Free) }
@@ -298,10 +301,11 @@ pub fn law_pages_come_when_asked()
         (gained : List Entry) → IsReachable m → StateRelation uses m old → Does access old new
         → new.tape ≡ old.tape ++ gained
         → op_of o ≡ None → (uses port 0 ≡ Own o → IsOver (old.port port) 0) → All (λ e. IsMove port o e → ⊥) gained }
-    ensures once { (uses : SlotStates) (m : Machine) (old new : Device) (port : ℕ) (o : Operation) (gained : List Entry)
+    ensures one_at_most { (uses : SlotStates) (m : Machine) (old new : Device) (port : ℕ) (o : Operation)
+        (gained : List Entry)
         → IsReachable m → StateRelation uses m old → Steps old new → new.tape ≡ old.tape ++ gained → op_of o ≡ None
         → OneAtMost (IsMove port o) gained }
-    ensures access_once { (uses : SlotStates) (m : Machine) (access : Access) (old new : Device) (port : ℕ)
+    ensures one_at_most_by_access { (uses : SlotStates) (m : Machine) (access : Access) (old new : Device) (port : ℕ)
         (o : Operation)
         (gained : List Entry) → IsReachable m → StateRelation uses m old → Does access old new
         → new.tape ≡ old.tape ++ gained
@@ -338,8 +342,8 @@ pub fn law_stored_commands_stay()
 
 /// Requests that may be issued one after another may be so still, whatever the device does first.
 pub fn law_due_stays()
-    ensures { (m : Machine) (steps : List Step) → IsReachable m → AllByDevice steps → AllMay m steps
-        → (own : List Step) → All IsIssueStep own → AllMay m own → AllMay (after m steps) own }
+    ensures { (m : Machine) (steps : List Step) → IsReachable m → AllByDevice steps → AllEnabled m steps
+        → (own : List Step) → All IsIssueStep own → AllEnabled m own → AllEnabled (after m steps) own }
 {}
 
 /// The device's own steps leave the machine's grants and owners, its loans and its next id; and the same requests are
@@ -348,18 +352,20 @@ pub fn law_due_stays()
 /// kept after them.
 pub fn law_steps_spare_the_book()
     ensures spares { (m : Machine) (steps : List Step) → AllByDevice steps → SparesBook m (after m steps) }
-    ensures none { (m : Machine) → SparesBook m m }
-    ensures more { (a b c : Machine) → SparesBook a b → SparesBook b c → SparesBook a c }
-    ensures due { (old new : List Pending) → AllFurther old new → map unanswered new ≡ map unanswered old }
-    ensures later { (old new : List Pending) (e : Pending) → AllFurther old new → Contains old e
+    ensures reflexive { (m : Machine) → SparesBook m m }
+    ensures transitive { (a b c : Machine) → SparesBook a b → SparesBook b c → SparesBook a c }
+    ensures due_is_the_same { (old new : List Pending) → AllFurther old new → map unanswered new ≡ map unanswered old }
+    ensures is_found_later { (old new : List Pending) (e : Pending) → AllFurther old new → Contains old e
         → (x : Pending) × Contains new x × IsFurther e x }
-    ensures before { (old new : List Pending) (e : Pending) → AllFurther old new → Contains new e
+    ensures was_found_before { (old new : List Pending) (e : Pending) → AllFurther old new → Contains new e
         → (x : Pending) × Contains old x × IsFurther x e }
-    ensures frames { (m : Machine) (steps : List Step) (frame : Frame) → IsReachable m → AllByDevice steps
-        → AllMay m steps
+    ensures unlent_frames_keep_bytes { (m : Machine) (steps : List Step) (frame : Frame) → IsReachable m
+        → AllByDevice steps
+        → AllEnabled m steps
         → ((e : Pending) → MayStillMove m e → m.lent frame ≡ Some e.request.id → ⊥)
         → (b : ℕ) → (after m steps).memory frame b ≡ m.memory frame b }
-    ensures kept { (m : Machine) (steps : List Step) (port : Port) → AllByDevice steps → NoneQuarantined m port
+    ensures none_quarantined_stays { (m : Machine) (steps : List Step) (port : Port) → AllByDevice steps
+        → NoneQuarantined m port
         → NoneQuarantined (after m steps) port }
 {}
 
@@ -380,12 +386,16 @@ pub fn law_disks_are_told()
 /// A history goes on by steps that may come, and so do fragments of them. Two fragments of the device's steps are one,
 /// too; and so are two whose reads moved what the disks hold.
 pub fn law_histories_compose()
-    ensures reached { (m : Machine) (steps : List Step) → IsReachable m → AllMay m steps → IsReachable (after m steps) }
-    ensures may { (m : Machine) (late early : List Step) → AllMay m early → AllMay (after m early) late
-        → AllMay m (late ++ early) }
-    ensures after { (m : Machine) (late early : List Step) → after m (late ++ early) ≡ after (after m early) late }
-    ensures device { (late early : List Step) → AllByDevice late → AllByDevice early → AllByDevice (late ++ early) }
-    ensures told { (m : Machine) (late early : List Step) → AllStepsFaithful m early
+    ensures reached { (m : Machine) (steps : List Step) → IsReachable m → AllEnabled m steps
+        → IsReachable (after m steps) }
+    ensures enabled_steps_join { (m : Machine) (late early : List Step) → AllEnabled m early
+        → AllEnabled (after m early) late
+        → AllEnabled m (late ++ early) }
+    ensures machine_after_joins { (m : Machine) (late early : List Step) → after m (late ++ early)
+        ≡ after (after m early) late }
+    ensures device_steps_join { (late early : List Step) → AllByDevice late → AllByDevice early
+        → AllByDevice (late ++ early) }
+    ensures faithful_steps_join { (m : Machine) (late early : List Step) → AllStepsFaithful m early
         → AllStepsFaithful (after m early) late
         → AllStepsFaithful m (late ++ early) }
 {
@@ -502,8 +512,8 @@ pub fn law_an_idle_device_agrees()
         → SameMemory m d.memory
         → (d.telling ≡ true → (port : ℕ) → SameSectors m (d.port port).disk port)
         → (d.telling ≡ true → (port k : ℕ)
-        → m.aside (port_at port) k ≡ replug_candidates d.tape (d.port port).lasting port k)
-        → DriverRelation m (idle d) }
+        → m.blocks_since_flush (port_at port) k ≡ replug_candidates d.tape (d.port port).lasting port k)
+        → DriverRelation m (idle_driver_state d) }
 {}
 
 /// There is an adapter whose first read is prepared, and a machine that is reached and agrees with it: the write of

@@ -8,11 +8,11 @@
 //! witnesses. There is no driver code.
 #![tactic(auto)]
 
+pub mod access_kinds;
 pub mod acts;
 pub mod disks;
 pub mod fragments;
 pub mod giving_up;
-pub mod kinds;
 pub mod laws;
 pub mod port_facts;
 mod prerequisites;

@@ -26,18 +26,18 @@ ghost use Rattle.block_machine.specs.Expected.{after};
 ghost use Rattle.block_machine.specs.State.{Pending, Machine};
 ghost use Rattle.block_machine.specs.Steps.{Step, Release, MayStillMove, NoneQuarantined, after_step};
 ghost use Rattle.refinement.specs.Relation.{StateRelation};
-ghost use Rattle.refinement.specs.Awaits.{AwaitsPage};
-ghost use Rattle.refinement.specs.Booted.{BootWitness};
-ghost use Rattle.refinement.specs.Driven.{TapeGrows};
+ghost use Rattle.refinement.specs.AwaitedPage.{AwaitsPage};
+ghost use Rattle.refinement.specs.BootWitness.{BootWitness};
+ghost use Rattle.refinement.specs.Fragments.{TapeGrows};
 ghost use Rattle.refinement.specs.Driver.{DriverState, DriverRelation, IsOwnPrepared};
 ghost use Rattle.refinement.specs.Errors.{KeepsErrors, NoDiskComes, ChangesByDisks, StaysClear, NoneFatal, NoneFails, ChangesByErrors, IsLeftByReset, ShowsResetState, IsCompositional, IsWork};
 ghost use Rattle.refinement.specs.PortFacts.{IsEngineStopped, IsQuiescentPort, FindsOwnPage, DeviceSparesFrame, CommandsAreOver, RunsWell, Undisturbed, ShowsNoTrouble, TellsNoTrouble, ClearsNoTrouble, IsFaulted, ShowsFault, RecordsFaults, FaultsOnRecord, ShowsDrqTillLink, StoppedTfesClear, IsCleanToStart, KeepsFaultRecord, EndedIn, IsSlotClear};
 ghost use Rattle.refinement.specs.Links.{DoesNotWrite, SameAdapter, LeavesControls, NoPlugEvents, LeavesDisk, LeavesLink, ShowsDiskIfIn};
-ghost use Rattle.refinement.specs.Noted.{LeavesNotes, NotesLast};
-ghost use Rattle.refinement.specs.Places.{scratch_of};
-ghost use Rattle.refinement.specs.Slots.{SlotStates, Free, Own, Serves, IsOver, PageStandsInScratch, put};
-ghost use Rattle.refinement.specs.Spares.{IsOfAnother};
-ghost use Rattle.refinement.specs.Started.{IsUp, IsComingUp, IsStarted, SetsNoStart, ClearsNoStart};
+ghost use Rattle.refinement.specs.PortNotes.{LeavesNotes, NotesLast};
+ghost use Rattle.refinement.specs.MemoryLayout.{scratch_of};
+ghost use Rattle.refinement.specs.Slots.{SlotStates, Free, Own, Serves, IsOver, PageStandsInScratch, set_slot_state};
+ghost use Rattle.refinement.specs.SparedBook.{IsOfAnother};
+ghost use Rattle.refinement.specs.StartedPort.{IsUp, IsComingUp, IsStarted, SetsNoStart, ClearsNoStart};
 
 use super::prerequisites::law_prerequisites;
 use adapter::laws::law_step_lists_keep_what_steps_keep;
@@ -146,7 +146,7 @@ pub fn law_page_is_awaited()
     ensures issued { (uses : SlotStates) (m : Machine) (port : Port) (o : Operation) (v : ℕ) (old new : Device)
         → IsReachable m
         → StateRelation uses m old → old.hr ≡ false → IsOwnPrepared uses old port.0 o v → Writes (Px port Ci) v old new
-        → AwaitsPage (put uses port.0 0 (Own o)) port.0 o (length new.tape) new }
+        → AwaitsPage (set_slot_state uses port.0 0 (Own o)) port.0 o (length new.tape) new }
     ensures steps { (uses : SlotStates) (m : Machine) (port : ℕ) (o : Operation) (since : ℕ) (old new : Device)
         → IsReachable m
         → StateRelation uses m old → Steps old new → AwaitsPage uses port o since old
@@ -216,15 +216,18 @@ pub fn law_trouble_is_shown()
     ensures writes { (port : Port) (r : Reg) (v : ℕ) (old new : Device) → old.hr ≡ false → ClearsNoTrouble port r v
         → Writes r v old new → ShowsNoTrouble (new.port port.0) → ShowsNoTrouble (old.port port.0)
         × Undisturbed port.0 old new }
-    ensures told { (port : Port) (v : ℕ) (old new : Device) → old.hr ≡ false → Reads (Px port Is) v old new
+    ensures none_told_none_shown { (port : Port) (v : ℕ) (old new : Device) → old.hr ≡ false
+        → Reads (Px port Is) v old new
         → TellsNoTrouble v → ShowsNoTrouble (new.port port.0) }
-    ensures tells { (port : Port) (v : ℕ) (old new : Device) → old.hr ≡ false → Reads (Px port Is) v old new
+    ensures tells_what_is_shown { (port : Port) (v : ℕ) (old new : Device) → old.hr ≡ false
+        → Reads (Px port Is) v old new
         → ShowsNoTrouble (new.port port.0) → TellsNoTrouble v }
-    ensures back { (port : Port) (v : ℕ) → TellsNoTrouble v → ClearsNoTrouble port (Px port Is) v }
+    ensures clears_no_trouble { (port : Port) (v : ℕ) → TellsNoTrouble v → ClearsNoTrouble port (Px port Is) v }
     ensures healthy { (p : DevicePort) → RunsWell p → ShowsNoTrouble p }
     ensures found { (port : Port) (v : ℕ) (old new : Device) → old.hr ≡ false → Reads (Px port Is) v old new
         → TellsNoTrouble v → RunsWell (old.port port.0) → Undisturbed port.0 old new × RunsWell (new.port port.0) }
-    ensures both { (port : Port) (v errors : ℕ) (old mid new : Device) → old.hr ≡ false → Reads (Px port Is) v old mid
+    ensures found_by_two_reads { (port : Port) (v errors : ℕ) (old mid new : Device) → old.hr ≡ false
+        → Reads (Px port Is) v old mid
         → Reads (Px port Serr) errors mid new → ((place : ℕ) → 27 ≤ place → place ≤ 30 → bit v place ≡ false)
         → bit errors 16 ≡ false → bit errors 26 ≡ false → RunsWell (old.port port.0)
         → Undisturbed port.0 old mid × RunsWell (mid.port port.0) }
@@ -364,11 +367,12 @@ pub fn law_undisturbed_ports_tell_nothing()
 /// that clears AE or sets HR, and over any that don't write it.
 pub fn law_adapter_stays()
     ensures same { (access : Access) (old new : Device) → Does access old new → SameAdapter old new }
-    ensures same_none { (d : Device) → SameAdapter d d }
-    ensures same_more { (old mid new : Device) → SameAdapter old mid → SameAdapter mid new → SameAdapter old new }
-    ensures on { (access : Access) (old new : Device) → IsOn old
+    ensures adapter_reflexive { (d : Device) → SameAdapter d d }
+    ensures adapter_transitive { (old mid new : Device) → SameAdapter old mid → SameAdapter mid new
+        → SameAdapter old new }
+    ensures stays_on { (access : Access) (old new : Device) → IsOn old
         → ((v : ℕ) → access ≡ Writing Ghc v → (bit v 31 ≡ true) × (bit v 0 ≡ false)) → Does access old new → IsOn new }
-    ensures on_all { (accesses : List Access) (old new : Device) → IsOn old → All (DoesNotWrite Ghc) accesses
+    ensures stays_on_over_all { (accesses : List Access) (old new : Device) → IsOn old → All (DoesNotWrite Ghc) accesses
         → DoesAll accesses old new → IsOn new }
 {}
 
@@ -610,8 +614,8 @@ pub fn law_errors_rise_by_disks()
         → ChangesByDisks port old new }
     ensures access { (port : Port) (access : Access) (old new : Device) → old.hr ≡ false
         → (old.port port.0).link_due ≡ false → Does access old new → ChangesByDisks port.0 old new }
-    ensures none { (port : ℕ) (d : Device) → ChangesByDisks port d d }
-    ensures more { (port : ℕ) (old mid new : Device) → TapeGrows old mid → TapeGrows mid new
+    ensures reflexive { (port : ℕ) (d : Device) → ChangesByDisks port d d }
+    ensures transitive { (port : ℕ) (old mid new : Device) → TapeGrows old mid → TapeGrows mid new
         → ChangesByDisks port old mid
         → ChangesByDisks port mid new → ChangesByDisks port old new }
     ensures due { (port : ℕ) (old new : Device) → old.hr ≡ false → (old.port port).link_due ≡ false → Steps old new

@@ -1,5 +1,5 @@
 // What laws of the crates below say, for this crate's proofs. Nothing comes of calling it.
-ghost use Rattle.refinement.specs.Below.{StepLaws};
+ghost use Rattle.refinement.specs.StepLaws.{StepLaws};
 
 use adapter::laws::{law_port_register_accesses, law_step_lists_keep_what_steps_keep};
 use block_machine::laws::law_step_lists_compose;

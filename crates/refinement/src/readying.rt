@@ -10,19 +10,19 @@ ghost use Rattle.adapter.specs.Commands.{Meaning, is_queued};
 ghost use Rattle.adapter.specs.Device.{Device};
 ghost use Rattle.adapter.specs.Rules.{IsOn, HasPort, MayWrite, IsStable};
 ghost use Rattle.adapter.specs.Steps.{Steps};
-ghost use Rattle.block_machine.specs.Due.{is_plain};
+ghost use Rattle.block_machine.specs.DueRequests.{is_plain};
 ghost use Rattle.block_machine.specs.Histories.{IsReachable};
 ghost use Rattle.block_machine.specs.State.{Pending, Machine};
-ghost use Rattle.block_machine.specs.Steps.{Issue, May};
+ghost use Rattle.block_machine.specs.Steps.{Issue, IsEnabled};
 ghost use Rattle.block_machine.specs.declared.due.QueueMode.{QueueMode};
 ghost use Rattle.refinement.specs.Acts.{Act, AreActsDone, accesses_of};
 ghost use Rattle.refinement.specs.Relation.{StateRelation};
-ghost use Rattle.refinement.specs.Driven.{IsSoleBit};
-ghost use Rattle.refinement.specs.Driver.{IsPrepared, DriverState, DriverAdvances, DriverRelation, MissesTable, serving};
+ghost use Rattle.refinement.specs.Fragments.{IsSoleBit};
+ghost use Rattle.refinement.specs.Driver.{IsPrepared, DriverState, DriverAdvances, DriverRelation, MissesTable, with_slot_serving};
 ghost use Rattle.refinement.specs.Links.{DoesNotWrite};
-ghost use Rattle.refinement.specs.Slots.{Free, Armed, SlotStates, put, MeansRequest, HasTrimBlock};
-ghost use Rattle.refinement.specs.Started.{ClearsNoStart};
-ghost use Rattle.refinement.specs.Readying.{IsStored, IsReadied, IsReadyToIssue, LeavesStored};
+ghost use Rattle.refinement.specs.Slots.{Free, Armed, SlotStates, set_slot_state, MeansRequest, HasTrimBlock};
+ghost use Rattle.refinement.specs.StartedPort.{ClearsNoStart};
+ghost use Rattle.refinement.specs.ReadySlots.{IsStored, IsReadied, IsReadyToIssue, LeavesStored};
 
 use super::prerequisites::law_prerequisites;
 
@@ -51,7 +51,7 @@ pub fn law_readied_is_issued()
         → ((slot : ℕ) → bit v slot ≡ true → IsReadyToIssue uses d port.0 slot) → IsStable (MayWrite (Px port Ci) v) d }
     ensures prepared { (uses : SlotStates) (m : Machine) (d : Device) (port slot : ℕ) (c : Meaning) (places : List ℕ)
         (mode : QueueMode) (e : Pending)
-        (v : ℕ) → IsReadied uses d port slot c places → May m (Issue mode e) → e.request.port.0 ≡ port
+        (v : ℕ) → IsReadied uses d port slot c places → IsEnabled m (Issue mode e) → e.request.port.0 ≡ port
         → slot < mode.usable
         → (is_plain mode e.request.asked.op ≡ true → slot ≡ 0) → MeansRequest port slot e.request c places
         → is_queued c.operation ≡ not (is_plain mode e.request.asked.op)
@@ -72,11 +72,11 @@ pub fn law_bits_are_followed_in_turn()
     ensures arms { (k : DriverState) (m : Machine) (port : Port) (slot v : ℕ) → DriverRelation m k
         → k.uses port.0 slot ≡ Free → (k.device.port port.0).st ≡ true → IsSoleBit slot v
         → DriverAdvances k m []
-        (record k { uses = put k.uses port.0 slot Armed; device = written (Px port Sact) v k.device }) }
+        (record k { uses = set_slot_state k.uses port.0 slot Armed; device = written (Px port Sact) v k.device }) }
     ensures issues { (k : DriverState) (m : Machine) (port : Port) (slot : ℕ) (mode : QueueMode) (e : Pending) (v : ℕ)
         → IsReachable m → DriverRelation m k → IsPrepared k.uses m k.device port.0 slot mode e v
         → DriverAdvances k m (Issue mode e ∷ [])
-        (serving k port.0 slot e.request.id (written (Px port Ci) v k.device)) }
+        (with_slot_serving k port.0 slot e.request.id (written (Px port Ci) v k.device)) }
 {}
 
 /// What is stored for a slot stays so over acts whose accesses leave it.

@@ -18,10 +18,10 @@ ghost use Rattle.refinement.specs.Driver.{IsOwnPrepared, DriverState, DriverRela
 ghost use Rattle.refinement.specs.Errors.{NoneFatal};
 ghost use Rattle.refinement.specs.PortFacts.{RunsWell, TellsNoTrouble, IsCleanToStart};
 ghost use Rattle.refinement.specs.Links.{DoesNotWrite, NoPlugEvents};
-ghost use Rattle.refinement.specs.Slots.{SlotState, SlotStates, Free, Own, put};
-ghost use Rattle.refinement.specs.Started.{IsUp, IsStarted, ClearsNoStart};
+ghost use Rattle.refinement.specs.Slots.{SlotState, SlotStates, Free, Own, set_slot_state};
+ghost use Rattle.refinement.specs.StartedPort.{IsUp, IsStarted, ClearsNoStart};
 ghost use Rattle.refinement.specs.Halting.{HaltIsOfTaken, HaltOfTakenIfSt};
-ghost use Rattle.refinement.specs.Recovering.{IsLinked, WorksPlainly, RunsLinked, EndsHalt, FaultLeavesIssued};
+ghost use Rattle.refinement.specs.HaltRecovery.{IsLinked, WorksPlainly, RunsLinked, EndsHalt, FaultLeavesIssued};
 
 use super::prerequisites::law_prerequisites;
 
@@ -111,7 +111,7 @@ pub fn law_halt_is_ended()
         → IsReachable m
         → StateRelation uses m old → old.hr ≡ false → ((slot : ℕ) → slot ≢ 0 → uses port.0 slot ≡ Free)
         → IsOwnPrepared uses old port.0 o v → Writes (Px port Ci) v old new
-        → EndsHalt (put uses port.0 0 (Own o)) port.0 new }
+        → EndsHalt (set_slot_state uses port.0 0 (Own o)) port.0 new }
     ensures steps { (uses : SlotStates) (m : Machine) (port : ℕ) (old new : Device) → IsReachable m
         → StateRelation uses m old
         → Steps old new → EndsHalt uses port old → EndsHalt uses port new }
@@ -141,7 +141,7 @@ pub fn law_faults_show_before_the_end()
         → ((slot : ℕ) → uses port.0 slot ≡ Free) → (old.port port.0).sact 0 ≡ false → IsCleanToStart (old.port port.0)
         → (old.port port.0).st ≡ false → Writes (Px port Cmd) v old new → FaultLeavesIssued uses port.0 new }
     ensures used { (uses : SlotStates) (port : ℕ) (u : SlotState) (d : Device) → FaultLeavesIssued uses port d
-        → FaultLeavesIssued (put uses port 0 u) port d }
+        → FaultLeavesIssued (set_slot_state uses port 0 u) port d }
     ensures steps { (uses : SlotStates) (m : Machine) (port : ℕ) (old new : Device) → IsReachable m
         → StateRelation uses m old
         → Steps old new → FaultLeavesIssued uses port old → FaultLeavesIssued uses port new }

@@ -10,9 +10,9 @@ ghost use Rattle.block_machine.specs.Histories.{IsReachable};
 ghost use Rattle.block_machine.specs.State.{Machine};
 ghost use Rattle.refinement.specs.Relation.{StateRelation};
 ghost use Rattle.refinement.specs.Slots.{SlotStates};
-ghost use Rattle.refinement.specs.Recovering.{WorksPlainly};
-ghost use Rattle.refinement.specs.Logged.{LogIsEnded};
-ghost use Rattle.refinement.specs.Recovered.{FaultIsSeen, RecoveredWitness};
+ghost use Rattle.refinement.specs.HaltRecovery.{WorksPlainly};
+ghost use Rattle.refinement.specs.LogWitness.{LogIsEnded};
+ghost use Rattle.refinement.specs.RecoveryWitness.{FaultIsSeen, RecoveredWitness};
 ghost use Rattle.refinement.specs.TwoReads.{two_issued};
 
 use super::prerequisites::law_prerequisites;

@@ -6,7 +6,7 @@ use Rattle.std.proofs.lemmas.Bool.{and_from, and_parts, cases_eq}
 use Rattle.std.proofs.lemmas.List.{take_more, take_all}
 use Rattle.std.proofs.lemmas.List.Folds.{list_any-append}
 use Rattle.ata_types.specs.declared.Port.{Port}
-use Rattle.request_queue.specs.Entries.{BookEntry, IsAnyOverdue, older_entry}
+use Rattle.request_queue.specs.BookEntries.{BookEntry, IsAnyOverdue, aged_entry}
 use Rattle.request_queue.specs.declared.PendingRequest.{PendingRequest}
 use Rattle.block_machine.specs.declared.due.Unanswered.{Unanswered}
 use Rattle.request_queue.proofs.Changing.{ChangedSoFar, all_are_changed, older_spares}
@@ -17,10 +17,10 @@ abbrev pub is_old : PendingRequest → Bool
 is_old r = r.issued && nat_le 3 r.age
 
 -- one that waits doesn't get older
-pub waits_on : (ports : Port → Bool) (r : PendingRequest) → r.issued ≡ false → older_entry ports r ≡ r
+pub waits_on : (ports : Port → Bool) (r : PendingRequest) → r.issued ≡ false → aged_entry ports r ≡ r
 waits_on ports r waits = ap (λ (b : Bool). cond (b && ports r.port) (record r { age = min (suc r.age) 3 }) r) waits
 
-pub not_old : (ports : Port → Bool) (r : PendingRequest) → r.issued ≡ false → is_old (older_entry ports r) ≡ false
+pub not_old : (ports : Port → Bool) (r : PendingRequest) → r.issued ≡ false → is_old (aged_entry ports r) ≡ false
 not_old ports r waits = ap is_old (waits_on ports r waits) ∙ ap (λ (b : Bool). b && nat_le 3 r.age) waits
 
 -- and is passed over
@@ -68,32 +68,32 @@ tells es = (
 -- ---- at a place of the loop
 
 module _ (ports : Port → Bool) (old now : List BookEntry) (place : ℕ) (noted : Bool) (small : place < length old)
-    (so_far : ChangedSoFar (older_entry ports) old now place) (is : noted ≡ list_any (λ e. is_old (older_entry ports e.entry)) (take place old)) where
+    (so_far : ChangedSoFar (aged_entry ports) old now place) (is : noted ≡ list_any (λ e. is_old (aged_entry ports e.entry)) (take place old)) where
   abbrev q : BookEntry → Bool
-  q e = is_old (older_entry ports e.entry)
+  q e = is_old (aged_entry ports e.entry)
 
   -- one that is noted as what it is
   noted_more : (d : BookEntry) (b : Bool) → b ≡ q (get_or old place d) → (noted || b) ≡ list_any q (take (place + 1) old)
   noted_more d b its = ap (λ (x : Bool). x || b) is ∙ (ap (λ (x : Bool). list_any q (take place old) || x) its ∙ sym (one_noted q old place d small))
 
   -- one that is issued
-  pub issued_more : (d : BookEntry) (r x : PendingRequest) → (get_or old place d).entry ≡ r → r.issued ≡ true → x ≡ older_entry ports r → (noted || nat_le 3 x.age) ≡ list_any q (take (place + 1) old)
+  pub issued_more : (d : BookEntry) (r x : PendingRequest) → (get_or old place d).entry ≡ r → r.issued ≡ true → x ≡ aged_entry ports r → (noted || nat_le 3 x.age) ≡ list_any q (take (place + 1) old)
   issued_more d r x its issued grown =
       let still : x.issued ≡ true = ap (λ (y : PendingRequest). y.issued) grown ∙ (ap (λ (u : Unanswered). u.issued) (older_spares ports r).asked ∙ issued) in
-      noted_more d (nat_le 3 x.age) (ap (λ (b : Bool). b && nat_le 3 x.age) (sym still) ∙ ap is_old (grown ∙ ap (older_entry ports) (sym its)))
+      noted_more d (nat_le 3 x.age) (ap (λ (b : Bool). b && nat_le 3 x.age) (sym still) ∙ ap is_old (grown ∙ ap (aged_entry ports) (sym its)))
 
   -- one that waits
   pub waiting_more : (d : BookEntry) → (get_or old place d).entry.issued ≡ false
-      → ((d : BookEntry) → (get_or old place d).entry.issued ≡ false) → ChangedSoFar (older_entry ports) old now (place + 1) × (noted ≡ list_any q (take (place + 1) old))
+      → ((d : BookEntry) → (get_or old place d).entry.issued ≡ false) → ChangedSoFar (aged_entry ports) old now (place + 1) × (noted ≡ list_any q (take (place + 1) old))
   waiting_more d waits all = (
-    none_changed (older_entry ports) old now place so_far (λ x. waits_on ports (get_or old place x).entry (all x)),
+    none_changed (aged_entry ports) old now place so_far (λ x. waits_on ports (get_or old place x).entry (all x)),
     sym (or_none noted) ∙ noted_more d false (sym (not_old ports (get_or old place d).entry waits)),
   )
 
 -- ---- and at its end
 
-pub all_aged : (ports : Port → Bool) (old now : List BookEntry) (place : ℕ) (noted : Bool) → length old ≤ place → ChangedSoFar (older_entry ports) old now place
-    → noted ≡ list_any (λ e. is_old (older_entry ports e.entry)) (take place old) → IsTrue noted ↔ IsAnyOverdue now
+pub all_aged : (ports : Port → Bool) (old now : List BookEntry) (place : ℕ) (noted : Bool) → length old ≤ place → ChangedSoFar (aged_entry ports) old now place
+    → noted ≡ list_any (λ e. is_old (aged_entry ports e.entry)) (take place old) → IsTrue noted ↔ IsAnyOverdue now
 all_aged ports old now place noted all so_far is =
-    let same = is ∙ (all_noted (older_entry ports) old place all ∙ ap (list_any (λ (e : BookEntry). is_old e.entry)) (sym (all_are_changed (older_entry ports) old now place all so_far))) in
+    let same = is ∙ (all_noted (aged_entry ports) old place all ∙ ap (list_any (λ (e : BookEntry). is_old e.entry)) (sym (all_are_changed (aged_entry ports) old now place all so_far))) in
     subst (λ (b : Bool). IsTrue b ↔ IsAnyOverdue now) (sym same) (tells now)

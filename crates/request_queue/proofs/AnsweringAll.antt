@@ -9,8 +9,8 @@ use Rattle.ata_types.specs.declared.request.Frame.{Frame}
 use Rattle.ata_types.specs.declared.request.Outcome.{Outcome}
 use Rattle.ata_types.specs.declared.request.Reply.{Reply}
 use Rattle.ata_types.specs.declared.request.RequestId.{RequestId}
-use Rattle.dma_frames.specs.Table.{LendsOnly, Table, lent_to}
-use Rattle.request_queue.specs.Entries.{GivesBack, BookEntry, IsAccepted, IsEarlier, BookIsInOrder, HasItsFrames, has_id, without_entry}
+use Rattle.dma_frames.specs.FrameTables.{LendsOnly, FrameOwnership, lent_to}
+use Rattle.request_queue.specs.BookEntries.{GivesBack, BookEntry, IsAccepted, IsEarlier, BookIsInOrder, HasItsFrames, has_id, without_entry}
 use Rattle.request_queue.specs.Dispositions.{CompletesAllWith, KeepsOrEndsLoan, BookAndLoans, AreResolved, keeps_loan, reply_to}
 use Rattle.request_queue.specs.declared.PendingRequest.{PendingRequest}
 use Rattle.request_queue.specs.declared.disposition.Disposition.TheVariants.{Complete}
@@ -105,11 +105,11 @@ module _ (o : Outcome) (back : (e : PendingRequest) → keeps_loan o e ≡ false
   -- ---- that it may come
 
   -- these frames lent to none
-  abbrev give : List Frame → Table → Table
+  abbrev give : List Frame → FrameOwnership → FrameOwnership
   give [] t = t
   give (f ∷ fs) t = give fs (record t { lent = set t.lent f.0 None })
 
-  given_one : (t : Table) (f : Frame) → lent_to (record t { lent = set t.lent f.0 None }) f ≡ None
+  given_one : (t : FrameOwnership) (f : Frame) → lent_to (record t { lent = set t.lent f.0 None }) f ≡ None
   given_one t f = slice_none t.lent f.0
     where
       slice_none : (lent : List (Option RequestId)) (i : ℕ) → get_or (set lent i None) i None ≡ None
@@ -117,10 +117,10 @@ module _ (o : Outcome) (back : (e : PendingRequest) → keeps_loan o e ≡ false
       slice_none (x ∷ lent) zero = refl
       slice_none (x ∷ lent) (suc i) = slice_none lent i
 
-  given_other : (t : Table) (f g : Frame) → g.0 ≢ f.0 → lent_to (record t { lent = set t.lent f.0 None }) g ≡ lent_to t g
+  given_other : (t : FrameOwnership) (f g : Frame) → g.0 ≢ f.0 → lent_to (record t { lent = set t.lent f.0 None }) g ≡ lent_to t g
   given_other t f g other = get_or-set_other t.lent f.0 g.0 None None other
 
-  stays_given : (fs : List Frame) (t : Table) (g : Frame) → lent_to t g ≡ None → lent_to (give fs t) g ≡ None
+  stays_given : (fs : List Frame) (t : FrameOwnership) (g : Frame) → lent_to t g ≡ None → lent_to (give fs t) g ≡ None
   stays_given [] t g none = none
   stays_given (f ∷ fs) t g none =
       stays_given fs (record t { lent = set t.lent f.0 None }) g
@@ -129,22 +129,22 @@ module _ (o : Outcome) (back : (e : PendingRequest) → keeps_loan o e ≡ false
       (λ (other : g.0 ≢ f.0). given_other t f g other ∙ none)
       (cases_eq g.0 f.0))
 
-  all_given : (fs : List Frame) (t : Table) → All (λ (f : Frame). lent_to (give fs t) f ≡ None) fs
+  all_given : (fs : List Frame) (t : FrameOwnership) → All (λ (f : Frame). lent_to (give fs t) f ≡ None) fs
   all_given [] t = All-nil (λ (f : Frame). lent_to t f ≡ None)
   all_given (f ∷ fs) t = All-cons (λ (g : Frame). lent_to (give (f ∷ fs) t) g ≡ None) f fs (stays_given fs (record t { lent = set t.lent f.0 None }) f (given_one t f)) (all_given fs (record t { lent = set t.lent f.0 None }))
 
-  others_left : (fs : List Frame) (t : Table) (g : Frame) → (Contains fs g → ⊥) → lent_to (give fs t) g ≡ lent_to t g
+  others_left : (fs : List Frame) (t : FrameOwnership) (g : Frame) → (Contains fs g → ⊥) → lent_to (give fs t) g ≡ lent_to t g
   others_left [] t g apart = refl
   others_left (f ∷ fs) t g apart =
       others_left fs (record t { lent = set t.lent f.0 None }) g (λ there. apart (contains_there f fs g there))
       ∙ given_other t f g (λ same. apart (contains_here f fs g (ap (λ (n : ℕ). record { 0 = n }) same)))
 
-  owners_left : (fs : List Frame) (t : Table) → (give fs t).owners ≡ t.owners
+  owners_left : (fs : List Frame) (t : FrameOwnership) → (give fs t).owners ≡ t.owners
   owners_left [] t = refl
   owners_left (f ∷ fs) t = owners_left fs (record t { lent = set t.lent f.0 None })
 
-  gives : (fs : List Frame) (t : Table) → LendsOnly t (give fs t) fs None
-  gives fs t = record { owners = owners_left fs t; these = all_given fs t; others = others_left fs t }
+  gives : (fs : List Frame) (t : FrameOwnership) → LendsOnly t (give fs t) fs None
+  gives fs t = record { owners_are_kept = owners_left fs t; these_are_lent = all_given fs t; others_are_kept = others_left fs t }
 
   may_come : (es : List BookEntry) (old : BookAndLoans) → (new : BookAndLoans) × AreResolved (λ e. Complete o) es (replies_to es) old new
   may_come [] old = (old, (refl, refl))
@@ -179,13 +179,13 @@ have_it f (x ∷ es) = ⊎_elim
     (have_it f es))
     (has_it f x.frames)
 
-same_given : (old one other : Table) (es : List BookEntry) → GivesBack old one es → GivesBack old other es → LendsOnly one other [] None
+same_given : (old one other : FrameOwnership) (es : List BookEntry) → GivesBack old one es → GivesBack old other es → LendsOnly one other [] None
 same_given old one other es a b = record {
-  owners = b.owners ∙ sym a.owners;
-  these = All-nil (λ (f : Frame). lent_to other f ≡ None);
-  others = λ f _. ⊎_elim
-      (λ (r : (e : BookEntry) × Contains es e × Contains e.frames f). b.none r.0 f r.1 r.2 ∙ sym (a.none r.0 f r.1 r.2))
-      (λ (apart : (e : BookEntry) → Contains es e → Contains e.frames f → ⊥). b.others f apart ∙ sym (a.others f apart))
+  owners_are_kept = b.owners_are_kept ∙ sym a.owners_are_kept;
+  these_are_lent = All-nil (λ (f : Frame). lent_to other f ≡ None);
+  others_are_kept = λ f _. ⊎_elim
+      (λ (r : (e : BookEntry) × Contains es e × Contains e.frames f). b.their_frames_are_free r.0 f r.1 r.2 ∙ sym (a.their_frames_are_free r.0 f r.1 r.2))
+      (λ (apart : (e : BookEntry) → Contains es e → Contains e.frames f → ⊥). b.other_loans_are_kept f apart ∙ sym (a.other_loans_are_kept f apart))
       (have_it f es);
 }
 
@@ -196,15 +196,15 @@ module _ (passes : PendingRequest → Bool) (o : Outcome) (back : (e : PendingRe
   es = filter (λ (e : BookEntry). passes e.entry) old.book
 
   ordered : AllPairs IsEarlier es
-  ordered = AllPairs-filter IsEarlier (λ (e : BookEntry). passes e.entry) old.book order.ordered
+  ordered = AllPairs-filter IsEarlier (λ (e : BookEntry). passes e.entry) old.book order.ids_rise
 
   stand : All (HasItsFrames old.table) es
-  stand = All-filter (λ (e : BookEntry). passes e.entry) (HasItsFrames old.table) old.book (λ i d small. (accepted i d small).lent)
+  stand = All-filter (λ (e : BookEntry). passes e.entry) (HasItsFrames old.table) old.book (λ i d small. (accepted i d small).frames_are_lent)
 
   pub at_once : (replies : List Reply) (new : BookAndLoans) → AreResolved (λ e. Complete o) es replies old new → CompletesAllWith passes o replies old new
   at_once replies new meets =
       let m = all_met o back es replies old new ordered stand meets in
-      record { told = m.told; left = m.left ∙ left_over passes old.book order.ordered; given = m.given; kept = m.kept }
+      record { replies_are = m.told; others_are_left = m.left ∙ left_over passes old.book order.ids_rise; loans_are_given_back = m.given; kept_is_same = m.kept }
 
   pub one_by_one : (replies : List Reply) (new : BookAndLoans) → CompletesAllWith passes o replies old new
       → (now : BookAndLoans) × AreResolved (λ e. Complete o) es replies old now × (now.book ≡ new.book) × (now.kept ≡ new.kept) × LendsOnly now.table new.table [] None
@@ -212,8 +212,8 @@ module _ (passes : PendingRequest → Bool) (o : Outcome) (back : (e : PendingRe
       let r = may_come o back es old in
       let m = at_once (replies_to o back es) r.0 r.1 in (
         r.0,
-        subst (λ (list : List Reply). AreResolved (λ e. Complete o) es list old r.0) (sym answers.told) r.1,
-        m.left ∙ sym answers.left,
-        m.kept ∙ sym answers.kept,
-        same_given old.table r.0.table new.table es m.given answers.given,
+        subst (λ (list : List Reply). AreResolved (λ e. Complete o) es list old r.0) (sym answers.replies_are) r.1,
+        m.others_are_left ∙ sym answers.others_are_left,
+        m.kept_is_same ∙ sym answers.kept_is_same,
+        same_given old.table r.0.table new.table es m.loans_are_given_back answers.loans_are_given_back,
       )

@@ -12,8 +12,8 @@ use Rattle.ata_types.specs.declared.Port.{Port}
 use Rattle.ata_types.specs.declared.request.ClientId.{ClientId}
 use Rattle.ata_types.specs.declared.request.RequestId.{RequestId}
 use Rattle.block_machine.specs.declared.due.Unanswered.{Unanswered}
-use Rattle.block_machine.specs.Due as machine
-use Rattle.request_queue.specs.Entries.{BookEntry, asks, asks_of, has_id, update_if_id, without_entry, issue, requeued_entry, older_entry, marked_under, entry_count_of_client, IsEarlier, BookIsInOrder, HasFewIssues, IsNewlyAccepted}
+use Rattle.block_machine.specs.DueRequests as machine
+use Rattle.request_queue.specs.BookEntries.{BookEntry, as_unanswered, unanswered_of, has_id, update_if_id, without_entry, issued_entry, requeued_entry, aged_entry, marked_under, entry_count_of_client, IsEarlier, BookIsInOrder, HasFewIssues, IsNewlyAccepted}
 use Rattle.request_queue.specs.declared.PendingRequest.{PendingRequest}
 use Rattle.request_queue.proofs.Members.{count_cons, count_append, count_map, contains_here, contains_there, contains_cases}
 use Rattle.block_machine.specs.Rules.{is_same_grant_name}
@@ -129,25 +129,25 @@ pub record Leaves (e x : BookEntry) : Type 0 where
 
 pub changed_in_order : (es : List BookEntry) (g : BookEntry → BookEntry) → ((e : BookEntry) → Contains es e → Leaves e (g e)) → BookIsInOrder es → BookIsInOrder (map g es)
 changed_in_order es g leaves s = record {
-  ordered = λ i j d lt below.
+  ids_rise = λ i j d lt below.
       let inside : j < length es = short j below in
-      let a = s.ordered i j d lt inside in
+      let a = s.ids_rise i j d lt inside in
       let x = at_place i d (omega (arith, lt, inside)) in
       let y = at_place j d inside in
       let p = ap (λ (z : BookEntry). z.entry.id.0) x.1 in
       let q = ap (λ (z : BookEntry). z.entry.id.0) y.1 in
       omega (arith, a, p, q, x.0.id, y.0.id);
-  clients = λ i d below.
+  clients_are_valid = λ i d below.
       let x = at_place i d (short i below) in
-      let c = s.clients i d (short i below) in
+      let c = s.clients_are_valid i d (short i below) in
       let p = ap (λ (z : BookEntry). z.entry.client.0) x.1 in
       (omega (arith, c.0, p, x.0.client), omega (arith, c.1, p, x.0.client));
-  few = λ client.
-      let f = s.few client in
+  clients_have_few = λ client.
+      let f = s.clients_have_few client in
       let same : entry_count_of_client (map g es) client ≡ entry_count_of_client es client =
       count_map (λ (e : BookEntry). e.entry.client.0 == client) (λ (e : BookEntry). e.entry.client.0 == client) g es (λ y h. ap (λ (n : ℕ). n == client) (leaves y h).client) in
       omega (arith, f, same);
-  issues = λ i d below.
+  issues_are_few = λ i d below.
       let x = at_place i d (short i below) in
       subst (λ (z : BookEntry). HasFewIssues z.entry) (sym x.1) x.0.issues;
 }
@@ -167,15 +167,15 @@ one_in_order es id f ids clients bears s = changed_in_order es (update_if_id id 
     go e h true named = subst (λ (x : BookEntry). Leaves e x) (sym (cond-true (has_id id e) (record e { entry = f e.entry }) e named))
         (record { id = ids e.entry; client = clients e.entry; issues = bears e h (eqb-true e.entry.id.0 id.0 named) })
     go e h false named = subst (λ (x : BookEntry). Leaves e x) (sym (cond-false (has_id id e) (record e { entry = f e.entry }) e named))
-        (record { id = refl; client = refl; issues = All-contains (λ (x : BookEntry). HasFewIssues x.entry) es e s.issues h })
+        (record { id = refl; client = refl; issues = All-contains (λ (x : BookEntry). HasFewIssues x.entry) es e s.issues_are_few h })
 
-pub issued_in_order : (es : List BookEntry) (id : RequestId) (e : BookEntry) → BookIsInOrder es → Contains es e → e.entry.id ≡ id → e.entry.issued ≡ false → BookIsInOrder (map (update_if_id id issue) es)
-issued_in_order es id e s here named waits = one_in_order es id issue (λ r. refl) (λ r. refl) bears s
+pub issued_in_order : (es : List BookEntry) (id : RequestId) (e : BookEntry) → BookIsInOrder es → Contains es e → e.entry.id ≡ id → e.entry.issued ≡ false → BookIsInOrder (map (update_if_id id issued_entry) es)
+issued_in_order es id e s here named waits = one_in_order es id issued_entry (λ r. refl) (λ r. refl) bears s
   where
-    bears : (x : BookEntry) → Contains es x → x.entry.id.0 ≡ id.0 → HasFewIssues (issue x.entry)
+    bears : (x : BookEntry) → Contains es x → x.entry.id.0 ≡ id.0 → HasFewIssues (issued_entry x.entry)
     bears x h same =
-        let is : x ≡ e = one_by_id es x e s.ordered h here (same ∙ sym (ap (λ (i : RequestId). i.0) named)) in
-        let left = (All-contains (λ (y : BookEntry). HasFewIssues y.entry) es e s.issues here).1 waits in
+        let is : x ≡ e = one_by_id es x e s.ids_rise h here (same ∙ sym (ap (λ (i : RequestId). i.0) named)) in
+        let left = (All-contains (λ (y : BookEntry). HasFewIssues y.entry) es e s.issues_are_few here).1 waits in
         let n = ap (λ (y : BookEntry). y.entry.issues) is in
         (omega (arith, left, n), λ no. absurd (false≢true (sym no)))
 
@@ -184,17 +184,17 @@ waiting_in_order es id e s here named few = one_in_order es id requeued_entry (�
   where
     bears : (x : BookEntry) → Contains es x → x.entry.id.0 ≡ id.0 → HasFewIssues (requeued_entry x.entry)
     bears x h same =
-        let is : x ≡ e = one_by_id es x e s.ordered h here (same ∙ sym (ap (λ (i : RequestId). i.0) named)) in
+        let is : x ≡ e = one_by_id es x e s.ids_rise h here (same ∙ sym (ap (λ (i : RequestId). i.0) named)) in
         let n = ap (λ (y : BookEntry). y.entry.issues) is in
         (omega (arith, few, n), λ no. omega (arith, few, n))
 
 pub longer_in_order : (es : List BookEntry) (e : BookEntry) → BookIsInOrder es → All (λ x. x.entry.id.0 < e.entry.id.0) es → IsNewlyAccepted e.entry → 1 ≤ e.entry.client.0 → e.entry.client.0 ≤ 8
     → entry_count_of_client es e.entry.client.0 < 16 → BookIsInOrder (es ++ e ∷ [])
 longer_in_order es e s newest fresh low high has_room = record {
-  ordered = all_pairs_push IsEarlier es e s.ordered newest;
-  clients = All-push (λ (x : BookEntry). (1 ≤ x.entry.client.0) × (x.entry.client.0 ≤ 8)) es e s.clients (low, high);
-  few = λ client. few client (cases_eq e.entry.client.0 client);
-  issues = All-push (λ (x : BookEntry). HasFewIssues x.entry) es e s.issues (let n = fresh.1 in (omega (arith, n), λ no. omega (arith, n)));
+  ids_rise = all_pairs_push IsEarlier es e s.ids_rise newest;
+  clients_are_valid = All-push (λ (x : BookEntry). (1 ≤ x.entry.client.0) × (x.entry.client.0 ≤ 8)) es e s.clients_are_valid (low, high);
+  clients_have_few = λ client. few client (cases_eq e.entry.client.0 client);
+  issues_are_few = All-push (λ (x : BookEntry). HasFewIssues x.entry) es e s.issues_are_few (let n = fresh.1 in (omega (arith, n), λ no. omega (arith, n)));
 }
   where
     counted : (client : ℕ) → entry_count_of_client (es ++ e ∷ []) client ≡ entry_count_of_client es client + cond {A = ℕ} (e.entry.client.0 == client) 1 0
@@ -215,7 +215,7 @@ longer_in_order es e s newest fresh low high has_room = record {
         omega (arith, counted client, small (e.entry.client.0 == client), here)
     few client (inr other) =
         let none : ◌≡◌ {A = ℕ} (cond (e.entry.client.0 == client) 1 0) 0 = cond-false (e.entry.client.0 == client) 1 0 (ne_eqb e.entry.client.0 client other) in
-        omega (arith, counted client, none, s.few client)
+        omega (arith, counted client, none, s.clients_have_few client)
 
 -- ---- and as each is changed
 
@@ -230,11 +230,11 @@ either_way P false x y p q = q
 
 -- what a change of all leaves of an entry
 pub record Spares (r x : PendingRequest) : Type 0 where
-  pub asked : asks x ≡ asks r
+  pub asked : as_unanswered x ≡ as_unanswered r
   pub client : x.client ≡ r.client
   pub issues : x.issues ≡ r.issues
 
-pub older_spares : (ports : Port → Bool) (r : PendingRequest) → Spares r (older_entry ports r)
+pub older_spares : (ports : Port → Bool) (r : PendingRequest) → Spares r (aged_entry ports r)
 older_spares ports r = either_way (Spares r) (r.issued && ports r.port) (record r { age = min (suc r.age) 3 }) r
     (record { asked = refl; client = refl; issues = refl }) (record { asked = refl; client = refl; issues = refl })
 
@@ -248,18 +248,18 @@ all_in_order f spares es s = changed_in_order es (λ (e : BookEntry). record e {
     leaves : (e : BookEntry) → Contains es e → Leaves e (record e { entry = f e.entry })
     leaves e h =
         let k = spares e.entry in
-        let left : HasFewIssues e.entry = All-contains (λ (x : BookEntry). HasFewIssues x.entry) es e s.issues h in
+        let left : HasFewIssues e.entry = All-contains (λ (x : BookEntry). HasFewIssues x.entry) es e s.issues_are_few h in
         record {
           id = ap (λ (u : Unanswered). u.id.0) k.asked;
           client = ap (λ (c : ClientId). c.0) k.client;
           issues = subst (λ (n : ℕ). (n ≤ 4) × ((f e.entry).issued ≡ false → n < 4)) (sym k.issues) (left.0, λ waits. left.1 (sym (ap (λ (u : Unanswered). u.issued) k.asked) ∙ waits));
         }
 
-pub all_asked : (f : PendingRequest → PendingRequest) → ((r : PendingRequest) → Spares r (f r)) → (es : List BookEntry) → asks_of (all_changed f es) ≡ asks_of es
+pub all_asked : (f : PendingRequest → PendingRequest) → ((r : PendingRequest) → Spares r (f r)) → (es : List BookEntry) → unanswered_of (all_changed f es) ≡ unanswered_of es
 all_asked f spares [] = refl
 all_asked f spares (e ∷ es) =
-    ap (λ (u : Unanswered). u ∷ asks_of (all_changed f es)) (spares e.entry).asked
-    ∙ ap (λ (us : List Unanswered). asks e.entry ∷ us) (all_asked f spares es)
+    ap (λ (u : Unanswered). u ∷ unanswered_of (all_changed f es)) (spares e.entry).asked
+    ∙ ap (λ (us : List Unanswered). as_unanswered e.entry ∷ us) (all_asked f spares es)
 
 -- those before a place are changed, and the others are as they were
 pub record ChangedSoFar (f : PendingRequest → PendingRequest) (old now : List BookEntry) (place : ℕ) : Type 0 where
@@ -328,25 +328,25 @@ fewer_counted id p (x ∷ xs) = go (not (has_id id x)) (fewer_counted id p xs)
 
 pub fewer_in_order : (id : RequestId) (es : List BookEntry) → BookIsInOrder es → BookIsInOrder (without_entry id es)
 fewer_in_order id es s = record {
-  ordered = AllPairs-filter IsEarlier (λ e. not (has_id id e)) es s.ordered;
-  clients = All-filter (λ e. not (has_id id e)) (λ (x : BookEntry). (1 ≤ x.entry.client.0) × (x.entry.client.0 ≤ 8)) es s.clients;
-  few = λ client. let a = fewer_counted id (λ (x : BookEntry). x.entry.client.0 == client) es in let b = s.few client in omega (arith, a, b);
-  issues = All-filter (λ e. not (has_id id e)) (λ (x : BookEntry). HasFewIssues x.entry) es s.issues;
+  ids_rise = AllPairs-filter IsEarlier (λ e. not (has_id id e)) es s.ids_rise;
+  clients_are_valid = All-filter (λ e. not (has_id id e)) (λ (x : BookEntry). (1 ≤ x.entry.client.0) × (x.entry.client.0 ≤ 8)) es s.clients_are_valid;
+  clients_have_few = λ client. let a = fewer_counted id (λ (x : BookEntry). x.entry.client.0 == client) es in let b = s.clients_have_few client in omega (arith, a, b);
+  issues_are_few = All-filter (λ e. not (has_id id e)) (λ (x : BookEntry). HasFewIssues x.entry) es s.issues_are_few;
 }
 
 -- ---- the walk is given a book in order
 
-pub asks_in_order : (es : List BookEntry) → AllPairs IsEarlier es → machine.IsInOrder (asks_of es)
+pub asks_in_order : (es : List BookEntry) → AllPairs IsEarlier es → machine.IsInOrder (unanswered_of es)
 asks_in_order es ordered i j d lt below =
-    let long = length-map es (λ (e : BookEntry). asks e.entry) in
+    let long = length-map es (λ (e : BookEntry). as_unanswered e.entry) in
     let inside : j < length es = omega (arith, below, long) in
     step es i j d lt inside (ordered i j)
   where
     step : (es : List BookEntry) (i j : ℕ) (d : Unanswered) → i < j → j < length es → ((e : BookEntry) → i < j → j < length es → (get_or es i e).entry.id.0 < (get_or es j e).entry.id.0)
-        → (get_or (asks_of es) i d).id.0 < (get_or (asks_of es) j d).id.0
+        → (get_or (unanswered_of es) i d).id.0 < (get_or (unanswered_of es) j d).id.0
     step [] i j d lt inside o = absurd (omega (arith, inside))
     step (x ∷ xs) i j d lt inside o =
-        let a = ap (λ (u : Unanswered). u.id.0) (get_or-map (λ (e : BookEntry). asks e.entry) (x ∷ xs) i x d (omega (arith, lt, inside))) in
-        let b = ap (λ (u : Unanswered). u.id.0) (get_or-map (λ (e : BookEntry). asks e.entry) (x ∷ xs) j x d inside) in
+        let a = ap (λ (u : Unanswered). u.id.0) (get_or-map (λ (e : BookEntry). as_unanswered e.entry) (x ∷ xs) i x d (omega (arith, lt, inside))) in
+        let b = ap (λ (u : Unanswered). u.id.0) (get_or-map (λ (e : BookEntry). as_unanswered e.entry) (x ∷ xs) j x d inside) in
         let c = o x lt inside in
         omega (arith, a, b, c)

@@ -10,7 +10,7 @@ use Rattle.ata_types.specs.declared.request.RequestId.{RequestId}
 use Rattle.std.proofs.lemmas.Bool.{false≢true, cases_eq, ne_eqb}
 use Rattle.std.proofs.lemmas.List.Elements.{All-head, All-tail}
 use Rattle.request_queue.specs.ClientCounts.{AreClientCounts}
-use Rattle.request_queue.specs.Entries.{BookEntry, update_if_id, has_id, entry_count_of_client}
+use Rattle.request_queue.specs.BookEntries.{BookEntry, update_if_id, has_id, entry_count_of_client}
 use Rattle.request_queue.specs.declared.PendingRequest.{PendingRequest}
 use Rattle.request_queue.proofs.Members.{count_append, count_cons, count_map}
 
@@ -105,16 +105,16 @@ none_counted client (e ∷ es) high to =
 
 -- one beyond the last number has none
 pub beyond : (client : ℕ) (es : List BookEntry) (counts : List ℕ) → AreClientCounts es counts → length counts ≤ client → All (λ e. e.entry.client.0 ≤ 8) es → entry_count_of_client es client ≡ 0
-beyond client es counts are high to = let n = are.nine in none_counted client es (omega (arith, n, high)) to
+beyond client es counts are high to = let n = are.nine_counts in none_counted client es (omega (arith, n, high)) to
 
 -- a client's count changes alone
 set_counts : (old new : List BookEntry) (counts : List ℕ) (client count : ℕ) → AreClientCounts old counts → client < 9 → count ≡ entry_count_of_client new client
     → ((other : ℕ) → other ≢ client → entry_count_of_client new other ≡ entry_count_of_client old other) → AreClientCounts new (set counts client count)
 set_counts old new counts client count are lt its others = record {
-  nine = length-set counts client count ∙ are.nine;
-  each = λ other small. elim (cases_eq other client) [
-    | inl e ↦ let n = are.nine in ap (λ (k : ℕ). get_or (set counts client count) k 0) e ∙ (get_or-set_same counts client count 0 (omega (arith, n, lt)) ∙ (its ∙ ap (entry_count_of_client new) (sym e)))
-    | inr ne ↦ get_or-set_other counts client other count 0 ne ∙ (are.each other small ∙ sym (others other ne))
+  nine_counts = length-set counts client count ∙ are.nine_counts;
+  count_of_each = λ other small. elim (cases_eq other client) [
+    | inl e ↦ let n = are.nine_counts in ap (λ (k : ℕ). get_or (set counts client count) k 0) e ∙ (get_or-set_same counts client count 0 (omega (arith, n, lt)) ∙ (its ∙ ap (entry_count_of_client new) (sym e)))
+    | inr ne ↦ get_or-set_other counts client other count 0 ne ∙ (are.count_of_each other small ∙ sym (others other ne))
   ];
 }
 
@@ -158,8 +158,8 @@ one_uncounted es e i counts count are update_if_id lt is = set_counts es (remove
 -- a change that leaves each request's client leaves the counts
 changed_counts : (es : List BookEntry) (g : BookEntry → BookEntry) (counts : List ℕ) → ((e : BookEntry) → (g e).entry.client.0 ≡ e.entry.client.0) → AreClientCounts es counts → AreClientCounts (map g es) counts
 changed_counts es g counts same are = record {
-  nine = are.nine;
-  each = λ client lt. are.each client lt
+  nine_counts = are.nine_counts;
+  count_of_each = λ client lt. are.count_of_each client lt
       ∙ sym (count_map (λ (e : BookEntry). e.entry.client.0 == client) (λ (e : BookEntry). e.entry.client.0 == client) g es (λ y h. ap (λ (n : ℕ). n == client) (same y)));
 }
 

@@ -9,7 +9,7 @@ use Rattle.block_machine.specs.declared.due.Unanswered.{Unanswered}
 use Rattle.request_queue.specs.declared.flushes.Flush.{Flush}
 use Rattle.request_queue.specs.declared.ranges.BookRange.{BookRange}
 use Rattle.request_queue.specs.Conflicts.{AreConflictLists, ConflictLists}
-use Rattle.request_queue.specs.Entries.{BookEntry, asks, asks_of, update_if_id, issue, requeued_entry}
+use Rattle.request_queue.specs.BookEntries.{BookEntry, as_unanswered, unanswered_of, update_if_id, issued_entry, requeued_entry}
 use Rattle.request_queue.specs.Flushes.{flushes_among}
 use Rattle.request_queue.specs.Blockers.{IsBlockerOf, may_be_blocked, may_block}
 use Rattle.request_queue.specs.Sectors.{AreIndexed}
@@ -24,21 +24,21 @@ use Rattle.request_queue.proofs.Unheld.{one_found}
 pub when_lone : (book : List Unanswered) (lists : ConflictLists) → AreConflictLists book lists → lists.unlisted ≡ true
     → AreIndexed [] lists.sectors × (lists.flushes ≡ []) × (length book ≡ 1)
 when_lone book lists are is = (
-  subst (λ (b : Bool). AreIndexed (cond b [] book) lists.sectors) is are.indexed,
-  subst (λ (b : Bool). lists.flushes ≡ flushes_among (cond b [] book)) is are.listed,
-  are.alone is,
+  subst (λ (b : Bool). AreIndexed (cond b [] book) lists.sectors) is are.sectors_are_indexed,
+  subst (λ (b : Bool). lists.flushes ≡ flushes_among (cond b [] book)) is are.flushes_are_listed,
+  are.unlisted_is_alone is,
 )
 
 pub when_listed : (book : List Unanswered) (lists : ConflictLists) → AreConflictLists book lists → lists.unlisted ≡ false
     → AreIndexed book lists.sectors × (lists.flushes ≡ flushes_among book)
 when_listed book lists are is = (
-  subst (λ (b : Bool). AreIndexed (cond b [] book) lists.sectors) is are.indexed,
-  subst (λ (b : Bool). lists.flushes ≡ flushes_among (cond b [] book)) is are.listed,
+  subst (λ (b : Bool). AreIndexed (cond b [] book) lists.sectors) is are.sectors_are_indexed,
+  subst (λ (b : Bool). lists.flushes ≡ flushes_among (cond b [] book)) is are.flushes_are_listed,
 )
 
 pub all_listed : (book : List Unanswered) (sectors : List (List BookRange)) (flushes : List Flush) → AreIndexed book sectors → flushes ≡ flushes_among book
     → AreConflictLists book (record { sectors = sectors; flushes = flushes; unlisted = false })
-all_listed book sectors flushes indexed listed = record { indexed = indexed; listed = listed; alone = λ is. cc }
+all_listed book sectors flushes indexed listed = record { sectors_are_indexed = indexed; flushes_are_listed = listed; unlisted_is_alone = λ is. cc }
 
 pub flag_down : (book : List Unanswered) (sectors : List (List BookRange)) (flushes : List Flush) (unlisted : Bool) → unlisted ≡ false → AreIndexed book sectors → flushes ≡ flushes_among book
     → AreConflictLists book (record { sectors = sectors; flushes = flushes; unlisted = unlisted })
@@ -49,8 +49,8 @@ flag_down book sectors flushes unlisted is indexed listed =
 pub first_comes : (lists : ConflictLists) (r : Unanswered) → AreConflictLists [] lists
     → AreConflictLists (r ∷ []) (record { sectors = lists.sectors; flushes = lists.flushes; unlisted = true })
 first_comes lists r are =
-    let all = when_listed [] lists are (false_from_ne_true lists.unlisted (λ is. let one : ◌≡◌ {A = ℕ} 0 1 = are.alone is in omega (arith, one))) in
-    record { indexed = all.0; listed = all.1; alone = λ _. refl }
+    let all = when_listed [] lists are (false_from_ne_true lists.unlisted (λ is. let one : ◌≡◌ {A = ℕ} 0 1 = are.unlisted_is_alone is in omega (arith, one))) in
+    record { sectors_are_indexed = all.0; flushes_are_listed = all.1; unlisted_is_alone = λ _. refl }
 
 pub in_book : (book : List Unanswered) (place : ℕ) (r : Unanswered) → slice_get book place ≡ Some r → Contains book r
 in_book book place r at = (place, slice_get_within book place r at, get_or_from_slice_get book place r r at)
@@ -104,18 +104,18 @@ module _ (book later : List Unanswered) (indexed : (lists : List (List BookRange
     (listed : (flushes : List Flush) → flushes ≡ flushes_among book → flushes ≡ flushes_among later) (same : length later ≡ length book) where
   by_lone : (b : Bool) (sectors : List (List BookRange)) (flushes : List Flush) → AreConflictLists book (record { sectors = sectors; flushes = flushes; unlisted = b })
       → AreConflictLists later (record { sectors = sectors; flushes = flushes; unlisted = b })
-  by_lone true sectors flushes are = record { indexed = are.indexed; listed = are.listed; alone = λ is. same ∙ are.alone is }
-  by_lone false sectors flushes are = record { indexed = indexed sectors are.indexed; listed = listed flushes are.listed; alone = λ is. cc }
+  by_lone true sectors flushes are = record { sectors_are_indexed = are.sectors_are_indexed; flushes_are_listed = are.flushes_are_listed; unlisted_is_alone = λ is. same ∙ are.unlisted_is_alone is }
+  by_lone false sectors flushes are = record { sectors_are_indexed = indexed sectors are.sectors_are_indexed; flushes_are_listed = listed flushes are.flushes_are_listed; unlisted_is_alone = λ is. cc }
 
   pub lists_stay : (lists : ConflictLists) → AreConflictLists book lists → AreConflictLists later lists
   lists_stay lists are = by_lone lists.unlisted lists.sectors lists.flushes are
 
-as_many : (f : BookEntry → BookEntry) (es : List BookEntry) → length (asks_of (map f es)) ≡ length (asks_of es)
-as_many f es = length-map (map f es) (λ (x : BookEntry). asks x.entry) ∙ (length-map es f ∙ sym (length-map es (λ (x : BookEntry). asks x.entry)))
+as_many : (f : BookEntry → BookEntry) (es : List BookEntry) → length (unanswered_of (map f es)) ≡ length (unanswered_of es)
+as_many f es = length-map (map f es) (λ (x : BookEntry). as_unanswered x.entry) ∙ (length-map es f ∙ sym (length-map es (λ (x : BookEntry). as_unanswered x.entry)))
 
-pub issued_lists : (es : List BookEntry) (id : RequestId) (lists : ConflictLists) → AreConflictLists (asks_of es) lists → AreConflictLists (asks_of (map (update_if_id id issue) es)) lists
-issued_lists es id = lists_stay (asks_of es) (asks_of (map (update_if_id id issue) es)) (issued_indexed es id) (issued_flushes es id) (as_many (update_if_id id issue) es)
+pub issued_lists : (es : List BookEntry) (id : RequestId) (lists : ConflictLists) → AreConflictLists (unanswered_of es) lists → AreConflictLists (unanswered_of (map (update_if_id id issued_entry) es)) lists
+issued_lists es id = lists_stay (unanswered_of es) (unanswered_of (map (update_if_id id issued_entry) es)) (issued_indexed es id) (issued_flushes es id) (as_many (update_if_id id issued_entry) es)
 
-pub requeued_lists : (es : List BookEntry) (id : RequestId) (lists : ConflictLists) → AreConflictLists (asks_of es) lists
-    → AreConflictLists (asks_of (map (update_if_id id requeued_entry) es)) lists
-requeued_lists es id = lists_stay (asks_of es) (asks_of (map (update_if_id id requeued_entry) es)) (requeued_indexed es id) (requeued_flushes es id) (as_many (update_if_id id requeued_entry) es)
+pub requeued_lists : (es : List BookEntry) (id : RequestId) (lists : ConflictLists) → AreConflictLists (unanswered_of es) lists
+    → AreConflictLists (unanswered_of (map (update_if_id id requeued_entry) es)) lists
+requeued_lists es id = lists_stay (unanswered_of es) (unanswered_of (map (update_if_id id requeued_entry) es)) (requeued_indexed es id) (requeued_flushes es id) (as_many (update_if_id id requeued_entry) es)

@@ -7,8 +7,8 @@ use Rattle.std.proofs.lemmas.List.Edits.{length-insert, length-remove, get_or-in
 use Rattle.std.proofs.lemmas.List.Quantifiers.{all_pairs_remove}
 use Rattle.request_queue.specs.declared.ranges.BookRange.{BookRange}
 use Rattle.request_queue.specs.declared.ranges.IndexEntry.{IndexEntry}
-use Rattle.request_queue.specs.Items.{AreSorted, StandsBefore, IsGreatestEnd, item_end, item_first}
-use Rattle.request_queue.specs.Index.{EndFollows, IsIndex, items_of}
+use Rattle.request_queue.specs.BookRanges.{AreSorted, StandsBefore, IsGreatestEnd, item_end, item_first}
+use Rattle.request_queue.specs.RangeIndex.{EndFollows, IsIndex, items_of}
 use Rattle.request_queue.proofs.Ends.{next_end}
 use Rattle.request_queue.proofs.Sorting.{item_at, as_many, sorted_insert, itself}
 
@@ -24,10 +24,10 @@ items_set es i x greatest_end lt is =
 -- a greatest end is of the items up to it alone
 pub same_greatest : (old new : List BookRange) (k greatest_end : ℕ) → ((j : ℕ) (d : BookRange) → j ≤ k → get_or new j d ≡ get_or old j d) → IsGreatestEnd old k greatest_end → IsGreatestEnd new k greatest_end
 same_greatest old new k greatest_end same so = record {
-  covers = λ j d le. let e = ap item_end (same j d le) in let h = so.covers j d le in omega (arith, e, h);
-  at = so.at;
-  before = so.before;
-  met = λ d. ap item_end (same so.at d so.before) ∙ so.met d;
+  bounds_all_ends = λ j d le. let e = ap item_end (same j d le) in let h = so.bounds_all_ends j d le in omega (arith, e, h);
+  greatest_place = so.greatest_place;
+  place_is_in_range = so.place_is_in_range;
+  end_is_greatest = λ d. ap item_end (same so.greatest_place d so.place_is_in_range) ∙ so.end_is_greatest d;
 }
 
 items_insert : (es : List IndexEntry) (place : ℕ) (x : IndexEntry) → items_of (insert es place x) ≡ insert (items_of es) place x.item

@@ -4,43 +4,43 @@ use Rattle.std.specs.Prelude.{nat_lt}
 use Rattle.std.specs.List.{list_any}
 use Rattle.std.proofs.lemmas.Bool.{cases_eq, cases_lt, and_parts, ltb-true, false_from_ne_true}
 use Rattle.std.proofs.lemmas.List.Folds.{list_any_none}
-use Rattle.block_machine.specs.Due.{overlap}
+use Rattle.block_machine.specs.DueRequests.{are_overlapping}
 use Rattle.request_queue.specs.declared.ranges.BookRange.{BookRange}
 use Rattle.request_queue.specs.declared.ranges.IndexEntry.{IndexEntry}
-use Rattle.request_queue.specs.Index.{EndFollows, items_of}
-use Rattle.request_queue.specs.Items.{StandsBefore, IsGreatestEnd, item_end, item_first, is_earlier_conflict}
+use Rattle.request_queue.specs.RangeIndex.{EndFollows, items_of}
+use Rattle.request_queue.specs.BookRanges.{StandsBefore, IsGreatestEnd, item_end, item_first, is_earlier_conflict}
 
 -- the greatest end goes on, with the next item's
 pub end_grows : (items : List BookRange) (k greatest_end end : ℕ) → IsGreatestEnd items k greatest_end → ((d : BookRange) → item_end (get_or items (k + 1) d) ≡ end) → greatest_end < end → IsGreatestEnd items (k + 1) end
 end_grows items k greatest_end end so is less = record {
-  covers = λ j d le. elim (cases_eq j (k + 1)) [
+  bounds_all_ends = λ j d le. elim (cases_eq j (k + 1)) [
     | inl e ↦ let same = ap (λ (i : ℕ). item_end (get_or items i d)) e in let h = is d in omega (arith, same, h)
-    | inr ne ↦ let h = so.covers j d (omega arith) in omega (arith, h, less)
+    | inr ne ↦ let h = so.bounds_all_ends j d (omega arith) in omega (arith, h, less)
   ];
-  at = k + 1;
-  before = omega arith;
-  met = is;
+  greatest_place = k + 1;
+  place_is_in_range = omega arith;
+  end_is_greatest = is;
 }
 
 -- or stays as it is
 pub end_stays : (items : List BookRange) (k greatest_end end : ℕ) → IsGreatestEnd items k greatest_end → ((d : BookRange) → item_end (get_or items (k + 1) d) ≡ end) → end ≤ greatest_end → IsGreatestEnd items (k + 1) greatest_end
 end_stays items k greatest_end end so is more = record {
-  covers = λ j d le. elim (cases_eq j (k + 1)) [
+  bounds_all_ends = λ j d le. elim (cases_eq j (k + 1)) [
     | inl e ↦ let same = ap (λ (i : ℕ). item_end (get_or items i d)) e in let h = is d in omega (arith, same, h, more)
-    | inr ne ↦ so.covers j d (omega arith)
+    | inr ne ↦ so.bounds_all_ends j d (omega arith)
   ];
-  at = so.at;
-  before = let h = so.before in omega (arith, h);
-  met = so.met;
+  greatest_place = so.greatest_place;
+  place_is_in_range = let h = so.place_is_in_range in omega (arith, h);
+  end_is_greatest = so.end_is_greatest;
 }
 
 -- there is one
 one_end : (items : List BookRange) (k a b : ℕ) (d : BookRange) → IsGreatestEnd items k a → IsGreatestEnd items k b → a ≡ b
 one_end items k a b d is so =
-    let p = is.covers so.at d so.before in
-    let q = so.covers is.at d is.before in
-    let x = is.met d in
-    let y = so.met d in
+    let p = is.bounds_all_ends so.greatest_place d so.place_is_in_range in
+    let q = so.bounds_all_ends is.greatest_place d is.place_is_in_range in
+    let x = is.end_is_greatest d in
+    let y = so.end_is_greatest d in
     omega (arith, p, q, x, y)
 
 -- the next end follows wherever the same item stands behind the same end
@@ -68,8 +68,8 @@ all_follow es place d follow here (suc k) le lt = by (cases_eq place (suc k)) (�
 -- what two items that conflict have in common
 shared : (r x : BookRange) → is_earlier_conflict r x ≡ true → (item_first x < item_end r) × (item_first r < item_end x)
 shared r x is =
-    let after = and_parts (x.port.0 == r.port.0) (nat_lt x.id.0 r.id.0 && ((x.writes || r.writes) && overlap x.range r.range)) is in
-    let both = and_parts (x.writes || r.writes) (overlap x.range r.range) (and_parts (nat_lt x.id.0 r.id.0) ((x.writes || r.writes) && overlap x.range r.range) after.1).1 in
+    let after = and_parts (x.port.0 == r.port.0) (nat_lt x.id.0 r.id.0 && ((x.writes || r.writes) && are_overlapping x.range r.range)) is in
+    let both = and_parts (x.writes || r.writes) (are_overlapping x.range r.range) (and_parts (nat_lt x.id.0 r.id.0) ((x.writes || r.writes) && are_overlapping x.range r.range) after.1).1 in
     let meet = and_parts (nat_lt (item_first x) (item_end r) && nat_lt (item_first r) (item_end x)) (nat_lt 0 x.range.count && nat_lt 0 r.range.count) both.1 in
     let sides = and_parts (nat_lt (item_first x) (item_end r)) (nat_lt (item_first r) (item_end x)) meet.0 in
     (ltb-true (item_first x) (item_end r) sides.0, ltb-true (item_first r) (item_end x) sides.1)
@@ -87,7 +87,7 @@ pub none_conflicts : (r : BookRange) (items : List BookRange) (past greatest_end
     → ((k : ℕ) (d : BookRange) → past < k → k < length items → is_earlier_conflict r (get_or items k d) ≡ false) → list_any (is_earlier_conflict r) items ≡ false
 none_conflicts r items past greatest_end so early behind = list_any_none (is_earlier_conflict r) items (λ k d lt. elim (cases_lt past k) [
   | inl more ↦ behind k d more lt
-  | inr up ↦ ends_early r (get_or items k d) greatest_end (so.covers k d up) early
+  | inr up ↦ ends_early r (get_or items k d) greatest_end (so.bounds_all_ends k d up) early
 ])
 
 pub none_left : (r : BookRange) (items : List BookRange) → ((k : ℕ) (d : BookRange) → 0 ≤ k → k < length items → is_earlier_conflict r (get_or items k d) ≡ false) → list_any (is_earlier_conflict r) items ≡ false

@@ -4,7 +4,7 @@ use Rattle.std.specs.List.{AllPairs, Contains}
 use Rattle.std.proofs.lemmas.Bool.{cond-true, cond-false, both_ways, ne_eqb}
 use Rattle.std.proofs.lemmas.Option.{same_Some}
 use Rattle.ata_types.specs.declared.request.RequestId.{RequestId}
-use Rattle.request_queue.specs.Entries.{BookEntry, has_id, entry_with_id, update_if_id, without_entry, IsEarlier, IsUnanswered}
+use Rattle.request_queue.specs.BookEntries.{BookEntry, has_id, entry_with_id, update_if_id, without_entry, IsEarlier, IsUnanswered}
 use Rattle.request_queue.specs.declared.PendingRequest.{PendingRequest}
 use Rattle.request_queue.proofs.Members.{contains_none, contains_here, contains_there, contains_cases, into_map}
 use Rattle.request_queue.proofs.Changing.{rest_ordered, one_by_id, without_in}

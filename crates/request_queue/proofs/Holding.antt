@@ -10,10 +10,10 @@ use Rattle.std.proofs.lemmas.List.Elements.{Contains-append_left, Contains-appen
 use Rattle.std.proofs.lemmas.Option.{slice_get_within, slice_get-map, get_or_from_slice_get}
 use Rattle.ata_types.specs.declared.request.RequestId.{RequestId}
 use Rattle.block_machine.specs.declared.due.Unanswered.{Unanswered}
-use Rattle.block_machine.specs.Due.{IsInOrder, conflict, is_earlier_on_port, is_flush, changes_sectors, overlap}
+use Rattle.block_machine.specs.DueRequests.{IsInOrder, are_conflicting, is_earlier_on_port, is_flush, changes_sectors, are_overlapping}
 use Rattle.request_queue.specs.declared.ranges.BookRange.{BookRange}
-use Rattle.request_queue.specs.Items.{is_earlier_conflict}
-use Rattle.request_queue.specs.Entries.{BookEntry, asks, asks_of, issue, requeued_entry}
+use Rattle.request_queue.specs.BookRanges.{is_earlier_conflict}
+use Rattle.request_queue.specs.BookEntries.{BookEntry, as_unanswered, unanswered_of, issued_entry, requeued_entry}
 use Rattle.request_queue.specs.Flushes.{listed_flush, flushes_among, is_earlier_flush}
 use Rattle.request_queue.specs.declared.flushes.Flush.{Flush}
 use Rattle.request_queue.specs.Blockers.{AreBlockers, AreBlockersBut, IsBlockerOf, has_blocker, is_blocked_by, may_be_blocked, may_block}
@@ -31,19 +31,19 @@ module _ (book : List Unanswered) (lists : List (List BookRange)) (is : AreIndex
   items = get_or lists (index_of_port r.port) []
 
   sectors : AreSectorsOf (index_of_port r.port) book items
-  sectors = (is.each (index_of_port r.port) (in_four r.port)).sectors
+  sectors = (is.each_is_list_of (index_of_port r.port) (in_four r.port)).has_their_sectors
 
   no_flush_itself : is_flush r.op ≡ false
   no_flush_itself = no_flush r.op (and_parts (not r.issued) _ may).1
 
   none_found : list_any (is_earlier_conflict (item_of r)) items ≡ false → list_any (is_earlier_flush r) flushes ≡ false → has_blocker book r ≡ false
-  none_found none no_flushes = false_from_ne_true _ (λ held.
+  none_found none empty_flushes = false_from_ne_true _ (λ held.
       let o = one_found (may_block r) book (and_parts (may_be_blocked r) _ held).1 in
       let parts = and_parts (is_earlier_on_port o.0 r) _ o.2 in
       by o.0 o.1 parts.0 parts.1 (is_flush o.0.op) refl)
     where
-      by_sectors : (o : Unanswered) → is_flush o.op ≡ false → ((is_flush o.op || is_flush r.op) || ((changes_sectors o.op || changes_sectors r.op) && overlap o.range r.range)) ≡ true
-          → ((changes_sectors o.op || changes_sectors r.op) && overlap o.range r.range) ≡ true
+      by_sectors : (o : Unanswered) → is_flush o.op ≡ false → ((is_flush o.op || is_flush r.op) || ((changes_sectors o.op || changes_sectors r.op) && are_overlapping o.range r.range)) ≡ true
+          → ((changes_sectors o.op || changes_sectors r.op) && are_overlapping o.range r.range) ≡ true
       by_sectors o other meets = ⊎_elim
           (λ (flush : (is_flush o.op || is_flush r.op) ≡ true). absurd (⊎_elim
           (λ (f : is_flush o.op ≡ true). both_ways _ other f)
@@ -52,8 +52,8 @@ module _ (book : List Unanswered) (lists : List (List BookRange)) (is : AreIndex
           (λ both. both)
           (or_cases (is_flush o.op || is_flush r.op) _ meets)
 
-      by : (o : Unanswered) → Contains book o → is_earlier_on_port o r ≡ true → conflict o r ≡ true → (b : Bool) → is_flush o.op ≡ b → ⊥
-      by o there earlier meets true flush = both_ways _ no_flushes (found (is_earlier_flush r) flushes (listed_flush o)
+      by : (o : Unanswered) → Contains book o → is_earlier_on_port o r ≡ true → are_conflicting o r ≡ true → (b : Bool) → is_flush o.op ≡ b → ⊥
+      by o there earlier meets true flush = both_ways _ empty_flushes (found (is_earlier_flush r) flushes (listed_flush o)
           (subst (λ (fs : List Flush). Contains fs (listed_flush o)) (sym are_flushes) (in_flushes book o there flush)) earlier)
       by o there earlier meets false other =
           let early = and_parts (o.port.0 == r.port.0) _ earlier in
@@ -85,8 +85,8 @@ module _ (book : List Unanswered) (lists : List (List BookRange)) (is : AreIndex
   -- where the index has none, the flushes are looked at
   pub by_flushes : list_any (is_earlier_conflict (item_of r)) items ≡ false → (h : Option RequestId) → IfNone h (list_any (is_earlier_flush r) flushes ≡ false)
       → IfSome h (λ id. (f : Flush) × Contains flushes f × (f.id ≡ id) × (is_earlier_flush r f ≡ true)) → IsBlockerOf book r h
-  by_flushes none None no_flushes some = none_found none no_flushes
-  by_flushes none (Some id) no_flushes some = subst (λ (n : RequestId). IsBlockerOf book r (Some n)) some.2 (flush_holds some.0 some.1 some.3)
+  by_flushes none None empty_flushes some = none_found none empty_flushes
+  by_flushes none (Some id) empty_flushes some = subst (λ (n : RequestId). IsBlockerOf book r (Some n)) some.2 (flush_holds some.0 some.1 some.3)
 
 -- ---- kept by a change
 
@@ -128,13 +128,13 @@ module _ (book : List Unanswered) (blockers : List (Option RequestId)) (r : Unan
 
   pub accepted_holders : AreBlockers longer (blockers ++ h ∷ [])
   accepted_holders = record {
-    number = let a = length_push blockers h in let b = length_push book r in let n = are.number in omega (arith, a, b, n);
-    each = λ k d lt. let long = length_push book r in let n = are.number in elim (cases_lt k (length book)) [
+    lengths_are_same = let a = length_push blockers h in let b = length_push book r in let n = are.lengths_are_same in omega (arith, a, b, n);
+    blocker_of_each = λ k d lt. let long = length_push book r in let n = are.lengths_are_same in elim (cases_lt k (length book)) [
       | inl low ↦
           let x = get_or book k d in
           subst (λ (y : Unanswered). IsBlockerOf longer y (get_or (blockers ++ h ∷ []) k None)) (sym (get_or_append_left book (r ∷ []) d k low))
           (subst (λ (g : Option RequestId). IsBlockerOf longer x g) (sym (get_or_append_left blockers (h ∷ []) None k (omega (arith, low, n))))
-          (still x (get_or blockers k None) (let up = newest k d low in omega (arith, up)) (are.each k d low)))
+          (still x (get_or blockers k None) (let up = newest k d low in omega (arith, up)) (are.blocker_of_each k d low)))
       | inr high ↦
           subst (λ (y : Unanswered). IsBlockerOf longer y (get_or (blockers ++ h ∷ []) k None)) (sym (get_or_push book r d k (omega (arith, high, lt, long))))
           (subst (λ (g : Option RequestId). IsBlockerOf longer r g) (sym (get_or_push blockers h None k (omega (arith, high, lt, long, n)))) (still r h (omega arith) its))
@@ -155,8 +155,8 @@ module _ (book : List Unanswered) (blockers : List (Option RequestId)) (i : ℕ)
 
   pub marked_holders : IsBlockerOf marked_book marked h → AreBlockers marked_book (set blockers i h)
   marked_holders its = record {
-    number = length-set blockers i h ∙ (are.number ∙ sym (length-set book i marked));
-    each = λ k d lt. let long = length-set book i marked in let n = are.number in elim (cases_eq k i) [
+    lengths_are_same = length-set blockers i h ∙ (are.lengths_are_same ∙ sym (length-set book i marked));
+    blocker_of_each = λ k d lt. let long = length-set book i marked in let n = are.lengths_are_same in elim (cases_eq k i) [
       | inl e ↦ subst (λ (j : ℕ). IsBlockerOf marked_book (get_or marked_book j d) (get_or (set blockers i h) j None)) (sym e)
           (subst (λ (y : Unanswered). IsBlockerOf marked_book y (get_or (set blockers i h) i None)) (sym (get_or-set_same book i marked d within))
           (subst (λ (g : Option RequestId). IsBlockerOf marked_book marked g) (sym (get_or-set_same blockers i h None (let w = within in omega (arith, w, n)))) its))
@@ -164,7 +164,7 @@ module _ (book : List Unanswered) (blockers : List (Option RequestId)) (i : ℕ)
           let x = get_or book k d in
           subst (λ (y : Unanswered). IsBlockerOf marked_book y (get_or (set blockers i h) k None)) (sym (get_or-set_other book i k marked d ne))
           (subst (λ (g : Option RequestId). IsBlockerOf marked_book x g) (sym (get_or-set_other blockers i k h None ne))
-          (carried book marked_book x x (get_or blockers k None) refl (back x) (λ o there named holds. forth x o there holds) (are.each k d (omega (arith, lt, long)))))
+          (carried book marked_book x x (get_or blockers k None) refl (back x) (λ o there named holds. forth x o there holds) (are.blocker_of_each k d (omega (arith, lt, long)))))
     ];
   }
     where
@@ -216,77 +216,77 @@ module _ (book : List Unanswered) (blockers : List (Option RequestId)) (i : ℕ)
       → IsBlockerOf (remove book i) (get_or (remove book i) k d) (get_or (remove blockers i) k None)
   at_left k d lt other =
       let w = inside in
-      let n = are.number in
+      let n = are.lengths_are_same in
       let a = length-remove book i inside in
       elim (cases_lt k i) [
         | inl low ↦
             let x = get_or-remove_below book i d k low inside in
             let g = get_or-remove_below blockers i None k low (omega (arith, w, n)) in
             subst (λ (y : Unanswered). IsBlockerOf (remove book i) y (get_or (remove blockers i) k None)) (sym x)
-            (stays (get_or book k d) (get_or (remove blockers i) k None) other (subst (λ (h : Option RequestId). IsBlockerOf book (get_or book k d) h) (sym g) (are.each k d (omega (arith, lt, a)))))
+            (stays (get_or book k d) (get_or (remove blockers i) k None) other (subst (λ (h : Option RequestId). IsBlockerOf book (get_or book k d) h) (sym g) (are.blocker_of_each k d (omega (arith, lt, a)))))
         | inr high ↦
             let x = get_or-remove_above book i d k high inside in
             let g = get_or-remove_above blockers i None k high (omega (arith, w, n)) in
             subst (λ (y : Unanswered). IsBlockerOf (remove book i) y (get_or (remove blockers i) k None)) (sym x)
-            (stays (get_or book (k + 1) d) (get_or (remove blockers i) k None) other (subst (λ (h : Option RequestId). IsBlockerOf book (get_or book (k + 1) d) h) (sym g) (are.each (k + 1) d (omega (arith, lt, a)))))
+            (stays (get_or book (k + 1) d) (get_or (remove blockers i) k None) other (subst (λ (h : Option RequestId). IsBlockerOf book (get_or book (k + 1) d) h) (sym g) (are.blocker_of_each (k + 1) d (omega (arith, lt, a)))))
       ]
 
   pub removed_holders : AreBlockersBut r.id i (remove book i) (remove blockers i)
   removed_holders = record {
-    number =
+    lengths_are_same =
         let w = inside in
-        let n = are.number in
+        let n = are.lengths_are_same in
         let a = length-remove book i inside in
         let b = length-remove blockers i (omega (arith, w, n)) in
         omega (arith, a, b, n);
-    before = λ k d low lt.
+    blockers_before_place = λ k d low lt.
         let w = inside in
-        let n = are.number in
+        let n = are.lengths_are_same in
         let a = length-remove book i inside in
         let g = get_or-remove_below blockers i None k low (omega (arith, w, n)) in
         let up = ordered k i d low inside in
         let same = ap (λ (u : Unanswered). u.id.0) (get_or_from_slice_get book i r d at) in
-        at_left k d lt (ap (is_blocked_by r.id) g ∙ not_before (get_or book k d) (get_or blockers k None) (omega (arith, up, same)) (are.each k d (omega (arith, lt, a))));
-    each = at_left;
+        at_left k d lt (ap (is_blocked_by r.id) g ∙ not_before (get_or book k d) (get_or blockers k None) (omega (arith, up, same)) (are.blocker_of_each k d (omega (arith, lt, a))));
+    other_blockers = at_left;
   }
 
 -- one place further
 module _ (id : RequestId) (place : ℕ) (book : List Unanswered) (blockers : List (Option RequestId)) (are : AreBlockersBut id place book blockers) where
   pub one_kept : is_blocked_by id (get_or blockers place None) ≡ false → AreBlockersBut id (place + 1) book blockers
   one_kept other = record {
-    number = are.number;
-    before = λ k d lt short. elim (cases_eq k place) [
-      | inl e ↦ are.each k d short (ap (λ (j : ℕ). is_blocked_by id (get_or blockers j None)) e ∙ other)
-      | inr ne ↦ are.before k d (omega (arith, lt, ne)) short
+    lengths_are_same = are.lengths_are_same;
+    blockers_before_place = λ k d lt short. elim (cases_eq k place) [
+      | inl e ↦ are.other_blockers k d short (ap (λ (j : ℕ). is_blocked_by id (get_or blockers j None)) e ∙ other)
+      | inr ne ↦ are.blockers_before_place k d (omega (arith, lt, ne)) short
     ];
-    each = are.each;
+    other_blockers = are.other_blockers;
   }
 
   pub one_anew : (r : Unanswered) (h : Option RequestId) → slice_get book place ≡ Some r → IsBlockerOf book r h → AreBlockersBut id (place + 1) book (set blockers place h)
   one_anew r h at its = record {
-    number = length-set blockers place h ∙ are.number;
-    before = λ k d lt short. elim (cases_eq k place) [
+    lengths_are_same = length-set blockers place h ∙ are.lengths_are_same;
+    blockers_before_place = λ k d lt short. elim (cases_eq k place) [
       | inl e ↦ here k d e
-      | inr ne ↦ subst (λ (g : Option RequestId). IsBlockerOf book (get_or book k d) g) (sym (get_or-set_other blockers place k h None ne)) (are.before k d (omega (arith, lt, ne)) short)
+      | inr ne ↦ subst (λ (g : Option RequestId). IsBlockerOf book (get_or book k d) g) (sym (get_or-set_other blockers place k h None ne)) (are.blockers_before_place k d (omega (arith, lt, ne)) short)
     ];
-    each = λ k d short other. elim (cases_eq k place) [
+    other_blockers = λ k d short other. elim (cases_eq k place) [
       | inl e ↦ here k d e
       | inr ne ↦
           let g = get_or-set_other blockers place k h None ne in
-          subst (λ (g : Option RequestId). IsBlockerOf book (get_or book k d) g) (sym g) (are.each k d short (ap (is_blocked_by id) (sym g) ∙ other))
+          subst (λ (g : Option RequestId). IsBlockerOf book (get_or book k d) g) (sym g) (are.other_blockers k d short (ap (is_blocked_by id) (sym g) ∙ other))
     ];
   }
     where
       here : (k : ℕ) (d : Unanswered) → k ≡ place → IsBlockerOf book (get_or book k d) (get_or (set blockers place h) k None)
       here k d e =
           let w = slice_get_within book place r at in
-          let n = are.number in
+          let n = are.lengths_are_same in
           subst (λ (j : ℕ). IsBlockerOf book (get_or book j d) (get_or (set blockers place h) j None)) (sym e)
           (subst (λ (y : Unanswered). IsBlockerOf book y (get_or (set blockers place h) place None)) (sym (get_or_from_slice_get book place r d at))
           (subst (λ (g : Option RequestId). IsBlockerOf book r g) (sym (get_or-set_same blockers place h None (omega (arith, w, n)))) its))
 
   pub all_searched : length book ≤ place → AreBlockers book blockers
-  all_searched over = record { number = are.number; each = λ k d lt. are.before k d (omega (arith, lt, over)) lt }
+  all_searched over = record { lengths_are_same = are.lengths_are_same; blocker_of_each = λ k d lt. are.blockers_before_place k d (omega (arith, lt, over)) lt }
 
 -- ---- read at a place
 
@@ -304,43 +304,43 @@ module _ (book : List Unanswered) (r : Unanswered) where
 
 -- ---- of the book's own requests
 
-asks_there : (es : List BookEntry) (i : ℕ) (e : BookEntry) → slice_get es i ≡ Some e → slice_get (asks_of es) i ≡ Some (asks e.entry)
-asks_there es i e at = slice_get-map (λ (x : BookEntry). asks x.entry) es i ∙ ap (option_map (λ (x : BookEntry). asks x.entry)) at
+asks_there : (es : List BookEntry) (i : ℕ) (e : BookEntry) → slice_get es i ≡ Some e → slice_get (unanswered_of es) i ≡ Some (as_unanswered e.entry)
+asks_there es i e at = slice_get-map (λ (x : BookEntry). as_unanswered x.entry) es i ∙ ap (option_map (λ (x : BookEntry). as_unanswered x.entry)) at
 
-asks_set : (es : List BookEntry) (i : ℕ) (e : BookEntry) → asks_of (set es i e) ≡ set (asks_of es) i (asks e.entry)
-asks_set es i e = map-set (λ (x : BookEntry). asks x.entry) es i e
+asks_set : (es : List BookEntry) (i : ℕ) (e : BookEntry) → unanswered_of (set es i e) ≡ set (unanswered_of es) i (as_unanswered e.entry)
+asks_set es i e = map-set (λ (x : BookEntry). as_unanswered x.entry) es i e
 
-pub no_blockers : AreBlockers [] []
-no_blockers = record { number = refl; each = λ k d lt. absurd (omega (arith, lt)) }
+pub empty_blockers : AreBlockers [] []
+empty_blockers = record { lengths_are_same = refl; blocker_of_each = λ k d lt. absurd (omega (arith, lt)) }
 
-pub longer_holders : (es : List BookEntry) (e : BookEntry) (blockers : List (Option RequestId)) (r : Unanswered) (h : Option RequestId) → r ≡ asks e.entry → AreBlockers (asks_of es) blockers
-    → All (λ x. x.entry.id.0 < e.entry.id.0) es → IsBlockerOf (asks_of es) r h → AreBlockers (asks_of (es ++ e ∷ [])) (blockers ++ h ∷ [])
+pub longer_holders : (es : List BookEntry) (e : BookEntry) (blockers : List (Option RequestId)) (r : Unanswered) (h : Option RequestId) → r ≡ as_unanswered e.entry → AreBlockers (unanswered_of es) blockers
+    → All (λ x. x.entry.id.0 < e.entry.id.0) es → IsBlockerOf (unanswered_of es) r h → AreBlockers (unanswered_of (es ++ e ∷ [])) (blockers ++ h ∷ [])
 longer_holders es e blockers r h same are newest its =
     subst (λ (book : List Unanswered). AreBlockers book (blockers ++ h ∷ [])) (sym (asks_more es e))
-    (accepted_holders (asks_of es) blockers (asks e.entry) h are (asks_newest es e.entry.id.0 newest) (subst (λ (x : Unanswered). IsBlockerOf (asks_of es) x h) same its))
+    (accepted_holders (unanswered_of es) blockers (as_unanswered e.entry) h are (asks_newest es e.entry.id.0 newest) (subst (λ (x : Unanswered). IsBlockerOf (unanswered_of es) x h) same its))
 
-pub issued_holders : (es : List BookEntry) (blockers : List (Option RequestId)) (i : ℕ) (e : BookEntry) → AreBlockers (asks_of es) blockers → slice_get es i ≡ Some e
-    → AreBlockers (asks_of (set es i (record e { entry = issue e.entry }))) (set blockers i None)
+pub issued_holders : (es : List BookEntry) (blockers : List (Option RequestId)) (i : ℕ) (e : BookEntry) → AreBlockers (unanswered_of es) blockers → slice_get es i ≡ Some e
+    → AreBlockers (unanswered_of (set es i (record e { entry = issued_entry e.entry }))) (set blockers i None)
 issued_holders es blockers i e are at =
-    subst (λ (book : List Unanswered). AreBlockers book (set blockers i None)) (sym (asks_set es i (record e { entry = issue e.entry })))
-    (marked_holders (asks_of es) blockers i (asks e.entry) true None are (asks_there es i e at) refl)
+    subst (λ (book : List Unanswered). AreBlockers book (set blockers i None)) (sym (asks_set es i (record e { entry = issued_entry e.entry })))
+    (marked_holders (unanswered_of es) blockers i (as_unanswered e.entry) true None are (asks_there es i e at) refl)
 
-pub requeued_holders : (es : List BookEntry) (blockers : List (Option RequestId)) (i : ℕ) (e : BookEntry) (r : Unanswered) (h : Option RequestId) → AreBlockers (asks_of es) blockers → slice_get es i ≡ Some e
-    → slice_get (asks_of (set es i (record e { entry = requeued_entry e.entry }))) i ≡ Some r → IsBlockerOf (asks_of (set es i (record e { entry = requeued_entry e.entry }))) r h
-    → AreBlockers (asks_of (set es i (record e { entry = requeued_entry e.entry }))) (set blockers i h)
+pub requeued_holders : (es : List BookEntry) (blockers : List (Option RequestId)) (i : ℕ) (e : BookEntry) (r : Unanswered) (h : Option RequestId) → AreBlockers (unanswered_of es) blockers → slice_get es i ≡ Some e
+    → slice_get (unanswered_of (set es i (record e { entry = requeued_entry e.entry }))) i ≡ Some r → IsBlockerOf (unanswered_of (set es i (record e { entry = requeued_entry e.entry }))) r h
+    → AreBlockers (unanswered_of (set es i (record e { entry = requeued_entry e.entry }))) (set blockers i h)
 requeued_holders es blockers i e r h are at its is =
     let there = asks_there es i e at in
     let new = asks_set es i (record e { entry = requeued_entry e.entry }) in
-    let waiting : Unanswered = asks (requeued_entry e.entry) in
+    let waiting : Unanswered = as_unanswered (requeued_entry e.entry) in
     let same : r ≡ waiting =
-    sym (get_or_from_slice_get (set (asks_of es) i waiting) i r waiting (subst (λ (book : List Unanswered). slice_get book i ≡ Some r) new its))
-    ∙ get_or-set_same (asks_of es) i waiting waiting (slice_get_within (asks_of es) i (asks e.entry) there) in
+    sym (get_or_from_slice_get (set (unanswered_of es) i waiting) i r waiting (subst (λ (book : List Unanswered). slice_get book i ≡ Some r) new its))
+    ∙ get_or-set_same (unanswered_of es) i waiting waiting (slice_get_within (unanswered_of es) i (as_unanswered e.entry) there) in
     subst (λ (book : List Unanswered). AreBlockers book (set blockers i h)) (sym new)
-    (marked_holders (asks_of es) blockers i (asks e.entry) false h are there
-    (subst (λ (book : List Unanswered). IsBlockerOf book waiting h) new (subst (λ (x : Unanswered). IsBlockerOf (asks_of (set es i (record e { entry = requeued_entry e.entry }))) x h) same is)))
+    (marked_holders (unanswered_of es) blockers i (as_unanswered e.entry) false h are there
+    (subst (λ (book : List Unanswered). IsBlockerOf book waiting h) new (subst (λ (x : Unanswered). IsBlockerOf (unanswered_of (set es i (record e { entry = requeued_entry e.entry }))) x h) same is)))
 
-pub fewer_holders : (es : List BookEntry) (blockers : List (Option RequestId)) (i : ℕ) (e : BookEntry) (id : RequestId) → AreBlockers (asks_of es) blockers → IsInOrder (asks_of es)
-    → slice_get es i ≡ Some e → e.entry.id ≡ id → AreBlockersBut id i (remove (asks_of es) i) (remove blockers i)
+pub fewer_holders : (es : List BookEntry) (blockers : List (Option RequestId)) (i : ℕ) (e : BookEntry) (id : RequestId) → AreBlockers (unanswered_of es) blockers → IsInOrder (unanswered_of es)
+    → slice_get es i ≡ Some e → e.entry.id ≡ id → AreBlockersBut id i (remove (unanswered_of es) i) (remove blockers i)
 fewer_holders es blockers i e id are ordered at named =
-    subst (λ (n : RequestId). AreBlockersBut n i (remove (asks_of es) i) (remove blockers i)) named
-    (removed_holders (asks_of es) blockers i (asks e.entry) are ordered (asks_there es i e at))
+    subst (λ (n : RequestId). AreBlockersBut n i (remove (unanswered_of es) i) (remove blockers i)) named
+    (removed_holders (unanswered_of es) blockers i (as_unanswered e.entry) are ordered (asks_there es i e at))

@@ -9,9 +9,9 @@ use Rattle.std.proofs.lemmas.Option.{slice_get_within, get_or_from_slice_get}
 use Rattle.ata_types.specs.declared.Port.{Port}
 use Rattle.block_machine.specs.declared.due.QueueMode.{QueueMode}
 use Rattle.block_machine.specs.declared.due.Unanswered.{Unanswered}
-use Rattle.block_machine.specs.Due.{conflict, waits_for, is_unblocked, is_plain}
+use Rattle.block_machine.specs.DueRequests.{are_conflicting, waits_for, is_unblocked, is_plain}
 use Rattle.request_queue.specs.Blockers.{may_be_blocked, may_block}
-use Rattle.request_queue.specs.Walk.{TalliesIssued, IsReachedInWalk, is_issued_plain}
+use Rattle.request_queue.specs.DueWalk.{TalliesIssued, IsReachedInWalk, is_issued_plain}
 use Rattle.request_queue.specs.declared.due.Issued.{Issued}
 use Rattle.request_queue.proofs.Members.{count_cons, contains_none, contains_here, contains_there, contains_cases}
 use Rattle.request_queue.proofs.Unheld.{found, one_found, queued_is_read_or_write, same_bool}
@@ -42,10 +42,10 @@ counted_any p xs = same_bool (nat_lt 0 (count_by p xs)) (list_any p xs) (λ some
 
 module _ (mode : QueueMode) (requests : List Unanswered) (i : ℕ) (r : Unanswered) (reached : IsReachedInWalk mode requests i r) where
   its : get_or requests i r ≡ r
-  its = get_or_from_slice_get requests i r r reached.at
+  its = get_or_from_slice_get requests i r r reached.request_is_at_number
 
   within : i < length requests
-  within = slice_get_within requests i r reached.at
+  within = slice_get_within requests i r reached.request_is_at_number
 
   -- one with a lower id stands earlier
   earlier : (o : Unanswered) (there : Contains requests o) → o.id.0 < r.id.0 → there.0 < i
@@ -56,22 +56,22 @@ module _ (mode : QueueMode) (requests : List Unanswered) (i : ℕ) (r : Unanswer
         elim (cases_eq there.0 i) [
           | inl e ↦
               let same = ap (λ (n : ℕ). (get_or requests n o).id.0) e in
-              let b = ap (λ (u : Unanswered). u.id.0) (get_or_from_slice_get requests i r o reached.at) in absurd (omega (arith, same, a, b, less))
+              let b = ap (λ (u : Unanswered). u.id.0) (get_or_from_slice_get requests i r o reached.request_is_at_number) in absurd (omega (arith, same, a, b, less))
           | inr ne ↦
-              let up = reached.ordered i there.0 o (omega (arith, high, ne)) there.1 in
-              let b = ap (λ (u : Unanswered). u.id.0) (get_or_from_slice_get requests i r o reached.at) in absurd (omega (arith, up, a, b, less))
+              let up = reached.book_is_in_order i there.0 o (omega (arith, high, ne)) there.1 in
+              let b = ap (λ (u : Unanswered). u.id.0) (get_or_from_slice_get requests i r o reached.request_is_at_number) in absurd (omega (arith, up, a, b, less))
         ]
   ]
 
   of_one_port : (o : Unanswered) → Contains requests o → (o.port.0 == r.port.0) ≡ true
-  of_one_port o there = eq-eqb o.port.0 r.port.0 (ap (λ (p : Port). p.0) (subst (λ (u : Unanswered). u.port ≡ r.port) there.2 (reached.own there.0 o there.1)))
+  of_one_port o there = eq-eqb o.port.0 r.port.0 (ap (λ (p : Port). p.0) (subst (λ (u : Unanswered). u.port ≡ r.port) there.2 (reached.all_are_of_its_port there.0 o there.1)))
 
   -- a plain request waits for all that are issued, and for all before it
   plain_held : is_plain mode r.op ≡ true → list_any (waits_for mode r) requests ≡ (list_any (λ (u : Unanswered). u.issued) requests || nat_lt 0 i)
   plain_held plain = same_bool (list_any (waits_for mode r) requests) (list_any (λ (u : Unanswered). u.issued) requests || nat_lt 0 i) back ahead
     where
       way : (o : Unanswered) → waits_for mode r o ≡ ((o.port.0 == r.port.0) && (o.issued || nat_lt o.id.0 r.id.0))
-      way o = ap (λ (b : Bool). (o.port.0 == r.port.0) && b) (cond-true (is_plain mode r.op) (o.issued || nat_lt o.id.0 r.id.0) ((is_plain mode o.op && o.issued) || (nat_lt o.id.0 r.id.0 && (is_plain mode o.op || conflict o r))) plain)
+      way o = ap (λ (b : Bool). (o.port.0 == r.port.0) && b) (cond-true (is_plain mode r.op) (o.issued || nat_lt o.id.0 r.id.0) ((is_plain mode o.op && o.issued) || (nat_lt o.id.0 r.id.0 && (is_plain mode o.op || are_conflicting o r))) plain)
 
       ahead : (list_any (λ (u : Unanswered). u.issued) requests || nat_lt 0 i) ≡ true → list_any (waits_for mode r) requests ≡ true
       ahead is = ⊎_elim
@@ -81,7 +81,7 @@ module _ (mode : QueueMode) (requests : List Unanswered) (i : ℕ) (r : Unanswer
           (λ (f : nat_lt 0 i ≡ true).
           let some = ltb-true 0 i f in
           let lt = within in
-          let up = reached.ordered 0 i r some within in
+          let up = reached.book_is_in_order 0 i r some within in
           let b = ap (λ (u : Unanswered). u.id.0) its in
           let o = get_or requests 0 r in
           let there : Contains requests o = (0, omega (arith, some, lt), get_or_default requests 0 o r (omega (arith, some, lt))) in
@@ -103,16 +103,16 @@ module _ (mode : QueueMode) (requests : List Unanswered) (i : ℕ) (r : Unanswer
   queued_held : r.issued ≡ false → is_plain mode r.op ≡ false → list_any (waits_for mode r) requests ≡ list_any (is_issued_plain mode) requests
   queued_held waits queued = same_bool (list_any (waits_for mode r) requests) (list_any (is_issued_plain mode) requests) back ahead
     where
-      way : (o : Unanswered) → waits_for mode r o ≡ ((o.port.0 == r.port.0) && ((is_plain mode o.op && o.issued) || (nat_lt o.id.0 r.id.0 && (is_plain mode o.op || conflict o r))))
+      way : (o : Unanswered) → waits_for mode r o ≡ ((o.port.0 == r.port.0) && ((is_plain mode o.op && o.issued) || (nat_lt o.id.0 r.id.0 && (is_plain mode o.op || are_conflicting o r))))
       way o = ap (λ (b : Bool). (o.port.0 == r.port.0) && b)
-          (cond-false (is_plain mode r.op) (o.issued || nat_lt o.id.0 r.id.0) ((is_plain mode o.op && o.issued) || (nat_lt o.id.0 r.id.0 && (is_plain mode o.op || conflict o r))) queued)
+          (cond-false (is_plain mode r.op) (o.issued || nat_lt o.id.0 r.id.0) ((is_plain mode o.op && o.issued) || (nat_lt o.id.0 r.id.0 && (is_plain mode o.op || are_conflicting o r))) queued)
 
       ahead : list_any (is_issued_plain mode) requests ≡ true → list_any (waits_for mode r) requests ≡ true
       ahead is =
           let any = one_found (is_issued_plain mode) requests is in
           found (waits_for mode r) requests any.0 any.1 (way any.0 ∙ and_from _ _ (of_one_port any.0 any.1) (or_left (is_plain mode any.0.op && any.0.issued) _ any.2))
 
-      none_meets : (o : Unanswered) → Contains requests o → nat_lt o.id.0 r.id.0 ≡ true → is_plain mode o.op ≡ false → conflict o r ≡ true → ⊥
+      none_meets : (o : Unanswered) → Contains requests o → nat_lt o.id.0 r.id.0 ≡ true → is_plain mode o.op ≡ false → are_conflicting o r ≡ true → ⊥
       none_meets o there less alone meets = both_ways _ reached.without_blocker
           (and_from (may_be_blocked r) _ (and_from (not r.issued) _ (ap not waits) (queued_is_read_or_write mode r.op queued))
           (found (may_block r) requests o there (and_from _ _ (and_from _ _ (of_one_port o there) less) meets)))
@@ -124,13 +124,13 @@ module _ (mode : QueueMode) (requests : List Unanswered) (i : ℕ) (r : Unanswer
           let parts = and_parts (o.port.0 == r.port.0) _ (sym (way o) ∙ any.2) in
           ⊎_elim
           (λ (b : (is_plain mode o.op && o.issued) ≡ true). found (is_issued_plain mode) requests o any.1 b)
-          (λ (b : (nat_lt o.id.0 r.id.0 && (is_plain mode o.op || conflict o r)) ≡ true).
+          (λ (b : (nat_lt o.id.0 r.id.0 && (is_plain mode o.op || are_conflicting o r)) ≡ true).
           let less = and_parts (nat_lt o.id.0 r.id.0) _ b in
           let low = earlier o any.1 (ltb-true o.id.0 r.id.0 less.0) in
-          let alone : is_plain mode o.op ≡ false = ap (λ (u : Unanswered). is_plain mode u.op) (sym any.1.2) ∙ reached.queued any.1.0 o low in
+          let alone : is_plain mode o.op ≡ false = ap (λ (u : Unanswered). is_plain mode u.op) (sym any.1.2) ∙ reached.earlier_are_queued any.1.0 o low in
           absurd (⊎_elim
           (λ (p : is_plain mode o.op ≡ true). both_ways _ alone p)
-          (λ (m : conflict o r ≡ true). none_meets o any.1 less.0 alone m)
+          (λ (m : are_conflicting o r ≡ true). none_meets o any.1 less.0 alone m)
           (or_cases (is_plain mode o.op) _ less.1)))
           (or_cases (is_plain mode o.op && o.issued) _ parts.1)
 
@@ -168,6 +168,6 @@ module _ (mode : QueueMode) (requests : List Unanswered) (i : ℕ) (r : Unanswer
             zero_of : (n : ℕ) → (nat_lt 0 n ≡ true → ⊥) → n ≡ 0
             zero_of n none = elim (cases_lt 0 n) [ inl some ↦ absurd (none (lt-ltb 0 n some)) | inr low ↦ omega (arith, low) ]
 
-    pub queued_is_clear : r.issued ≡ false → is_plain mode r.op ≡ false → not issued.alone ≡ is_unblocked mode requests r
+    pub queued_is_clear : r.issued ≡ false → is_plain mode r.op ≡ false → not issued.has_plain ≡ is_unblocked mode requests r
     queued_is_clear waits queued =
         ap not (are.1 ∙ sym (queued_held waits queued)) ∙ sym (ap (λ (b : Bool). not b && not (list_any (waits_for mode r) requests)) waits)

@@ -15,10 +15,10 @@ use Rattle.ata_types.specs.declared.Port.{Port}
 use Rattle.ata_types.specs.declared.request.RequestId.{RequestId}
 use Rattle.ata_types.specs.declared.limits.TheConstants.{MOST_UNANSWERED}
 use Rattle.block_machine.specs.declared.due.Unanswered.{Unanswered}
-use Rattle.block_machine.specs.Due.{IsInOrder, is_flush}
+use Rattle.block_machine.specs.DueRequests.{IsInOrder, is_flush}
 use Rattle.request_queue.specs.declared.ranges.BookRange.{BookRange}
-use Rattle.block_machine.specs.Due.{mark_issued, mark_waiting}
-use Rattle.request_queue.specs.Entries.{BookEntry, asks, asks_of, update_if_id, issue, requeued_entry}
+use Rattle.block_machine.specs.DueRequests.{mark_issued, mark_waiting}
+use Rattle.request_queue.specs.BookEntries.{BookEntry, as_unanswered, unanswered_of, update_if_id, issued_entry, requeued_entry}
 use Rattle.request_queue.proofs.Working.{after_issue, after_requeue}
 use Rattle.request_queue.proofs.PermutedPairs.{permuted_pairs}
 use Rattle.request_queue.specs.Sectors.{AreIndexed, IsListOf, is_in_list, item_of, index_of_port}
@@ -86,8 +86,8 @@ flush_in_none list r flush = false_from_ne_true (is_in_list list r) (λ is. both
 set_indexed : (book : List Unanswered) (lists : List (List BookRange)) (i : ℕ) (items : List BookRange) → i < 4 → length lists ≡ 4 → IsListOf i book items
     → ((list : ℕ) → list < 4 → (list ≡ i → ⊥) → IsListOf list book (get_or lists list [])) → AreIndexed book (set lists i items)
 set_indexed book lists i items lt four own others = record {
-  four = length-set lists i items ∙ four;
-  each = λ list low. elim (cases_eq list i) [
+  four_lists = length-set lists i items ∙ four;
+  each_is_list_of = λ list low. elim (cases_eq list i) [
     | inl e ↦ subst (λ (n : ℕ). IsListOf n book (get_or (set lists i items) n [])) (sym e) (subst (IsListOf i book) (sym (get_or-set_same lists i items [] (omega (arith, four, lt)))) own)
     | inr not ↦ subst (IsListOf list book) (sym (get_or-set_other lists i list items [] not)) (others list low not)
   ];
@@ -98,11 +98,11 @@ set_indexed book lists i items lt four own others = record {
 module _ (list : ℕ) (book : List Unanswered) (items : List BookRange) (is : IsListOf list book items) (r : Unanswered) where
   pub other_accepted : is_in_list list r ≡ false → IsListOf list (book ++ r ∷ []) items
   other_accepted out = record {
-    sectors = λ x. (
-      λ there. let h = (is.sectors x).0 there in (h.0, Contains-append_left book (r ∷ []) h.0 h.1, h.2, h.3, h.4),
-      λ h. (is.sectors x).1 (h.0, here h.0 h.1 h.2 h.3, h.2, h.3, h.4),
+    has_their_sectors = λ x. (
+      λ there. let h = (is.has_their_sectors x).0 there in (h.0, Contains-append_left book (r ∷ []) h.0 h.1, h.2, h.3, h.4),
+      λ h. (is.has_their_sectors x).1 (h.0, here h.0 h.1 h.2 h.3, h.2, h.3, h.4),
     );
-    number = let n = is.number in let c = count_append (is_in_list list) book (r ∷ []) in let one = count_cons (is_in_list list) r [] in
+    length_is = let n = is.length_is in let c = count_append (is_in_list list) book (r ∷ []) in let one = count_cons (is_in_list list) r [] in
         let none : ◌≡◌ {A = ℕ} (cond (is_in_list list r) 1 0) 0 = cond-false (is_in_list list r) 1 0 out in omega (arith, n, c, one, none);
     distinct = is.distinct;
   }
@@ -119,7 +119,7 @@ module _ (list : ℕ) (book : List Unanswered) (items : List BookRange) (is : Is
   pub fresh_item : All (λ o. o.id.0 < r.id.0) book → All (λ x. x.id ≢ (item_of r).id) items
   fresh_item newest k d lt e =
       let x = get_or items k d in
-      let h = (is.sectors x).0 (k, lt, get_or_default items k x d lt) in
+      let h = (is.has_their_sectors x).0 (k, lt, get_or_default items k x d lt) in
       let less = subst (λ (o : Unanswered). o.id.0 < r.id.0) h.1.2 (newest h.1.0 h.0 h.1.1) in
       let same = ap (λ (i : BookRange). i.id.0) h.4 in
       let equal = ap (λ (i : RequestId). i.0) e in
@@ -128,20 +128,20 @@ module _ (list : ℕ) (book : List Unanswered) (items : List BookRange) (is : Is
   pub own_accepted : index_of_port r.port ≡ list → is_flush r.op ≡ false → All (λ o. o.id.0 < r.id.0) book → (place : ℕ) → place ≤ length items
       → IsListOf list (book ++ r ∷ []) (insert items place (item_of r))
   own_accepted update_if_id has newest place within = record {
-    sectors = λ x. (
+    has_their_sectors = λ x. (
       λ there. elim ((in_insert (λ (i : BookRange). i.id) items place (item_of r) x).0 there) [
         | inl e ↦ (r, Contains-append_right book (r ∷ []) r (contains_here r [] r refl), update_if_id, has, sym e)
-        | inr old ↦ let h = (is.sectors x).0 old in (h.0, Contains-append_left book (r ∷ []) h.0 h.1, h.2, h.3, h.4)
+        | inr old ↦ let h = (is.has_their_sectors x).0 old in (h.0, Contains-append_left book (r ∷ []) h.0 h.1, h.2, h.3, h.4)
       ],
       λ h. (in_insert (λ (i : BookRange). i.id) items place (item_of r) x).1 (elim (Contains-append_cases book (r ∷ []) h.0 h.1) [
-        | inl old ↦ inr ((is.sectors x).1 (h.0, old, h.2, h.3, h.4))
+        | inl old ↦ inr ((is.has_their_sectors x).1 (h.0, old, h.2, h.3, h.4))
         | inr new ↦ elim (contains_cases r [] h.0 new) [
           | inl e ↦ inl (sym h.4 ∙ ap item_of e)
           | inr none ↦ absurd (contains_none h.0 none)
         ]
       ]),
     );
-    number = let n = is.number in let c = count_append (is_in_list list) book (r ∷ []) in let one = count_cons (is_in_list list) r [] in
+    length_is = let n = is.length_is in let c = count_append (is_in_list list) book (r ∷ []) in let one = count_cons (is_in_list list) r [] in
         let some : ◌≡◌ {A = ℕ} (cond (is_in_list list r) 1 0) 1 = cond-true (is_in_list list r) 1 0 (in_list list r update_if_id has) in let l = length-insert items place (item_of r) within in
         omega (arith, n, c, one, some, l);
     distinct = distinct_insert (λ (i : BookRange). i.id) items place (item_of r) is.distinct (fresh_item newest);
@@ -164,27 +164,27 @@ module _ (list : ℕ) (book : List Unanswered) (items : List BookRange) (is : Is
 
   pub other_answered : is_in_list list r ≡ false → IsListOf list (remove book i) items
   other_answered out = record {
-    sectors = λ x. (
-      λ there. let h = (is.sectors x).0 there in
+    has_their_sectors = λ x. (
+      λ there. let h = (is.has_their_sectors x).0 there in
           (h.0, (left h.0).1 (h.1, λ e. both_ways _ out (ap (is_in_list list) (sym (same_request h.0 h.1 e)) ∙ in_list list h.0 h.2 h.3)), h.2, h.3, h.4),
-      λ h. (is.sectors x).1 (h.0, ((left h.0).0 h.1).0, h.2, h.3, h.4),
+      λ h. (is.has_their_sectors x).1 (h.0, ((left h.0).0 h.1).0, h.2, h.3, h.4),
     );
-    number = let n = is.number in let c = count_removed (is_in_list list) book i r update_if_id in
+    length_is = let n = is.length_is in let c = count_removed (is_in_list list) book i r update_if_id in
         let none : ◌≡◌ {A = ℕ} (cond (is_in_list list r) 1 0) 0 = cond-false (is_in_list list r) 1 0 out in omega (arith, n, c, none);
     distinct = is.distinct;
   }
 
   pub own_answered : index_of_port r.port ≡ list → is_flush r.op ≡ false → (place : ℕ) → slice_get items place ≡ Some (item_of r) → IsListOf list (remove book i) (remove items place)
   own_answered here has place found = record {
-    sectors = λ x. (
+    has_their_sectors = λ x. (
       λ there. let two = (in_remove (λ (y : BookRange). y.id) items place (item_of r) found is.distinct x).0 there in
-          let h = (is.sectors x).0 two.0 in
+          let h = (is.has_their_sectors x).0 two.0 in
           (h.0, (left h.0).1 (h.1, λ e. two.1 (ap (λ (y : BookRange). y.id) (sym h.4) ∙ e)), h.2, h.3, h.4),
       λ h. let two = (left h.0).0 h.1 in
           (in_remove (λ (y : BookRange). y.id) items place (item_of r) found is.distinct x).1
-          ((is.sectors x).1 (h.0, two.0, h.2, h.3, h.4), λ e. two.1 (ap (λ (y : BookRange). y.id) h.4 ∙ e)),
+          ((is.has_their_sectors x).1 (h.0, two.0, h.2, h.3, h.4), λ e. two.1 (ap (λ (y : BookRange). y.id) h.4 ∙ e)),
     );
-    number = let n = is.number in let c = count_removed (is_in_list list) book i r update_if_id in
+    length_is = let n = is.length_is in let c = count_removed (is_in_list list) book i r update_if_id in
         let some : ◌≡◌ {A = ℕ} (cond (is_in_list list r) 1 0) 1 = cond-true (is_in_list list r) 1 0 (in_list list r here has) in
         let l = length-remove items place (slice_get_within items place (item_of r) found) in omega (arith, n, c, some, l);
     distinct = distinct_remove;
@@ -198,12 +198,12 @@ module _ (list : ℕ) (book : List Unanswered) (items : List BookRange) (is : Is
 pub changed_list : (list : ℕ) (book : List Unanswered) (items : List BookRange) (g : Unanswered → Unanswered) → ((r : Unanswered) → item_of (g r) ≡ item_of r) → ((r : Unanswered) → (g r).op ≡ r.op)
     → ((r : Unanswered) → (g r).port ≡ r.port) → IsListOf list book items → IsListOf list (map g book) items
 changed_list list book items g same_item same_op same_port is = record {
-  sectors = λ x. (
-    λ there. let h = (is.sectors x).0 there in (g h.0, into_map g book h.0 h.1, ap index_of_port (same_port h.0) ∙ h.2, ap is_flush (same_op h.0) ∙ h.3, same_item h.0 ∙ h.4),
+  has_their_sectors = λ x. (
+    λ there. let h = (is.has_their_sectors x).0 there in (g h.0, into_map g book h.0 h.1, ap index_of_port (same_port h.0) ∙ h.2, ap is_flush (same_op h.0) ∙ h.3, same_item h.0 ∙ h.4),
     λ h. let u = map_in g book h.0 h.1 in
-        (is.sectors x).1 (u.0, u.1, sym (ap index_of_port (ap (λ (o : Unanswered). o.port) u.2 ∙ same_port u.0)) ∙ h.2, sym (ap is_flush (ap (λ (o : Unanswered). o.op) u.2 ∙ same_op u.0)) ∙ h.3, sym (ap item_of u.2 ∙ same_item u.0) ∙ h.4),
+        (is.has_their_sectors x).1 (u.0, u.1, sym (ap index_of_port (ap (λ (o : Unanswered). o.port) u.2 ∙ same_port u.0)) ∙ h.2, sym (ap is_flush (ap (λ (o : Unanswered). o.op) u.2 ∙ same_op u.0)) ∙ h.3, sym (ap item_of u.2 ∙ same_item u.0) ∙ h.4),
   );
-  number = is.number ∙ sym (count_map (is_in_list list) (is_in_list list) g book
+  length_is = is.length_is ∙ sym (count_map (is_in_list list) (is_in_list list) g book
       (λ y _. ap (λ (p : Port). (index_of_port p == list) && not (is_flush (g y).op)) (same_port y) ∙ ap (λ (o : Rattle.ata_types.specs.declared.request.Op.Op). (index_of_port y.port == list) && not (is_flush o)) (same_op y)));
   distinct = is.distinct;
 }
@@ -215,20 +215,20 @@ in_four port = omega arith
 
 module _ (book : List Unanswered) (lists : List (List BookRange)) (is : AreIndexed book lists) (r : Unanswered) where
   own_list : IsListOf (index_of_port r.port) book (get_or lists (index_of_port r.port) [])
-  own_list = is.each (index_of_port r.port) (in_four r.port)
+  own_list = is.each_is_list_of (index_of_port r.port) (in_four r.port)
 
   pub flush_accepted : is_flush r.op ≡ true → AreIndexed (book ++ r ∷ []) lists
-  flush_accepted flush = record { four = is.four; each = λ list lt. other_accepted list book (get_or lists list []) (is.each list lt) r (flush_in_none list r flush) }
+  flush_accepted flush = record { four_lists = is.four_lists; each_is_list_of = λ list lt. other_accepted list book (get_or lists list []) (is.each_is_list_of list lt) r (flush_in_none list r flush) }
 
   pub accepted : is_flush r.op ≡ false → All (λ o. o.id.0 < r.id.0) book → (place : ℕ) → place ≤ length (get_or lists (index_of_port r.port) [])
       → AreIndexed (book ++ r ∷ []) (set lists (index_of_port r.port) (insert (get_or lists (index_of_port r.port) []) place (item_of r)))
   accepted has newest place within =
-      set_indexed (book ++ r ∷ []) lists (index_of_port r.port) (insert (get_or lists (index_of_port r.port) []) place (item_of r)) (in_four r.port) is.four
+      set_indexed (book ++ r ∷ []) lists (index_of_port r.port) (insert (get_or lists (index_of_port r.port) []) place (item_of r)) (in_four r.port) is.four_lists
       (own_accepted (index_of_port r.port) book (get_or lists (index_of_port r.port) []) own_list r refl has newest place within)
-      (λ list lt other. other_accepted list book (get_or lists list []) (is.each list lt) r (out_of_list list r other))
+      (λ list lt other. other_accepted list book (get_or lists list []) (is.each_is_list_of list lt) r (out_of_list list r other))
 
   pub room_left : length book < MOST_UNANSWERED → length (get_or lists (index_of_port r.port) []) < MOST_UNANSWERED
-  room_left few = let n = own_list.number in let c = count_below (is_in_list (index_of_port r.port)) book in omega (arith, n, c, few)
+  room_left few = let n = own_list.length_is in let c = count_below (is_in_list (index_of_port r.port)) book in omega (arith, n, c, few)
     where
       count_below : (p : Unanswered → Bool) (xs : List Unanswered) → count_by p xs ≤ length xs
       count_below p [] = omega arith
@@ -243,23 +243,23 @@ module _ (book : List Unanswered) (lists : List (List BookRange)) (is : AreIndex
 
   module _ (ordered : IsInOrder book) (i : ℕ) (update_if_id : slice_get book i ≡ Some r) where
     pub flush_answered : is_flush r.op ≡ true → AreIndexed (remove book i) lists
-    flush_answered flush = record { four = is.four; each = λ list lt. other_answered list book (get_or lists list []) (is.each list lt) ordered i r update_if_id (flush_in_none list r flush) }
+    flush_answered flush = record { four_lists = is.four_lists; each_is_list_of = λ list lt. other_answered list book (get_or lists list []) (is.each_is_list_of list lt) ordered i r update_if_id (flush_in_none list r flush) }
 
     pub answered : is_flush r.op ≡ false → (place : ℕ) → slice_get (get_or lists (index_of_port r.port) []) place ≡ Some (item_of r)
         → AreIndexed (remove book i) (set lists (index_of_port r.port) (remove (get_or lists (index_of_port r.port) []) place))
     answered has place found =
-        set_indexed (remove book i) lists (index_of_port r.port) (remove (get_or lists (index_of_port r.port) []) place) (in_four r.port) is.four
+        set_indexed (remove book i) lists (index_of_port r.port) (remove (get_or lists (index_of_port r.port) []) place) (in_four r.port) is.four_lists
         (own_answered (index_of_port r.port) book (get_or lists (index_of_port r.port) []) own_list ordered i r update_if_id refl has place found)
-        (λ list lt other. other_answered list book (get_or lists list []) (is.each list lt) ordered i r update_if_id (out_of_list list r other))
+        (λ list lt other. other_answered list book (get_or lists list []) (is.each_is_list_of list lt) ordered i r update_if_id (out_of_list list r other))
 
     pub its_item : is_flush r.op ≡ false → Contains (get_or lists (index_of_port r.port) []) (item_of r)
-    its_item has = (own_list.sectors (item_of r)).1 (r, (i, slice_get_within book i r update_if_id, get_or_from_slice_get book i r r update_if_id), refl, has, refl)
+    its_item has = (own_list.has_their_sectors (item_of r)).1 (r, (i, slice_get_within book i r update_if_id, get_or_from_slice_get book i r r update_if_id), refl, has, refl)
 
 pub changed_indexed : (book : List Unanswered) (lists : List (List BookRange)) (g : Unanswered → Unanswered) → ((r : Unanswered) → item_of (g r) ≡ item_of r) → ((r : Unanswered) → (g r).op ≡ r.op)
     → ((r : Unanswered) → (g r).port ≡ r.port) → AreIndexed book lists → AreIndexed (map g book) lists
 changed_indexed book lists g same_item same_op same_port is = record {
-  four = is.four;
-  each = λ list lt. changed_list list book (get_or lists list []) g same_item same_op same_port (is.each list lt);
+  four_lists = is.four_lists;
+  each_is_list_of = λ list lt. changed_list list book (get_or lists list []) g same_item same_op same_port (is.each_is_list_of list lt);
 }
 
 -- the same place and list, by other words
@@ -271,27 +271,27 @@ by_default lists i j d e lt = ap (λ (n : ℕ). get_or lists n d) e ∙ get_or_d
 
 -- ---- of the book's own requests
 
-pub asks_more : (es : List BookEntry) (e : BookEntry) → asks_of (es ++ e ∷ []) ≡ asks_of es ++ asks e.entry ∷ []
-asks_more es e = map-append (λ (x : BookEntry). asks x.entry) es (e ∷ [])
+pub asks_more : (es : List BookEntry) (e : BookEntry) → unanswered_of (es ++ e ∷ []) ≡ unanswered_of es ++ as_unanswered e.entry ∷ []
+asks_more es e = map-append (λ (x : BookEntry). as_unanswered x.entry) es (e ∷ [])
 
-pub asks_less : (es : List BookEntry) (i : ℕ) → asks_of (remove es i) ≡ remove (asks_of es) i
+pub asks_less : (es : List BookEntry) (i : ℕ) → unanswered_of (remove es i) ≡ remove (unanswered_of es) i
 asks_less es i =
-    map-append (λ (x : BookEntry). asks x.entry) (take i es) (drop (suc i) es)
-    ∙ (ap (λ (xs : List Unanswered). xs ++ asks_of (drop (suc i) es)) (sym (take-map (λ (x : BookEntry). asks x.entry) i es))
-    ∙ ap (λ (xs : List Unanswered). take i (asks_of es) ++ xs) (sym (drop-map (λ (x : BookEntry). asks x.entry) (suc i) es)))
+    map-append (λ (x : BookEntry). as_unanswered x.entry) (take i es) (drop (suc i) es)
+    ∙ (ap (λ (xs : List Unanswered). xs ++ unanswered_of (drop (suc i) es)) (sym (take-map (λ (x : BookEntry). as_unanswered x.entry) i es))
+    ∙ ap (λ (xs : List Unanswered). take i (unanswered_of es) ++ xs) (sym (drop-map (λ (x : BookEntry). as_unanswered x.entry) (suc i) es)))
 
 same_marked : (b : Bool) (r : Unanswered) (issued : Bool) → (item_of (cond b (record r { issued = issued }) r) ≡ item_of r)
     × ((cond b (record r { issued = issued }) r).op ≡ r.op) × ((cond b (record r { issued = issued }) r).port ≡ r.port)
 same_marked true r issued = (refl, refl, refl)
 same_marked false r issued = (refl, refl, refl)
 
-pub issued_indexed : (es : List BookEntry) (id : RequestId) (lists : List (List BookRange)) → AreIndexed (asks_of es) lists → AreIndexed (asks_of (map (update_if_id id issue) es)) lists
+pub issued_indexed : (es : List BookEntry) (id : RequestId) (lists : List (List BookRange)) → AreIndexed (unanswered_of es) lists → AreIndexed (unanswered_of (map (update_if_id id issued_entry) es)) lists
 issued_indexed es id lists is = subst (λ (book : List Unanswered). AreIndexed book lists) (sym (after_issue es id))
-    (changed_indexed (asks_of es) lists (mark_issued id) (λ r. (same_marked (r.id.0 == id.0) r true).0) (λ r. (same_marked (r.id.0 == id.0) r true).1) (λ r. (same_marked (r.id.0 == id.0) r true).2) is)
+    (changed_indexed (unanswered_of es) lists (mark_issued id) (λ r. (same_marked (r.id.0 == id.0) r true).0) (λ r. (same_marked (r.id.0 == id.0) r true).1) (λ r. (same_marked (r.id.0 == id.0) r true).2) is)
 
-pub requeued_indexed : (es : List BookEntry) (id : RequestId) (lists : List (List BookRange)) → AreIndexed (asks_of es) lists → AreIndexed (asks_of (map (update_if_id id requeued_entry) es)) lists
+pub requeued_indexed : (es : List BookEntry) (id : RequestId) (lists : List (List BookRange)) → AreIndexed (unanswered_of es) lists → AreIndexed (unanswered_of (map (update_if_id id requeued_entry) es)) lists
 requeued_indexed es id lists is = subst (λ (book : List Unanswered). AreIndexed book lists) (sym (after_requeue es id))
-    (changed_indexed (asks_of es) lists (mark_waiting id) (λ r. (same_marked (r.id.0 == id.0) r false).0) (λ r. (same_marked (r.id.0 == id.0) r false).1) (λ r. (same_marked (r.id.0 == id.0) r false).2) is)
+    (changed_indexed (unanswered_of es) lists (mark_waiting id) (λ r. (same_marked (r.id.0 == id.0) r false).0) (λ r. (same_marked (r.id.0 == id.0) r false).1) (λ r. (same_marked (r.id.0 == id.0) r false).2) is)
 
-pub asks_newest : (es : List BookEntry) (n : ℕ) → All (λ e. e.entry.id.0 < n) es → All (λ r. r.id.0 < n) (asks_of es)
-asks_newest es n newest = All-map (λ (r : Unanswered). r.id.0 < n) (λ (e : BookEntry). asks e.entry) es newest
+pub asks_newest : (es : List BookEntry) (n : ℕ) → All (λ e. e.entry.id.0 < n) es → All (λ r. r.id.0 < n) (unanswered_of es)
+asks_newest es n newest = All-map (λ (r : Unanswered). r.id.0 < n) (λ (e : BookEntry). as_unanswered e.entry) es newest

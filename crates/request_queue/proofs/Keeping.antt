@@ -18,8 +18,8 @@ use Rattle.slab.proofs.SlabLemmas.{ContainsKey-within, Updates-with_value}
 use Rattle.slab.specs.Slab.{Slab, get, slab_len, Updates, with_value}
 use Rattle.dma_frames.specs.Loan.{Lending}
 use Rattle.request_queue.specs.declared.PendingRequest.{PendingRequest}
-use Rattle.request_queue.specs.Entries.{BookEntry}
-use Rattle.request_queue.specs.Store.{blank_entry, frames_of, entry_at_key, entries, KeyHasLoan, SlabIsSound}
+use Rattle.request_queue.specs.BookEntries.{BookEntry}
+use Rattle.request_queue.specs.RequestSlab.{blank_entry, frames_of, entry_at_key, entries, KeyHasLoan, SlabIsSound}
 
 none-some : {A : Type 0} {o : Option A} (x : A) → o ≡ None → o ≡ Some x → ⊥
 none-some x p q = let r = sym p ∙ q in cc
@@ -40,7 +40,7 @@ set_beside loans key slot k ne = get_or-set_other loans key k slot None ne
 module _ (s s' : Slab PendingRequest) (loans : List (Option Lending)) (order : List ℕ) (key : ℕ) (sound : SlabIsSound s loans order) where
   -- a key without a request isn't in the order
   pub fresh : get s key ≡ None → All (λ k. k ≢ key) order
-  fresh none i d lt e = let h = sound.held i d lt in none-some h.request (subst (λ n. get s n ≡ None) (sym e) none) h.has_request
+  fresh none i d lt e = let h = sound.keys_have_loans i d lt in none-some h.request (subst (λ n. get s n ≡ None) (sym e) none) h.has_request
 
   -- what stays held
   still_held : (slot : Option Lending) → ((k : ℕ) → k ≢ key → get s' k ≡ get s k) → (k : ℕ) → k ≢ key → KeyHasLoan s loans k → KeyHasLoan s' (set loans key slot) k
@@ -60,16 +60,16 @@ module _ (s s' : Slab PendingRequest) (loans : List (Option Lending)) (order : L
 
     pub sound_more : slab_len s' ≡ slab_len s + 1 → s'.capacity ≡ s.capacity → SlabIsSound s' (set loans key (Some loan)) (order ++ key ∷ [])
     sound_more len capacity = record {
-      room = rw capacity sound.room;
-      places = length-set loans key (Some loan) ∙ (sound.places ∙ sym capacity);
-      count = rw (len, length_push) (omega (arith, sound.count));
+      capacity_is_enough = rw capacity sound.capacity_is_enough;
+      one_loan_place_a_key = length-set loans key (Some loan) ∙ (sound.one_loan_place_a_key ∙ sym capacity);
+      store_lengths_agree = rw (len, length_push) (omega (arith, sound.store_lengths_agree));
       distinct = all_pairs_push (λ (a : ℕ) (b : ℕ). a ≢ b) order key sound.distinct (fresh vacant);
-      held = All-push (KeyHasLoan s' (set loans key (Some loan))) order key
-          (λ i d lt. still_held (Some loan) updates.others (get_or order i d) (fresh vacant i d lt) (sound.held i d lt))
+      keys_have_loans = All-push (KeyHasLoan s' (set loans key (Some loan))) order key
+          (λ i d lt. still_held (Some loan) updates.others (get_or order i d) (fresh vacant i d lt) (sound.keys_have_loans i d lt))
           (record { request = r; loan = loan; has_request = updates.changed; has_loan = get_or-set_same loans key (Some loan) None within; same_id = id; in_place = rw length-set within });
-      vacant = λ k out.
+      other_keys_are_vacant = λ k out.
           let ne : k ≢ key = λ e. out (subst (Contains (order ++ key ∷ [])) (sym e) (Contains-push order key)) in
-          let old = sound.vacant k (λ w. out (Contains-append_left order (key ∷ []) k w)) in
+          let old = sound.other_keys_are_vacant k (λ w. out (Contains-append_left order (key ∷ []) k w)) in
           (updates.others k ne ∙ old.0, set_beside loans key (Some loan) k ne ∙ old.1);
     }
 
@@ -89,8 +89,8 @@ module _ (s s' : Slab PendingRequest) (loans : List (Option Lending)) (order : L
     kept i d lt =
         let shorter = length-remove order place within in
         elim (cases_lt i place) [
-          | inl low ↦ subst (KeyHasLoan s loans) (sym (get_or-remove_below order place d i low within)) (sound.held i d (omega arith))
-          | inr high ↦ subst (KeyHasLoan s loans) (sym (get_or-remove_above order place d i high within)) (sound.held (i + 1) d (omega arith))
+          | inl low ↦ subst (KeyHasLoan s loans) (sym (get_or-remove_below order place d i low within)) (sound.keys_have_loans i d (omega arith))
+          | inr high ↦ subst (KeyHasLoan s loans) (sym (get_or-remove_above order place d i high within)) (sound.keys_have_loans (i + 1) d (omega arith))
         ]
 
     pub entries_less : entries s' (set loans key None) (remove order place) ≡ remove (entries s loans order) place
@@ -103,21 +103,21 @@ module _ (s s' : Slab PendingRequest) (loans : List (Option Lending)) (order : L
 
     pub sound_less : slab_len s' + 1 ≡ slab_len s → s'.capacity ≡ s.capacity → SlabIsSound s' (set loans key None) (remove order place)
     sound_less len capacity = record {
-      room = rw capacity sound.room;
-      places = length-set loans key None ∙ (sound.places ∙ sym capacity);
-      count = omega (arith, length-remove order place within, sound.count, len);
+      capacity_is_enough = rw capacity sound.capacity_is_enough;
+      one_loan_place_a_key = length-set loans key None ∙ (sound.one_loan_place_a_key ∙ sym capacity);
+      store_lengths_agree = omega (arith, length-remove order place within, sound.store_lengths_agree, len);
       distinct = all_pairs_remove (λ (a : ℕ) (b : ℕ). a ≢ b) order place within sound.distinct;
-      held = λ i d lt. still_held None updates.others (get_or (remove order place) i d) (once i d lt) (kept i d lt);
-      vacant = λ k out. elim (cases_eq k key) [
-        | inl e ↦ rw e (updates.changed, get_or-set_same loans key None None (subst (KeyHasLoan s loans) (is_key 0) (sound.held place 0 within)).in_place)
-        | inr ne ↦ let old = sound.vacant k (λ w. out (in_remove order place w.0 k within w.1 (sym w.2)
+      keys_have_loans = λ i d lt. still_held None updates.others (get_or (remove order place) i d) (once i d lt) (kept i d lt);
+      other_keys_are_vacant = λ k out. elim (cases_eq k key) [
+        | inl e ↦ rw e (updates.changed, get_or-set_same loans key None None (subst (KeyHasLoan s loans) (is_key 0) (sound.keys_have_loans place 0 within)).in_place)
+        | inr ne ↦ let old = sound.other_keys_are_vacant k (λ w. out (in_remove order place w.0 k within w.1 (sym w.2)
             (λ e. ne (sym w.2 ∙ (ap (λ n. get_or order n k) e ∙ is_key k)))).1) in
             (updates.others k ne ∙ old.0, set_beside loans key None k ne ∙ old.1)
       ];
     }
 
     held_there : KeyHasLoan s loans key
-    held_there = subst (KeyHasLoan s loans) (is_key 0) (sound.held place 0 within)
+    held_there = subst (KeyHasLoan s loans) (is_key 0) (sound.keys_have_loans place 0 within)
 
     pub key_in_place : key < length loans
     key_in_place = held_there.in_place
@@ -145,7 +145,7 @@ module _ (s : Slab PendingRequest) (loans : List (Option Lending)) (order : List
   both_there r here loan there = stands_at ∙ rw (here, there) refl
 
   kept_there : SlabIsSound s loans order → KeyHasLoan s loans key
-  kept_there sound = subst (KeyHasLoan s loans) (is_key 0) (sound.held place 0 within)
+  kept_there sound = subst (KeyHasLoan s loans) (is_key 0) (sound.keys_have_loans place 0 within)
 
   pub key_there : SlabIsSound s loans order → key < length loans
   key_there sound = (kept_there sound).in_place
@@ -177,14 +177,14 @@ module _ (s : Slab PendingRequest) (loans : List (Option Lending)) (order : List
 
   pub sound_replaced : new.id ≡ old.id → SlabIsSound after loans order
   sound_replaced same = record {
-    room = sound.room;
-    places = sound.places;
-    count = slab_len-with_value s key old new there ∙ sound.count;
+    capacity_is_enough = sound.capacity_is_enough;
+    one_loan_place_a_key = sound.one_loan_place_a_key;
+    store_lengths_agree = slab_len-with_value s key old new there ∙ sound.store_lengths_agree;
     distinct = sound.distinct;
-    held = λ i d lt. held_after (get_or order i d) (sound.held i d lt);
-    vacant = λ k out.
+    keys_have_loans = λ i d lt. held_after (get_or order i d) (sound.keys_have_loans i d lt);
+    other_keys_are_vacant = λ k out.
         let ne : k ≢ key = λ e. out (place, within, is_key k ∙ sym e) in
-        let was = sound.vacant k out in
+        let was = sound.other_keys_are_vacant k out in
         (updates.others k ne ∙ was.0, was.1);
   }
     where

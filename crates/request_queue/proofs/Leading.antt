@@ -8,10 +8,10 @@ use Rattle.block_machine.specs.declared.due.QueueMode.{QueueMode}
 use Rattle.block_machine.specs.declared.due.Unanswered.{Unanswered}
 use Rattle.std.specs.List.{list_any}
 use Rattle.std.specs.Prelude.{nat_lt}
-use Rattle.block_machine.specs.Due.{ahead, free_slots, is_plain, waits_for}
-use Rattle.request_queue.specs.Entries.{BookEntry, asks_of}
-use Rattle.request_queue.specs.Store.{asks_at}
-use Rattle.request_queue.specs.Walk.{AreIssuedAhead}
+use Rattle.block_machine.specs.DueRequests.{unblocked_ahead_count, free_slots, is_plain, waits_for}
+use Rattle.request_queue.specs.BookEntries.{BookEntry, unanswered_of}
+use Rattle.request_queue.specs.RequestSlab.{unanswered_at}
+use Rattle.request_queue.specs.DueWalk.{AreIssuedAhead}
 use Rattle.request_queue.proofs.Own.{asked_more}
 use Rattle.request_queue.proofs.Walk.{due_test, ids_so_far}
 
@@ -20,14 +20,14 @@ use Rattle.request_queue.proofs.Walk.{due_test, ids_so_far}
 module _ (mode : QueueMode) (requests : List Unanswered) (r : Unanswered) where
   stay_ahead : (n : ℕ) → AreIssuedAhead mode requests n → AreIssuedAhead mode (requests ++ r ∷ []) n
   stay_ahead n is = record {
-    within = let long = length_push requests r in let w = is.within in omega (arith, long, w);
-    issued = λ k d lt. let w = is.within in ap (λ (u : Unanswered). u.issued) (get_or_append_left requests (r ∷ []) d k (omega (arith, lt, w))) ∙ is.issued k d lt;
-    queued = λ k d lt. let w = is.within in ap (λ (u : Unanswered). is_plain mode u.op) (get_or_append_left requests (r ∷ []) d k (omega (arith, lt, w))) ∙ is.queued k d lt;
+    leading_is_in_range = let long = length_push requests r in let w = is.leading_is_in_range in omega (arith, long, w);
+    issued = λ k d lt. let w = is.leading_is_in_range in ap (λ (u : Unanswered). u.issued) (get_or_append_left requests (r ∷ []) d k (omega (arith, lt, w))) ∙ is.issued k d lt;
+    queued = λ k d lt. let w = is.leading_is_in_range in ap (λ (u : Unanswered). is_plain mode u.op) (get_or_append_left requests (r ∷ []) d k (omega (arith, lt, w))) ∙ is.queued k d lt;
   }
 
   one_ahead : (n : ℕ) → AreIssuedAhead mode requests n → n ≡ length requests → r.issued ≡ true → is_plain mode r.op ≡ false → AreIssuedAhead mode (requests ++ r ∷ []) (suc n)
   one_ahead n is all issued queued = record {
-    within = let long = length_push requests r in omega (arith, long, all);
+    leading_is_in_range = let long = length_push requests r in omega (arith, long, all);
     issued = λ k d lt. elim (cases_lt k n) [
       | inl low ↦ (stay_ahead n is).issued k d low
       | inr high ↦ ap (λ (u : Unanswered). u.issued) (get_or_push requests r d k (omega (arith, lt, high, all))) ∙ issued
@@ -46,10 +46,10 @@ module _ (mode : QueueMode) (requests : List Unanswered) (r : Unanswered) where
       rw more (one_ahead n is (eqb-true n (length requests) all.0) its.0 (not-true (is_plain mode r.op) its.1))
   ahead_with n next is false leads more = rw more (stay_ahead n is)
 
-pub leads_more : (mode : QueueMode) (es : List BookEntry) (places : List ℕ) (i : ℕ) (r : Unanswered) → slice_get (asks_of es) i ≡ Some r → (n next : ℕ) → AreIssuedAhead mode (asks_at es places) n
-    → next ≡ cond (n == length (asks_at es places) && (r.issued && not (is_plain mode r.op))) (suc n) n → AreIssuedAhead mode (asks_at es (places ++ i ∷ [])) next
+pub leads_more : (mode : QueueMode) (es : List BookEntry) (places : List ℕ) (i : ℕ) (r : Unanswered) → slice_get (unanswered_of es) i ≡ Some r → (n next : ℕ) → AreIssuedAhead mode (unanswered_at es places) n
+    → next ≡ cond (n == length (unanswered_at es places) && (r.issued && not (is_plain mode r.op))) (suc n) n → AreIssuedAhead mode (unanswered_at es (places ++ i ∷ [])) next
 leads_more mode es places i r at n next is more =
-    subst (λ (xs : List Unanswered). AreIssuedAhead mode xs next) (sym (asked_more es places i r at (λ (u : Unanswered). u.issued))) (ahead_with mode (asks_at es places) r n next is _ refl more)
+    subst (λ (xs : List Unanswered). AreIssuedAhead mode xs next) (sym (asked_more es places i r at (λ (u : Unanswered). u.issued))) (ahead_with mode (unanswered_at es places) r n next is _ refl more)
 
 -- ---- none of them is due
 
@@ -71,4 +71,4 @@ none_ahead mode port book n is =
     and_false false = refl
 
     isnt_due : (x : Unanswered) → x.issued ≡ true → due_test mode port book x ≡ false
-    isnt_due x issued = ap (λ (b : Bool). (x.port.0 == port.0) && b) (ap (λ (b : Bool). (not b && not (list_any (waits_for mode x) book)) && (is_plain mode x.op || nat_lt (ahead mode book x) (free_slots mode book x.port))) issued) ∙ and_false (x.port.0 == port.0)
+    isnt_due x issued = ap (λ (b : Bool). (x.port.0 == port.0) && b) (ap (λ (b : Bool). (not b && not (list_any (waits_for mode x) book)) && (is_plain mode x.op || nat_lt (unblocked_ahead_count mode book x) (free_slots mode book x.port))) issued) ∙ and_false (x.port.0 == port.0)

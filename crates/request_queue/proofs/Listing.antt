@@ -4,7 +4,7 @@ use Rattle.std.specs.List.{filter, slice_get}
 use Rattle.std.proofs.lemmas.Bool.{cond-true, cond-false}
 use Rattle.std.proofs.lemmas.List.{take_more, map-append, append-nil}
 use Rattle.std.proofs.lemmas.List.Elements.{filter-append}
-use Rattle.request_queue.specs.Entries.{BookEntry, ids_where}
+use Rattle.request_queue.specs.BookEntries.{BookEntry, ids_where}
 use Rattle.request_queue.specs.declared.PendingRequest.{PendingRequest}
 use Rattle.request_queue.proofs.Changing.{request_is, place_within}
 

@@ -2,7 +2,7 @@
 use Rattle.std.proofs.Common.{ℕ, ◌≡◌, ◌<◌, ◌∙◌, List, Some, [], get_or, length, map, ap, refl}
 use Rattle.std.specs.List.{remove, slice_get}
 use Rattle.std.proofs.lemmas.Option.{slice_get-get_or}
-use Rattle.request_queue.specs.Entries.{BookEntry, BookIsInOrder, without_entry}
+use Rattle.request_queue.specs.BookEntries.{BookEntry, BookIsInOrder, without_entry}
 use Rattle.request_queue.specs.declared.PendingRequest.{PendingRequest}
 use Rattle.request_queue.proofs.Changing.{dropped_at, request_is}
 
@@ -18,4 +18,4 @@ module _ (es : List BookEntry) (i : ℕ) (r : PendingRequest) (lt : i < length e
   at = slice_get-get_or es i d lt ∙ ap (λ (x : PendingRequest). Some (record { entry = x; frames = (get_or es i d).frames })) (request_is es i r d is)
 
   pub dropped : remove es i ≡ without_entry r.id es
-  dropped = dropped_at es i e r.id s.ordered at refl
+  dropped = dropped_at es i e r.id s.ids_rise at refl

@@ -6,8 +6,8 @@ use Rattle.std.proofs.lemmas.List.{get_or-map, length-map}
 use Rattle.std.proofs.lemmas.List.Edits.{length-insert, get_or-insert_below, get_or-insert_at, get_or-insert_above}
 use Rattle.request_queue.specs.declared.ranges.BookRange.{BookRange}
 use Rattle.request_queue.specs.declared.ranges.IndexEntry.{IndexEntry}
-use Rattle.request_queue.specs.Items.{AreSorted, StandsBefore, item_first}
-use Rattle.request_queue.specs.Index.{items_of}
+use Rattle.request_queue.specs.BookRanges.{AreSorted, StandsBefore, item_first}
+use Rattle.request_queue.specs.RangeIndex.{items_of}
 
 pub item_at : (es : List IndexEntry) (k : ℕ) (d : IndexEntry) (e : BookRange) → k < length es → get_or (items_of es) k e ≡ (get_or es k d).item
 item_at es k d e lt = get_or-map (λ (x : IndexEntry). x.item) es k d e lt

@@ -7,12 +7,12 @@ use Rattle.ata_types.specs.declared.request.ClientId.{ClientId}
 use Rattle.ata_types.specs.declared.request.RequestId.{RequestId}
 use Rattle.block_machine.specs.declared.due.QueueMode.{QueueMode}
 use Rattle.block_machine.specs.declared.due.Unanswered.{Unanswered}
-use Rattle.block_machine.specs.Due.{IsDue, due_of}
+use Rattle.block_machine.specs.DueRequests.{IsDue, due_of}
 use Rattle.block_machine.specs.State.{unanswered, newly_unanswered}
 use Rattle.block_machine.specs.State as machine
 use Rattle.block_machine.specs.Steps as steps
-use Rattle.request_queue.specs.Entries.{BookEntry, asks, asks_of, has_id, update_if_id, without_entry, issue, requeued_entry, older_entry, aged, marked_under, all_marked_under, entry_count_of_client, due_ids}
-use Rattle.request_queue.specs.Machine.{EntryRelation, BookRelation}
+use Rattle.request_queue.specs.BookEntries.{BookEntry, as_unanswered, unanswered_of, has_id, update_if_id, without_entry, issued_entry, requeued_entry, aged_entry, aged_entries, marked_under, all_marked_under, entry_count_of_client, due_ids}
+use Rattle.request_queue.specs.BookRelation.{EntryRelation, BookRelation}
 use Rattle.request_queue.specs.declared.PendingRequest.{PendingRequest}
 use Rattle.request_queue.proofs.Members.{contains_none, contains_here, contains_there, contains_cases, count_cons, map_in, into_map}
 use Rattle.request_queue.proofs.Changing.{either_way}
@@ -79,32 +79,32 @@ like_left R (a ∷ xs) (b ∷ ys) all y here = ⊎_elim
 same_asks : (a b : Unanswered) → a.id ≡ b.id → a.port ≡ b.port → a.op ≡ b.op → a.range ≡ b.range → a.issued ≡ b.issued → a ≡ b
 same_asks a b p q r s t = λ i. record { id = p i; port = q i; op = r i; range = s i; issued = t i }
 
-pub asked_alike : (e : BookEntry) (p : machine.Pending) → EntryRelation e p → unanswered p ≡ asks e.entry
-asked_alike e p s = same_asks (unanswered p) (asks e.entry) s.id s.port s.op s.range s.issued
+pub asked_alike : (e : BookEntry) (p : machine.Pending) → EntryRelation e p → unanswered p ≡ as_unanswered e.entry
+asked_alike e p s = same_asks (unanswered p) (as_unanswered e.entry) s.id s.port s.op s.range s.issued
 
 -- the machine's due requests are the book's
-pub same_book : (es : List BookEntry) (ps : List machine.Pending) → BookRelation es ps → map unanswered ps ≡ asks_of es
+pub same_book : (es : List BookEntry) (ps : List machine.Pending) → BookRelation es ps → map unanswered ps ≡ unanswered_of es
 same_book [] [] all = refl
 same_book [] (p ∷ ps) all = absurd all
 same_book (e ∷ es) [] all = absurd all
-same_book (e ∷ es) (p ∷ ps) all = ap (λ (u : Unanswered). u ∷ map unanswered ps) (asked_alike e p all.0) ∙ ap (λ (us : List Unanswered). asks e.entry ∷ us) (same_book es ps all.1)
+same_book (e ∷ es) (p ∷ ps) all = ap (λ (u : Unanswered). u ∷ map unanswered ps) (asked_alike e p all.0) ∙ ap (λ (us : List Unanswered). as_unanswered e.entry ∷ us) (same_book es ps all.1)
 
 at_both : (id : RequestId) (f : PendingRequest → PendingRequest) (g : machine.Pending → machine.Pending) → ((e : BookEntry) (p : machine.Pending) → EntryRelation e p → EntryRelation (record e { entry = f e.entry }) (g p))
-    → (e : BookEntry) (p : machine.Pending) → EntryRelation e p → EntryRelation (update_if_id id f e) (steps.at id g p)
+    → (e : BookEntry) (p : machine.Pending) → EntryRelation e p → EntryRelation (update_if_id id f e) (steps.update_pending id g p)
 at_both id f g step e p s = go (has_id id e) refl
   where
     same : (p.request.id.0 == id.0) ≡ has_id id e
     same = ap (λ (i : RequestId). i.0 == id.0) s.id
 
-    go : (b : Bool) → has_id id e ≡ b → EntryRelation (update_if_id id f e) (steps.at id g p)
+    go : (b : Bool) → has_id id e ≡ b → EntryRelation (update_if_id id f e) (steps.update_pending id g p)
     go true here =
-        subst (λ (x : BookEntry). EntryRelation x (steps.at id g p)) (sym (cond-true (has_id id e) (record e { entry = f e.entry }) e here))
+        subst (λ (x : BookEntry). EntryRelation x (steps.update_pending id g p)) (sym (cond-true (has_id id e) (record e { entry = f e.entry }) e here))
         (subst (λ (y : machine.Pending). EntryRelation (record e { entry = f e.entry }) y) (sym (cond-true (p.request.id.0 == id.0) (g p) p (same ∙ here))) (step e p s))
     go false here =
-        subst (λ (x : BookEntry). EntryRelation x (steps.at id g p)) (sym (cond-false (has_id id e) (record e { entry = f e.entry }) e here))
+        subst (λ (x : BookEntry). EntryRelation x (steps.update_pending id g p)) (sym (cond-false (has_id id e) (record e { entry = f e.entry }) e here))
         (subst (λ (y : machine.Pending). EntryRelation e y) (sym (cond-false (p.request.id.0 == id.0) (g p) p (same ∙ here))) s)
 
-one_issued : (e : BookEntry) (p : machine.Pending) → EntryRelation e p → EntryRelation (record e { entry = issue e.entry }) (steps.newly_issued p)
+one_issued : (e : BookEntry) (p : machine.Pending) → EntryRelation e p → EntryRelation (record e { entry = issued_entry e.entry }) (steps.newly_issued p)
 one_issued e p s = record { id = s.id; client = s.client; grant = s.grant; port = s.port; op = s.op; range = s.range; frames = s.frames; issued = refl; issues = ap suc s.issues; age = refl }
 
 one_waits : (e : BookEntry) (p : machine.Pending) → EntryRelation e p → EntryRelation (record e { entry = requeued_entry e.entry }) (steps.requeued p)
@@ -117,10 +117,10 @@ one_ended : (e : BookEntry) (p : machine.Pending) → EntryRelation e p → Entr
 one_ended e p s = record { id = s.id; client = s.client; grant = s.grant; port = s.port; op = s.op; range = s.range; frames = s.frames; issued = s.issued; issues = s.issues; age = s.age }
 
 at_right : (id : RequestId) (g : machine.Pending → machine.Pending) → ((e : BookEntry) (p : machine.Pending) → EntryRelation e p → EntryRelation e (g p))
-    → (e : BookEntry) (p : machine.Pending) → EntryRelation e p → EntryRelation e (steps.at id g p)
+    → (e : BookEntry) (p : machine.Pending) → EntryRelation e p → EntryRelation e (steps.update_pending id g p)
 at_right id g step e p s = go (p.request.id.0 == id.0) refl
   where
-    go : (b : Bool) → (p.request.id.0 == id.0) ≡ b → EntryRelation e (steps.at id g p)
+    go : (b : Bool) → (p.request.id.0 == id.0) ≡ b → EntryRelation e (steps.update_pending id g p)
     go true here = subst (λ (y : machine.Pending). EntryRelation e y) (sym (cond-true (p.request.id.0 == id.0) (g p) p here)) (step e p s)
     go false here = subst (λ (y : machine.Pending). EntryRelation e y) (sym (cond-false (p.request.id.0 == id.0) (g p) p here)) s
 
@@ -128,19 +128,19 @@ one_revoked : (client : ClientId) (grant : ℕ) (e : BookEntry) (p : machine.Pen
 one_revoked client grant e p s = either_way (λ (r : PendingRequest). EntryRelation (record e { entry = r }) p) (is_same_grant_name client grant e.entry.client e.entry.grant) (record (e.entry) { revoked = true }) e.entry
     (record { id = s.id; client = s.client; grant = s.grant; port = s.port; op = s.op; range = s.range; frames = s.frames; issued = s.issued; issues = s.issues; age = s.age }) s
 
-one_older : (ports : Port → Bool) (e : BookEntry) (p : machine.Pending) → EntryRelation e p → EntryRelation (record e { entry = older_entry ports e.entry }) (steps.older ports p)
+one_older : (ports : Port → Bool) (e : BookEntry) (p : machine.Pending) → EntryRelation e p → EntryRelation (record e { entry = aged_entry ports e.entry }) (steps.aged_pending ports p)
 one_older ports e p s = go (e.entry.issued && ports e.entry.port) refl
   where
     same : (p.issued && ports p.request.port) ≡ (e.entry.issued && ports e.entry.port)
     same = ap (λ (b : Bool). b && ports p.request.port) s.issued ∙ ap (λ (q : Port). e.entry.issued && ports q) s.port
 
-    go : (b : Bool) → (e.entry.issued && ports e.entry.port) ≡ b → EntryRelation (record e { entry = older_entry ports e.entry }) (steps.older ports p)
+    go : (b : Bool) → (e.entry.issued && ports e.entry.port) ≡ b → EntryRelation (record e { entry = aged_entry ports e.entry }) (steps.aged_pending ports p)
     go true here =
-        subst (λ (r : PendingRequest). EntryRelation (record e { entry = r }) (steps.older ports p)) (sym (cond-true (e.entry.issued && ports e.entry.port) (record (e.entry) { age = min (suc e.entry.age) 3 }) e.entry here))
+        subst (λ (r : PendingRequest). EntryRelation (record e { entry = r }) (steps.aged_pending ports p)) (sym (cond-true (e.entry.issued && ports e.entry.port) (record (e.entry) { age = min (suc e.entry.age) 3 }) e.entry here))
         (subst (λ (y : machine.Pending). EntryRelation (record e { entry = record (e.entry) { age = min (suc e.entry.age) 3 } }) y) (sym (cond-true (p.issued && ports p.request.port) (record p { age = suc p.age }) p (same ∙ here)))
         (record { id = s.id; client = s.client; grant = s.grant; port = s.port; op = s.op; range = s.range; frames = s.frames; issued = s.issued; issues = s.issues; age = (let a = s.age in omega (arith, a)) }))
     go false here =
-        subst (λ (r : PendingRequest). EntryRelation (record e { entry = r }) (steps.older ports p)) (sym (cond-false (e.entry.issued && ports e.entry.port) (record (e.entry) { age = min (suc e.entry.age) 3 }) e.entry here))
+        subst (λ (r : PendingRequest). EntryRelation (record e { entry = r }) (steps.aged_pending ports p)) (sym (cond-false (e.entry.issued && ports e.entry.port) (record (e.entry) { age = min (suc e.entry.age) 3 }) e.entry here))
         (subst (λ (y : machine.Pending). EntryRelation e y) (sym (cond-false (p.issued && ports p.request.port) (record p { age = suc p.age }) p (same ∙ here))) s)
 
 -- ---- a step of each
@@ -148,26 +148,26 @@ one_older ports e p s = go (e.entry.issued && ports e.entry.port) refl
 pub goes_last : (es : List BookEntry) (ps : List machine.Pending) (e : BookEntry) (p : machine.Pending) → BookRelation es ps → EntryRelation e p → BookRelation (es ++ e ∷ []) (ps ++ p ∷ [])
 goes_last es ps e p is last = zip_push EntryRelation es ps e p is last
 
-pub is_issued : (es : List BookEntry) (ps : List machine.Pending) (id : RequestId) → BookRelation es ps → BookRelation (map (update_if_id id issue) es) (map (steps.at id steps.newly_issued) ps)
-is_issued es ps id is = zip_both EntryRelation (update_if_id id issue) (steps.at id steps.newly_issued) (at_both id issue steps.newly_issued one_issued) es ps is
+pub is_issued : (es : List BookEntry) (ps : List machine.Pending) (id : RequestId) → BookRelation es ps → BookRelation (map (update_if_id id issued_entry) es) (map (steps.update_pending id steps.newly_issued) ps)
+is_issued es ps id is = zip_both EntryRelation (update_if_id id issued_entry) (steps.update_pending id steps.newly_issued) (at_both id issued_entry steps.newly_issued one_issued) es ps is
 
-pub waits_again : (es : List BookEntry) (ps : List machine.Pending) (id : RequestId) → BookRelation es ps → BookRelation (map (update_if_id id requeued_entry) es) (map (steps.at id steps.requeued) ps)
-waits_again es ps id is = zip_both EntryRelation (update_if_id id requeued_entry) (steps.at id steps.requeued) (at_both id requeued_entry steps.requeued one_waits) es ps is
+pub waits_again : (es : List BookEntry) (ps : List machine.Pending) (id : RequestId) → BookRelation es ps → BookRelation (map (update_if_id id requeued_entry) es) (map (steps.update_pending id steps.requeued) ps)
+waits_again es ps id is = zip_both EntryRelation (update_if_id id requeued_entry) (steps.update_pending id steps.requeued) (at_both id requeued_entry steps.requeued one_waits) es ps is
 
-pub is_answered : (es : List BookEntry) (ps : List machine.Pending) (id : RequestId) → BookRelation es ps → BookRelation (without_entry id es) (steps.without id ps)
+pub is_answered : (es : List BookEntry) (ps : List machine.Pending) (id : RequestId) → BookRelation es ps → BookRelation (without_entry id es) (steps.without_pending id ps)
 is_answered es ps id is = zip_filter EntryRelation (λ e. not (has_id id e)) (λ p. not (p.request.id.0 == id.0)) (λ e p s. ap (λ (i : RequestId). not (i.0 == id.0)) (sym s.id)) es ps is
 
-pub is_older : (es : List BookEntry) (ps : List machine.Pending) (ports : Port → Bool) → BookRelation es ps → BookRelation (aged ports es) (map (steps.older ports) ps)
-is_older es ps ports is = zip_both EntryRelation (λ (e : BookEntry). record e { entry = older_entry ports e.entry }) (steps.older ports) (one_older ports) es ps is
+pub is_older : (es : List BookEntry) (ps : List machine.Pending) (ports : Port → Bool) → BookRelation es ps → BookRelation (aged_entries ports es) (map (steps.aged_pending ports) ps)
+is_older es ps ports is = zip_both EntryRelation (λ (e : BookEntry). record e { entry = aged_entry ports e.entry }) (steps.aged_pending ports) (one_older ports) es ps is
 
 pub is_revoked : (es : List BookEntry) (ps : List machine.Pending) (client : ClientId) (grant : ℕ) → BookRelation es ps → BookRelation (all_marked_under client grant es) ps
 is_revoked es ps client grant is = zip_left EntryRelation (λ (e : BookEntry). record e { entry = marked_under client grant e.entry }) (one_revoked client grant) es ps is
 
-pub is_touched : (es : List BookEntry) (ps : List machine.Pending) (id : RequestId) (i : ℕ) → BookRelation es ps → BookRelation es (map (steps.at id (steps.touch i)) ps)
-is_touched es ps id i is = zip_right EntryRelation (steps.at id (steps.touch i)) (at_right id (steps.touch i) (one_touched i)) es ps is
+pub is_touched : (es : List BookEntry) (ps : List machine.Pending) (id : RequestId) (i : ℕ) → BookRelation es ps → BookRelation es (map (steps.update_pending id (steps.touch i)) ps)
+is_touched es ps id i is = zip_right EntryRelation (steps.update_pending id (steps.touch i)) (at_right id (steps.touch i) (one_touched i)) es ps is
 
-pub is_ended : (es : List BookEntry) (ps : List machine.Pending) (id : RequestId) → BookRelation es ps → BookRelation es (map (steps.at id steps.mark_ended) ps)
-is_ended es ps id is = zip_right EntryRelation (steps.at id steps.mark_ended) (at_right id steps.mark_ended one_ended) es ps is
+pub is_ended : (es : List BookEntry) (ps : List machine.Pending) (id : RequestId) → BookRelation es ps → BookRelation es (map (steps.update_pending id steps.mark_ended) ps)
+is_ended es ps id is = zip_right EntryRelation (steps.update_pending id steps.mark_ended) (at_right id steps.mark_ended one_ended) es ps is
 
 -- ---- what is due is the machine's
 
@@ -179,15 +179,15 @@ abbrev pub DueIsOwn : Type 0
 DueIsOwn = (mode : QueueMode) (port : Port) (book : List Unanswered) (r : Unanswered) → Contains (due_of mode port book) r → r.port ≡ port
 
 -- an id of the due list is a due request of the machine's book
-pub due_there : DueIsExact → DueIsOwn → (mode : QueueMode) (port : Port) (es : List BookEntry) (ps : List machine.Pending) (id : RequestId) → BookRelation es ps → Contains (due_ids mode port (asks_of es)) id
+pub due_there : DueIsExact → DueIsOwn → (mode : QueueMode) (port : Port) (es : List BookEntry) (ps : List machine.Pending) (id : RequestId) → BookRelation es ps → Contains (due_ids mode port (unanswered_of es)) id
     → (p : machine.Pending) × Contains ps p × (p.request.id ≡ id) × (p.request.port ≡ port) × IsDue mode (map unanswered ps) (unanswered p)
 due_there exact of_port mode port es ps id is h =
     let e = same_book es ps is in
-    let u = ids_in (due_of mode port (asks_of es)) h in
-    let own = of_port mode port (asks_of es) u.0 u.1 in
-    let due = (exact mode port (asks_of es) u.0 own).0 u.1 in
+    let u = ids_in (due_of mode port (unanswered_of es)) h in
+    let own = of_port mode port (unanswered_of es) u.0 u.1 in
+    let due = (exact mode port (unanswered_of es) u.0 own).0 u.1 in
     let due' : IsDue mode (map unanswered ps) u.0 = subst (λ (b : List Unanswered). IsDue mode b u.0) (sym e) due in
-    let p = map_in unanswered ps u.0 due'.here in (
+    let p = map_in unanswered ps u.0 due'.is_in_book in (
       p.0,
       p.1,
       ap (λ (x : Unanswered). x.id) (sym p.2) ∙ sym u.2,
@@ -200,10 +200,10 @@ due_there exact of_port mode port es ps id is h =
 
 -- and each due request of the machine's book on the port is in the list
 pub due_listed : DueIsExact → (mode : QueueMode) (port : Port) (es : List BookEntry) (ps : List machine.Pending) (p : machine.Pending) → BookRelation es ps → p.request.port ≡ port
-    → IsDue mode (map unanswered ps) (unanswered p) → Contains (due_ids mode port (asks_of es)) p.request.id
+    → IsDue mode (map unanswered ps) (unanswered p) → Contains (due_ids mode port (unanswered_of es)) p.request.id
 due_listed exact mode port es ps p is own due =
     let d = subst (λ (b : List Unanswered). IsDue mode b (unanswered p)) (same_book es ps is) due in
-    into_map (λ (x : Unanswered). x.id) (due_of mode port (asks_of es)) (unanswered p) ((exact mode port (asks_of es) (unanswered p) own).1 d)
+    into_map (λ (x : Unanswered). x.id) (due_of mode port (unanswered_of es)) (unanswered p) ((exact mode port (unanswered_of es) (unanswered p) own).1 d)
 
 -- ---- as many of each client
 

@@ -6,9 +6,9 @@ use Rattle.std.proofs.lemmas.List.Elements.{All-contains}
 use Rattle.slab.specs.Slab.{Slab, get, slab_len, Updates}
 use Rattle.ata_types.specs.declared.request.RequestId.{RequestId}
 use Rattle.dma_frames.specs.Loan.{Lending}
-use Rattle.dma_frames.specs.Table.{Table, lent_to}
-use Rattle.request_queue.specs.Entries.{BookEntry, HasItsFrames}
-use Rattle.request_queue.specs.Store.{entries, entry_at_key, KeyHasLoan, SlabIsSound}
+use Rattle.dma_frames.specs.FrameTables.{FrameOwnership, lent_to}
+use Rattle.request_queue.specs.BookEntries.{BookEntry, HasItsFrames}
+use Rattle.request_queue.specs.RequestSlab.{entries, entry_at_key, KeyHasLoan, SlabIsSound}
 use Rattle.request_queue.specs.declared.PendingRequest.{PendingRequest}
 use Rattle.request_queue.proofs.Changing.{there}
 use Rattle.request_queue.proofs.Keeping.{entries_less, sound_less, entry_there, loan_of_request, key_in_place}
@@ -32,7 +32,7 @@ module _ (s s' : Slab PendingRequest) (loans : List (Option Lending)) (order : L
   -- a loan is held for it
   pub its_place : (slot : Option Lending) → slot ≡ get_or loans key slot → (loan : Lending) × (slot ≡ Some loan)
   its_place slot at =
-      let k = subst (KeyHasLoan s loans) (is_key 0) (sound.held place 0 within) in
+      let k = subst (KeyHasLoan s loans) (is_key 0) (sound.keys_have_loans place 0 within) in
       (k.loan, at ∙ (get_or_default loans key slot None k.in_place ∙ k.has_loan))
 
   module _ (slot : Option Lending) (at : slot ≡ get_or loans key slot) (request : PendingRequest) (loan : Lending) (has_request : get s key ≡ Some request) (is : slot ≡ Some loan) where
@@ -47,7 +47,7 @@ module _ (s s' : Slab PendingRequest) (loans : List (Option Lending)) (order : L
     its_loan = loan_of_request s s' loans order key sound place within is_key updates request loan has_request has_loan
 
     -- what was lent to it may be given back
-    pub may_go_back : (table : Table) → All (HasItsFrames table) es → All (λ f. lent_to table f ≡ Some loan.request) loan.frames
+    pub may_go_back : (table : FrameOwnership) → All (HasItsFrames table) es → All (λ f. lent_to table f ≡ Some loan.request) loan.frames
     may_go_back table stands =
         let e : BookEntry = record { entry = request; frames = loan.frames } in
         subst (λ (id : RequestId). All (λ f. lent_to table f ≡ Some id) loan.frames) (sym its_loan)

@@ -10,7 +10,7 @@ use Rattle.ata_types.specs.declared.request.Op.{Op}
 use Rattle.ata_types.specs.declared.request.Op.TheVariants.{Read, Write, Trim, Flush}
 use Rattle.block_machine.specs.declared.due.QueueMode.{QueueMode}
 use Rattle.block_machine.specs.declared.due.Unanswered.{Unanswered}
-use Rattle.block_machine.specs.Due.{ahead, conflict, due_of, free_slots, waits_for, is_unblocked, is_due, is_earlier_on_port, is_flush, is_plain, issued_count}
+use Rattle.block_machine.specs.DueRequests.{unblocked_ahead_count, are_conflicting, due_of, free_slots, waits_for, is_unblocked, is_due, is_earlier_on_port, is_flush, is_plain, issued_count}
 use Rattle.request_queue.specs.Blockers.{has_blocker, is_read_or_write, may_be_blocked, may_block, without_blocker}
 use Rattle.request_queue.proofs.Members.{count_cons, contains_none, contains_here, contains_there, contains_cases}
 
@@ -107,7 +107,7 @@ module _ (mode : QueueMode) (port : Port) (book : List Unanswered) where
 
   -- its blocker was accepted before it, on its port
   its_holder : (r : Unanswered) → has_blocker book r ≡ true → (o : Unanswered) × Contains book o × ((o.port.0 == r.port.0) ≡ true) × (o.id.0 < r.id.0)
-      × (conflict o r ≡ true)
+      × (are_conflicting o r ≡ true)
   its_holder r held =
       let any = one_found (may_block r) book (and_parts (may_be_blocked r) _ held).1 in
       let parts = and_parts (is_earlier_on_port any.0 r) _ any.2 in
@@ -120,7 +120,7 @@ module _ (mode : QueueMode) (port : Port) (book : List Unanswered) where
       let o = its_holder r held in
       both_ways _ (not-true _ (and_parts (not r.issued) _ clear).1) (found (waits_for mode r) book o.0 o.1 (by o.0 o.2 (lt-ltb o.0.id.0 r.id.0 o.3) o.4 (is_plain mode r.op) refl)))
     where
-      by : (o : Unanswered) → (o.port.0 == r.port.0) ≡ true → nat_lt o.id.0 r.id.0 ≡ true → conflict o r ≡ true → (b : Bool) → is_plain mode r.op ≡ b → waits_for mode r o ≡ true
+      by : (o : Unanswered) → (o.port.0 == r.port.0) ≡ true → nat_lt o.id.0 r.id.0 ≡ true → are_conflicting o r ≡ true → (b : Bool) → is_plain mode r.op ≡ b → waits_for mode r o ≡ true
       by o same lt meets true plain = and_from _ _ same (cond-true (is_plain mode r.op) _ _ plain ∙ or_right o.issued _ lt)
       by o same lt meets false queued = and_from _ _ same
           (cond-false (is_plain mode r.op) _ _ queued ∙ or_right (is_plain mode o.op && o.issued) _ (and_from _ _ lt (or_right (is_plain mode o.op) _ meets)))
@@ -153,7 +153,7 @@ module _ (mode : QueueMode) (port : Port) (book : List Unanswered) where
       o = any.0
 
       parts : ((o.port.0 == x.port.0) ≡ true) × (cond (is_plain mode x.op) (o.issued || nat_lt o.id.0 x.id.0)
-          ((is_plain mode o.op && o.issued) || (nat_lt o.id.0 x.id.0 && (is_plain mode o.op || conflict o x))) ≡ true)
+          ((is_plain mode o.op && o.issued) || (nat_lt o.id.0 x.id.0 && (is_plain mode o.op || are_conflicting o x))) ≡ true)
       parts = and_parts (o.port.0 == x.port.0) _ any.2
 
       mine : ((x.port.0 == port.0) ≡ true) × (not (has_blocker book x) ≡ true)
@@ -180,7 +180,7 @@ module _ (mode : QueueMode) (port : Port) (book : List Unanswered) where
           (and_from _ _ same (cond-true (is_plain mode x.op) _ _ plain ∙ or_right f.0.issued _ (lt-ltb f.0.id.0 x.id.0 (omega (arith, low, lt)))))
 
       -- a queued one would have a blocker
-      none : has_blocker book o ≡ true → nat_lt o.id.0 x.id.0 ≡ true → is_plain mode x.op ≡ false → conflict o x ≡ true → ⊥
+      none : has_blocker book o ≡ true → nat_lt o.id.0 x.id.0 ≡ true → is_plain mode x.op ≡ false → are_conflicting o x ≡ true → ⊥
       none held less queued meets =
           both_ways _ (not-true _ mine.1)
           (and_from (may_be_blocked x) _ (and_from (not x.issued) _ (ap not free) (queued_is_read_or_write mode x.op queued))
@@ -193,12 +193,12 @@ module _ (mode : QueueMode) (port : Port) (book : List Unanswered) where
           (or_cases o.issued _ (sym (cond-true (is_plain mode x.op) _ _ plain) ∙ parts.1))
       out_of held false queued = ⊎_elim
           (λ (alone : (is_plain mode o.op && o.issued) ≡ true). absurd (both_ways _ (waits o held) (and_parts (is_plain mode o.op) _ alone).1))
-          (λ (early : (nat_lt o.id.0 x.id.0 && (is_plain mode o.op || conflict o x)) ≡ true).
+          (λ (early : (nat_lt o.id.0 x.id.0 && (is_plain mode o.op || are_conflicting o x)) ≡ true).
           let two = and_parts (nat_lt o.id.0 x.id.0) _ early in
           let read_or_write = (and_parts (not o.issued) _ (and_parts (may_be_blocked o) _ held).0).1 in
           absurd (⊎_elim
           (λ (plain : is_plain mode o.op ≡ true). both_ways _ (queued_with mode x.op o.op queued read_or_write) plain)
-          (λ (meets : conflict o x ≡ true). none held two.0 queued meets)
+          (λ (meets : are_conflicting o x ≡ true). none held two.0 queued meets)
           (or_cases (is_plain mode o.op) _ two.1)))
           (or_cases (is_plain mode o.op && o.issued) _ (sym (cond-false (is_plain mode x.op) _ _ queued) ∙ parts.1))
 
@@ -225,7 +225,7 @@ module _ (mode : QueueMode) (port : Port) (book : List Unanswered) where
       by true held = held_back x held
       by false free = absurd (both_ways _ out (and_from _ _ own (ap not free)))
 
-  same_ahead : (r : Unanswered) → (r.port.0 == port.0) ≡ true → ahead mode (without_blocker port book) r ≡ ahead mode book r
+  same_ahead : (r : Unanswered) → (r.port.0 == port.0) ≡ true → unblocked_ahead_count mode (without_blocker port book) r ≡ unblocked_ahead_count mode book r
   same_ahead r own = sym (counted_within p (λ (o : Unanswered). is_earlier_on_port o r && is_unblocked mode (without_blocker port book) o) (λ (o : Unanswered). is_earlier_on_port o r && is_unblocked mode book o) book (λ o there. go o (p o) refl))
     where
       go : (o : Unanswered) (b : Bool) → p o ≡ b → (is_earlier_on_port o r && is_unblocked mode book o) ≡ (p o && (is_earlier_on_port o r && is_unblocked mode (without_blocker port book) o))
@@ -256,9 +256,9 @@ module _ (mode : QueueMode) (port : Port) (book : List Unanswered) where
       let its : r.port ≡ port = ap (λ (n : ℕ). record { 0 = n }) (eqb-true r.port.0 port.0 own) in
       let slots : free_slots mode (without_blocker port book) r.port ≡ free_slots mode book r.port =
       subst (λ (x : Port). free_slots mode (without_blocker port book) x ≡ free_slots mode book x) (sym its) (ap (λ (n : ℕ). mode.usable - n) same_issued) in
-      ap (λ (b : Bool). b && (is_plain mode r.op || nat_lt (ahead mode (without_blocker port book) r) (free_slots mode (without_blocker port book) r.port))) (same_clear r passes)
+      ap (λ (b : Bool). b && (is_plain mode r.op || nat_lt (unblocked_ahead_count mode (without_blocker port book) r) (free_slots mode (without_blocker port book) r.port))) (same_clear r passes)
       ∙ (ap (λ (n : ℕ). is_unblocked mode book r && (is_plain mode r.op || nat_lt n (free_slots mode (without_blocker port book) r.port))) (same_ahead r own)
-      ∙ ap (λ (n : ℕ). is_unblocked mode book r && (is_plain mode r.op || nat_lt (ahead mode book r) n)) slots)
+      ∙ ap (λ (n : ℕ). is_unblocked mode book r && (is_plain mode r.op || nat_lt (unblocked_ahead_count mode book r) n)) slots)
 
   pub due_without : due_of mode port (without_blocker port book) ≡ due_of mode port book
   due_without = sym (filtered_twice p (λ (r : Unanswered). r.port.0 == port.0 && is_due mode (without_blocker port book) r) (λ (r : Unanswered). r.port.0 == port.0 && is_due mode book r) book (λ r there. go r (p r) refl))

@@ -12,7 +12,7 @@ use Rattle.ata_types.specs.declared.Port.{Port}
 use Rattle.ata_types.specs.declared.request.RequestId.{RequestId}
 use Rattle.block_machine.specs.declared.due.QueueMode.{QueueMode}
 use Rattle.block_machine.specs.declared.due.Unanswered.{Unanswered}
-use Rattle.block_machine.specs.Due.{IsInOrder, conflict, waits_for, is_plain, is_unblocked, ahead, free_slots, is_due, due_ahead}
+use Rattle.block_machine.specs.DueRequests.{IsInOrder, are_conflicting, waits_for, is_plain, is_unblocked, unblocked_ahead_count, free_slots, is_due, due_ahead_count}
 use Rattle.request_queue.proofs.Members.{taken_more, count_least, none_pass}
 
 turn : (a b c : Bool) → ((a && b) && c) ≡ (b && (a && c))
@@ -52,7 +52,7 @@ StandBefore = (passes : Unanswered → Bool) (front back : List Unanswered) (r :
 
 abbrev pub SlotsByDue : Type 0
 SlotsByDue = (mode : QueueMode) (book : List Unanswered) (r : Unanswered) → IsInOrder book → Contains book r
-    → (ahead mode book r < free_slots mode book r.port) ↔ (due_ahead mode book r < free_slots mode book r.port)
+    → (unblocked_ahead_count mode book r < free_slots mode book r.port) ↔ (due_ahead_count mode book r < free_slots mode book r.port)
 
 module _ (before : StandBefore) (by_due : SlotsByDue) (mode : QueueMode) (port : Port) (book : List Unanswered) (ordered : IsInOrder book) where
   here : (i : ℕ) (r : Unanswered) → slice_get book i ≡ Some r → Contains book r
@@ -64,12 +64,12 @@ module _ (before : StandBefore) (by_due : SlotsByDue) (mode : QueueMode) (port :
       ∙ (ap (λ (xs : List Unanswered). xs ++ drop (i + 1) book) (taken_more book i r at) ∙ append_assoc (take i book) (r ∷ []) (drop (i + 1) book))
 
   -- those that are due before a request are those that the walk took
-  taken : (i : ℕ) (r : Unanswered) → slice_get book i ≡ Some r → r.port ≡ port → due_ahead mode book r ≡ count_by (due_test mode port book) (take i book)
+  taken : (i : ℕ) (r : Unanswered) → slice_get book i ≡ Some r → r.port ≡ port → due_ahead_count mode book r ≡ count_by (due_test mode port book) (take i book)
   taken i r at own =
       let q : Unanswered → Bool = λ y. (y.port.0 == r.port.0) && is_due mode book y in
       let p : Unanswered → Bool = λ y. nat_lt y.id.0 r.id.0 && q y in
       let is = split i r at in
-      let a : due_ahead mode book r ≡ count_by p book = ap (λ (t : Unanswered → Bool). count_by t book) (λ j y. turn (y.port.0 == r.port.0) (nat_lt y.id.0 r.id.0) (is_due mode book y) j) in
+      let a : due_ahead_count mode book r ≡ count_by p book = ap (λ (t : Unanswered → Bool). count_by t book) (λ j y. turn (y.port.0 == r.port.0) (nat_lt y.id.0 r.id.0) (is_due mode book y) j) in
       let b : count_by p book ≡ count_by p (take i book ++ r ∷ drop (i + 1) book) = ap (λ (xs : List Unanswered). count_by p xs) is in
       let c = before q (take i book) (drop (i + 1) book) r (subst (λ (xs : List Unanswered). IsInOrder xs) is ordered) in
       let d : count_by q (take i book) ≡ count_by (due_test mode port book) (take i book) = ap (λ (x : Port). count_by (λ (y : Unanswered). (y.port.0 == x.0) && is_due mode book y) (take i book)) own in
@@ -83,10 +83,10 @@ module _ (before : StandBefore) (by_due : SlotsByDue) (mode : QueueMode) (port :
       → walk_test mode book r given (free_slots mode book port) ≡ due_test mode port book r
   walks i r given at mine counted =
       let own = own_port r mine in
-      let slots : nat_lt given (free_slots mode book port) ≡ nat_lt (ahead mode book r) (free_slots mode book r.port) =
+      let slots : nat_lt given (free_slots mode book port) ≡ nat_lt (unblocked_ahead_count mode book r) (free_slots mode book r.port) =
       ap (λ (n : ℕ). nat_lt n (free_slots mode book port)) (counted ∙ sym (taken i r at own))
-      ∙ (ap (λ (x : Port). nat_lt (due_ahead mode book r) (free_slots mode book x)) (sym own)
-      ∙ sym (same_lt (ahead mode book r) (due_ahead mode book r) (free_slots mode book r.port) (by_due mode book r ordered (here i r at)))) in
+      ∙ (ap (λ (x : Port). nat_lt (due_ahead_count mode book r) (free_slots mode book x)) (sym own)
+      ∙ sym (same_lt (unblocked_ahead_count mode book r) (due_ahead_count mode book r) (free_slots mode book r.port) (by_due mode book r ordered (here i r at)))) in
       ap (λ (x : Bool). is_unblocked mode book r && (is_plain mode r.op || x)) slots ∙ sym (ap (λ (b : Bool). b && is_due mode book r) mine)
 
   -- what stands in the way of a request isn't there where the request is clear
@@ -116,20 +116,20 @@ module _ (before : StandBefore) (by_due : SlotsByDue) (mode : QueueMode) (port :
           omega (arith, lt, p, q)
 
       by : (r.port.0 == o.port.0) ≡ true → nat_lt r.id.0 o.id.0 ≡ true → (waits_for mode o r ≡ true → ⊥) → o.port ≡ port
-          → (is_plain mode o.op || nat_lt (ahead mode book o) (free_slots mode book o.port)) ≡ true
+          → (is_plain mode o.op || nat_lt (unblocked_ahead_count mode book o) (free_slots mode book o.port)) ≡ true
           → (b : Bool) → is_plain mode o.op ≡ b → (is_plain mode r.op || not (nat_lt given (free_slots mode book port))) ≡ true → ⊥
       by same lt held own slot true plain last =
           held (and_from _ _ same (cond-true (is_plain mode o.op) _ _ plain ∙ or_right r.issued _ lt))
       by same lt held own slot false queued last = ⊎_elim
           (λ (alone : is_plain mode r.op ≡ true).
-          held (and_from _ _ same (cond-false (is_plain mode o.op) _ _ queued ∙ or_right (is_plain mode r.op && r.issued) _ (and_from _ _ lt (or_left (is_plain mode r.op) (conflict r o) alone)))))
+          held (and_from _ _ same (cond-false (is_plain mode o.op) _ _ queued ∙ or_right (is_plain mode r.op && r.issued) _ (and_from _ _ lt (or_left (is_plain mode r.op) (are_conflicting r o) alone)))))
           (λ (spent : not (nat_lt given (free_slots mode book port)) ≡ true).
           let few = ⊎_elim
           (λ (plain : is_plain mode o.op ≡ true). absurd (both_ways _ queued plain))
-          (λ (few : nat_lt (ahead mode book o) (free_slots mode book o.port) ≡ true). few)
+          (λ (few : nat_lt (unblocked_ahead_count mode book o) (free_slots mode book o.port) ≡ true). few)
           (or_cases (is_plain mode o.op) _ slot) in
-          let less = (by_due mode book o ordered (here j o at_j)).0 (ltb-true (ahead mode book o) (free_slots mode book o.port) few) in
-          let due : due_ahead mode book o < free_slots mode book port = subst (λ (x : Port). due_ahead mode book o < free_slots mode book x) own less in
+          let less = (by_due mode book o ordered (here j o at_j)).0 (ltb-true (unblocked_ahead_count mode book o) (free_slots mode book o.port) few) in
+          let due : due_ahead_count mode book o < free_slots mode book port = subst (λ (x : Port). due_ahead_count mode book o < free_slots mode book x) own less in
           let t = taken j o at_j own in
           let more = count_least (due_test mode port book) book (i + 1) j later in
           let fits : given < free_slots mode book port = omega (arith, due, t, more, counted) in

@@ -6,7 +6,7 @@ use Rattle.ata_types.specs.declared.Port.{Port}
 use Rattle.ata_types.specs.declared.request.Op.{Op}
 use Rattle.ata_types.specs.declared.request.Op.TheVariants.{Read, Write, Trim, Flush}
 use Rattle.ata_types.specs.declared.request.RequestId.{RequestId}
-use Rattle.block_machine.specs.Due.{conflict, is_earlier_on_port}
+use Rattle.block_machine.specs.DueRequests.{are_conflicting, is_earlier_on_port}
 use Rattle.block_machine.specs.declared.due.Unanswered.{Unanswered}
 use Rattle.request_queue.specs.declared.blocker.TheConstants.{NOBODY}
 
@@ -24,7 +24,7 @@ may_be_blocked r = not r.issued && is_read_or_write r.op
 
 -- the other was accepted before the request, and conflicts with it
 abbrev pub may_block : Unanswered → Unanswered → Bool
-may_block r other = is_earlier_on_port other r && conflict other r
+may_block r other = is_earlier_on_port other r && are_conflicting other r
 
 -- the request is a waiting read or write, and one of the book may hold it
 abbrev pub has_blocker : List Unanswered → Unanswered → Bool
@@ -38,8 +38,8 @@ IsBlockerOf book r (Some id) = (may_be_blocked r ≡ true)
 
 -- each request's blocker, in order of acceptance
 pub record AreBlockers (book : List Unanswered) (blockers : List (Option RequestId)) : Type 0 where
-  pub number : length blockers ≡ length book
-  pub each : (k : ℕ) (d : Unanswered) → k < length book
+  pub lengths_are_same : length blockers ≡ length book
+  pub blocker_of_each : (k : ℕ) (d : Unanswered) → k < length book
       → IsBlockerOf book (slice_index_or book k d) (slice_index_or blockers k None)
 
 -- A blocker in one word: its id. The greatest id stands for none, since no blocker has it.
@@ -54,10 +54,11 @@ is_blocked_by id (Some blocker) = blocker.0 == id.0
 -- The same, but for those from a place on whose blocker has left the book: the one with this id.
 pub record AreBlockersBut (id : RequestId) (place : ℕ) (book : List Unanswered) (blockers : List (Option RequestId))
     : Type 0 where
-  pub number : length blockers ≡ length book
-  pub before : (k : ℕ) (d : Unanswered) → k < place → k < length book
+  pub lengths_are_same : length blockers ≡ length book
+  pub blockers_before_place : (k : ℕ) (d : Unanswered) → k < place → k < length book
       → IsBlockerOf book (slice_index_or book k d) (slice_index_or blockers k None)
-  pub each : (k : ℕ) (d : Unanswered) → k < length book → is_blocked_by id (slice_index_or blockers k None) ≡ false
+  pub other_blockers : (k : ℕ) (d : Unanswered) → k < length book → is_blocked_by id (slice_index_or blockers k None)
+      ≡ false
       → IsBlockerOf book (slice_index_or book k d) (slice_index_or blockers k None)
 
 -- the requests of the port that have no blocker, in order of acceptance

@@ -18,6 +18,6 @@ listed_requests lists book = if lists.unlisted then [] else book
 
 -- the lists are those of the book
 pub record AreConflictLists (book : List Unanswered) (lists : ConflictLists) : Type 0 where
-  pub indexed : AreIndexed (listed_requests lists book) lists.sectors
-  pub listed : lists.flushes ≡ flushes_among (listed_requests lists book)
-  pub alone : lists.unlisted ≡ true → length book ≡ 1
+  pub sectors_are_indexed : AreIndexed (listed_requests lists book) lists.sectors
+  pub flushes_are_listed : lists.flushes ≡ flushes_among (listed_requests lists book)
+  pub unlisted_is_alone : lists.unlisted ≡ true → length book ≡ 1

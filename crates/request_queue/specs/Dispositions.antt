@@ -4,8 +4,8 @@ use Rattle.ata_types.specs.declared.request.Outcome.{Outcome}
 use Rattle.ata_types.specs.declared.request.Outcome.TheVariants.{Aborted, DeviceError, PortDead, Revoked, Unplugged}
 use Rattle.ata_types.specs.declared.request.Reply.{Reply}
 use Rattle.dma_frames.specs.Loan.{Lending}
-use Rattle.dma_frames.specs.Table.{Table, LendsOnly}
-use Rattle.request_queue.specs.Entries.{BookEntry, GivesBack, update_if_id, requeued_entry, without_entry}
+use Rattle.dma_frames.specs.FrameTables.{FrameOwnership, LendsOnly}
+use Rattle.request_queue.specs.BookEntries.{BookEntry, GivesBack, update_if_id, requeued_entry, without_entry}
 use Rattle.request_queue.specs.declared.PendingRequest.{PendingRequest}
 use Rattle.request_queue.specs.declared.disposition.FailedRequest.{FailedRequest}
 use Rattle.request_queue.specs.declared.disposition.Disposition.{Disposition}
@@ -41,7 +41,7 @@ keeps_loan _ e = false
 -- the unanswered requests of all ports, what is lent, and the loans that are kept of one port
 pub record BookAndLoans : Type 0 where
   pub book : List BookEntry
-  pub table : Table
+  pub table : FrameOwnership
   pub kept : List Lending
 
 -- how the client is told
@@ -76,7 +76,7 @@ AreResolved disposition (request ∷ requests) replies old new =
 -- others are left, and what was lent to those is given back.
 pub record CompletesAllWith (passes : PendingRequest → Bool) (outcome : Outcome) (replies : List Reply)
     (old new : BookAndLoans) : Type 0 where
-  pub told : replies ≡ map (λ e. reply_to e outcome) (filter (λ e. passes e.entry) old.book)
-  pub left : new.book ≡ filter (λ e. not (passes e.entry)) old.book
-  pub given : GivesBack old.table new.table (filter (λ e. passes e.entry) old.book)
-  pub kept : new.kept ≡ old.kept
+  pub replies_are : replies ≡ map (λ e. reply_to e outcome) (filter (λ e. passes e.entry) old.book)
+  pub others_are_left : new.book ≡ filter (λ e. not (passes e.entry)) old.book
+  pub loans_are_given_back : GivesBack old.table new.table (filter (λ e. passes e.entry) old.book)
+  pub kept_is_same : new.kept ≡ old.kept

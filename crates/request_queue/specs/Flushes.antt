@@ -1,6 +1,6 @@
 -- The unanswered flushes, as they are listed (this project's own).
 use Rattle.std.specs.Prelude.{Bool, ◌&&◌, ◌==◌, nat_lt, List, map, filter}
-use Rattle.block_machine.specs.Due.{is_flush}
+use Rattle.block_machine.specs.DueRequests.{is_flush}
 use Rattle.block_machine.specs.declared.due.Unanswered.{Unanswered}
 use Rattle.request_queue.specs.declared.flushes.Flush.{Flush}
 

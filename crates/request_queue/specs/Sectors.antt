@@ -2,7 +2,7 @@
 use Rattle.std.specs.Prelude.{ℕ, ◌≡◌, ◌≢◌, ◌↔◌, ◌<◌, ◌%◌, ◌==◌, Bool, false, not, ◌&&◌, List, [], length, count_by, AllPairs, Contains, slice_index_or}
 use Rattle.ata_types.specs.declared.Port.{Port}
 use Rattle.block_machine.specs.declared.due.Unanswered.{Unanswered}
-use Rattle.block_machine.specs.Due.{is_flush, changes_sectors}
+use Rattle.block_machine.specs.DueRequests.{is_flush, changes_sectors}
 use Rattle.request_queue.specs.declared.ranges.BookRange.{BookRange}
 
 -- the request as it is indexed
@@ -28,11 +28,11 @@ is_in_list list r = (index_of_port r.port == list) && not (is_flush r.op)
 
 -- The list has the items of those requests, as many as there are of them, and no two of one id.
 pub record IsListOf (list : ℕ) (book : List Unanswered) (items : List BookRange) : Type 0 where
-  pub sectors : AreSectorsOf list book items
-  pub number : length items ≡ count_by (is_in_list list) book
+  pub has_their_sectors : AreSectorsOf list book items
+  pub length_is : length items ≡ count_by (is_in_list list) book
   pub distinct : AllPairs (λ (a : BookRange) (b : BookRange). a.id ≢ b.id) items
 
 -- the four lists have the sectors of all requests
 pub record AreIndexed (book : List Unanswered) (lists : List (List BookRange)) : Type 0 where
-  pub four : length lists ≡ 4
-  pub each : (list : ℕ) → list < 4 → IsListOf list book (slice_index_or lists list [])
+  pub four_lists : length lists ≡ 4
+  pub each_is_list_of : (list : ℕ) → list < 4 → IsListOf list book (slice_index_or lists list [])

@@ -50,7 +50,7 @@ impl Blocker {
     }
 
     /// Whether the blocker is the request with this id.
-    pub fn is(&self, id: RequestId) -> bool
+    pub fn is_request(&self, id: RequestId) -> bool
         ensures { result ≡ is_blocked_by id self.now }
     {
         self.id == id.0 && self.id != NOBODY

@@ -3,7 +3,7 @@ ghost use Rattle.std.specs.Prelude.{◌≡◌, ◌<◌, ◌≤◌, ◌&&◌, [],
 ghost use Rattle.std.specs.List.{list_any};
 ghost use Rattle.block_machine.specs.declared.due.Unanswered.{Unanswered};
 ghost use Rattle.request_queue.specs.Conflicts.{AreConflictLists};
-ghost use Rattle.request_queue.specs.Entries.{asks_of};
+ghost use Rattle.request_queue.specs.BookEntries.{unanswered_of};
 ghost use Rattle.request_queue.specs.Flushes.{flushes_among, is_earlier_flush};
 ghost use Rattle.request_queue.specs.Blockers.{AreBlockers, AreBlockersBut, IsBlockerOf, is_read_or_write, may_be_blocked};
 ghost use Rattle.request_queue.specs.Sectors.{AreIndexed};
@@ -12,14 +12,14 @@ use crate::blocker::Blocker;
 use crate::conflicts::Conflicts;
 use crate::flushes::{Flush, earlier_flush};
 use crate::ranges::Ranges;
+use crate::request_slab::RequestSlab;
 use crate::sectors::{index_of_port, item_of};
-use crate::store::RequestSlab;
 use ata_types::{MOST_UNANSWERED, Op, PORTS, RequestId};
 use block_machine::Unanswered;
 use std::alloc::{AllocError, Global};
 
 /// Holders of no requests, with room for 128. No other call takes memory.
-pub fn no_blockers(alloc: Global) -> Result<Vec<Blocker>, AllocError>
+pub fn empty_blockers(alloc: Global) -> Result<Vec<Blocker>, AllocError>
     ensures { IfOk result (λ blockers. (blockers.items ≡ []) × (MOST_UNANSWERED ≤ vec_capacity blockers)) }
 {
     let blockers = Vec::with_capacity(alloc, MOST_UNANSWERED)?;
@@ -37,13 +37,13 @@ pub fn blocker_of(sectors: &[Ranges; PORTS], flushes: &[Flush], request: &Unansw
     }
     match sectors[index_of_port(request.port)].earlier_conflict(&item_of(request)) {
         Some(blocker) => Blocker::of(request.id, blocker.id),
-        None => held_by_flush(flushes, request),
+        None => blocking_flush(flushes, request),
     }
 }
 
 /// Searches anew for the blockers of those that a request held which is answered. It stands at this place of the store
 /// still, and was taken out of the lists of conflicts, as its own blocker was of the blockers.
-pub fn refind_blockers(
+pub fn update_blockers(
     blockers: &mut Vec<Blocker>,
     conflicts: &Conflicts,
     store: &RequestSlab,
@@ -51,21 +51,21 @@ pub fn refind_blockers(
     answered: RequestId,
 )
     requires place { place < length store.now }
-    requires lists { AreConflictLists (remove (asks_of store.now) place) conflicts.now }
-    requires but { AreBlockersBut answered place (remove (asks_of store.now) place) blockers.old.items }
-    ensures blockers { AreBlockers (remove (asks_of store.now) place) blockers.new.items }
+    requires lists { AreConflictLists (remove (unanswered_of store.now) place) conflicts.now }
+    requires but { AreBlockersBut answered place (remove (unanswered_of store.now) place) blockers.old.items }
+    ensures blockers { AreBlockers (remove (unanswered_of store.now) place) blockers.new.items }
     ensures room { vec_capacity blockers.new ≡ vec_capacity blockers.old }
 {
     for later in place..blockers.len() {
-        if blockers[later].is(answered) {
-            let blocker = conflicts.blocker(&store.asks(later + 1));
+        if blockers[later].is_request(answered) {
+            let blocker = conflicts.blocker(&store.unanswered(later + 1));
             blockers[later] = blocker;
         }
     }
 }
 
 /// The flush that a request waits for, if there is one.
-fn held_by_flush(flushes: &[Flush], request: &Unanswered) -> Blocker
+fn blocking_flush(flushes: &[Flush], request: &Unanswered) -> Blocker
     ensures none { IfNone result (list_any (is_earlier_flush request.now) flushes.now ≡ false) }
     ensures found { IfSome result (λ id. (flush : Flush) × Contains flushes.now flush × (flush.id ≡ id)
         × (is_earlier_flush request.now flush ≡ true)) }

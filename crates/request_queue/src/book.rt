@@ -1,19 +1,19 @@
 // The book.
 ghost use Rattle.std.specs.Prelude.{◌≡◌, ◌&&◌, ◌==◌, ◌↔◌, ◌<◌, ◌≤◌, ◌++◌, ◌∷◌, [], length, map, remove, All, AllPairs, Contains, IfOk, IfSome, IsTrue, Some, slice_get, vec_capacity};
-ghost use Rattle.block_machine.specs.Due.{is_due};
+ghost use Rattle.block_machine.specs.DueRequests.{is_due};
 ghost use Rattle.block_machine.specs.Rules.{HasNoFault, is_same_grant_name};
-ghost use Rattle.dma_frames.specs.Table.{LendsOnly, lent_to, owner_of};
+ghost use Rattle.dma_frames.specs.FrameTables.{LendsOnly, lent_to, owner_of};
 ghost use Rattle.request_queue.specs.BookIndexes.{IndexesMatch};
 ghost use Rattle.request_queue.specs.Blockers.{AreBlockers};
-ghost use Rattle.request_queue.specs.Entries.{due_ids};
-ghost use Rattle.request_queue.specs.Entries.{BookEntry, GivesBack, IsEarlier, IsNewlyAccepted, BookIsInOrder, IsUnanswered, IsWaiting, MayGoAgain, HasItsFrames, IsAnyOverdue, IsOverdue, IsOverdueOn, aged, asks_of, update_if_id, ids_where, is_among, is_of_port, issue, lone_due, older_entry, requeued_entry, all_marked_under, marked_under, entry_count_of_client, waits_under, without_entry};
+ghost use Rattle.request_queue.specs.BookEntries.{due_ids};
+ghost use Rattle.request_queue.specs.BookEntries.{BookEntry, GivesBack, IsEarlier, IsNewlyAccepted, BookIsInOrder, IsUnanswered, IsWaiting, MayGoAgain, HasItsFrames, IsAnyOverdue, IsOverdue, IsOverdueOn, aged_entries, unanswered_of, update_if_id, ids_where, is_among, is_of_port, issued_entry, lone_due, aged_entry, requeued_entry, all_marked_under, marked_under, entry_count_of_client, waits_under, without_entry};
 
 use crate::PendingRequest;
 use crate::blocker::Blocker;
-use crate::blockers::{no_blockers, refind_blockers};
+use crate::blockers::{empty_blockers, update_blockers};
 use crate::conflicts::Conflicts;
 use crate::due::{DueIds, list_due};
-use crate::store::{RequestSlab, asks_of};
+use crate::request_slab::{RequestSlab, unanswered_of};
 use arrayvec::ArrayVec;
 use ata_types::{ClientId, Frame, MOST_REQUEST_FRAMES, MOST_UNANSWERED, Port, RequestId};
 use block_machine::{QueueMode, Unanswered, is_plain};
@@ -47,7 +47,7 @@ impl Model for Book {
     ghost use Rattle.std.specs.Prelude.{List, ◌≡◌, ◌≤◌, vec_capacity};
     ghost use Rattle.ata_types.specs.declared.limits.TheConstants.{MOST_UNANSWERED};
     ghost use Rattle.request_queue.specs.ClientCounts.{AreClientCounts};
-    ghost use Rattle.request_queue.specs.Entries.{BookEntry, BookIsInOrder, asks_of};
+    ghost use Rattle.request_queue.specs.BookEntries.{BookEntry, BookIsInOrder, unanswered_of};
     ghost use Rattle.request_queue.specs.BookIndexes.{IndexesMatch};
     ghost use Rattle.request_queue.specs.Conflicts.{AreConflictLists};
     ghost use Rattle.request_queue.specs.Blockers.{AreBlockers};
@@ -56,8 +56,8 @@ impl Model for Book {
 
     ghost view = { λ b. b.store };
 
-    ghost invariant = { λ b. BookIsInOrder b.store × AreConflictLists (asks_of b.store) b.conflicts
-        × AreBlockers (asks_of b.store) b.blockers.items × (MOST_UNANSWERED ≤ vec_capacity b.blockers)
+    ghost invariant = { λ b. BookIsInOrder b.store × AreConflictLists (unanswered_of b.store) b.conflicts
+        × AreBlockers (unanswered_of b.store) b.blockers.items × (MOST_UNANSWERED ≤ vec_capacity b.blockers)
         × AreClientCounts b.store b.counts };
 }
 
@@ -70,7 +70,7 @@ impl Book {
         let Ok(conflicts) = Conflicts::new(alloc) else {
             return Err(NoMemory);
         };
-        let Ok(blockers) = no_blockers(alloc) else {
+        let Ok(blockers) = empty_blockers(alloc) else {
             return Err(NoMemory);
         };
         match RequestSlab::new(alloc) {
@@ -92,7 +92,7 @@ impl Book {
     }
 
     /// How many of the requests are the client's.
-    pub fn unanswered(&self, client: ClientId) -> usize
+    pub fn unanswered_count(&self, client: ClientId) -> usize
         ensures { result ≡ entry_count_of_client self.now client.0 }
     {
         match self.counts.get(usize::from(client.0)) {
@@ -113,7 +113,7 @@ impl Book {
         ensures lent { LendsOnly table.old table.new frames.now (Some request.id) }
     {
         self.counts[usize::from(request.client.0)] += 1;
-        let blocker = self.conflicts.add(&self.store, &asks_of(request));
+        let blocker = self.conflicts.add(&self.store, &unanswered_of(request));
         self.blockers.push_reserved(blocker);
         self.store.push(request, frames, table);
     }
@@ -123,7 +123,7 @@ impl Book {
     /// are counted: its port is dead.
     pub fn issuable(&self, mode: QueueMode, port: Port, due: &mut DueIds)
         requires { mode.usable ≤ 32 }
-        ensures { due.new.items ≡ due_ids mode port (asks_of self.now) }
+        ensures { due.new.items ≡ due_ids mode port (unanswered_of self.now) }
     {
         due.clear();
         list_due(&self.store, self.blockers.as_slice(), mode, port, due);
@@ -131,13 +131,13 @@ impl Book {
 
     /// The id of the only request of the book, where it is due on the port. Where there are others, `issuable` tells.
     pub fn lone_due(&self, mode: QueueMode, port: Port) -> Option<RequestId>
-        ensures value { result ≡ lone_due mode port (asks_of self.now) }
-        ensures due { IfSome result (λ id. due_ids mode port (asks_of self.now) ≡ id ∷ []) }
+        ensures value { result ≡ lone_due mode port (unanswered_of self.now) }
+        ensures due { IfSome result (λ id. due_ids mode port (unanswered_of self.now) ≡ id ∷ []) }
     {
         if self.store.len() != 1 {
             return None;
         }
-        let asks = self.store.asks(0);
+        let asks = self.store.unanswered(0);
         if is_due_alone(mode, port, &asks) {
             Some(asks.id)
         } else {
@@ -171,16 +171,20 @@ impl Book {
 
     /// The ids of the requests that wait, and were accepted under this grant of the client: those that are answered
     /// once it is revoked.
-    pub fn waiting_of(&self, client: ClientId, grant: u8) -> ArrayVec<RequestId, MOST_UNANSWERED>
+    pub fn waiting_ids_under(
+        &self,
+        client: ClientId,
+        grant: u8,
+    ) -> ArrayVec<RequestId, MOST_UNANSWERED>
         ensures { result.items ≡ ids_where (waits_under client grant) self.now }
     {
-        waiting_of(&self.store, client, grant)
+        waiting_ids_under(&self.store, client, grant)
     }
 
     /// Notes that a waiting request is issued.
     pub fn issue(&mut self, id: RequestId)
         requires { IsWaiting id self.old }
-        ensures { self.new ≡ map (update_if_id id issue) self.old }
+        ensures { self.new ≡ map (update_if_id id issued_entry) self.old }
     {
         let place = place_of(&self.store, id);
         let old = self.store.request(place);
@@ -210,14 +214,14 @@ impl Book {
                 ..old
             },
         );
-        let blocker = self.conflicts.blocker(&self.store.asks(place));
+        let blocker = self.conflicts.blocker(&self.store.unanswered(place));
         self.blockers[place] = blocker;
     }
 
     /// Notes a tick: the issued requests of these ports, by number, are a tick older. An age counts to three and no
     /// further. It tells whether an issued request is overdue then, of whichever port.
     pub fn tick(&mut self, ports: &[bool]) -> bool
-        ensures older_entry { self.new ≡ aged (is_among ports.now) self.old }
+        ensures aged_entry { self.new ≡ aged_entries (is_among ports.now) self.old }
         ensures overdue { IsTrue result ↔ IsAnyOverdue self.new }
     {
         age(&mut self.store, self.blockers.as_slice(), ports)
@@ -231,7 +235,7 @@ impl Book {
     }
 
     /// Whether an issued request of the port is overdue: it was issued three ticks of its port ago, and isn't answered.
-    pub fn overdue(&self, port: Port) -> bool
+    pub fn has_overdue(&self, port: Port) -> bool
         ensures { IsTrue result ↔ IsOverdue port self.now }
     {
         for place in 0..self.store.len() {
@@ -252,7 +256,7 @@ impl Book {
         ensures rest { self.new ≡ without_entry id self.old }
     {
         let place = place_of(&self.store, id);
-        take_beside(
+        remove_from_indexes(
             &mut self.conflicts,
             &mut self.blockers,
             &mut self.counts,
@@ -271,7 +275,7 @@ impl Book {
         ensures rest { self.new ≡ without_entry id self.old }
     {
         let place = place_of(&self.store, id);
-        take_beside(
+        remove_from_indexes(
             &mut self.conflicts,
             &mut self.blockers,
             &mut self.counts,
@@ -328,7 +332,7 @@ fn place_of(store: &RequestSlab, id: RequestId) -> usize
 }
 
 /// Takes the request at a place out of what stands beside the store, before it is taken out of the store.
-fn take_beside(
+fn remove_from_indexes(
     conflicts: &mut Conflicts,
     blockers: &mut Vec<Blocker>,
     counts: &mut [usize; COUNTS],
@@ -342,9 +346,9 @@ fn take_beside(
     ensures blockers { vec_capacity blockers.new ≡ vec_capacity blockers.old }
 {
     let request = store.request(place);
-    conflicts.take(store, place);
+    conflicts.remove(store, place);
     blockers.remove(place);
-    refind_blockers(blockers, conflicts, store, place, request.id);
+    update_blockers(blockers, conflicts, store, place, request.id);
     counts[usize::from(request.client.0)] -= 1;
 }
 
@@ -362,7 +366,7 @@ fn ids_of(store: &RequestSlab, port: Port) -> ArrayVec<RequestId, MOST_UNANSWERE
     ids
 }
 
-fn waiting_of(
+fn waiting_ids_under(
     store: &RequestSlab,
     client: ClientId,
     grant: u8,
@@ -396,8 +400,8 @@ fn is_same_grant_name(request: PendingRequest, client: ClientId, grant: u8) -> b
 /// Makes the issued requests of these ports a tick older, and tells whether one is overdue then. Those that have a
 /// blocker wait, and aren't looked at.
 fn age(store: &mut RequestSlab, blockers: &[Blocker], ports: &[bool]) -> bool
-    requires blockers { AreBlockers (asks_of store.old) blockers.now }
-    ensures older_entry { store.new ≡ aged (is_among ports.now) store.old }
+    requires blockers { AreBlockers (unanswered_of store.old) blockers.now }
+    ensures aged_entry { store.new ≡ aged_entries (is_among ports.now) store.old }
     ensures overdue { IsTrue result ↔ IsAnyOverdue store.new }
 {
     let mut overdue = false;
@@ -405,7 +409,7 @@ fn age(store: &mut RequestSlab, blockers: &[Blocker], ports: &[bool]) -> bool
         if blockers[place].is_none() {
             let request = store.request(place);
             if request.issued {
-                let grown = older_entry(request, ports);
+                let grown = aged_entry(request, ports);
                 store.replace(place, grown);
                 overdue |= grown.age >= OVERDUE;
             }
@@ -439,8 +443,8 @@ fn revoked(request: PendingRequest, client: ClientId, grant: u8) -> PendingReque
 }
 
 /// The request a tick older, if it is issued on one of these ports.
-fn older_entry(request: PendingRequest, ports: &[bool]) -> PendingRequest
-    ensures { result ≡ older_entry (is_among ports.now) request }
+fn aged_entry(request: PendingRequest, ports: &[bool]) -> PendingRequest
+    ensures { result ≡ aged_entry (is_among ports.now) request }
 {
     if request.issued && is_among(ports, request.port) {
         PendingRequest {

@@ -2,17 +2,17 @@
 ghost use Rattle.std.specs.Prelude.{◌≡◌, ◌<◌, ◌≤◌, ◌++◌, ◌∷◌, [], length, remove, false, true, All, Contains, IfOk, List, vec_capacity};
 ghost use Rattle.block_machine.specs.declared.due.Unanswered.{Unanswered};
 ghost use Rattle.request_queue.specs.Conflicts.{AreConflictLists};
-ghost use Rattle.request_queue.specs.Entries.{BookIsInOrder, asks_of};
+ghost use Rattle.request_queue.specs.BookEntries.{BookIsInOrder, unanswered_of};
 ghost use Rattle.request_queue.specs.Flushes.{flushes_among};
 ghost use Rattle.request_queue.specs.Blockers.{IsBlockerOf};
 ghost use Rattle.request_queue.specs.Sectors.{AreIndexed};
 
 use crate::blocker::Blocker;
 use crate::blockers::blocker_of;
-use crate::flushes::{Flush, add_flush, no_flushes, take_flush};
+use crate::flushes::{Flush, add_flush, empty_flushes, remove_flush};
 use crate::ranges::Ranges;
-use crate::sectors::{add_sectors, no_sectors, take_sectors};
-use crate::store::RequestSlab;
+use crate::request_slab::RequestSlab;
+use crate::sectors::{add_sectors, empty_sectors, remove_sectors};
 use ata_types::{MOST_UNANSWERED, PORTS};
 use block_machine::Unanswered;
 use std::alloc::{AllocError, Global};
@@ -47,8 +47,8 @@ impl Conflicts {
     pub fn new(alloc: Global) -> Result<Self, AllocError>
         ensures { IfOk result (λ lists. AreConflictLists [] lists) }
     {
-        let sectors = no_sectors(alloc)?;
-        let flushes = no_flushes(alloc)?;
+        let sectors = empty_sectors(alloc)?;
+        let flushes = empty_flushes(alloc)?;
         Ok(Conflicts {
             sectors,
             flushes,
@@ -70,48 +70,48 @@ impl Conflicts {
     /// Lists a request, before it is put into the store, and tells its blocker. None holds one that comes into an empty
     /// book, and that isn't listed yet.
     pub fn add(&mut self, store: &RequestSlab, request: &Unanswered) -> Blocker
-        requires lists { AreConflictLists (asks_of store.now) self.old }
+        requires lists { AreConflictLists (unanswered_of store.now) self.old }
         requires room { length store.now < MOST_UNANSWERED }
-        requires newest { All (λ r. r.id.0 < request.now.id.0) (asks_of store.now) }
-        ensures lists { AreConflictLists (asks_of store.now ++ request.now ∷ []) self.new }
-        ensures blocker { IsBlockerOf (asks_of store.now) request.now result }
+        requires newest { All (λ r. r.id.0 < request.now.id.0) (unanswered_of store.now) }
+        ensures lists { AreConflictLists (unanswered_of store.now ++ request.now ∷ []) self.new }
+        ensures blocker { IsBlockerOf (unanswered_of store.now) request.now result }
     {
         if store.len() == 0 {
             self.unlisted = true;
             return Blocker::nobody();
         }
-        self.list_first(store);
+        self.list_unlisted(store);
         let blocker = blocker_of(&self.sectors, self.flushes.as_slice(), request);
         list_last(&mut self.sectors, &mut self.flushes, request);
         blocker
     }
 
     /// Lists the one request that isn't listed, if there is one.
-    fn list_first(&mut self, store: &RequestSlab)
-        requires { AreConflictLists (asks_of store.now) self.old }
-        ensures lists { AreConflictLists (asks_of store.now) self.new }
+    fn list_unlisted(&mut self, store: &RequestSlab)
+        requires { AreConflictLists (unanswered_of store.now) self.old }
+        ensures lists { AreConflictLists (unanswered_of store.now) self.new }
         ensures listed { self.new.unlisted ≡ false }
     {
         if self.unlisted {
             self.unlisted = false;
-            list_last(&mut self.sectors, &mut self.flushes, &store.asks(0));
+            list_last(&mut self.sectors, &mut self.flushes, &store.unanswered(0));
         }
     }
 
     /// Takes the request at a place out of the lists, before it is taken out of the store.
-    pub fn take(&mut self, store: &RequestSlab, place: usize)
-        requires lists { AreConflictLists (asks_of store.now) self.old }
+    pub fn remove(&mut self, store: &RequestSlab, place: usize)
+        requires lists { AreConflictLists (unanswered_of store.now) self.old }
         requires ordered { BookIsInOrder store.now }
         requires place { place < length store.now }
-        ensures { AreConflictLists (remove (asks_of store.now) place) self.new }
+        ensures { AreConflictLists (remove (unanswered_of store.now) place) self.new }
     {
         if self.unlisted {
             self.unlisted = false;
             return;
         }
         let request = store.request(place);
-        take_sectors(&mut self.sectors, store, place);
-        take_flush(&mut self.flushes, request.id);
+        remove_sectors(&mut self.sectors, store, place);
+        remove_flush(&mut self.flushes, request.id);
     }
 }
 

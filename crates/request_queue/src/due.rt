@@ -1,14 +1,14 @@
 // The walk that gives the due requests of a port.
 ghost use Rattle.std.specs.Prelude.{◌≡◌, ◌<◌, ◌≤◌, ◌-◌, ◌&&◌, ◌||◌, ◌==◌, suc, if◌then◌else◌, [], not, nat_lt, length, All, List, Some, slice_get};
-ghost use Rattle.block_machine.specs.Due as machine;
+ghost use Rattle.block_machine.specs.DueRequests as machine;
 ghost use Rattle.block_machine.specs.declared.due.Unanswered.{Unanswered};
-ghost use Rattle.request_queue.specs.Entries.{asks_of, due_ids};
+ghost use Rattle.request_queue.specs.BookEntries.{unanswered_of, due_ids};
 ghost use Rattle.request_queue.specs.Blockers.{AreBlockers, without_blocker};
-ghost use Rattle.request_queue.specs.Walk.{AreIssuedAhead, TalliesIssued, IsReachedInWalk, is_issued_plain};
-ghost use Rattle.request_queue.specs.Store.{asks_at};
+ghost use Rattle.request_queue.specs.DueWalk.{AreIssuedAhead, TalliesIssued, IsReachedInWalk, is_issued_plain};
+ghost use Rattle.request_queue.specs.RequestSlab.{unanswered_at};
 
 use crate::blocker::Blocker;
-use crate::store::RequestSlab;
+use crate::request_slab::RequestSlab;
 use arrayvec::ArrayVec;
 use ata_types::{MOST_UNANSWERED, Port, RequestId, SLOTS};
 use block_machine::laws::{law_due_ones_leave_a_slot, law_earlier_ones_stand_before};
@@ -24,7 +24,7 @@ type Places = ArrayVec<u8, MOST_UNANSWERED>;
 #[derive(Clone, Copy, Debug)]
 struct Issued {
     count: usize,
-    alone: bool,
+    has_plain: bool,
     /// How many are issued before the first that waits, or that is plain.
     leading: usize,
 }
@@ -39,17 +39,17 @@ pub fn list_due(
     port: Port,
     due: &mut DueIds,
 )
-    requires ordered { machine.IsInOrder (asks_of store.now) }
+    requires ordered { machine.IsInOrder (unanswered_of store.now) }
     requires few { length store.now ≤ MOST_UNANSWERED }
     requires usable { mode.usable ≤ 32 }
-    requires blockers { AreBlockers (asks_of store.now) blockers.now }
+    requires blockers { AreBlockers (unanswered_of store.now) blockers.now }
     requires empty { due.old.items ≡ [] }
-    ensures { due.new.items ≡ due_ids mode port (asks_of store.now) }
+    ensures { due.new.items ≡ due_ids mode port (unanswered_of store.now) }
 {
     law_earlier_ones_stand_before();
     law_due_ones_leave_a_slot();
     let mut places = ArrayVec::new();
-    let issued = find_unheld(store, blockers, mode, port, &mut places);
+    let issued = find_unblocked(store, blockers, mode, port, &mut places);
     let free = free_slots(mode, issued.count);
     for number in issued.leading..places.len() {
         let asks = nth(store, &places, number);
@@ -64,7 +64,7 @@ pub fn list_due(
 }
 
 /// Lists the places of the port's requests without a blocker, and tells what of these is issued.
-fn find_unheld(
+fn find_unblocked(
     store: &RequestSlab,
     blockers: &[Blocker],
     mode: QueueMode,
@@ -72,38 +72,39 @@ fn find_unheld(
     places: &mut Places,
 ) -> Issued
     requires few { length store.now ≤ MOST_UNANSWERED }
-    requires blockers { AreBlockers (asks_of store.now) blockers.now }
+    requires blockers { AreBlockers (unanswered_of store.now) blockers.now }
     requires empty { places.old.items ≡ [] }
-    ensures without_blocker { asks_at store.now places.new.items ≡ without_blocker port (asks_of store.now) }
+    ensures without_blocker { unanswered_at store.now places.new.items
+        ≡ without_blocker port (unanswered_of store.now) }
     ensures within { All (λ place. place < length store.now) places.new.items }
-    ensures issued { TalliesIssued mode (asks_at store.now places.new.items) result }
-    ensures leading { AreIssuedAhead mode (asks_at store.now places.new.items) result.leading }
+    ensures issued { TalliesIssued mode (unanswered_at store.now places.new.items) result }
+    ensures leading { AreIssuedAhead mode (unanswered_at store.now places.new.items) result.leading }
 {
     let mut count = 0usize;
-    let mut alone = false;
+    let mut has_plain = false;
     let mut leading = 0usize;
     for place in 0..blockers.len() {
         if blockers[place].is_none() {
-            let asks = store.asks(place);
+            let asks = store.unanswered(place);
             if asks.port.0 == port.0 {
-                leading = leading_with(mode, &asks, leading, places.len());
+                leading = leading_after(mode, &asks, leading, places.len());
                 places.push(place as u8);
                 let slots = slots_of(&asks);
                 count += slots;
                 let issued_alone = is_issued_plain(mode, &asks);
-                alone |= issued_alone;
+                has_plain |= issued_alone;
             }
         }
     }
     Issued {
         count,
-        alone,
+        has_plain,
         leading,
     }
 }
 
 /// How many are issued before the first that waits, or that is plain, where the request comes behind so many.
-fn leading_with(mode: QueueMode, asks: &Unanswered, leading: usize, before: usize) -> usize
+fn leading_after(mode: QueueMode, asks: &Unanswered, leading: usize, before: usize) -> usize
     requires { before ≤ MOST_UNANSWERED }
     ensures { result ≡ (if leading == before && (asks.now.issued && not (machine.is_plain mode asks.now.op))
         then suc leading else leading) }
@@ -126,9 +127,9 @@ fn slots_of(asks: &Unanswered) -> usize
 fn nth(store: &RequestSlab, places: &Places, number: usize) -> Unanswered
     requires within { All (λ place. place < length store.now) places.now.items }
     requires number { number < length places.now.items }
-    ensures { slice_get (asks_at store.now places.now.items) number ≡ Some result }
+    ensures { slice_get (unanswered_at store.now places.now.items) number ≡ Some result }
 {
-    store.asks(places.as_slice()[number] as usize)
+    store.unanswered(places.as_slice()[number] as usize)
 }
 
 /// Whether the request goes, if it is clear to go, where so many slots are free and so many of them are given away.
@@ -171,6 +172,6 @@ fn is_unblocked(mode: QueueMode, asks: &Unanswered, number: usize, issued: Issue
     } else if is_plain(mode, asks.op) {
         issued.count == 0 && number == 0
     } else {
-        !issued.alone
+        !issued.has_plain
     }
 }

@@ -1,7 +1,7 @@
 // The unanswered flushes of all ports. A flush has no sectors, so no index finds it: it stands in a list of its own.
 ghost use Rattle.std.specs.Prelude.{◌≡◌, ◌<◌, ◌≤◌, ◌++◌, ◌∷◌, ◌==◌, [], length, filter, not, false, true, Contains, IfNone, IfOk, IfSome, vec_capacity};
 ghost use Rattle.std.specs.List.{list_any};
-ghost use Rattle.block_machine.specs.Due as machine;
+ghost use Rattle.block_machine.specs.DueRequests as machine;
 ghost use Rattle.request_queue.specs.Flushes.{flushes_among, is_earlier_flush};
 
 use ata_types::{MOST_UNANSWERED, Op, Port, RequestId};
@@ -16,7 +16,7 @@ pub struct Flush {
 }
 
 /// A list of no flushes, with room for 128. No other call takes memory.
-pub fn no_flushes(alloc: Global) -> Result<Vec<Flush>, AllocError>
+pub fn empty_flushes(alloc: Global) -> Result<Vec<Flush>, AllocError>
     ensures { IfOk result (λ flushes. (flushes.items ≡ []) × (MOST_UNANSWERED ≤ vec_capacity flushes)) }
 {
     let flushes = Vec::with_capacity(alloc, MOST_UNANSWERED)?;
@@ -39,7 +39,7 @@ pub fn add_flush(flushes: &mut Vec<Flush>, request: &Unanswered)
 }
 
 /// Takes the flush with this id out of the list, if there is one.
-pub fn take_flush(flushes: &mut Vec<Flush>, id: RequestId)
+pub fn remove_flush(flushes: &mut Vec<Flush>, id: RequestId)
     ensures list { flushes.new.items ≡ filter (λ flush. not (flush.id.0 == id.0)) flushes.old.items }
     ensures room { vec_capacity flushes.new ≡ vec_capacity flushes.old }
 {

@@ -6,16 +6,16 @@ ghost use Rattle.ata_types.specs.declared.request.Frame.{Frame};
 ghost use Rattle.ata_types.specs.declared.request.Outcome.{Outcome};
 ghost use Rattle.ata_types.specs.declared.request.Reply.{Reply};
 ghost use Rattle.ata_types.specs.declared.request.RequestId.{RequestId};
-ghost use Rattle.block_machine.specs.Due.{AreAllDueInOrder, IsDue, IsInOrder, with_issued, without_request, with_waiting};
+ghost use Rattle.block_machine.specs.DueRequests.{AreAllDueInOrder, IsDue, IsInOrder, with_issued, without_request, with_waiting};
 ghost use Rattle.block_machine.specs.State.{Machine, unanswered};
 ghost use Rattle.block_machine.specs.State as machine;
 ghost use Rattle.block_machine.specs.Steps as steps;
 ghost use Rattle.block_machine.specs.declared.due.QueueMode.{QueueMode};
 ghost use Rattle.block_machine.specs.declared.due.Unanswered.{Unanswered};
-ghost use Rattle.dma_frames.specs.Table.{Table, LendsOnly, lent_to};
-ghost use Rattle.request_queue.specs.Entries.{BookEntry, IsAccepted, IsEarlier, IsNewlyAccepted, BookIsInOrder, IsUnanswered, IsWaiting, MayGoAgain, HasItsFrames, aged, asks_of, update_if_id, due_ids, entry_with_id, issue, requeued_entry, all_marked_under, entry_count_of_client, without_entry};
+ghost use Rattle.dma_frames.specs.FrameTables.{FrameOwnership, LendsOnly, lent_to};
+ghost use Rattle.request_queue.specs.BookEntries.{BookEntry, IsAccepted, IsEarlier, IsNewlyAccepted, BookIsInOrder, IsUnanswered, IsWaiting, MayGoAgain, HasItsFrames, aged_entries, unanswered_of, update_if_id, due_ids, entry_with_id, issued_entry, requeued_entry, all_marked_under, entry_count_of_client, without_entry};
 ghost use Rattle.request_queue.specs.Dispositions.{CompletesAllWith, BookAndLoans, AreResolved, keeps_loan};
-ghost use Rattle.request_queue.specs.Machine.{BookRelation, EntryRelation};
+ghost use Rattle.request_queue.specs.BookRelation.{BookRelation, EntryRelation};
 ghost use Rattle.request_queue.specs.declared.PendingRequest.{PendingRequest};
 ghost use Rattle.request_queue.specs.declared.disposition.Disposition.TheVariants.{Complete};
 
@@ -25,16 +25,16 @@ use block_machine::laws::{law_due_in_turn, law_due_is_exact};
 /// Where the machine's book is the book, the machine's due requests are the book's.
 pub fn law_book_dues_agree()
     ensures book { (entries : List BookEntry) (pending : List machine.Pending) → BookRelation entries pending
-        → map unanswered pending ≡ asks_of entries }
+        → map unanswered pending ≡ unanswered_of entries }
     ensures sound { (mode : QueueMode) (port : Port) (entries : List BookEntry) (pending : List machine.Pending)
         (id : RequestId)
-        → BookRelation entries pending → Contains (due_ids mode port (asks_of entries)) id
+        → BookRelation entries pending → Contains (due_ids mode port (unanswered_of entries)) id
         → (p : machine.Pending) × Contains pending p × (p.request.id ≡ id) × (p.request.port ≡ port)
         × IsDue mode (map unanswered pending) (unanswered p) }
     ensures complete { (mode : QueueMode) (port : Port) (entries : List BookEntry) (pending : List machine.Pending)
         (p : machine.Pending)
         → BookRelation entries pending → p.request.port ≡ port → IsDue mode (map unanswered pending) (unanswered p)
-        → Contains (due_ids mode port (asks_of entries)) p.request.id }
+        → Contains (due_ids mode port (unanswered_of entries)) p.request.id }
 {
     law_due_is_exact();
 }
@@ -47,15 +47,16 @@ pub fn law_steps_change_the_book()
         → BookRelation (entries ++ e ∷ []) (steps.after_step m (steps.Accept r)).book }
     ensures issue { (entries : List BookEntry) (m : Machine) (mode : QueueMode) (p : machine.Pending)
         → BookRelation entries m.book
-        → BookRelation (map (update_if_id p.request.id issue) entries) (steps.after_step m (steps.Issue mode p)).book }
+        → BookRelation (map (update_if_id p.request.id issued_entry) entries)
+        (steps.after_step m (steps.Issue mode p)).book }
     ensures again { (entries : List BookEntry) (m : Machine) (p : machine.Pending) → BookRelation entries m.book
         → BookRelation (map (update_if_id p.request.id requeued_entry) entries)
-        (steps.after_step m (steps.Again p)).book }
+        (steps.after_step m (steps.WaitAgain p)).book }
     ensures answer { (entries : List BookEntry) (m : Machine) (p : machine.Pending) (outcome : Outcome)
         → BookRelation entries m.book
         → BookRelation (without_entry p.request.id entries) (steps.after_step m (steps.Answer p outcome)).book }
     ensures age { (entries : List BookEntry) (m : Machine) (ports : Port → Bool) → BookRelation entries m.book
-        → BookRelation (aged ports entries) (steps.after_step m (steps.Age ports)).book }
+        → BookRelation (aged_entries ports entries) (steps.after_step m (steps.Age ports)).book }
     ensures revoke { (entries : List BookEntry) (m : Machine) (client : ClientId) (grant : ℕ)
         → BookRelation entries m.book
         → BookRelation (all_marked_under client grant entries) (steps.after_step m (steps.Revoke client grant)).book }
@@ -75,28 +76,33 @@ pub fn law_client_counts_agree()
 /// A due request of the book waits, so that it may be issued; and what the book's operations leave of what says which
 /// are due.
 pub fn law_operations_change_what_is_due()
-    ensures waits { (mode : QueueMode) (entries : List BookEntry) (r : Unanswered) → IsDue mode (asks_of entries) r
+    ensures waits { (mode : QueueMode) (entries : List BookEntry) (r : Unanswered)
+        → IsDue mode (unanswered_of entries) r
         → IsWaiting r.id entries }
-    ensures issue { (entries : List BookEntry) (id : RequestId) → asks_of (map (update_if_id id issue) entries)
-        ≡ with_issued id (asks_of entries) }
+    ensures issue { (entries : List BookEntry) (id : RequestId)
+        → unanswered_of (map (update_if_id id issued_entry) entries)
+        ≡ with_issued id (unanswered_of entries) }
     ensures requeue { (entries : List BookEntry) (id : RequestId)
-        → asks_of (map (update_if_id id requeued_entry) entries) ≡ with_waiting id
-        (asks_of entries) }
+        → unanswered_of (map (update_if_id id requeued_entry) entries) ≡ with_waiting id
+        (unanswered_of entries) }
     ensures answer { (entries : List BookEntry) (id : RequestId)
-        → asks_of (without_entry id entries) ≡ without_request id (asks_of entries) }
-    ensures tick { (entries : List BookEntry) (ports : Port → Bool) → asks_of (aged ports entries) ≡ asks_of entries }
+        → unanswered_of (without_entry id entries) ≡ without_request id (unanswered_of entries) }
+    ensures tick { (entries : List BookEntry) (ports : Port → Bool) → unanswered_of (aged_entries ports entries)
+        ≡ unanswered_of entries }
     ensures revoked { (entries : List BookEntry) (client : ClientId) (grant : ℕ)
-        → asks_of (all_marked_under client grant entries) ≡ asks_of entries }
+        → unanswered_of (all_marked_under client grant entries) ≡ unanswered_of entries }
 {}
 
 /// The due requests of a port may be issued one after the other: each of them waits when its turn comes; and then none
 /// is due.
 pub fn law_due_requests_go_in_turn()
-    ensures first { (mode : QueueMode) (port : Port) (entries : List BookEntry) → BookIsInOrder entries
-        → AreAllDueInOrder mode port (due_ids mode port (asks_of entries)) (asks_of entries) }
-    ensures next { (mode : QueueMode) (port : Port) (id : RequestId) (ids : List RequestId) (entries : List BookEntry)
-        → AreAllDueInOrder mode port (id ∷ ids) (asks_of entries)
-        → IsWaiting id entries × AreAllDueInOrder mode port ids (asks_of (map (update_if_id id issue) entries)) }
+    ensures first_waits { (mode : QueueMode) (port : Port) (entries : List BookEntry) → BookIsInOrder entries
+        → AreAllDueInOrder mode port (due_ids mode port (unanswered_of entries)) (unanswered_of entries) }
+    ensures rest_is_due_next { (mode : QueueMode) (port : Port) (id : RequestId) (ids : List RequestId)
+        (entries : List BookEntry)
+        → AreAllDueInOrder mode port (id ∷ ids) (unanswered_of entries)
+        → IsWaiting id entries × AreAllDueInOrder mode port ids
+        (unanswered_of (map (update_if_id id issued_entry) entries)) }
 {
     law_due_in_turn();
 }
@@ -112,14 +118,16 @@ pub fn law_books_have_the_same_requests()
 
 /// In a book in order an id is one request's, and the request is found by it.
 pub fn law_an_id_is_one_request()
-    ensures one { (entries : List BookEntry) (a b : BookEntry) → BookIsInOrder entries → Contains entries a
+    ensures one_request_an_id { (entries : List BookEntry) (a b : BookEntry) → BookIsInOrder entries
+        → Contains entries a
         → Contains entries b
         → a.entry.id ≡ b.entry.id → a ≡ b }
     ensures found { (entries : List BookEntry) (e : BookEntry) → BookIsInOrder entries → Contains entries e
         → entry_with_id e.entry.id entries ≡ Some e }
-    ensures some { (entries : List BookEntry) (id : RequestId) (e : BookEntry) → entry_with_id id entries ≡ Some e
+    ensures found_has_id { (entries : List BookEntry) (id : RequestId) (e : BookEntry) → entry_with_id id entries
+        ≡ Some e
         → Contains entries e × (e.entry.id ≡ id) }
-    ensures none { (entries : List BookEntry) (id : RequestId) → entry_with_id id entries ≡ None
+    ensures absent_is_unanswered_by_none { (entries : List BookEntry) (id : RequestId) → entry_with_id id entries ≡ None
         → IsUnanswered id entries
         → ⊥ }
 {}
@@ -150,43 +158,46 @@ pub fn law_the_book_stays_in_order()
         → entry_count_of_client entries e.entry.client.0 < 16
         → BookIsInOrder (entries ++ e ∷ []) }
     ensures issued { (entries : List BookEntry) (id : RequestId) → BookIsInOrder entries → IsWaiting id entries
-        → BookIsInOrder (map (update_if_id id issue) entries) }
+        → BookIsInOrder (map (update_if_id id issued_entry) entries) }
     ensures requeued { (entries : List BookEntry) (id : RequestId) → BookIsInOrder entries → MayGoAgain id entries
         → BookIsInOrder (map (update_if_id id requeued_entry) entries) }
-    ensures older_entry { (entries : List BookEntry) (ports : Port → Bool) → BookIsInOrder entries
-        → BookIsInOrder (aged ports entries) }
+    ensures aged_entry { (entries : List BookEntry) (ports : Port → Bool) → BookIsInOrder entries
+        → BookIsInOrder (aged_entries ports entries) }
     ensures revoked { (entries : List BookEntry) (client : ClientId) (grant : ℕ) → BookIsInOrder entries
         → BookIsInOrder (all_marked_under client grant entries) }
     ensures answered { (entries : List BookEntry) (id : RequestId) → BookIsInOrder entries
         → BookIsInOrder (without_entry id entries) }
-    ensures all { (entries : List BookEntry) → BookIsInOrder entries → length entries ≤ MOST_UNANSWERED }
-    ensures asks { (entries : List BookEntry) → BookIsInOrder entries → IsInOrder (asks_of entries) }
+    ensures has_128_at_most { (entries : List BookEntry) → BookIsInOrder entries → length entries ≤ MOST_UNANSWERED }
+    ensures unanswered_are_in_order { (entries : List BookEntry) → BookIsInOrder entries
+        → IsInOrder (unanswered_of entries) }
 {}
 
 /// Accepted requests stay so while frames of none of their own change hands: as another request's frames are lent to it
 /// or given back. No frame is lent to two of them.
 pub fn law_accepted_is_preserved()
-    ensures apart { (table : Table) (a b : BookEntry) → a.entry.id ≢ b.entry.id → IsAccepted table a
+    ensures apart { (table : FrameOwnership) (a b : BookEntry) → a.entry.id ≢ b.entry.id → IsAccepted table a
         → IsAccepted table b
         → (f : Frame) → Contains a.frames f → Contains b.frames f → ⊥ }
-    ensures one { (old new : Table) (frames : List Frame) (to : Option RequestId) (e : BookEntry)
+    ensures loans_apart_leave_it { (old new : FrameOwnership) (frames : List Frame) (to : Option RequestId)
+        (e : BookEntry)
         → LendsOnly old new frames to → IsAccepted old e → ((f : Frame) → Contains e.frames f → Contains frames f → ⊥)
         → IsAccepted new e }
-    ensures lent { (old new : Table) (entries : List BookEntry) (frames : List Frame) (to : Option RequestId)
+    ensures lent { (old new : FrameOwnership) (entries : List BookEntry) (frames : List Frame) (to : Option RequestId)
         → LendsOnly old new frames to → All (λ f. lent_to old f ≡ None) frames → All (IsAccepted old) entries
         → All (IsAccepted new) entries }
-    ensures answered { (old new : Table) (entries : List BookEntry) (e : BookEntry) → Contains entries e
+    ensures answered { (old new : FrameOwnership) (entries : List BookEntry) (e : BookEntry) → Contains entries e
         → LendsOnly old new e.frames None → All (IsAccepted old) entries
         → All (IsAccepted new) (without_entry e.entry.id entries) }
-    ensures issued { (table : Table) (entries : List BookEntry) (id : RequestId)
-        → All (IsAccepted table) entries → All (IsAccepted table) (map (update_if_id id issue) entries) }
-    ensures requeued { (table : Table) (entries : List BookEntry) (id : RequestId)
+    ensures issued { (table : FrameOwnership) (entries : List BookEntry) (id : RequestId)
+        → All (IsAccepted table) entries → All (IsAccepted table) (map (update_if_id id issued_entry) entries) }
+    ensures requeued { (table : FrameOwnership) (entries : List BookEntry) (id : RequestId)
         → All (IsAccepted table) entries → All (IsAccepted table) (map (update_if_id id requeued_entry) entries) }
-    ensures older_entry { (table : Table) (entries : List BookEntry) (ports : Port → Bool)
-        → All (IsAccepted table) entries → All (IsAccepted table) (aged ports entries) }
-    ensures revoked { (table : Table) (entries : List BookEntry) (client : ClientId) (grant : ℕ)
+    ensures aged_entry { (table : FrameOwnership) (entries : List BookEntry) (ports : Port → Bool)
+        → All (IsAccepted table) entries → All (IsAccepted table) (aged_entries ports entries) }
+    ensures revoked { (table : FrameOwnership) (entries : List BookEntry) (client : ClientId) (grant : ℕ)
         → All (IsAccepted table) entries → All (IsAccepted table) (all_marked_under client grant entries) }
-    ensures stand { (table : Table) (entries : List BookEntry) → All (IsAccepted table) entries
+    ensures frames_are_lent_to_all { (table : FrameOwnership) (entries : List BookEntry)
+        → All (IsAccepted table) entries
         → All (HasItsFrames table) entries }
 {}
 

@@ -15,8 +15,8 @@ mod due;
 mod flushes;
 pub mod laws;
 mod ranges;
+mod request_slab;
 mod sectors;
-mod store;
 
 use ata_types::{ClientId, Op, Port, Range, RequestId};
 pub use book::{Book, NoMemory};

@@ -6,11 +6,11 @@
 ghost use Rattle.std.specs.Prelude.{◌≡◌, ◌≢◌, ◌↔◌, ℕ, ◌<◌, ◌≤◌, length, All, Contains, IfNone, IfOk, IfSome, IsTrue, Some, false, true, [], slice_get, slice_index_or, insert, remove, vec_capacity};
 ghost use Rattle.std.specs.List.{list_any};
 ghost use Rattle.ata_types.specs.Range.{range_end};
-ghost use Rattle.block_machine.specs.Due as machine;
-ghost use Rattle.request_queue.specs.Items.{AreSorted, StandsBefore, IsGreatestEnd, is_earlier_conflict};
+ghost use Rattle.block_machine.specs.DueRequests as machine;
+ghost use Rattle.request_queue.specs.BookRanges.{AreSorted, StandsBefore, IsGreatestEnd, is_earlier_conflict};
 ghost use Rattle.request_queue.specs.declared.ranges.IndexEntry.{IndexEntry};
 ghost use Rattle.request_queue.specs.declared.ranges.BookRange.{BookRange};
-ghost use Rattle.request_queue.specs.Index.{EndFollows, IsIndex, items_of};
+ghost use Rattle.request_queue.specs.RangeIndex.{EndFollows, IsIndex, items_of};
 
 use ata_types::{MOST_UNANSWERED, Port, Range, RequestId};
 use std::alloc::{AllocError, Global};
@@ -43,7 +43,7 @@ impl Model for Ranges {
     ghost use Rattle.std.specs.Prelude.{List, ◌≤◌, vec_capacity};
     ghost use Rattle.ata_types.specs.declared.limits.TheConstants.{MOST_UNANSWERED};
     ghost use Rattle.request_queue.specs.declared.ranges.BookRange.{BookRange as One};
-    ghost use Rattle.request_queue.specs.Index.{IsIndex, items_of};
+    ghost use Rattle.request_queue.specs.RangeIndex.{IsIndex, items_of};
 
     ghost Value = { List One };
 
@@ -107,12 +107,12 @@ pub fn is_earlier_conflict(item: &BookRange, other: &BookRange) -> bool
     other.port.0 == item.port.0
         && other.id.0 < item.id.0
         && (other.writes || item.writes)
-        && overlap(&other.range, &item.range)
+        && are_overlapping(&other.range, &item.range)
 }
 
 /// Whether some sector is in both ranges.
-fn overlap(a: &Range, b: &Range) -> bool
-    ensures { result ≡ machine.overlap a.now b.now }
+fn are_overlapping(a: &Range, b: &Range) -> bool
+    ensures { result ≡ machine.are_overlapping a.now b.now }
 {
     u128::from(a.first.0) < end_of(b)
         && u128::from(b.first.0) < end_of(a)

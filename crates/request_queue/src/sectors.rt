@@ -1,18 +1,18 @@
 // The sectors of the unanswered requests, indexed: what conflicts with a request is found without a walk over all.
 ghost use Rattle.std.specs.Prelude.{◌≡◌, ◌<◌, ◌++◌, ◌∷◌, [], length, not, remove, All, IfOk, List};
-ghost use Rattle.block_machine.specs.Due as machine;
+ghost use Rattle.block_machine.specs.DueRequests as machine;
 ghost use Rattle.block_machine.specs.declared.due.Unanswered.{Unanswered};
-ghost use Rattle.request_queue.specs.Entries.{asks_of};
+ghost use Rattle.request_queue.specs.BookEntries.{unanswered_of};
 ghost use Rattle.request_queue.specs.Sectors.{AreIndexed, item_of, index_of_port};
 
 use crate::ranges::{BookRange, Ranges};
-use crate::store::RequestSlab;
+use crate::request_slab::RequestSlab;
 use ata_types::{MOST_UNANSWERED, Op, PORTS, Port};
 use block_machine::{Unanswered, changes_sectors};
 use std::alloc::{AllocError, Global};
 
 /// Lists of no sectors. No other call takes memory.
-pub fn no_sectors(alloc: Global) -> Result<[Ranges; PORTS], AllocError>
+pub fn empty_sectors(alloc: Global) -> Result<[Ranges; PORTS], AllocError>
     ensures { IfOk result (λ lists. AreIndexed [] lists) }
 {
     Ok([
@@ -38,13 +38,13 @@ pub fn add_sectors(sectors: &mut [Ranges; PORTS], request: &Unanswered)
 }
 
 /// Takes the sectors of the request at a place out of its port's list, before the request is taken out of the store.
-pub fn take_sectors(sectors: &mut [Ranges; PORTS], store: &RequestSlab, place: usize)
-    requires indexed { AreIndexed (asks_of store.now) sectors.old }
-    requires ordered { machine.IsInOrder (asks_of store.now) }
+pub fn remove_sectors(sectors: &mut [Ranges; PORTS], store: &RequestSlab, place: usize)
+    requires indexed { AreIndexed (unanswered_of store.now) sectors.old }
+    requires ordered { machine.IsInOrder (unanswered_of store.now) }
     requires place { place < length store.now }
-    ensures { AreIndexed (remove (asks_of store.now) place) sectors.new }
+    ensures { AreIndexed (remove (unanswered_of store.now) place) sectors.new }
 {
-    let request = store.asks(place);
+    let request = store.unanswered(place);
     if !has_sectors(request.op) {
         return;
     }

@@ -8,7 +8,7 @@ use Rattle.std.specs.Bool.{◌==◌}
 use Rattle.std.specs.Fmt.{decimal}
 use Rattle.std.specs.List.{All, join_with_byte, slice_split}
 use Rattle.ata_types.specs.declared.request.Frame.{Frame}
-use Rattle.script.specs.Fields.{frames_word}
+use Rattle.script.specs.FieldWords.{frames_word}
 use Rattle.script.proofs.WordLemmas.{Among, Within, Lacks, Lacks-below, Within-decimal, slice_split-join}
 
 abbrev pub IsFrame : Frame → Type 0

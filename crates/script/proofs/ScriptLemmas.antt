@@ -7,39 +7,39 @@ use Rattle.std.specs.List.{position, position_or_len}
 use borrow.Author.Tests.{ltb-true, ltb-false}
 use Rattle.std.proofs.lemmas.List.Splits.{slice_split_first, slice_split_none}
 use Rattle.std.proofs.lemmas.List.Sums.{fails_before_first}
-use Rattle.script.specs.Script.{Asks, AskInTurn, IsFirstLine, SplitsAt, asked_lines, done, nothing, one, IsBad, lines_after, lines_of}
+use Rattle.script.specs.Script.{Asks, AskForCalls, IsFirstLine, SplitsAt, asked_lines, done, nothing, one, IsBad, lines_after, lines_of}
 use Rattle.adapter.specs.declared.access.DeviceStep.{DeviceStep}
 use Rattle.ata_types.specs.declared.call.Call.{Call}
 
 -- lines after lines
-pub ask_more : (texts more : List (List ℕ)) (lines rest : List (Call DeviceStep)) → AskInTurn texts lines → AskInTurn more rest → AskInTurn (texts ++ more) (lines ++ rest)
+pub ask_more : (texts more : List (List ℕ)) (lines rest : List (Call DeviceStep)) → AskForCalls texts lines → AskForCalls more rest → AskForCalls (texts ++ more) (lines ++ rest)
 ask_more [] more [] rest done then = then
 ask_more [] more (_ ∷ _) rest first then = elim first [ ]
 ask_more (t ∷ texts) more lines rest (nothing asks others) then = nothing asks (ask_more texts more lines rest others then)
 ask_more (t ∷ texts) more (line ∷ lines) rest (one asks others) then = one asks (ask_more texts more lines rest others then)
 
 -- one line
-pub ask_one : (text : List ℕ) (asked : Option (Call DeviceStep)) → Asks text asked → AskInTurn (text ∷ []) (asked_lines asked)
+pub ask_one : (text : List ℕ) (asked : Option (Call DeviceStep)) → Asks text asked → AskForCalls (text ∷ []) (asked_lines asked)
 ask_one text None asks = nothing asks done
 ask_one text (Some line) asks = one asks done
 
 -- a text that stands among others
-pub ask_from : (before : List (List ℕ)) (text : List ℕ) (after : List (List ℕ)) (lines : List (Call DeviceStep)) → AskInTurn (before ++ text ∷ after) lines
+pub ask_from : (before : List (List ℕ)) (text : List ℕ) (after : List (List ℕ)) (lines : List (Call DeviceStep)) → AskForCalls (before ++ text ∷ after) lines
     → SplitsAt before text after lines
-ask_from [] text after lines (nothing asks others) = record { earlier = []; first = done; asked = None; asks = asks; rest = lines; others = others; lines_are = refl }
-ask_from [] text after (line ∷ lines) (one asks others) = record { earlier = []; first = done; asked = Some line; asks = asks; rest = lines; others = others; lines_are = refl }
+ask_from [] text after lines (nothing asks others) = record { earlier = []; before_ask = done; asked = None; text_asks = asks; rest = lines; after_ask = others; lines_are = refl }
+ask_from [] text after (line ∷ lines) (one asks others) = record { earlier = []; before_ask = done; asked = Some line; text_asks = asks; rest = lines; after_ask = others; lines_are = refl }
 ask_from (t ∷ before) text after lines (nothing asks others) =
     let s = ask_from before text after lines others in
-    record { earlier = s.earlier; first = nothing asks s.first; asked = s.asked; asks = s.asks; rest = s.rest; others = s.others; lines_are = s.lines_are }
+    record { earlier = s.earlier; before_ask = nothing asks s.before_ask; asked = s.asked; text_asks = s.text_asks; rest = s.rest; after_ask = s.after_ask; lines_are = s.lines_are }
 ask_from (t ∷ before) text after (line ∷ lines) (one asks others) =
     let s = ask_from before text after lines others in
     record {
       earlier = line ∷ s.earlier;
-      first = one asks s.first;
+      before_ask = one asks s.before_ask;
       asked = s.asked;
-      asks = s.asks;
+      text_asks = s.text_asks;
       rest = s.rest;
-      others = s.others;
+      after_ask = s.after_ask;
       lines_are = ap (λ (more : List (Call DeviceStep)). line ∷ more) s.lines_are;
     }
 
@@ -73,7 +73,7 @@ bytes_left (Some text) = suc (length text.now)
 pub record LookedAt (text : List ℕ) (number : ℕ) (rest : Option (Bor (List ℕ))) : Type 0 where
   pub before : List (List ℕ)
   pub lines : List (Call DeviceStep)
-  pub good : AskInTurn before lines
+  pub good : AskForCalls before lines
   pub cut : lines_of text ≡ before ++ lines_after rest
   pub counted : number ≡ length before
   pub few : number + bytes_left rest ≤ length text + 1

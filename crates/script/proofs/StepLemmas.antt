@@ -17,7 +17,7 @@ use Rattle.ata_types.specs.declared.request.Op.TheVariants.{Read, Write, Trim, F
 use Rattle.ata_types.specs.declared.call.Call.{Call}
 use Rattle.ata_types.specs.declared.call.Call.TheVariants.{Submit, ClientStore, ClientLoad, Service, Tick, Reset, Revoke, State, Device}
 use Rattle.script.specs.Line.{HasLine, StepInRange, line_words, op_word, page_word, step_words}
-use Rattle.script.specs.Fields.{Word}
+use Rattle.script.specs.FieldWords.{Word}
 
 pub record IsLie (s : DeviceStep) (port page offset bits : Word) : Type 0 where
   pub on : Port

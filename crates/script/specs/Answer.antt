@@ -19,8 +19,8 @@ use Rattle.ata_types.specs.declared.refusal.MemFault.{MemFault}
 use Rattle.ata_types.specs.declared.refusal.MemFault.TheVariants.{FrameForeign, FrameLent, OutsideFrame}
 use Rattle.adapter.specs.declared.command.Operation.{Operation}
 use Rattle.adapter.specs.declared.command.Operation.TheVariants as command
-use Rattle.block_machine.specs.Rules.{rank}
-use Rattle.script.specs.Fields.{Word}
+use Rattle.block_machine.specs.Rules.{refusal_rank}
+use Rattle.script.specs.FieldWords.{Word}
 use Rattle.script.specs.declared.answer.Answer.{Answer}
 use Rattle.script.specs.declared.answer.Answer.TheVariants as answer
 
@@ -81,7 +81,7 @@ moved_word command.ReadLog = codes "log"
 
 abbrev pub answer_words : Answer → List Word
 answer_words (answer.Accepted id) = codes "ok" ∷ decimal id.0 ∷ []
-answer_words (answer.Refused refusal) = codes "refused" ∷ decimal ((rank refusal).0) ∷ refusal_words refusal
+answer_words (answer.Refused refusal) = codes "refused" ∷ decimal ((refusal_rank refusal).0) ∷ refusal_words refusal
 answer_words answer.Stored = codes "stored" ∷ []
 answer_words (answer.Barred f) = codes "refused" ∷ mem_fault_word f ∷ []
 answer_words (answer.Bytes bytes) = codes "bytes" ∷ encode_lower bytes.now ∷ []

@@ -1,5 +1,5 @@
-pub mod Buffer
+pub mod BufferParts
 pub mod Answer
-pub mod Fields
+pub mod FieldWords
 pub mod Line
 pub mod Script

@@ -15,7 +15,7 @@ use Rattle.adapter.specs.declared.access.DiskPage.{DiskPage}
 use Rattle.adapter.specs.declared.access.DiskPage.TheVariants.{Identity, Log}
 use Rattle.adapter.specs.declared.access.DeviceStep.{DeviceStep}
 use Rattle.adapter.specs.declared.access.DeviceStep.TheVariants as step
-use Rattle.script.specs.Fields.{Word, fatal_word, frames_word}
+use Rattle.script.specs.FieldWords.{Word, fatal_word, frames_word}
 
 abbrev pub op_word : Op → Word
 op_word Read = codes "read"
@@ -91,13 +91,13 @@ IsSpellable Trim r = r.frames.items ≡ []
 IsSpellable Flush r = (r.first.0 ≡ 0) × (r.count ≡ 0) × (r.frames.items ≡ [])
 
 -- the request's numbers are in their ranges
-pub record IsRequest (r : Request) : Type 0 where
-  pub client : r.client.0 < 256
-  pub grant : r.grant < 256
-  pub first : r.first.0 < 2 ^ 64
-  pub count : r.count < 2 ^ 32
-  pub frames : All (λ f. f.0 < 65536) r.frames.items
-  pub most : length r.frames.items ≤ MOST_REQUEST_FRAMES
+pub record RequestInRange (r : Request) : Type 0 where
+  pub client_in_range : r.client.0 < 256
+  pub grant_in_range : r.grant < 256
+  pub first_in_range : r.first.0 < 2 ^ 64
+  pub count_in_range : r.count < 2 ^ 32
+  pub frames_in_range : All (λ f. f.0 < 65536) r.frames.items
+  pub frame_count_in_range : length r.frames.items ≤ MOST_REQUEST_FRAMES
 
 -- the port and slot are ones that an adapter can have
 abbrev pub IsPortAndSlot : Port → Slot → Type 0
@@ -124,7 +124,7 @@ StepInRange (step.LosePlug port) = port.0 < 4
 
 -- the value has a line
 abbrev pub HasLine : Call DeviceStep → Type 0
-HasLine (Submit request) = IsSpellable request.op request × IsRequest request
+HasLine (Submit request) = IsSpellable request.op request × RequestInRange request
 HasLine (ClientStore client frame offset bytes) = (client.0 < 256) × (frame.0 < 65536) × (offset < 2 ^ 32)
     × All (λ b. b < 256) bytes.items × (1 ≤ length bytes.items) × (length bytes.items ≤ MOST_CALL_BYTES)
 HasLine (ClientLoad client frame offset count) = (client.0 < 256) × (frame.0 < 65536) × (offset < 2 ^ 32) × (1 ≤ count)

@@ -35,15 +35,15 @@ call_if_asked true line = Some line
 call_if_asked false line = None
 
 -- the lines' texts ask these in turn
-pub data AskInTurn : List (List ℕ) → List (Call DeviceStep) → Type 0 where
-  done : AskInTurn [] []
+pub data AskForCalls : List (List ℕ) → List (Call DeviceStep) → Type 0 where
+  done : AskForCalls [] []
   nothing : {text : List ℕ} {texts : List (List ℕ)} {rest : List (Call DeviceStep)} → Asks text None
-      → AskInTurn texts rest → AskInTurn (text ∷ texts) rest
+      → AskForCalls texts rest → AskForCalls (text ∷ texts) rest
   one : {text : List ℕ} {texts : List (List ℕ)} {line : Call DeviceStep} {rest : List (Call DeviceStep)}
-      → Asks text (Some line) → AskInTurn texts rest → AskInTurn (text ∷ texts) (line ∷ rest)
+      → Asks text (Some line) → AskForCalls texts rest → AskForCalls (text ∷ texts) (line ∷ rest)
 
 abbrev pub IsScript : List ℕ → List (Call DeviceStep) → Type 0
-IsScript text lines = AskInTurn (lines_of text) lines
+IsScript text lines = AskForCalls (lines_of text) lines
 
 -- the text of a line that neither asks nothing nor is spelled as a line
 abbrev pub IsBad : List ℕ → Type 0
@@ -58,23 +58,24 @@ asked_lines (Some line) = line ∷ []
 pub record SplitsAt (before : List (List ℕ)) (text : List ℕ) (after : List (List ℕ)) (lines : List (Call DeviceStep))
     : Type 0 where
   pub earlier : List (Call DeviceStep)
-  pub first : AskInTurn before earlier
+  pub before_ask : AskForCalls before earlier
   pub asked : Option (Call DeviceStep)
-  pub asks : Asks text asked
+  pub text_asks : Asks text asked
   pub rest : List (Call DeviceStep)
-  pub others : AskInTurn after rest
+  pub after_ask : AskForCalls after rest
   pub lines_are : lines ≡ earlier ++ (asked_lines asked ++ rest)
 
 -- What laws say of a script's lines: lines after lines, one line, a line among others; and one that asks something or
 -- nothing isn't bad.
 pub record LineLaws : Type 0 where
-  pub joined : (texts more : List (List ℕ)) (lines rest : List (Call DeviceStep)) → AskInTurn texts lines
-      → AskInTurn more rest → AskInTurn (texts ++ more) (lines ++ rest)
-  pub single : (text : List ℕ) (asked : Option (Call DeviceStep)) → Asks text asked
-      → AskInTurn (text ∷ []) (asked_lines asked)
-  pub parted : (before : List (List ℕ)) (text : List ℕ) (after : List (List ℕ)) (lines : List (Call DeviceStep))
-      → AskInTurn (before ++ text ∷ after) lines → SplitsAt before text after lines
-  pub good : (text : List ℕ) (asked : Option (Call DeviceStep)) → Asks text asked → IsBad text → ⊥
+  pub asked_lists_join : (texts more : List (List ℕ)) (lines rest : List (Call DeviceStep)) → AskForCalls texts lines
+      → AskForCalls more rest → AskForCalls (texts ++ more) (lines ++ rest)
+  pub one_line_asks : (text : List ℕ) (asked : Option (Call DeviceStep)) → Asks text asked
+      → AskForCalls (text ∷ []) (asked_lines asked)
+  pub asked_lists_split : (before : List (List ℕ)) (text : List ℕ) (after : List (List ℕ))
+      (lines : List (Call DeviceStep))
+      → AskForCalls (before ++ text ∷ after) lines → SplitsAt before text after lines
+  pub asked_line_is_not_bad : (text : List ℕ) (asked : Option (Call DeviceStep)) → Asks text asked → IsBad text → ⊥
 
 -- the line with this number, of which the first is 1, is bad, and the lines before it ask something or nothing
 pub record IsFirstBad (text : List ℕ) (number : ℕ) : Type 0 where
@@ -82,7 +83,7 @@ pub record IsFirstBad (text : List ℕ) (number : ℕ) : Type 0 where
   pub bad : List ℕ
   pub after : List (List ℕ)
   pub lines : List (Call DeviceStep)
-  pub cut : lines_of text ≡ before ++ bad ∷ after
+  pub lines_are : lines_of text ≡ before ++ bad ∷ after
   pub is_bad : IsBad bad
-  pub good : AskInTurn before lines
-  pub counted : number ≡ length before + 1
+  pub earlier_lines_ask : AskForCalls before lines
+  pub number_is : number ≡ length before + 1

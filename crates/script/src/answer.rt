@@ -3,7 +3,7 @@ ghost use Rattle.std.specs.Prelude.{◌≡◌, ◌≤◌, ◌+◌, ◌++◌, Som
 ghost use Rattle.std.specs.Io.KnownBytes.{Appends};
 ghost use Rattle.std.specs.List.{flat_map, join_with_byte};
 ghost use Rattle.hex.specs.Hex.{encode_lower};
-ghost use Rattle.block_machine.specs.Rules.{rank};
+ghost use Rattle.block_machine.specs.Rules.{refusal_rank};
 ghost use Rattle.script.specs.Answer.{answer_line, answer_text, fault_words, moved_word, mem_fault_word, outcome_words, refusal_words, rule_words, state_words};
 
 use adapter::{Clear, Done, Move, Operation};
@@ -158,8 +158,8 @@ impl fmt::Display for Named {
 }
 
 /// The number of a refusal, 1 to 13: of those that apply, the one with the least is told.
-pub fn number(refusal: Refusal) -> u8
-    ensures { result ≡ (rank refusal).0 }
+pub fn refusal_number(refusal: Refusal) -> u8
+    ensures { result ≡ (refusal_rank refusal).0 }
 {
     match refusal {
         Refusal::Rule(Rule::NoGrant) => 1,
@@ -209,7 +209,12 @@ impl fmt::Display for Answer<'_> {
     fn fmt<W: fmt::Write>(&self, f: &mut fmt::Formatter<W>) -> fmt::Result {
         match *self {
             Answer::Accepted(id) => write!(f, "ok {}", id.0),
-            Answer::Refused(refusal) => write!(f, "refused {} {}", number(refusal), Named(refusal)),
+            Answer::Refused(refusal) => write!(
+                f,
+                "refused {} {}",
+                refusal_number(refusal),
+                Named(refusal)
+            ),
             Answer::Stored => write!(f, "stored"),
             Answer::Barred(fault) => write!(f, "refused {}", fault_name(fault)),
             Answer::Bytes(bytes) => write!(f, "bytes {}", Hex(bytes)),

@@ -35,7 +35,7 @@ pub struct CallBuffer {
 impl Model for CallBuffer {
     ghost use Rattle.adapter.specs.declared.access.DeviceStep.{DeviceStep};
     ghost use Rattle.ata_types.specs.declared.call.Call.{Call};
-    ghost use Rattle.script.specs.Buffer.{part_of};
+    ghost use Rattle.script.specs.BufferParts.{part_of};
 
     ghost Value = { Call DeviceStep };
 

@@ -4,7 +4,7 @@ ghost use Rattle.std.specs.List.{All};
 ghost use Rattle.std.specs.Fmt.{decimal};
 ghost use Rattle.arrayvec.specs.ArrayVec.{ArrayVec as Items};
 ghost use Rattle.hex.specs.Hex.{encode_lower};
-ghost use Rattle.script.specs.Fields.{fatal_word, frames_word};
+ghost use Rattle.script.specs.FieldWords.{fatal_word, frames_word};
 ghost use Rattle.script.specs.Line.{page_word};
 ghost use Rattle.adapter.specs.declared.access.DiskPage.{DiskPage};
 ghost use Rattle.adapter.specs.declared.access.FatalError.{FatalError};
@@ -15,7 +15,7 @@ use ata_types::{ClientId, Frame, MOST_CALL_BYTES, MOST_REQUEST_FRAMES, Port, Slo
 
 /// Whether a word is this text. Words are short, so that a look at each byte is the least that it takes.
 #[inline(always)]
-pub(crate) fn is(word: &[u8], text: &str) -> bool
+pub(crate) fn is_text(word: &[u8], text: &str) -> bool
     ensures { IsTrue result ↔ word.now ≡ text.now }
 {
     let text = text.as_bytes();
@@ -42,7 +42,7 @@ fn digit(byte: u8) -> Option<u64>
 }
 
 /// A number up to the last one allowed, in decimal digits without needless zeros.
-pub(crate) fn number(word: &[u8], last: u64) -> Option<u64>
+pub(crate) fn parse_number(word: &[u8], last: u64) -> Option<u64>
     ensures spelled { IfSome result (λ n. (n ≤ last) × (decimal n ≡ word.now)) }
     ensures only { (n : ℕ) → n ≤ last → decimal n ≡ word.now → result ≡ Some n }
 {
@@ -61,27 +61,27 @@ pub(crate) fn number(word: &[u8], last: u64) -> Option<u64>
 }
 
 /// A client's number: 0 to 255.
-pub(crate) fn client(word: &[u8]) -> Option<ClientId>
+pub(crate) fn parse_client(word: &[u8]) -> Option<ClientId>
     ensures spelled { IfSome result (λ c. (c.0 < 256) × (decimal c.0 ≡ word.now)) }
     ensures only { (c : ClientId) → c.0 < 256 → decimal c.0 ≡ word.now → result ≡ Some c }
 {
-    Some(ClientId(number(word, 255)? as u8))
+    Some(ClientId(parse_number(word, 255)? as u8))
 }
 
 /// A number of 32 bits.
-pub(crate) fn number_of_32_bits(word: &[u8]) -> Option<u32>
+pub(crate) fn parse_u32(word: &[u8]) -> Option<u32>
     ensures spelled { IfSome result (λ n. (n < 4294967296) × (decimal n ≡ word.now)) }
     ensures only { (n : ℕ) → n < 4294967296 → decimal n ≡ word.now → result ≡ Some n }
 {
-    Some(number(word, 0xffff_ffff)? as u32)
+    Some(parse_number(word, 0xffff_ffff)? as u32)
 }
 
 /// How many bytes are loaded: 1 to `MOST_CALL_BYTES`.
-pub(crate) fn count(word: &[u8]) -> Option<u32>
+pub(crate) fn parse_byte_count(word: &[u8]) -> Option<u32>
     ensures spelled { IfSome result (λ n. (1 ≤ n) × (n ≤ MOST_CALL_BYTES) × (decimal n ≡ word.now)) }
     ensures only { (n : ℕ) → 1 ≤ n → n ≤ MOST_CALL_BYTES → decimal n ≡ word.now → result ≡ Some n }
 {
-    let count = number(word, MOST_CALL_BYTES as u64)? as u32;
+    let count = parse_number(word, MOST_CALL_BYTES as u64)? as u32;
     if count == 0 {
         return None;
     }
@@ -89,39 +89,39 @@ pub(crate) fn count(word: &[u8]) -> Option<u32>
 }
 
 /// A frame's number: 0 to 65,535.
-pub(crate) fn frame(word: &[u8]) -> Option<Frame>
+pub(crate) fn parse_frame(word: &[u8]) -> Option<Frame>
     ensures spelled { IfSome result (λ f. (f.0 < 65536) × (decimal f.0 ≡ word.now)) }
     ensures only { (f : Frame) → f.0 < 65536 → decimal f.0 ≡ word.now → result ≡ Some f }
 {
-    Some(Frame(number(word, 65_535)? as u16))
+    Some(Frame(parse_number(word, 65_535)? as u16))
 }
 
 /// A port's number: 0 to 3.
-pub(crate) fn port(word: &[u8]) -> Option<Port>
+pub(crate) fn parse_port(word: &[u8]) -> Option<Port>
     ensures spelled { IfSome result (λ p. (p.0 < 4) × (decimal p.0 ≡ word.now)) }
     ensures only { (p : Port) → p.0 < 4 → decimal p.0 ≡ word.now → result ≡ Some p }
 {
-    Some(Port(number(word, 3)? as u8))
+    Some(Port(parse_number(word, 3)? as u8))
 }
 
 /// A slot's number: 0 to 31.
-pub(crate) fn slot(word: &[u8]) -> Option<Slot>
+pub(crate) fn parse_slot(word: &[u8]) -> Option<Slot>
     ensures spelled { IfSome result (λ s. (s.0 < 32) × (decimal s.0 ≡ word.now)) }
     ensures only { (s : Slot) → s.0 < 32 → decimal s.0 ≡ word.now → result ≡ Some s }
 {
-    Some(Slot(number(word, 31)? as u8))
+    Some(Slot(parse_number(word, 31)? as u8))
 }
 
 /// A disk's number: 0 or 1.
-pub(crate) fn disk(word: &[u8]) -> Option<DiskNumber>
+pub(crate) fn parse_disk(word: &[u8]) -> Option<DiskNumber>
     ensures spelled { IfSome result (λ d. (d.0 < 2) × (decimal d.0 ≡ word.now)) }
     ensures only { (d : DiskNumber) → d.0 < 2 → decimal d.0 ≡ word.now → result ≡ Some d }
 {
-    Some(DiskNumber(number(word, 1)? as u8))
+    Some(DiskNumber(parse_number(word, 1)? as u8))
 }
 
 /// A fatal error, by the name of its bit of PxIS: `ifs` or `hbfs`.
-pub(crate) fn fatal_error(word: &[u8]) -> Option<FatalError>
+pub(crate) fn parse_fatal_error(word: &[u8]) -> Option<FatalError>
     ensures spelled { IfSome result (λ e. fatal_word e ≡ word.now) }
     ensures only { (e : FatalError) → fatal_word e ≡ word.now → result ≡ Some e }
 {
@@ -133,7 +133,7 @@ pub(crate) fn fatal_error(word: &[u8]) -> Option<FatalError>
 }
 
 /// A page of a disk: `id` or `log`.
-pub(crate) fn page(word: &[u8]) -> Option<DiskPage>
+pub(crate) fn parse_page(word: &[u8]) -> Option<DiskPage>
     ensures spelled { IfSome result (λ p. page_word p ≡ word.now) }
     ensures only { (p : DiskPage) → page_word p ≡ word.now → result ≡ Some p }
 {
@@ -152,11 +152,14 @@ fn push_frame(word: &[u8], frames: &mut ArrayVec<Frame, MOST_REQUEST_FRAMES>) ->
         → length frames.old.items ≡ MOST_REQUEST_FRAMES }
     ensures few { OnSome result (length frames.new.items ≤ MOST_REQUEST_FRAMES) }
 {
-    frames.try_push(frame(word)?).ok()
+    frames.try_push(parse_frame(word)?).ok()
 }
 
 /// Reads frames by their numbers, at most 128, parted by commas, in place of those that are there; `-` is none.
-pub(crate) fn frames(word: &[u8], frames: &mut ArrayVec<Frame, MOST_REQUEST_FRAMES>) -> Option<()>
+pub(crate) fn parse_frames(
+    word: &[u8],
+    frames: &mut ArrayVec<Frame, MOST_REQUEST_FRAMES>,
+) -> Option<()>
     ensures spelled { OnSome result (All (λ f. f.0 < 65536) frames.new.items
         × (frames_word frames.new.items ≡ word.now)) }
     ensures most { OnSome result (length frames.new.items ≤ MOST_REQUEST_FRAMES) }
@@ -164,7 +167,7 @@ pub(crate) fn frames(word: &[u8], frames: &mut ArrayVec<Frame, MOST_REQUEST_FRAM
         → frames_word v.items ≡ word.now → (result ≡ Some tt) × (frames.new ≡ v) }
 {
     frames.clear();
-    if is(word, "-") {
+    if is_text(word, "-") {
         return Some(());
     }
     let mut begin = 0;
@@ -179,7 +182,7 @@ pub(crate) fn frames(word: &[u8], frames: &mut ArrayVec<Frame, MOST_REQUEST_FRAM
 }
 
 /// 1 to `MOST_CALL_BYTES` bytes, each as two lower-case hexadecimal digits.
-pub(crate) fn bytes(word: &[u8]) -> Option<ArrayVec<u8, MOST_CALL_BYTES>>
+pub(crate) fn parse_bytes(word: &[u8]) -> Option<ArrayVec<u8, MOST_CALL_BYTES>>
     ensures spelled { IfSome result (λ v. (1 ≤ length v.items) × (encode_lower v.items ≡ word.now)) }
     ensures most { IfSome result (λ v. length v.items ≤ MOST_CALL_BYTES) }
     ensures bytes { IfSome result (λ v. All (λ b. b < 256) v.items) }
@@ -202,11 +205,11 @@ pub(crate) fn bytes(word: &[u8]) -> Option<ArrayVec<u8, MOST_CALL_BYTES>>
 }
 
 /// One byte, as two lower-case hexadecimal digits.
-pub(crate) fn byte(word: &[u8]) -> Option<u8>
+pub(crate) fn parse_byte(word: &[u8]) -> Option<u8>
     ensures spelled { IfSome result (λ b. (b < 256) × (encode_lower (b ∷ []) ≡ word.now)) }
     ensures only { (b : ℕ) → b < 256 → encode_lower (b ∷ []) ≡ word.now → result ≡ Some b }
 {
-    match bytes(word)?.as_slice() {
+    match parse_bytes(word)?.as_slice() {
         [byte] => Some(*byte),
         _ => None,
     }

@@ -1,7 +1,7 @@
 // One line of a script: the call that it asks for.
 ghost use Rattle.std.specs.Prelude.{◌≡◌, ◌<◌, ◌≤◌, ◌==◌, ◌↔◌, IsTrue, ◌++◌, ◌∷◌, [], codes, Some, None, IfSome, OnSome, length, map};
 ghost use Rattle.std.specs.List.{slice_split};
-ghost use Rattle.script.specs.Line.{HasLine, IsRequest, IsSpellable, ReadsAsLine, ReadsAsStep, ReadsEachLine, ReadsEachStep, line_text, op_word, request_words, transfer_words};
+ghost use Rattle.script.specs.Line.{HasLine, RequestInRange, IsSpellable, ReadsAsLine, ReadsAsStep, ReadsEachLine, ReadsEachStep, line_text, op_word, request_words, transfer_words};
 ghost use Rattle.ata_types.specs.declared.call.Call.{Call};
 ghost use Rattle.ata_types.specs.declared.call.Call.TheVariants.{Device, Submit};
 ghost use Rattle.ata_types.specs.declared.request.Op.{Op};
@@ -10,7 +10,7 @@ ghost use Rattle.adapter.specs.declared.access.DeviceStep.{DeviceStep};
 
 use crate::call_buffer::{CallBuffer, CallPart};
 use crate::fields;
-use crate::fields::is;
+use crate::fields::is_text;
 use adapter::DeviceStep;
 use arrayvec::ArrayVec;
 use ata_types::{Call, ClientId, Op, Request, Sector};
@@ -46,19 +46,19 @@ fn part<'a>(text: &'a [u8], words: &mut ArrayVec<&'a [u8], MOST_WORDS>) -> Optio
 
 /// Reads the read or write that is asked, from the words after the first, in place of a request.
 fn transfer(op: Op, words: &[&[u8]], request: &mut Request) -> Option<()>
-    ensures found { OnSome result ((request.new.op ≡ op) × IsRequest request.new
+    ensures found { OnSome result ((request.new.op ≡ op) × RequestInRange request.new
         × (transfer_words request.new ≡ map (λ w. w.now) words.now)) }
-    ensures only { (r : Request) → r.op ≡ op → IsRequest r → transfer_words r ≡ map (λ w. w.now) words.now
+    ensures only { (r : Request) → r.op ≡ op → RequestInRange r → transfer_words r ≡ map (λ w. w.now) words.now
         → (result ≡ Some tt) × (request.new ≡ r) }
 {
     match words {
         [client, grant, first, count, frames] => {
-            request.client = fields::client(client)?;
-            request.grant = fields::number(grant, 255)? as u8;
+            request.client = fields::parse_client(client)?;
+            request.grant = fields::parse_number(grant, 255)? as u8;
             request.op = op;
-            request.first = Sector(fields::number(first, u64::MAX)?);
-            request.count = fields::number_of_32_bits(count)?;
-            fields::frames(frames, &mut request.frames)?;
+            request.first = Sector(fields::parse_number(first, u64::MAX)?);
+            request.count = fields::parse_u32(count)?;
+            fields::parse_frames(frames, &mut request.frames)?;
             Some(())
         }
         _ => None,
@@ -70,10 +70,10 @@ fn lie(port: &[u8], page: &[u8], offset: &[u8], bits: &[u8]) -> Option<DeviceSte
     ensures found { ReadsAsStep (codes "lie" ∷ port.now ∷ page.now ∷ offset.now ∷ bits.now ∷ []) result }
     ensures only { ReadsEachStep (codes "lie" ∷ port.now ∷ page.now ∷ offset.now ∷ bits.now ∷ []) result }
 {
-    let port = fields::port(port)?;
-    let page = fields::page(page)?;
-    let offset = fields::number(offset, 511)? as u16;
-    let bits = fields::byte(bits)?;
+    let port = fields::parse_port(port)?;
+    let page = fields::parse_page(page)?;
+    let offset = fields::parse_number(offset, 511)? as u16;
+    let bits = fields::parse_byte(bits)?;
     Some(DeviceStep::Lie(port, page, offset, bits))
 }
 
@@ -82,9 +82,9 @@ fn clear(port: &[u8], slot: &[u8], count: &[u8]) -> Option<DeviceStep>
     ensures found { ReadsAsStep (codes "clear" ∷ port.now ∷ slot.now ∷ count.now ∷ []) result }
     ensures only { ReadsEachStep (codes "clear" ∷ port.now ∷ slot.now ∷ count.now ∷ []) result }
 {
-    let port = fields::port(port)?;
-    let slot = fields::slot(slot)?;
-    let count = fields::number_of_32_bits(count)?;
+    let port = fields::parse_port(port)?;
+    let slot = fields::parse_slot(slot)?;
+    let count = fields::parse_u32(count)?;
     Some(DeviceStep::Clear(port, slot, count))
 }
 
@@ -93,9 +93,9 @@ fn fault(port: &[u8], slot: &[u8], error: &[u8]) -> Option<DeviceStep>
     ensures found { ReadsAsStep (codes "fault" ∷ port.now ∷ slot.now ∷ error.now ∷ []) result }
     ensures only { ReadsEachStep (codes "fault" ∷ port.now ∷ slot.now ∷ error.now ∷ []) result }
 {
-    let port = fields::port(port)?;
-    let slot = fields::slot(slot)?;
-    let error = fields::byte(error)?;
+    let port = fields::parse_port(port)?;
+    let slot = fields::parse_slot(slot)?;
+    let error = fields::parse_byte(error)?;
     Some(DeviceStep::Fault(port, slot, error))
 }
 
@@ -104,9 +104,9 @@ fn fault_busy(port: &[u8], slot: &[u8], error: &[u8]) -> Option<DeviceStep>
     ensures found { ReadsAsStep (codes "faultbusy" ∷ port.now ∷ slot.now ∷ error.now ∷ []) result }
     ensures only { ReadsEachStep (codes "faultbusy" ∷ port.now ∷ slot.now ∷ error.now ∷ []) result }
 {
-    let port = fields::port(port)?;
-    let slot = fields::slot(slot)?;
-    let error = fields::byte(error)?;
+    let port = fields::parse_port(port)?;
+    let slot = fields::parse_slot(slot)?;
+    let error = fields::parse_byte(error)?;
     Some(DeviceStep::FaultBusy(port, slot, error))
 }
 
@@ -115,8 +115,8 @@ fn scribble(port: &[u8], byte: &[u8]) -> Option<DeviceStep>
     ensures found { ReadsAsStep (codes "scribble" ∷ port.now ∷ byte.now ∷ []) result }
     ensures only { ReadsEachStep (codes "scribble" ∷ port.now ∷ byte.now ∷ []) result }
 {
-    let port = fields::port(port)?;
-    let byte = fields::byte(byte)?;
+    let port = fields::parse_port(port)?;
+    let byte = fields::parse_byte(byte)?;
     Some(DeviceStep::Scribble(port, byte))
 }
 
@@ -125,20 +125,20 @@ fn of_port(name: &[u8], port: &[u8]) -> Option<DeviceStep>
     ensures found { ReadsAsStep (name.now ∷ port.now ∷ []) result }
     ensures only { ReadsEachStep (name.now ∷ port.now ∷ []) result }
 {
-    let port = fields::port(port)?;
-    if is(name, "unplug") {
+    let port = fields::parse_port(port)?;
+    if is_text(name, "unplug") {
         return Some(DeviceStep::Unplug(port));
     }
-    if is(name, "loseplug") {
+    if is_text(name, "loseplug") {
         return Some(DeviceStep::LosePlug(port));
     }
-    if is(name, "hold") {
+    if is_text(name, "hold") {
         return Some(DeviceStep::Hold(port));
     }
-    if is(name, "release") {
+    if is_text(name, "release") {
         return Some(DeviceStep::Release(port));
     }
-    if is(name, "truth") {
+    if is_text(name, "truth") {
         return Some(DeviceStep::Truth(port));
     }
     None
@@ -149,27 +149,27 @@ fn of_port_and(name: &[u8], port: &[u8], last: &[u8]) -> Option<DeviceStep>
     ensures found { ReadsAsStep (name.now ∷ port.now ∷ last.now ∷ []) result }
     ensures only { ReadsEachStep (name.now ∷ port.now ∷ last.now ∷ []) result }
 {
-    if is(name, "scribble") {
+    if is_text(name, "scribble") {
         return scribble(port, last);
     }
-    let port = fields::port(port)?;
-    if is(name, "finish") {
-        return Some(DeviceStep::Finish(port, fields::slot(last)?));
+    let port = fields::parse_port(port)?;
+    if is_text(name, "finish") {
+        return Some(DeviceStep::Finish(port, fields::parse_slot(last)?));
     }
-    if is(name, "fetch") {
-        return Some(DeviceStep::Fetch(port, fields::slot(last)?));
+    if is_text(name, "fetch") {
+        return Some(DeviceStep::Fetch(port, fields::parse_slot(last)?));
     }
-    if is(name, "move") {
-        return Some(DeviceStep::Move(port, fields::slot(last)?));
+    if is_text(name, "move") {
+        return Some(DeviceStep::Move(port, fields::parse_slot(last)?));
     }
-    if is(name, "done") {
-        return Some(DeviceStep::Done(port, fields::slot(last)?));
+    if is_text(name, "done") {
+        return Some(DeviceStep::Done(port, fields::parse_slot(last)?));
     }
-    if is(name, "plug") {
-        return Some(DeviceStep::Plug(port, fields::disk(last)?));
+    if is_text(name, "plug") {
+        return Some(DeviceStep::Plug(port, fields::parse_disk(last)?));
     }
-    if is(name, "fatal") {
-        return Some(DeviceStep::Fatal(port, fields::fatal_error(last)?));
+    if is_text(name, "fatal") {
+        return Some(DeviceStep::Fatal(port, fields::parse_fatal_error(last)?));
     }
     None
 }
@@ -179,13 +179,13 @@ fn of_slot_and(name: &[u8], port: &[u8], slot: &[u8], last: &[u8]) -> Option<Dev
     ensures found { ReadsAsStep (name.now ∷ port.now ∷ slot.now ∷ last.now ∷ []) result }
     ensures only { ReadsEachStep (name.now ∷ port.now ∷ slot.now ∷ last.now ∷ []) result }
 {
-    if is(name, "clear") {
+    if is_text(name, "clear") {
         return clear(port, slot, last);
     }
-    if is(name, "fault") {
+    if is_text(name, "fault") {
         return fault(port, slot, last);
     }
-    if is(name, "faultbusy") {
+    if is_text(name, "faultbusy") {
         return fault_busy(port, slot, last);
     }
     None
@@ -202,7 +202,7 @@ fn of_page_and(
     ensures found { ReadsAsStep (name.now ∷ port.now ∷ page.now ∷ offset.now ∷ bits.now ∷ []) result }
     ensures only { ReadsEachStep (name.now ∷ port.now ∷ page.now ∷ offset.now ∷ bits.now ∷ []) result }
 {
-    if is(name, "lie") {
+    if is_text(name, "lie") {
         return lie(port, page, offset, bits);
     }
     None
@@ -233,10 +233,10 @@ fn trim(
     ensures found { ReadsAsLine (codes "trim" ∷ client.now ∷ grant.now ∷ first.now ∷ count.now ∷ []) result call.new }
     ensures only { ReadsEachLine (codes "trim" ∷ client.now ∷ grant.now ∷ first.now ∷ count.now ∷ []) result call.new }
 {
-    let client = fields::client(client)?;
-    let grant = fields::number(grant, 255)? as u8;
-    let first = Sector(fields::number(first, u64::MAX)?);
-    let count = fields::number_of_32_bits(count)?;
+    let client = fields::parse_client(client)?;
+    let grant = fields::parse_number(grant, 255)? as u8;
+    let first = Sector(fields::parse_number(first, u64::MAX)?);
+    let count = fields::parse_u32(count)?;
     *call = Call::Submit(Request {
         client,
         grant,
@@ -253,8 +253,8 @@ fn flush(client: &[u8], grant: &[u8], call: &mut Call<DeviceStep>) -> Option<()>
     ensures found { ReadsAsLine (codes "flush" ∷ client.now ∷ grant.now ∷ []) result call.new }
     ensures only { ReadsEachLine (codes "flush" ∷ client.now ∷ grant.now ∷ []) result call.new }
 {
-    let client = fields::client(client)?;
-    let grant = fields::number(grant, 255)? as u8;
+    let client = fields::parse_client(client)?;
+    let grant = fields::parse_number(grant, 255)? as u8;
     *call = Call::Submit(Request {
         client,
         grant,
@@ -278,10 +278,10 @@ fn store(
     ensures only { ReadsEachLine (codes "store" ∷ client.now ∷ frame.now ∷ offset.now ∷ bytes.now ∷ []) result
         call.new }
 {
-    let client = fields::client(client)?;
-    let frame = fields::frame(frame)?;
-    let offset = fields::number_of_32_bits(offset)?;
-    let bytes = fields::bytes(bytes)?;
+    let client = fields::parse_client(client)?;
+    let frame = fields::parse_frame(frame)?;
+    let offset = fields::parse_u32(offset)?;
+    let bytes = fields::parse_bytes(bytes)?;
     *call = Call::ClientStore {
         client,
         frame,
@@ -302,10 +302,10 @@ fn load(
     ensures found { ReadsAsLine (codes "load" ∷ client.now ∷ frame.now ∷ offset.now ∷ count.now ∷ []) result call.new }
     ensures only { ReadsEachLine (codes "load" ∷ client.now ∷ frame.now ∷ offset.now ∷ count.now ∷ []) result call.new }
 {
-    let client = fields::client(client)?;
-    let frame = fields::frame(frame)?;
-    let offset = fields::number_of_32_bits(offset)?;
-    let count = fields::count(count)?;
+    let client = fields::parse_client(client)?;
+    let frame = fields::parse_frame(frame)?;
+    let offset = fields::parse_u32(offset)?;
+    let count = fields::parse_byte_count(count)?;
     *call = Call::ClientLoad {
         client,
         frame,
@@ -320,8 +320,8 @@ fn revoke(client: &[u8], grant: &[u8], call: &mut Call<DeviceStep>) -> Option<()
     ensures found { ReadsAsLine (codes "revoke" ∷ client.now ∷ grant.now ∷ []) result call.new }
     ensures only { ReadsEachLine (codes "revoke" ∷ client.now ∷ grant.now ∷ []) result call.new }
 {
-    let client = fields::client(client)?;
-    let grant = fields::number(grant, 255)? as u8;
+    let client = fields::parse_client(client)?;
+    let grant = fields::parse_number(grant, 255)? as u8;
     *call = Call::Revoke {
         client,
         number: grant,
@@ -359,17 +359,17 @@ fn of_word(name: &[u8], call: &mut Call<DeviceStep>) -> Option<()>
     ensures found { ReadsAsLine (name.now ∷ []) result call.new }
     ensures only { ReadsEachLine (name.now ∷ []) result call.new }
 {
-    if is(name, "service") {
+    if is_text(name, "service") {
         if !matches!(call, Call::Service) {
             *call = Call::Service;
         }
         return Some(());
     }
-    if is(name, "tick") {
+    if is_text(name, "tick") {
         *call = Call::Tick;
         return Some(());
     }
-    if is(name, "reset") {
+    if is_text(name, "reset") {
         *call = Call::Reset;
         return Some(());
     }
@@ -475,7 +475,7 @@ fn of_state(words: &[&[u8]], call: &mut Call<DeviceStep>) -> Option<()>
 {
     match words {
         [port] => {
-            *call = Call::State(fields::port(port)?);
+            *call = Call::State(fields::parse_port(port)?);
             Some(())
         }
         _ => None,
@@ -484,28 +484,28 @@ fn of_state(words: &[&[u8]], call: &mut Call<DeviceStep>) -> Option<()>
 
 /// Reads what the first word of a line of more words asks, and those after it, in place of a call. It is no read, no
 /// write and no step of the device.
-fn asked_else(name: &[u8], words: &[&[u8]], call: &mut Call<DeviceStep>) -> Option<()>
+fn parse_other_line(name: &[u8], words: &[&[u8]], call: &mut Call<DeviceStep>) -> Option<()>
     requires name { (name.now ≡ codes "read" → ⊥) × (name.now ≡ codes "write" → ⊥) × (name.now ≡ codes "dev" → ⊥) }
     requires more { 1 ≤ length words.now }
     ensures found { ReadsAsLine (name.now ∷ map (λ w. w.now) words.now) result call.new }
     ensures only { ReadsEachLine (name.now ∷ map (λ w. w.now) words.now) result call.new }
 {
-    if is(name, "trim") {
+    if is_text(name, "trim") {
         return of_trim(words, call);
     }
-    if is(name, "flush") {
+    if is_text(name, "flush") {
         return of_flush(words, call);
     }
-    if is(name, "store") {
+    if is_text(name, "store") {
         return of_store(words, call);
     }
-    if is(name, "load") {
+    if is_text(name, "load") {
         return of_load(words, call);
     }
-    if is(name, "revoke") {
+    if is_text(name, "revoke") {
         return of_revoke(words, call);
     }
-    if is(name, "state") {
+    if is_text(name, "state") {
         return of_state(words, call);
     }
     None
@@ -521,19 +521,19 @@ fn asked(name: &[u8], words: &[&[u8]], call: &mut CallBuffer) -> Option<()>
     if words.is_empty() {
         return of_word(name, &mut call.other);
     }
-    if is(name, "read") {
+    if is_text(name, "read") {
         call.last = CallPart::Transfer;
         return of_transfer(Op::Read, words, &mut call.transfer);
     }
-    if is(name, "write") {
+    if is_text(name, "write") {
         call.last = CallPart::Transfer;
         return of_transfer(Op::Write, words, &mut call.transfer);
     }
-    if is(name, "dev") {
+    if is_text(name, "dev") {
         call.last = CallPart::Step;
         return of_device(words, &mut call.step);
     }
-    asked_else(name, words, &mut call.other)
+    parse_other_line(name, words, &mut call.other)
 }
 
 /// Reads the call that a line asks for, without its line feed. `None` says that no line is spelled so; what stands in

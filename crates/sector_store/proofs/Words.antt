@@ -3,7 +3,7 @@ use Rattle.std.proofs.Common.{ℕ, ◌≡◌, ◌≢◌, ◌<◌, ◌≤◌, inl
 use Rattle.std.proofs.lemmas.List.{get_or-replicate, length-set}
 use Rattle.std.proofs.lemmas.List.Sums.{sum_by-set}
 use Rattle.std.specs.Prelude.{slice_set}
-use Rattle.sector_store.specs.Pages.{IsLogPage, IsIdentifyPage, IsWord, error_logged, status_logged, tag_logged, identify_word}
+use Rattle.sector_store.specs.Pages.{IsLogPage, IsIdentifyPage, IsWord, logged_error_byte, logged_status, logged_tag, identify_word}
 use Rattle.sector_store.specs.declared.pages.Abilities.{Abilities}
 use Rattle.sector_store.specs.declared.pages.LoggedError.{LoggedError}
 
@@ -80,8 +80,8 @@ module _ (serial : List ℕ) (sectors : ℕ) (a : Abilities) (page : List ℕ) (
             let high = same (2 * number + 1) (omega (arith, less)) in
             let is : identify_word page number ≡ identify_word (slice_set signed_page 511 byte) number = omega (arith, low, high) in
             subst (λ w. IsWord serial sectors a number w) is (words number less);
-        signed = get_or-set_other signed_page 511 510 byte 0 (λ e. absurd (omega (arith, e))) ∙ get_or-set_same page 510 0xa5 0 (omega (arith, size));
-        checked =
+        signature_is = get_or-set_other signed_page 511 510 byte 0 (λ e. absurd (omega (arith, e))) ∙ get_or-set_same page 510 0xa5 0 (omega (arith, size));
+        checksum_is_zero =
             let total = sum_set signed_page 511 byte (omega (arith, kept)) in
             let none = at_sign 511 (λ e. absurd (omega (arith, e))) in
             let all : sum (slice_set signed_page 511 byte) ≡ byte + sum signed_page = omega (arith, total, none, last) in
@@ -107,7 +107,7 @@ module _ (tag status error : ℕ) where
       ∙ (get_or-set_other (replicate 512 0) 0 k tag 0 no_tag ∙ get_or-replicate 512 k 0 0 small))
 
   -- the page is done with a last byte that makes its sum 0
-  pub log_is : (failed : Option LoggedError) (byte : ℕ) → tag ≡ tag_logged failed → status ≡ status_logged failed → error ≡ error_logged failed →
+  pub log_is : (failed : Option LoggedError) (byte : ℕ) → tag ≡ logged_tag failed → status ≡ logged_status failed → error ≡ logged_error_byte failed →
       (byte + sum named_page) % 256 ≡ 0 → IsLogPage failed (slice_set named_page 511 byte)
   log_is failed byte its_tag its_status its_error zero_sum =
       let same : (k : ℕ) → k < 511 → slice_index (slice_set named_page 511 byte) k ≡ slice_index named_page k =
@@ -125,7 +125,7 @@ module _ (tag status error : ℕ) where
             ∙ (get_or-set_other two 3 2 error 0 (λ e. absurd (omega (arith, e))) ∙ (get_or-set_same one 2 status 0 (omega (arith, long)) ∙ its_status));
         error = same 3 (omega arith) ∙ (get_or-set_same two 3 error 0 (omega (arith, longer)) ∙ its_error);
         zeros = λ k less no_tag no_status no_error. same k less ∙ named_zero k (omega (arith, less)) no_tag no_status no_error;
-        checked =
+        checksum_is_zero =
             let total = sum_set named_page 511 byte (omega (arith, named_size)) in
             let none = named_zero 511 (omega arith) (λ e. absurd (omega (arith, e))) (λ e. absurd (omega (arith, e))) (λ e. absurd (omega (arith, e))) in
             let all : sum (slice_set named_page 511 byte) ≡ byte + sum named_page = omega (arith, total, none) in

@@ -14,15 +14,15 @@ abbrev pub character : List ℕ → ℕ → ℕ
 character text place = slice_index_or text place 0x20
 
 -- Word 69: bit 14, what is trimmed reads the same each time; bit 5, as zeros.
-abbrev pub trim_support : Trim → ℕ
-trim_support Full = 0x4020
-trim_support Weak = 0x4000
-trim_support Without = 0
+abbrev pub trim_support_word : Trim → ℕ
+trim_support_word Full = 0x4020
+trim_support_word Weak = 0x4000
+trim_support_word Without = 0
 
 -- Word 105: how many blocks of ranges a trim may have. Word 169, bit 0: the disk trims.
-abbrev pub trim_function : Trim → ℕ
-trim_function Without = 0
-trim_function _ = 1
+abbrev pub trim_function_word : Trim → ℕ
+trim_function_word Without = 0
+trim_function_word _ = 1
 
 -- What a word tells, but for the last: serial number (10 to 19), trims (69, 105, 169), queue depth less one (75),
 -- native command queuing (76), 48-bit addresses and FLUSH CACHE EXT in a valid word (83), sectors (100 to 103, the
@@ -31,12 +31,12 @@ trim_function _ = 1
 pub record IsWord (serial : List ℕ) (sectors : ℕ) (a : Abilities) (number w : ℕ) : Type 0 where
   pub serial_is : 10 ≤ number → number < 20
       → w ≡ 2 ^ 8 * character serial (2 * (number - 10)) + character serial (2 * (number - 10) + 1)
-  pub support_is : number ≡ 69 → w ≡ trim_support a.trim
+  pub support_is : number ≡ 69 → w ≡ trim_support_word a.trim
   pub depth_is : number ≡ 75 → w ≡ a.depth - 1
   pub queuing_is : number ≡ 76 → w ≡ (if a.ncq then 0x100 else 0)
   pub sets_are : number ≡ 83 → w ≡ 0x6400
   pub sectors_are : 100 ≤ number → number < 104 → w ≡ sectors / 2 ^ (16 * (number - 100)) % 2 ^ 16
-  pub function_is : (number ≡ 105) ⊎ (number ≡ 169) → w ≡ trim_function a.trim
+  pub function_is : (number ≡ 105) ⊎ (number ≡ 169) → w ≡ trim_function_word a.trim
   pub size_is : number ≡ 106 → w ≡ 0x4000
   pub others_are : (number < 10) ⊎ (20 ≤ number) → number ≢ 69 → number ≢ 75 → number ≢ 76 → number ≢ 83
       → (number < 100) ⊎ (104 ≤ number) → number ≢ 105 → number ≢ 106 → number ≢ 169 → w ≡ 0
@@ -46,28 +46,28 @@ pub record IsWord (serial : List ℕ) (sectors : ℕ) (a : Abilities) (number w 
 pub record IsIdentifyPage (serial : List ℕ) (sectors : ℕ) (a : Abilities) (page : List ℕ) : Type 0 where
   pub size : length page ≡ 512
   pub words : (number : ℕ) → number < 255 → IsWord serial sectors a number (identify_word page number)
-  pub signed : slice_index page 510 ≡ 0xa5
-  pub checked : sum page % 2 ^ 8 ≡ 0
+  pub signature_is : slice_index page 510 ≡ 0xa5
+  pub checksum_is_zero : sum page % 2 ^ 8 ≡ 0
 
 -- NQ or the tag, the status, and the error of the queued command that failed, where one did
-abbrev pub tag_logged : Option LoggedError → ℕ
-tag_logged None = 0x80
-tag_logged (Some failed) = failed.tag
+abbrev pub logged_tag : Option LoggedError → ℕ
+logged_tag None = 0x80
+logged_tag (Some failed) = failed.tag
 
-abbrev pub status_logged : Option LoggedError → ℕ
-status_logged None = 0
-status_logged (Some failed) = 0x41
+abbrev pub logged_status : Option LoggedError → ℕ
+logged_status None = 0
+logged_status (Some failed) = 0x41
 
-abbrev pub error_logged : Option LoggedError → ℕ
-error_logged None = 0
-error_logged (Some failed) = failed.error
+abbrev pub logged_error_byte : Option LoggedError → ℕ
+logged_error_byte None = 0
+logged_error_byte (Some failed) = failed.error
 
 -- The page of log 10h: byte 0 has NQ, or the tag, byte 2 the status and byte 3 the error. All bytes sum to 0 modulo
 -- 256, by the last of them; the others are zero.
 pub record IsLogPage (failed : Option LoggedError) (page : List ℕ) : Type 0 where
   pub size : length page ≡ 512
-  pub tag : slice_index page 0 ≡ tag_logged failed
-  pub status : slice_index page 2 ≡ status_logged failed
-  pub error : slice_index page 3 ≡ error_logged failed
+  pub tag : slice_index page 0 ≡ logged_tag failed
+  pub status : slice_index page 2 ≡ logged_status failed
+  pub error : slice_index page 3 ≡ logged_error_byte failed
   pub zeros : (offset : ℕ) → offset < 511 → offset ≢ 0 → offset ≢ 2 → offset ≢ 3 → slice_index page offset ≡ 0
-  pub checked : sum page % 2 ^ 8 ≡ 0
+  pub checksum_is_zero : sum page % 2 ^ 8 ≡ 0

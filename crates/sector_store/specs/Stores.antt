@@ -32,23 +32,23 @@ FailsOn is_write sector was now =
 -- come to is as it was. What the store tells is as it was.
 pub record ReadsSector {S : Type 0} (size : S → ℕ) (told : S → Option (ℕ → List ℕ)) (failures : S → Option Failures)
     (sector : ℕ) (old new : S) (before after : List ℕ) (done : Bool) : Type 0 where
-  pub inside : done ≡ true → sector < size old
-  pub gives : done ≡ true → IfSome (told old) (λ told. after ≡ told sector)
-  pub bytes : done ≡ true → IsStoredSector after
-  pub kept : done ≡ false → after ≡ before
-  pub serves : (done ≡ true) ⊎ (size old ≤ sector) → failures new ≡ failures old
-  pub fails : done ≡ false → sector < size old → FailsOn false sector (failures old) (failures new)
-  pub same : told new ≡ told old
-  pub sized : size new ≡ size old
+  pub is_inside : done ≡ true → sector < size old
+  pub bytes_are_told : done ≡ true → IfSome (told old) (λ told. after ≡ told sector)
+  pub is_sector : done ≡ true → IsStoredSector after
+  pub place_is_kept : done ≡ false → after ≡ before
+  pub no_call_fails : (done ≡ true) ⊎ (size old ≤ sector) → failures new ≡ failures old
+  pub failure_is_noted : done ≡ false → sector < size old → FailsOn false sector (failures old) (failures new)
+  pub contents_are_kept : told new ≡ told old
+  pub size_is_kept : size new ≡ size old
 
 -- A sector of a store was to have these bytes. It has, and no other one has others; or there is none, or a call has
 -- failed in this way, and what the store tells is as it was.
 pub record WritesSector {S : Type 0} (size : S → ℕ) (told : S → Option (ℕ → List ℕ)) (failures : S → Option Failures)
     (Fails : (was now : Option Failures) → Type 0) (sector : ℕ) (bytes : List ℕ) (old new : S) (done : Bool) : Type 0
   where
-    pub inside : done ≡ true → sector < size old
-    pub puts : done ≡ true → told new ≡ option_map (λ told. replaced told sector bytes) (told old)
-    pub kept : done ≡ false → told new ≡ told old
-    pub serves : (done ≡ true) ⊎ (size old ≤ sector) → failures new ≡ failures old
-    pub fails : done ≡ false → sector < size old → Fails (failures old) (failures new)
-    pub sized : size new ≡ size old
+    pub is_inside : done ≡ true → sector < size old
+    pub sector_is_replaced : done ≡ true → told new ≡ option_map (λ told. replaced told sector bytes) (told old)
+    pub told_is_kept : done ≡ false → told new ≡ told old
+    pub no_call_fails : (done ≡ true) ⊎ (size old ≤ sector) → failures new ≡ failures old
+    pub failure_is_noted : done ≡ false → sector < size old → Fails (failures old) (failures new)
+    pub size_is_kept : size new ≡ size old

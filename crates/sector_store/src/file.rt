@@ -119,14 +119,16 @@ impl SectorStore for FileStore {
     /// system.
     #[inline(always)]
     fn read_ahead(&mut self, sector: u64, ahead: u32, out: &mut [u8; 512]) -> bool {
-        if self.file.take(sector, out) {
+        if self.file.copy_next(sector, out) {
             return true;
         }
         if !self.has(sector) {
             return false;
         }
         let behind = self.sectors - sector - 1;
-        let done = self.file.fetch(sector, behind.min(u64::from(ahead)), out);
+        let done = self
+            .file
+            .read_with_following(sector, behind.min(u64::from(ahead)), out);
         self.note(false, sector, done);
         done
     }

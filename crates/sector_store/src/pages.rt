@@ -1,6 +1,6 @@
 // The pages by which a disk says what it is, and which queued command failed.
 ghost use Rattle.std.specs.Prelude.{◌≡◌, ◌<◌, ◌≤◌, ◌%◌, All, length, sum};
-ghost use Rattle.sector_store.specs.Pages.{IsLogPage, IsIdentifyPage, IsWord, character, error_logged, status_logged, tag_logged, trim_function, trim_support};
+ghost use Rattle.sector_store.specs.Pages.{IsLogPage, IsIdentifyPage, IsWord, character, logged_error_byte, logged_status, logged_tag, trim_function_word, trim_support_word};
 ghost use Rattle.sector_store.specs.Stores.{IsStoredSector};
 
 /// What a disk says of DATA SET MANAGEMENT with TRIM.
@@ -43,7 +43,7 @@ const FAILED_STATUS: u8 = 0x41;
 impl Trim {
     /// The word that tells of zeros after a trim (word 69).
     fn support(self) -> u16
-        ensures { result ≡ trim_support self }
+        ensures { result ≡ trim_support_word self }
     {
         match self {
             Trim::Full => 0x4020,
@@ -54,7 +54,7 @@ impl Trim {
 
     /// The words that tell of blocks of ranges and of the function (words 105 and 169).
     fn function(self) -> u16
-        ensures { result ≡ trim_function self }
+        ensures { result ≡ trim_function_word self }
     {
         match self {
             Trim::Full | Trim::Weak => 1,
@@ -133,7 +133,7 @@ pub fn identify_page(serial: &[u8], sectors: u64, abilities: Abilities) -> [u8; 
 
 /// Byte 0 of the log: NQ, or the tag of the command that failed.
 fn log_tag(failed: Option<LoggedError>) -> u8
-    ensures { result ≡ tag_logged failed }
+    ensures { result ≡ logged_tag failed }
 {
     match failed {
         Some(failed) => failed.tag,
@@ -143,14 +143,14 @@ fn log_tag(failed: Option<LoggedError>) -> u8
 
 /// Its status there, in byte 2.
 fn log_status(failed: Option<LoggedError>) -> u8
-    ensures { result ≡ status_logged failed }
+    ensures { result ≡ logged_status failed }
 {
     if failed.is_some() { FAILED_STATUS } else { 0 }
 }
 
 /// Its error there, in byte 3.
 fn log_error(failed: Option<LoggedError>) -> u8
-    ensures { result ≡ error_logged failed }
+    ensures { result ≡ logged_error_byte failed }
 {
     match failed {
         Some(failed) => failed.error,

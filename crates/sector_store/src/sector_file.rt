@@ -16,8 +16,8 @@ const QUARTER_BYTES: usize = 128;
 const MOST_SECTORS: usize = 64;
 
 /// A file whose sector k begins at byte 512 k, with a room for sectors that are read ahead. The file is reached through
-/// this alone, and each call but `take` forgets what is left there: so no bytes are given that were read before the
-/// last write, or before the run of `take` in which they are given.
+/// this alone, and each call but `copy_next` forgets what is left there: so no bytes are given that were read before
+/// the last write, or before the run of `copy_next` in which they are given.
 #[derive(Drop)]
 pub struct SectorFile {
     file: File,
@@ -117,7 +117,7 @@ impl SectorFile {
     /// Copies this sector out of the room, if it is the first one that is left there. It stands in its callers' code,
     /// since it is asked for each sector.
     #[inline(always)]
-    pub fn take(&mut self, sector: u64, out: &mut [u8; 512]) -> bool
+    pub fn copy_next(&mut self, sector: u64, out: &mut [u8; 512]) -> bool
         ensures gives { result ≡ true → (sector ≡ self.old.next) × (sector < self.old.end)
             × (out.new ≡ first_untaken_sector self.old.room.items (self.old.end - sector)) }
         ensures bytes { result ≡ true → IsStoredSector out.new }
@@ -145,13 +145,13 @@ impl SectorFile {
         ensures gives { result ≡ true → (self.new.next ≡ sector + 1) × (self.new.end ≡ sector + 1)
             × (out.new ≡ first_untaken_sector self.new.room.items 1) }
     {
-        self.fill(sector, 1) && self.take(sector, out)
+        self.fill(sector, 1) && self.copy_next(sector, out)
     }
 
     /// Copies a sector, of which so many behind it are there, too, and are taken next. If they can't be read at once,
     /// it is read alone.
     #[inline(never)]
-    pub fn fetch(&mut self, sector: u64, ahead: u64, out: &mut [u8; 512]) -> bool
+    pub fn read_with_following(&mut self, sector: u64, ahead: u64, out: &mut [u8; 512]) -> bool
         requires { 512 * (sector + ahead + 1) ≤ 2 ^ 64 }
         ensures bytes { result ≡ true → IsStoredSector out.new }
         ensures kept { result ≡ false → out.new ≡ out.old }
@@ -162,7 +162,7 @@ impl SectorFile {
     {
         let count = 1 + ahead.min(MOST_SECTORS as u64 - 1) as usize;
         if self.fill(sector, count) {
-            return self.take(sector, out);
+            return self.copy_next(sector, out);
         }
         count > 1 && self.read(sector, out)
     }

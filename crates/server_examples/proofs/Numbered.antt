@@ -6,7 +6,7 @@ use Rattle.std.proofs.lemmas.Bool.Decides.{eqb_tells, leb_tells}
 use Rattle.std.proofs.lemmas.List.{length-replicate}
 use Rattle.std.proofs.lemmas.List.Elements.{All-replicate}
 use Rattle.sector_store.specs.Stores.{IsStoredSector, replaced}
-use Rattle.server_examples.specs.Numbered.{numbered_sectors}
+use Rattle.server_examples.specs.NumberedSectors.{numbered_sectors}
 
 same_bytes : (byte : ℕ) → byte < 256 → IsStoredSector (replicate 512 byte)
 same_bytes byte small = (length-replicate 512 byte, All-replicate (λ b. b < 256) 512 byte small)

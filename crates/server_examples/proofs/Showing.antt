@@ -25,7 +25,7 @@ use Rattle.adapter.specs.Memory.{changed}
 use Rattle.adapter.specs.declared.access.DeviceStep.{DeviceStep}
 use Rattle.adapter.specs.declared.access.DeviceStep.TheVariants.{Hold, Fatal}
 use Rattle.adapter.specs.declared.access.FatalError.TheVariants.{Interface, HostBus}
-use Rattle.block_machine.specs.Events.{CallRecord, AbstractCall, AbstractState, Submit as AskSubmit, StoreAt, Service as AskService, Reset as AskReset, State as AskState, Device as AskDevice, Submitted, Stored, Served, WasReset, Shown, Stepped, AllByDevice, EveryReadHolds, IsAnswered, IsIssuedIn, IsRun, IsStillStuck, StaysStuck, answers_of, issues_it, reply_of, abstract_after, abstract_after_all, replies_of, steps_of}
+use Rattle.block_machine.specs.Events.{CallRecord, AbstractCall, AbstractState, Submit as AskSubmit, StoreAt, Service as AskService, Reset as AskReset, State as AskState, Device as AskDevice, Submitted, Stored, Served, WasReset, Shown, Stepped, AllByDevice, EveryReadHolds, IsAnswered, IsIssuedIn, IsRun, IsStillStuck, StaysStuck, answers_of, issues_id, reply_of, abstract_after, abstract_after_all, replies_of, steps_of}
 use Rattle.block_machine.specs.Events as machine
 use Rattle.block_machine.specs.Histories.{JointEvent, JointState, events_of}
 use Rattle.block_machine.specs.Expected.{after}
@@ -34,41 +34,41 @@ use Rattle.block_machine.specs.Steps.{Step, Touch, End, Unplug, Replace, Answer,
 use Rattle.driver_history.specs.Evidence.{ShowsFailure}
 use Rattle.driver_history.specs.Histories.{ExplainsAccesses, IsDriverHistory}
 use Rattle.identify.specs.declared.wanted.Wanted.{Wanted}
-use Rattle.machine_runs.specs.Told.{AsksFor, WasUnansweredBefore, WasAsked, waits_again}
+use Rattle.machine_runs.specs.AnswerOrigins.{AsksFor, WasUnansweredBefore, WasAsked, waits_again}
 use Rattle.server_history.specs.Histories.{StartsHistory, LeadsToServer}
-use Rattle.server_history.specs.Server.{ServerState}
+use Rattle.server_history.specs.ServerState.{ServerState}
 use Rattle.block_server.specs.Promise.{RunsAsPromised}
-use Rattle.block_server.specs.Running.{ask_of, machine_result_of}
-use Rattle.block_server.specs.View.{ServerView, server_of}
+use Rattle.block_server.specs.AbstractCalls.{abstract_call_of, machine_result_of}
+use Rattle.block_server.specs.ServerView.{ServerView, server_of}
 use Rattle.ata_types.specs.declared.call.Call.TheVariants.{Submit, ClientStore, Service, Reset, State, Device as Tell}
 use Rattle.arrayvec.specs.ArrayVec.{ArrayVec}
 use Rattle.ata_types.specs.declared.call.Call.{Call}
 use Rattle.ata_types.specs.declared.call.CallResult.{CallResult}
 use Rattle.ata_types.specs.declared.call.CallResult.TheVariants as said
-use Rattle.server_examples.specs.Shown.{HasRun, ReleasesFrame, ShownRunLaws, ServesRead, ServesReadAnew}
+use Rattle.server_examples.specs.ShownHistories.{HasRun, ReleasesFrame, ShownRunLaws, ServesRead, ServesReadAnew}
 
 pub has_run : {A : Type 0} (device : A → Device) (old new : ServerView A) (events : List (Call DeviceStep)) (before after : List (CallResult (ArrayVec Reply))) → RunsAsPromised device old new events before after → before ≡ []
     → StartsHistory (server_of device old) → (device old.adapter).telling ≡ true → HasRun device old new events after
 has_run device old new events before after promised empty begun telling =
-    let kept = promised.keeps begun.0 [] begun.1 in
+    let kept = promised.simulates_calls begun.0 [] begun.1 in
     let whole = append-nil kept.added in
-    let is : promised.said ≡ after = sym (promised.told ∙ ap (λ (xs : List (CallResult (ArrayVec Reply))). xs ++ promised.said) empty) in
+    let is : promised.said ≡ after = sym (promised.results_are ∙ ap (λ (xs : List (CallResult (ArrayVec Reply))). xs ++ promised.said) empty) in
     subst (HasRun device old new events) is (record {
-      first = begun.0;
+      initial_state = begun.0;
       begun = begun.1;
       past = kept.added;
-      asks = kept.clients.asks;
-      says = kept.clients.says;
-      leads = subst (λ (past : List (JointEvent Device DeviceStep)). LeadsToServer begun.0 past (server_of device new)) whole kept.driver.leads;
-      run = subst (λ (past : List (JointEvent Device DeviceStep)). IsRun begun.0.abstract (events_of past)) whole kept.clients.run;
-      reads = subst (λ (past : List (JointEvent Device DeviceStep)). EveryReadHolds begun.0.abstract (events_of past)) whole
-          (kept.clients.reads (ap (λ (d : Device). d.telling) begun.1.stands.device_is ∙ telling));
+      asks = kept.meets_client_promise.asks;
+      says = kept.meets_client_promise.says;
+      leads = subst (λ (past : List (JointEvent Device DeviceStep)). LeadsToServer begun.0 past (server_of device new)) whole kept.drives_device.leads;
+      run = subst (λ (past : List (JointEvent Device DeviceStep)). IsRun begun.0.abstract (events_of past)) whole kept.meets_client_promise.is_run;
+      every_read_holds = subst (λ (past : List (JointEvent Device DeviceStep)). EveryReadHolds begun.0.abstract (events_of past)) whole
+          (kept.meets_client_promise.every_read_holds (ap (λ (d : Device). d.telling) begun.1.stands.device_is ∙ telling));
     })
 
 -- what calls asked and said
-abbrev asks_of : List (Call DeviceStep) → List (CallResult (ArrayVec Reply)) → List (AbstractCall DeviceStep × machine.CallResult)
-asks_of (event ∷ events) (one ∷ more) = (ask_of event, machine_result_of one) ∷ asks_of events more
-asks_of _ _ = []
+abbrev unanswered_of : List (Call DeviceStep) → List (CallResult (ArrayVec Reply)) → List (AbstractCall DeviceStep × machine.CallResult)
+unanswered_of (event ∷ events) (one ∷ more) = (abstract_call_of event, machine_result_of one) ∷ unanswered_of events more
+unanswered_of _ _ = []
 
 -- a history has grown by calls that asked and said this
 abbrev TapeGrows : List (JointEvent Device DeviceStep) → List (AbstractCall DeviceStep × machine.CallResult) → List (JointEvent Device DeviceStep) → Type 0
@@ -76,24 +76,24 @@ TapeGrows past [] later = later ≡ past
 TapeGrows past (one ∷ more) later = (h : JointEvent Device DeviceStep) × (h.event.ask ≡ one.0) × (h.event.said ≡ one.1) × TapeGrows (h ∷ past) more later
 
 -- so it has by calls that stand in their order
-grows : (calls past : List (JointEvent Device DeviceStep)) (events : List (Call DeviceStep)) (some : List (CallResult (ArrayVec Reply))) → map (λ h. h.event.ask) calls ≡ map ask_of events
-    → map (λ h. h.event.said) calls ≡ map machine_result_of some → TapeGrows past (asks_of events some) (reverse calls ++ past)
+grows : (calls past : List (JointEvent Device DeviceStep)) (events : List (Call DeviceStep)) (some : List (CallResult (ArrayVec Reply))) → map (λ h. h.event.ask) calls ≡ map abstract_call_of events
+    → map (λ h. h.event.said) calls ≡ map machine_result_of some → TapeGrows past (unanswered_of events some) (reverse calls ++ past)
 grows [] past [] [] asks says = refl
 grows [] past [] (one ∷ more) asks says = cc
 grows [] past (event ∷ events) some asks says = cc
 grows (h ∷ calls) past [] some asks says = cc
 grows (h ∷ calls) past (event ∷ events) [] asks says = cc
 grows (h ∷ calls) past (event ∷ events) (one ∷ more) asks says =
-    let asked : h.event.ask ≡ ask_of event = cc in
+    let asked : h.event.ask ≡ abstract_call_of event = cc in
     let told : h.event.said ≡ machine_result_of one = cc in
-    let asks_on : map (λ h. h.event.ask) calls ≡ map ask_of events = cc in
+    let asks_on : map (λ h. h.event.ask) calls ≡ map abstract_call_of events = cc in
     let says_on : map (λ h. h.event.said) calls ≡ map machine_result_of more = cc in
     let turned = ap (λ (l : List (JointEvent Device DeviceStep)). l ++ past) (reverse-append (h ∷ []) calls) ∙ append_assoc (reverse calls) (h ∷ []) past in
-    (h, asked, told, subst (TapeGrows (h ∷ past) (asks_of events more)) (sym turned) (grows calls (h ∷ past) events more asks_on says_on))
+    (h, asked, told, subst (TapeGrows (h ∷ past) (unanswered_of events more)) (sym turned) (grows calls (h ∷ past) events more asks_on says_on))
 
-grown : {A : Type 0} {device : A → Device} {old new : ServerView A} {events : List (Call DeviceStep)} {some : List (CallResult (ArrayVec Reply))} (r : HasRun device old new events some) → TapeGrows [] (asks_of events some) r.past
+grown : {A : Type 0} {device : A → Device} {old new : ServerView A} {events : List (Call DeviceStep)} {some : List (CallResult (ArrayVec Reply))} (r : HasRun device old new events some) → TapeGrows [] (unanswered_of events some) r.past
 grown {A} {device} {old} {new} {events} {some} r =
-    subst (TapeGrows [] (asks_of events some)) (append-nil (reverse (reverse r.past)) ∙ reverse-reverse r.past) (grows (reverse r.past) [] events some r.asks r.says)
+    subst (TapeGrows [] (unanswered_of events some)) (append-nil (reverse (reverse r.past)) ∙ reverse-reverse r.past) (grows (reverse r.past) [] events some r.asks r.says)
 
 pub has_said : {A : Type 0} {device : A → Device} {old new : ServerView A} {events : List (Call DeviceStep)} {some other : List (CallResult (ArrayVec Reply))} → HasRun device old new events some → some ≡ other → HasRun device old new events other
 has_said {A} {device} {old} {new} {events} {some} {other} r is = subst (HasRun device old new events) is r
@@ -133,14 +133,14 @@ served_last laws old new asked first begun past last leads run holds items reply
     let told = laws.asked first.abstract (events_of past) last.event reply run there in
     let answered : Contains last.event.steps (Answer told.0 outcome.Ok) = subst (λ (o : Outcome). Contains last.event.steps (Answer told.0 o)) ok told.1 in
     record {
-      first = first;
+      initial_state = first;
       begun = begun;
       past = past;
       last = last;
       leads = leads;
       run = run;
       read = told.0;
-      its = asks told.0.request told.4;
+      request_is = asks told.0.request told.4;
       reads = reads;
       told = laws.served first.abstract (events_of past) last.event told.0 run holds answered;
     }
@@ -154,10 +154,10 @@ shows_a_read device old new read step id did replies reply laws r only ok reads 
     let c = b.3 in
     let calls : List (JointEvent Device DeviceStep) = c.0 ∷ b.0 ∷ a.0 ∷ [] in
     let is : r.past ≡ calls = c.3 in
-    served_last laws (server_of device old) (server_of device new) read r.first r.begun (b.0 ∷ a.0 ∷ []) c.0
-    (subst (λ (p : List (JointEvent Device DeviceStep)). LeadsToServer r.first p (server_of device new)) is r.leads)
-    (subst (λ (p : List (JointEvent Device DeviceStep)). IsRun r.first.abstract (events_of p)) is r.run)
-    (subst (λ (p : List (JointEvent Device DeviceStep)). EveryReadHolds r.first.abstract (events_of p)) is r.reads)
+    served_last laws (server_of device old) (server_of device new) read r.initial_state r.begun (b.0 ∷ a.0 ∷ []) c.0
+    (subst (λ (p : List (JointEvent Device DeviceStep)). LeadsToServer r.initial_state p (server_of device new)) is r.leads)
+    (subst (λ (p : List (JointEvent Device DeviceStep)). IsRun r.initial_state.abstract (events_of p)) is r.run)
+    (subst (λ (p : List (JointEvent Device DeviceStep)). EveryReadHolds r.initial_state.abstract (events_of p)) is r.every_read_holds)
     replies reply c.2 only ok reads
     (λ q asked. ⊎_elim
     (λ now. absurd (device_asks_none q b.0.event step b.1 now))
@@ -202,7 +202,7 @@ state_lets_be : (first : AbstractState) (past : List (CallRecord DeviceStep)) (e
 state_lets_be first past event port shown r is says =
     let old = abstract_after_all first past in
     let new = abstract_after_all first (event ∷ past) in
-    let said_so = subst (λ (s : machine.CallResult). IsAnswered event.ask s old event.evidence event.steps new) says r.1.answered in
+    let said_so = subst (λ (s : machine.CallResult). IsAnswered event.ask s old event.evidence event.steps new) says r.1.is_answered in
     let a = subst (λ (q : AbstractCall DeviceStep). IsAnswered q (Shown shown) old event.evidence event.steps new) is said_so in (
       record {
         issues = λ id i. let P : List Step → Type 0 = IsIssuedIn id in false≢true (subst P a.1 i);
@@ -218,7 +218,7 @@ device_lets_be : (first : AbstractState) (past : List (CallRecord DeviceStep)) (
 device_lets_be first past event step r is says =
     let old = abstract_after_all first past in
     let new = abstract_after_all first (event ∷ past) in
-    let said_so = subst (λ (s : machine.CallResult). IsAnswered event.ask s old event.evidence event.steps new) says r.1.answered in
+    let said_so = subst (λ (s : machine.CallResult). IsAnswered event.ask s old event.evidence event.steps new) says r.1.is_answered in
     let a = subst (λ (q : AbstractCall DeviceStep). IsAnswered q (Stepped true) old event.evidence event.steps new) is said_so in
     record {
       issues = λ id i. devices_issue_none id event.steps a.0 i;
@@ -239,7 +239,7 @@ was_then : (laws : ShownRunLaws) (first : AbstractState) (past : List (CallRecor
 was_then laws first past event e r lets h = ⊎_elim
     (λ (c : WasUnansweredBefore (abstract_after_all first past).machine event.steps e). record {
       before = c.before;
-      here = c.here;
+      here = c.is_in_book;
       same = c.same;
       issued = λ is. ⊎_elim (λ now. absurd (lets.issues e.request.id now)) (λ was. was) (c.issued is);
     })
@@ -280,7 +280,7 @@ shows_failure past event old new accesses is says came =
     let said_so = subst (λ (s : machine.CallResult). ExplainsAccesses past event.ask s accesses old new) says came in
     let done = subst (λ (q : AbstractCall DeviceStep). ExplainsAccesses past q (Stepped true) accesses old new) is said_so in
     ⊎_elim
-    (λ fatal. inl (record { place = 27; from = omega arith; to = omega arith; set = ap (λ (d : Device). (d.port 0).is 27) fatal.effect }))
+    (λ fatal. inl (record { place = 27; from = omega arith; to = omega arith; cause_is_set = ap (λ (d : Device). (d.port 0).is 27) fatal.effect }))
     (λ no. absurd no)
     done.1
 
@@ -312,8 +312,8 @@ lone_of laws wanted first asked id submit one two three fatal service finish c e
     let calm : IsStillStuck (events_of (submit ∷ [])) → ⊥ = λ stuck. subst (λ (q : AbstractCall DeviceStep). StaysStuck q submit.event.said ⊥) c.submits.0 stuck in
     let ready : state e.request.port ≡ Ready = ⊎_elim (λ is. is) (λ dead. absurd (calm (l2.0.calm (events_of (submit ∷ [])) (l3.0.calm (events_of (one ∷ submit ∷ [])) (l4.0.calm (events_of (two ∷ one ∷ submit ∷ [])) (l5.calm (events_of (three ∷ two ∷ one ∷ submit ∷ [])) dead.1))))))
     (laws.ready first.abstract (events_of (fatal ∷ three ∷ two ∷ one ∷ submit ∷ [])) e r5 here) in
-    let fit = r5.1.fit in
-    let served : fatal.event.ports.served e.request.port ≡ true = ⊎_elim (λ is. is) (λ no. absurd (absent_ready (sym (fit.absent e.request.port no) ∙ ready))) (cases_Bool (fatal.event.ports.served e.request.port)) in
+    let fit = r5.1.ports_are_well_formed in
+    let served : fatal.event.ports.served e.request.port ≡ true = ⊎_elim (λ is. is) (λ no. absurd (absent_ready (sym (fit.unserved_are_absent e.request.port no) ∙ ready))) (cases_Bool (fatal.event.ports.served e.request.port)) in
     let of : (n : ℕ) → e.request.port.0 ≡ n → state (record { 0 = n }) ≡ Ready = λ n is. subst (λ (k : ℕ). state (record { 0 = k }) ≡ Ready) is ready in
     let absent_1 : state (record { 0 = 1 }) ≡ Absent = l5.ports _ ∙ l4.0.ports _ ∙ l3.0.ports _ ∙ l2.0.ports _ ∙ sym l2.1 in
     let absent_2 : state (record { 0 = 2 }) ≡ Absent = l5.ports _ ∙ l4.0.ports _ ∙ l3.0.ports _ ∙ sym l3.1 in
@@ -322,7 +322,7 @@ lone_of laws wanted first asked id submit one two three fatal service finish c e
       begun = w1.before;
       here = w1.here;
       same = w1.same ∙ w2.same ∙ w3.same ∙ w4.same;
-      at_port_0 = is_port_0 e.request.port (fit.few e.request.port served)
+      at_port_0 = is_port_0 e.request.port (fit.few_are_served e.request.port served)
           (λ is. absent_ready (sym absent_1 ∙ of 1 is)) (λ is. absent_ready (sym absent_2 ∙ of 2 is)) (λ is. absent_ready (sym absent_3 ∙ of 3 is));
       ready = ready;
     }
@@ -333,12 +333,12 @@ lone_of laws wanted first asked id submit one two three fatal service finish c e
 -- it was issued by the submit
 issued_first : (laws : ShownRunLaws) (first : JointState Device) (asked : Request) (id : RequestId) (submit : JointEvent Device DeviceStep) (e : Pending) → IsRun first.abstract (events_of (submit ∷ []))
     → submit.event.ask ≡ AskSubmit asked → submit.event.said ≡ Submitted (Ok id) → Contains (abstract_after_all first.abstract (events_of (submit ∷ []))).machine.book e
-    → 1 ≤ count_by (issues_it e.request.id) (steps_of (events_of (submit ∷ [])))
+    → 1 ≤ count_by (issues_id e.request.id) (steps_of (events_of (submit ∷ [])))
 issued_first laws first asked id submit e r is says here =
     let run = events_of (submit ∷ []) in
     let legal = laws.legal first.abstract run r in
     let its : (x : Pending) → Contains (abstract_after_all first.abstract run).machine.book x → x.request.id ≡ id = λ x h. ⊎_elim
-    (λ (c : WasUnansweredBefore first.abstract.machine submit.event.steps x). absurd (nothing c.before (subst (λ (xs : List Pending). Contains xs c.before) legal.0.book c.here)))
+    (λ (c : WasUnansweredBefore first.abstract.machine submit.event.steps x). absurd (nothing c.before (subst (λ (xs : List Pending). Contains xs c.before) legal.0.book c.is_in_book)))
     (λ asks. let e : ◌≡◌ {A = machine.CallResult} (Submitted (Ok x.request.id)) (Submitted (Ok id)) = sym asks.1 ∙ says in cc)
     (laws.came first.abstract [] submit.event x r h) in
     let ready = ⊎_elim (λ is. is) (λ (dead : ((abstract_after_all first.abstract run).ports.state e.request.port ≡ Dead) × IsStillStuck run).
@@ -355,7 +355,7 @@ issued_first laws first asked id submit e r is says here =
 went_again : (laws : ShownRunLaws) (wanted : List Wanted) (first : JointState Device) (asked : Request) (id : RequestId) (submit one two three fatal service finish : JointEvent Device DeviceStep)
     → Restarted wanted first asked id submit one two three fatal service finish → (e : Pending)
     → Contains (abstract_after_all first.abstract (events_of (finish ∷ service ∷ fatal ∷ three ∷ two ∷ one ∷ submit ∷ []))).machine.book e → e.issued ≡ true
-    → (2 ≤ count_by (issues_it e.request.id) (steps_of (events_of (finish ∷ service ∷ fatal ∷ three ∷ two ∷ one ∷ submit ∷ []))))
+    → (2 ≤ count_by (issues_id e.request.id) (steps_of (events_of (finish ∷ service ∷ fatal ∷ three ∷ two ∷ one ∷ submit ∷ []))))
     × (1 ≤ count_by (waits_again e.request.id) (steps_of (events_of (finish ∷ service ∷ fatal ∷ three ∷ two ∷ one ∷ submit ∷ []))))
 went_again laws wanted first asked id submit one two three fatal service finish c e here issued =
     let calls = finish ∷ service ∷ fatal ∷ three ∷ two ∷ one ∷ submit ∷ [] in
@@ -366,18 +366,18 @@ went_again laws wanted first asked id submit one two three fatal service finish 
     let w6 = was_then laws first.abstract (events_of (service ∷ fatal ∷ three ∷ two ∷ one ∷ submit ∷ [])) finish.event e r7 l7 here in
     let came = ⊎_elim (λ x. x) (λ asks. absurd (service_asks_none w6.before.request service.event c.serves asks))
     (laws.came first.abstract (events_of (fatal ∷ three ∷ two ∷ one ∷ submit ∷ [])) service.event w6.before r6 w6.here) in
-    let lone = lone_of laws wanted first asked id submit one two three fatal service finish c came.before came.here in
+    let lone = lone_of laws wanted first asked id submit one two three fatal service finish c came.before came.is_in_book in
     let id_is : (x : Pending) → x.request ≡ e.request → x.request.id ≡ e.request.id = λ x same. ap (λ (a : Accepted). a.id) same in
     let failed = c.history.0.0 in
-    let fails : ShowsFailure (fatal.device.port 0) = shows_failure _ fatal.event _ fatal.device failed.2.accesses c.fails.0 c.fails.1 failed.2.came in
+    let fails : ShowsFailure (fatal.device.port 0) = shows_failure _ fatal.event _ fatal.device failed.2.accesses c.fails.0 c.fails.1 failed.2.accesses_are_explained in
     let port_is : came.before.request.port ≡ port_0 = ap (λ (n : ℕ). record { 0 = n }) lone.at_port_0 in
-    let anew = (laws.heeded wanted first (fatal ∷ three ∷ two ∷ one ∷ submit ∷ []) service port_0 c.history.0 c.serves (subst (λ (p : Port). fatal.event.ports.state p ≡ Ready) port_is lone.ready) fails).anew in
+    let anew = (laws.heeded wanted first (fatal ∷ three ∷ two ∷ one ∷ submit ∷ []) service port_0 c.history.0 c.serves (subst (λ (p : Port). fatal.event.ports.state p ≡ Ready) port_is lone.ready) fails).none_stays_issued in
     let again : IsIssuedIn w6.before.request.id service.event.steps = anew w6.before w6.here (ap (λ (a : Accepted). a.port) (sym came.same) ∙ port_is) (w6.issued issued) in
-    let count : List Step → ℕ = count_by (issues_it e.request.id) in
-    let second : 1 ≤ count service.event.steps = subst (λ (i : RequestId). 1 ≤ count_by (issues_it i) service.event.steps) (id_is w6.before w6.same) (any_counted (issues_it w6.before.request.id) service.event.steps again) in
-    let one_at_first : 1 ≤ count (steps_of (events_of (submit ∷ []))) = subst (λ (i : RequestId). 1 ≤ count_by (issues_it i) (steps_of (events_of (submit ∷ []))))
+    let count : List Step → ℕ = count_by (issues_id e.request.id) in
+    let second : 1 ≤ count service.event.steps = subst (λ (i : RequestId). 1 ≤ count_by (issues_id i) service.event.steps) (id_is w6.before w6.same) (any_counted (issues_id w6.before.request.id) service.event.steps again) in
+    let one_at_first : 1 ≤ count (steps_of (events_of (submit ∷ []))) = subst (λ (i : RequestId). 1 ≤ count_by (issues_id i) (steps_of (events_of (submit ∷ []))))
     (id_is lone.begun (lone.same ∙ came.same ∙ w6.same)) (issued_first laws first asked id submit lone.begun r5.0.0.0.0 c.submits.0 c.submits.1 lone.here) in
-    let p = issues_it e.request.id in
+    let p = issues_id e.request.id in
     let twice : 2 ≤ count (steps_of (events_of calls)) = omega (
       arith,
       second,
@@ -412,17 +412,17 @@ shows_a_read_anew device old new read step id before replies reply laws r only o
     let h = g.3 in
     let past : List (JointEvent Device DeviceStep) = g.0 ∷ f.0 ∷ e.0 ∷ d.0 ∷ c.0 ∷ b.0 ∷ a.0 ∷ [] in
     let is : r.past ≡ h.0 ∷ past = h.3 in
-    let run : IsRun r.first.abstract (events_of (h.0 ∷ past)) = subst (λ (p : List (JointEvent Device DeviceStep)). IsRun r.first.abstract (events_of p)) is r.run in
-    let history : IsDriverHistory new.wanted r.first (h.0 ∷ past) = subst (IsDriverHistory new.wanted r.first) is r.leads.history in
-    let serves = served_last laws (server_of device old) (server_of device new) read r.first r.begun past h.0
-    (subst (λ (p : List (JointEvent Device DeviceStep)). LeadsToServer r.first p (server_of device new)) is r.leads) run
-    (subst (λ (p : List (JointEvent Device DeviceStep)). EveryReadHolds r.first.abstract (events_of p)) is r.reads)
+    let run : IsRun r.initial_state.abstract (events_of (h.0 ∷ past)) = subst (λ (p : List (JointEvent Device DeviceStep)). IsRun r.initial_state.abstract (events_of p)) is r.run in
+    let history : IsDriverHistory new.wanted r.initial_state (h.0 ∷ past) = subst (IsDriverHistory new.wanted r.initial_state) is r.leads.history in
+    let serves = served_last laws (server_of device old) (server_of device new) read r.initial_state r.begun past h.0
+    (subst (λ (p : List (JointEvent Device DeviceStep)). LeadsToServer r.initial_state p (server_of device new)) is r.leads) run
+    (subst (λ (p : List (JointEvent Device DeviceStep)). EveryReadHolds r.initial_state.abstract (events_of p)) is r.every_read_holds)
     replies reply h.2 only ok reads
     (λ q asked. ⊎_elim (λ x. absurd (device_asks_none q g.0.event step g.1 x)) (λ asked. ⊎_elim (λ x. absurd (service_asks_none q f.0.event f.1 x))
     (λ asked. ⊎_elim (λ x. absurd (device_asks_none q e.0.event _ e.1 x)) (λ asked. ⊎_elim (λ x. absurd (state_asks_none q d.0.event _ d.1 x))
     (λ asked. ⊎_elim (λ x. absurd (state_asks_none q c.0.event _ c.1 x)) (λ asked. ⊎_elim (λ x. absurd (state_asks_none q b.0.event _ b.1 x))
     (λ asked. ⊎_elim (λ x. submit_asks q a.0.event read a.1 x) (λ no. absurd no) asked) asked) asked) asked) asked) asked) asked) in
-    let restarted : Restarted new.wanted r.first read id a.0 b.0 c.0 d.0 e.0 f.0 g.0 = record {
+    let restarted : Restarted new.wanted r.initial_state read id a.0 b.0 c.0 d.0 e.0 f.0 g.0 = record {
       run = run.0;
       history = history.0;
       submits = (a.1, a.2);
@@ -434,11 +434,11 @@ shows_a_read_anew device old new read step id before replies reply laws r only o
       goes_on = (step, g.1, g.2);
     } in
     let answered : Contains h.0.event.steps (Answer serves.read outcome.Ok) = answer_in h.0.event.steps serves.told.late serves.told.early (Answer serves.read outcome.Ok) serves.told.answered in
-    let was = (laws.lawful r.first.abstract (events_of past) h.0.event serves.read outcome.Ok run answered).0 in
-    let went = went_again laws new.wanted r.first read id a.0 b.0 c.0 d.0 e.0 f.0 g.0 restarted was.pending was.here was.issued in
+    let was = (laws.lawful r.initial_state.abstract (events_of past) h.0.event serves.read outcome.Ok run answered).0 in
+    let went = went_again laws new.wanted r.initial_state read id a.0 b.0 c.0 d.0 e.0 f.0 g.0 restarted was.pending was.is_in_book was.issued in
     record {
       serves = serves;
-      twice = subst (λ (i : RequestId). 2 ≤ count_by (issues_it i) (steps_of (events_of past))) was.id_is went.0;
+      twice = subst (λ (i : RequestId). 2 ≤ count_by (issues_id i) (steps_of (events_of past))) was.id_is went.0;
       again = subst (λ (i : RequestId). 1 ≤ count_by (waits_again i) (steps_of (events_of past))) was.id_is went.1;
     }
   where
@@ -481,9 +481,9 @@ reset_releases : (old : AbstractState) (event : CallRecord DeviceStep) → event
 reset_releases old event is says answered =
     let said_so = subst (λ (s : machine.CallResult). IsAnswered event.ask s old event.evidence event.steps (abstract_after old event)) says answered in
     let a = subst (λ (q : AbstractCall DeviceStep). IsAnswered q (WasReset (Some [])) old event.evidence event.steps (abstract_after old event)) is said_so in
-    let few : length a.tells.answers ≡ 0 = sym (length-map a.tells.answers reply_of) ∙ sym (ap length a.tells.told) in (
-      subst (λ (xs : List Step). Contains xs Release) (sym a.releases.split) (in_middle a.releases.later Release a.releases.earlier),
-      nil_from_length (answers_of event.steps) (length_permutation a.tells.answers (answers_of event.steps) a.tells.same ∙ few),
+    let few : length a.replies_match.answers ≡ 0 = sym (length-map a.replies_match.answers reply_of) ∙ sym (ap length a.replies_match.replies_are) in (
+      subst (λ (xs : List Step). Contains xs Release) (sym a.releases_once.split) (in_middle a.releases_once.later Release a.releases_once.earlier),
+      nil_from_length (answers_of event.steps) (length_permutation a.replies_match.answers (answers_of event.steps) a.replies_match.is_permutation ∙ few),
     )
 
 pub shows_a_release : {A : Type 0} (device : A → Device) (old new : ServerView A) (request : Request) (client : ClientId) (frame : Frame) (bytes last_bytes : List ℕ) (id : RequestId) (replies : List Reply) (reply : Reply)
@@ -504,31 +504,31 @@ shows_a_release device old new request client frame bytes last_bytes id replies 
     let before : List (JointEvent Device DeviceStep) = c.0 ∷ b.0 ∷ a.0 ∷ [] in
     let past : List (JointEvent Device DeviceStep) = e.0 ∷ d.0 ∷ before in
     let is : r.past ≡ g.0 ∷ f.0 ∷ past = g.3 in
-    let run : IsRun r.first.abstract (events_of (g.0 ∷ f.0 ∷ past)) = subst (λ (p : List (JointEvent Device DeviceStep)). IsRun r.first.abstract (events_of p)) is r.run in
+    let run : IsRun r.initial_state.abstract (events_of (g.0 ∷ f.0 ∷ past)) = subst (λ (p : List (JointEvent Device DeviceStep)). IsRun r.initial_state.abstract (events_of p)) is r.run in
     let there : Contains (replies_of d.0.event.said) reply = subst (λ (s : machine.CallResult). Contains (replies_of s) reply) (sym d.2) (told_alone replies reply only) in
-    let told = laws.asked r.first.abstract (events_of before) d.0.event reply run.0.0.0 there in
+    let told = laws.asked r.initial_state.abstract (events_of before) d.0.event reply run.0.0.0 there in
     let answered : Contains d.0.event.steps (Answer told.0 outcome.PortDead) = subst (λ (o : Outcome). Contains d.0.event.steps (Answer told.0 o)) dead told.1 in
     let given_then : (x : Accepted) → WasAsked x (events_of before) → x.id ≡ id = λ x asked.
     ⊎_elim (λ now. id_given x c.0.event id c.2 now)
     (λ more. ⊎_elim (λ now. absurd (device_asks_none x b.0.event _ b.1 now))
     (λ rest. ⊎_elim (λ now. absurd (device_asks_none x a.0.event _ a.1 now)) (λ no. absurd no) rest) more) asked in
-    let legal = laws.legal r.first.abstract (events_of past) run.0.0 in
-    let loan = some_of _ (store_refused (abstract_after_all r.first.abstract (events_of (d.0 ∷ before))) e.0.event client frame 0 bytes e.1 e.2 run.0.0.1.answered) in
-    let holder = laws.lent r.first.abstract.machine (steps_of (events_of past)) frame loan.0 legal.0 legal.1 (ap (λ (m : Machine). m.lent frame) (sym legal.2) ∙ loan.1) in
+    let legal = laws.legal r.initial_state.abstract (events_of past) run.0.0 in
+    let loan = some_of _ (store_refused (abstract_after_all r.initial_state.abstract (events_of (d.0 ∷ before))) e.0.event client frame 0 bytes e.1 e.2 run.0.0.1.is_answered) in
+    let holder = laws.lent r.initial_state.abstract.machine (steps_of (events_of past)) frame loan.0 legal.0 legal.1 (ap (λ (m : Machine). m.lent frame) (sym legal.2) ∙ loan.1) in
     let holds : holder.0.id ≡ id = ⊎_elim (λ x. absurd (store_asks_none holder.0 e.0.event client frame 0 bytes e.1 x))
     (λ past. ⊎_elim (λ x. absurd (service_asks_none holder.0 d.0.event d.1 x)) (given_then holder.0) past)
-    (laws.accepted r.first.abstract (events_of past) holder.0 run.0.0 holder.1) in
-    let released = reset_releases (abstract_after_all r.first.abstract (events_of past)) f.0.event f.1 (f.2 ∙ ap (λ (xs : List Reply). WasReset (Some xs)) silent) run.0.1.answered in
+    (laws.accepted r.initial_state.abstract (events_of past) holder.0 run.0.0 holder.1) in
+    let released = reset_releases (abstract_after_all r.initial_state.abstract (events_of past)) f.0.event f.1 (f.2 ∙ ap (λ (xs : List Reply). WasReset (Some xs)) silent) run.0.1.is_answered in
     record {
-      first = r.first;
+      initial_state = r.initial_state;
       begun = r.begun;
       past = past;
       reset = f.0;
       later = g.0 ∷ [];
-      leads = subst (λ (p : List (JointEvent Device DeviceStep)). LeadsToServer r.first p (server_of device new)) is r.leads;
+      leads = subst (λ (p : List (JointEvent Device DeviceStep)). LeadsToServer r.initial_state p (server_of device new)) is r.leads;
       run = run;
       dead = told.0;
-      its = ⊎_elim (λ x. submit_asks told.0.request c.0.event request c.1 x)
+      request_is = ⊎_elim (λ x. submit_asks told.0.request c.0.event request c.1 x)
           (λ asked. ⊎_elim (λ x. absurd (device_asks_none told.0.request b.0.event _ b.1 x))
           (λ asked. ⊎_elim (λ x. absurd (device_asks_none told.0.request a.0.event _ a.1 x)) (λ no. absurd no) asked) asked) told.4;
       told = Contains-append_right e.0.event.steps _ _ (Contains-append_left d.0.event.steps _ _ answered);
@@ -536,7 +536,7 @@ shows_a_release device old new request client frame bytes last_bytes id replies 
       resets = f.1;
       releases = released.0;
       silent = released.1;
-      free = store_done (abstract_after_all r.first.abstract (events_of (f.0 ∷ past))) g.0.event client frame 0 last_bytes g.1 g.2 run.1.answered;
+      free = store_done (abstract_after_all r.initial_state.abstract (events_of (f.0 ∷ past))) g.0.event client frame 0 last_bytes g.1 g.2 run.1.is_answered;
     }
 
 -- eight members, each by its place

@@ -1,2 +1,2 @@
-pub mod Numbered
-pub mod Shown
+pub mod NumberedSectors
+pub mod ShownHistories

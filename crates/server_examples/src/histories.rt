@@ -3,10 +3,10 @@
 //! is proved then; a test makes the server, and has it answer yes.
 ghost use Rattle.std.specs.Prelude.{◌≡◌, IfSome, IsTrue, List, [], ◌∷◌, Ok, Err, true};
 ghost use Rattle.ata_types.specs.declared.request.Reply.{Reply};
-ghost use Rattle.server_examples.specs.Shown.{HasRun, IsReleased, IsServedAnew, IsServedAtOnce};
-ghost use Rattle.server_examples.specs.Shown.{ReleasesFrame, ShownRunLaws, ServesRead, ServesReadAnew};
+ghost use Rattle.server_examples.specs.ShownHistories.{HasRun, IsReleased, IsServedAnew, IsServedAtOnce};
+ghost use Rattle.server_examples.specs.ShownHistories.{ReleasesFrame, ShownRunLaws, ServesRead, ServesReadAnew};
 ghost use Rattle.server_history.specs.Histories.{StartsHistory};
-ghost use Rattle.block_server.specs.View.{server_of};
+ghost use Rattle.block_server.specs.ServerView.{server_of};
 
 use adapter::{DeviceStep, FatalError, Stepped};
 use arrayvec::ArrayVec;
@@ -25,7 +25,7 @@ use machine_runs::laws::{
 use std::alloc::Global;
 
 /// What laws say of runs.
-fn law_laws_of_runs()
+fn law_shown_run_prerequisites()
     ensures { ShownRunLaws }
 {
     law_runs_are_legal::<DeviceStep>();
@@ -130,7 +130,7 @@ pub fn serves_a_read<A: Stepped>(alloc: Global, server: &mut Server<A>, read: Re
     requires telling { (A.device server.old.adapter).telling ≡ true }
     ensures { IsTrue result → ServesRead (server_of A.device server.old) (server_of A.device server.new) read }
 {
-    law_laws_of_runs();
+    law_shown_run_prerequisites();
     let Op::Read = read.op else {
         return false;
     };
@@ -162,7 +162,7 @@ pub fn serves_a_read_anew<A: Stepped>(alloc: Global, server: &mut Server<A>, rea
     requires telling { (A.device server.old.adapter).telling ≡ true }
     ensures { IsTrue result → ServesReadAnew (server_of A.device server.old) (server_of A.device server.new) read }
 {
-    law_laws_of_runs();
+    law_shown_run_prerequisites();
     let Op::Read = read.op else {
         return false;
     };
@@ -226,7 +226,7 @@ pub fn releases_a_frame<A: Stepped>(
     ensures { IsTrue result → ReleasesFrame (server_of A.device server.old) (server_of A.device server.new) request
         frame }
 {
-    law_laws_of_runs();
+    law_shown_run_prerequisites();
     let asked = [
         Call::Device(DeviceStep::Hold(Port(0))),
         Call::Device(DeviceStep::Fatal(Port(0), FatalError::HostBus)),

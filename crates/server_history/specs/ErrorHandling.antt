@@ -13,7 +13,7 @@ use Rattle.error_recovery.specs.Recovery.{RecoversOrStops, TellsRecovery}
 use Rattle.error_recovery.specs.declared.Next.{Next}
 use Rattle.error_recovery.specs.declared.Next.TheVariants as next
 use Rattle.error_recovery.specs.declared.Recovered.{Recovered}
-use Rattle.host_boot.specs.Again.{RebootsPort, RebootsIfPresent}
+use Rattle.host_boot.specs.Reboots.{RebootsPort, RebootsIfPresent}
 use Rattle.host_boot.specs.TakeOver.{probe_result_of, wanted_of}
 use Rattle.host_boot.specs.declared.Booted.{Booted}
 use Rattle.host_boot.specs.declared.ProbeResult.{ProbeResult}
@@ -22,28 +22,28 @@ use Rattle.identify.specs.declared.DiskInfo.{DiskInfo}
 use Rattle.identify.specs.declared.wanted.Wanted.{Wanted}
 use Rattle.commands.specs.Masks.{ReadsDone}
 use Rattle.port_control.specs.declared.Running as running_token
-use Rattle.port_control.specs.Looks.{LooksAt}
+use Rattle.port_control.specs.PortEvents.{TakesEvent}
 use Rattle.port_control.specs.declared.events.PortEvent.TheVariants as look
-use Rattle.request_queue.specs.Entries.{BookEntry, IsEarlier, is_of_port}
+use Rattle.request_queue.specs.BookEntries.{BookEntry, IsEarlier, is_of_port}
 use Rattle.request_queue.specs.Dispositions.{BookAndLoans, AreResolved, disposition_of}
 use Rattle.request_queue.specs.declared.disposition.FailedRequest as disposition
 use Rattle.request_queue.specs.declared.disposition.Revalidation.{Revalidation}
 use Rattle.request_queue.specs.declared.disposition.Revalidation.TheVariants.{SameDisk, DiskLost, Dead}
-use Rattle.slots.specs.Uses.{PortSlots, use_at}
+use Rattle.slots.specs.SlotUses.{PortSlots, use_at}
 use Rattle.slots.specs.declared.SlotUse.{SlotUse}
-use Rattle.server_history.specs.Served.{AnswersEach, IsMaskOf, IssuesAll, done_reply}
+use Rattle.server_history.specs.IssuingAndAnswering.{AnswersEach, IsMaskOf, IssuesAll, done_reply}
 use Rattle.port_control.specs.declared.events.PortError.{PortError}
 use Rattle.port_control.specs.declared.events.PortError.TheVariants.{FatalError, TaskFileError, TimedOut, LinkChanged}
-use Rattle.server_history.specs.Server.{ServerState, quarantined_at, probed_mode, slots_at, used_for}
+use Rattle.server_history.specs.ServerState.{ServerState, quarantined_at, probed_mode, slots_at, used_for}
 
 -- ---- a port's error is handled
 
 -- How the trouble is found out: a look at the port tells that a command had failed, or the link or the host's bus, or
 -- that the disk was lost. That a request is hung its age tells, and the port isn't looked at.
 abbrev pub ErrorIsFound : Port → PortError → Device → Device → Type 0
-ErrorIsFound port TaskFileError old seen = LooksAt port look.TaskFileError old seen
-ErrorIsFound port FatalError old seen = LooksAt port look.FatalError old seen
-ErrorIsFound port LinkChanged old seen = LooksAt port look.LinkChanged old seen
+ErrorIsFound port TaskFileError old seen = TakesEvent port look.TaskFileError old seen
+ErrorIsFound port FatalError old seen = TakesEvent port look.FatalError old seen
+ErrorIsFound port LinkChanged old seen = TakesEvent port look.LinkChanged old seen
 ErrorIsFound port TimedOut old seen = seen ≡ old
 
 -- nobody is named, and the port doesn't run
@@ -68,23 +68,24 @@ AreAllQueuedAs queued slots = (slot : ℕ) (used : SlotUse) → use_at slots slo
 pub record IsErrorHandled (port : Port) (old mid : ServerState) (new : Device) : Type 0 where
   pub port_error : PortError
   pub seen : Device
-  pub finds : ErrorIsFound port port_error old.device seen
+  pub error_is_found : ErrorIsFound port port_error old.device seen
   pub mask : ℕ
-  pub its : IsMaskOf (slots_at old.slots port.0) mask
+  pub is_mask_of : IsMaskOf (slots_at old.slots port.0) mask
   pub done : ℕ
   pub found : Device
   pub reads : ReadsDone port mask done seen found
   pub requests : List BookEntry
   pub ordered : AllPairs IsEarlier requests
-  pub each : AnswersEach port done requests (record old { device = found }) mid
-  pub free : (slot : ℕ) → slot < 32 → bit done slot ≡ true → used_for mid.slots port.0 slot ≡ None
+  pub answers_each : AnswersEach port done requests (record old { device = found }) mid
+  pub done_slots_are_free : (slot : ℕ) → slot < 32 → bit done slot ≡ true → used_for mid.slots port.0 slot ≡ None
   pub outstanding : ℕ
-  pub left : IsMaskOf (slots_at mid.slots port.0) outstanding
+  pub outstanding_is_mask : IsMaskOf (slots_at mid.slots port.0) outstanding
   pub queued : Bool
-  pub alike : AreAllQueuedAs queued (slots_at mid.slots port.0)
+  pub are_queued_alike : AreAllQueuedAs queued (slots_at mid.slots port.0)
   pub result : Recovered
   pub handling : RecoversOrStops port outstanding queued result mid.device new
-  pub tells : TellsErrorHandling port_error port outstanding queued result handling.accesses mid.device new
+  pub tells_error_handling : TellsErrorHandling port_error port outstanding queued result handling.accesses mid.device
+      new
 
 -- ---- what it is then
 
@@ -153,26 +154,27 @@ with_port_found port device found was mode slots now s = record s {
 -- failed is told so, and the others what their port is then. So it came to this server, by these replies after those
 -- that tell what was done.
 pub record HasResolved (port : Port) (later : List Reply) (old new : ServerState) : Type 0 where
-  pub was : DiskInfo
-  pub ready : probe_result_of old.ports port.0 ≡ Ready was
+  pub disk_before : DiskInfo
+  pub ready : probe_result_of old.ports port.0 ≡ Ready disk_before
   pub mid : ServerState
   pub device : Device
   pub error_handled : IsErrorHandled port old mid device
   pub found : ProbeResult
-  pub is : IsRevalidated
-      (wanted_of old.wanted port.0) port error_handled.port_error was error_handled.result.next device new.device found
+  pub is_revalidated : IsRevalidated
+      (wanted_of old.wanted port.0) port error_handled.port_error disk_before error_handled.result.next device
+      new.device found
   pub mode : QueueMode
   pub mode_is : mode ≡ probed_mode new.device.cap found
   pub slots : PortSlots
-  pub unused : HasNoUsedSlot mode slots
+  pub has_no_used_slot : HasNoUsedSlot mode slots
   pub failed : Option disposition.FailedRequest
-  pub names : IsFailedRequest (slots_at mid.slots port.0) error_handled.result.failed failed
+  pub failed_request_is : IsFailedRequest (slots_at mid.slots port.0) error_handled.result.failed failed
   pub revalidation : Revalidation
-  pub expects : IsRevalidation error_handled.port_error was found revalidation
-  pub now : BookAndLoans
-  pub meets : AreResolved (disposition_of failed revalidation) (requests_of port mid.book) later
-      (book_and_loans_of port mid) now
-  pub server : new ≡ with_port_found port new.device found was mode slots now mid
+  pub is_revalidation : IsRevalidation error_handled.port_error disk_before found revalidation
+  pub book_and_loans_after : BookAndLoans
+  pub are_resolved : AreResolved (disposition_of failed revalidation) (requests_of port mid.book) later
+      (book_and_loans_of port mid) book_and_loans_after
+  pub server_is : new ≡ with_port_found port new.device found disk_before mode slots book_and_loans_after mid
 
 -- ---- the whole
 
@@ -183,5 +185,5 @@ pub record HandlesPortError (port : Port) (replies : List Reply) (old new : Serv
   pub mid : ServerState
   pub settled : HasResolved port later old mid
   pub issued : IssuesAll port mid new
-  pub told : IsPermutation replies (map done_reply settled.error_handled.requests ++ later)
+  pub replies_are : IsPermutation replies (map done_reply settled.error_handled.requests ++ later)
   pub ordered : AllPairs (λ (a b : Reply). a.id.0 ≤ b.id.0) replies

@@ -7,7 +7,7 @@ use Rattle.block_machine.specs.Events.{AbstractCall, CallResult, Stored, Loaded}
 use Rattle.block_machine.specs.Histories.{JointState, JointEvent}
 use Rattle.block_machine.specs.Histories as histories
 use Rattle.driver_history.specs.Histories.{IsFirstInstant, CallCorresponds}
-use Rattle.server_history.specs.Server.{ServerState, ports_of, SettledInvariant, MachineRelation}
+use Rattle.server_history.specs.ServerState.{ServerState, ports_of, SettledInvariant, MachineRelation}
 use Rattle.server_history.specs.StuckServer.{StuckInvariant}
 
 -- An instant of a history is where the server stands: the device is its own, the ports are what it says, and the
@@ -15,7 +15,7 @@ use Rattle.server_history.specs.StuckServer.{StuckInvariant}
 pub record ServerRelation (now : JointState Device) (s : ServerState) : Type 0 where
   pub device_is : now.device ≡ s.device
   pub ports_are : now.abstract.ports ≡ ports_of s
-  pub machine : MachineRelation s now.abstract.machine
+  pub machine_stands_for_it : MachineRelation s now.abstract.machine
 
 -- what a store of a client's bytes says
 abbrev pub store_said : Result (Unit {0}) MemFault → CallResult
@@ -42,13 +42,13 @@ ExtendsHistory old new ask said = (first : JointState Device) (past : List (Join
 
 -- So it does; and the new server's adapter is on, and each request is issued that is due.
 pub record ExtendsSettled (old new : ServerState) (ask : AbstractCall DeviceStep) (said : CallResult) : Type 0 where
-  pub settled : SettledInvariant new
-  pub adds : ExtendsHistory old new ask said
+  pub settled_invariant : SettledInvariant new
+  pub extends_history : ExtendsHistory old new ask said
 
 -- So it does; and the new server's adapter hasn't been seen to end a reset.
 pub record ExtendsStuck (old new : ServerState) (ask : AbstractCall DeviceStep) (said : CallResult) : Type 0 where
-  pub stalled : StuckInvariant new
-  pub adds : ExtendsHistory old new ask said
+  pub stuck_invariant : StuckInvariant new
+  pub extends_history : ExtendsHistory old new ask said
 
 -- What holds of a server between calls, by whether its last reset got stuck: its adapter is on, and each request is
 -- issued that is due; or the adapter hasn't been seen to end that reset.

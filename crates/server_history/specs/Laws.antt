@@ -2,9 +2,9 @@
 use Rattle.ata_types.specs.declared.Port.{Port}
 use Rattle.adapter.specs.Access.{Access}
 use Rattle.commands.specs.Masks.{ReadsCiOrSact}
-use Rattle.port_control.specs.Looks.{IsLooking}
-use Rattle.port_control.specs.Services.{IsService}
-use Rattle.refinement.specs.Driven.{AnyUse}
+use Rattle.port_control.specs.PortEvents.{IsEventAccess}
+use Rattle.port_control.specs.ServiceAccesses.{IsServiceAccess}
+use Rattle.refinement.specs.Fragments.{AnyUse}
 use Rattle.refinement.specs.Slots.{SlotStates}
 
 -- a port is looked at, or what it has issued is looked for; or ports are served by both
@@ -14,9 +14,9 @@ pub data AccessPurpose : Type 0 where
   Serving : AccessPurpose
 
 abbrev pub accesses_for : AccessPurpose → Access → Type 0
-accesses_for (Looking port) = IsLooking port
+accesses_for (Looking port) = IsEventAccess port
 accesses_for (Finding port) = ReadsCiOrSact port
-accesses_for Serving = IsService
+accesses_for Serving = IsServiceAccess
 
 abbrev pub slot_uses_for : AccessPurpose → SlotStates → Type 0
 slot_uses_for kind = AnyUse

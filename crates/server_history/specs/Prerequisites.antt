@@ -23,45 +23,45 @@ use Rattle.hba_regs.specs.Bits.{bit}
 use Rattle.hba_regs.specs.declared.reg.PortReg.{PortReg}
 use Rattle.hba_regs.specs.declared.reg.PortReg.TheVariants.{Cmd, Sctl}
 use Rattle.hba_regs.specs.declared.reg.Reg.TheVariants.{Ghc, Px}
-use Rattle.refinement.specs.Driven.{AnyUse, IsDrivenBy, IsSimulated, SparesOtherPorts, GainsNoMove, TapeGrows}
+use Rattle.refinement.specs.Fragments.{AnyUse, IsDrivenBy, IsSimulated, SparesOtherPorts, GainsNoMove, TapeGrows}
 use Rattle.refinement.specs.Relation.{StateRelation, IsDiskOf, SameMemory, SameSectors, port_at}
-use Rattle.refinement.specs.Returning.{replug_candidates}
+use Rattle.refinement.specs.Replug.{replug_candidates}
 use Rattle.adapter.specs.Idle.{IsIdle}
-use Rattle.refinement.specs.Driver.{EndsInStep, EndsInSteps, IsBacked, DriverState, DriverRelation, idle}
+use Rattle.refinement.specs.Driver.{EndsInStep, EndsInSteps, IsBacked, DriverState, DriverRelation, idle_driver_state}
 use Rattle.refinement.specs.Slots.{Own, SlotStates, op_of}
 use Rattle.refinement.specs.Vacant.{HasFirstFisIfShown, IsVacant}
-use Rattle.block_machine.specs.Due.{AreAllDueInOrder, IsDue, IsInOrder, due_of, of_port, with_issued, without_request, with_waiting}
+use Rattle.block_machine.specs.DueRequests.{AreAllDueInOrder, IsDue, IsInOrder, due_of, requests_of_port, with_issued, without_request, with_waiting}
 use Rattle.refinement.specs.Errors.{NoDiskComes}
 use Rattle.block_machine.specs.State.{Machine, Pending}
-use Rattle.block_machine.specs.Refusals.{IsAcceptable, MayAccessFrame, Situation}
-use Rattle.block_machine.specs.Steps.{Step, Accept, Again, Issue, Answer, Load, May, Revoke, Store, after_step, newly_accepted}
+use Rattle.block_machine.specs.Refusals.{IsAcceptable, MayAccessFrame, AdmissionContext}
+use Rattle.block_machine.specs.Steps.{Step, Accept, WaitAgain, Issue, Answer, Load, IsEnabled, Revoke, Store, after_step, newly_accepted}
 use Rattle.block_machine.specs.State as machine
 use Rattle.block_machine.specs.Steps as steps
 use Rattle.ata_types.specs.declared.request.ClientId.{ClientId}
 use Rattle.block_machine.specs.declared.due.QueueMode.{QueueMode}
 use Rattle.block_machine.specs.declared.due.Unanswered.{Unanswered}
-use Rattle.dma_frames.specs.Table.{Table, LendsOnly, lent_to}
+use Rattle.dma_frames.specs.FrameTables.{FrameOwnership, LendsOnly, lent_to}
 use Rattle.refinement.specs.PortFacts.{RunsWell, Undisturbed}
 use Rattle.std.specs.List.{AllZip, list_any}
 use Rattle.block_machine.specs.Events.{changes_disk, IsByDevice}
 use Rattle.block_machine.specs.Expected.{IsInitial, after}
 use Rattle.block_machine.specs.Histories.{IsReachable}
 use Rattle.error_recovery.specs.Evidence.{BringsLog, HasFailed}
-use Rattle.port_boot.specs.States.{RunsOn, IsOfBoot}
+use Rattle.port_boot.specs.States.{StaysRunning, IsBootAccess}
 use Rattle.port_control.specs.Engines.{EngineFalls, EngineSticks}
 use Rattle.error_recovery.specs.Recovery.{IsRecoveryAccess}
 use Rattle.commands.specs.Masks.{ReadsDone, ReadsCiOrSact}
 use Rattle.commands.specs.Batches.{IsBatchAccess, IssuesBatch, MayServeBatch, PlacedTask, issues_of, with_serving_batch}
 use Rattle.commands.specs.Tasks.{IsTaskOf}
 use Rattle.port_control.specs.EventLaws.{Laws}
-use Rattle.request_queue.specs.Entries.{BookEntry, IsAccepted, IsEarlier, IsNewlyAccepted, BookIsInOrder, IsWaiting, MayGoAgain, all_marked_under, asks_of, update_if_id, issue, requeued_entry, entry_count_of_client, without_entry}
+use Rattle.request_queue.specs.BookEntries.{BookEntry, IsAccepted, IsEarlier, IsNewlyAccepted, BookIsInOrder, IsWaiting, MayGoAgain, all_marked_under, unanswered_of, update_if_id, issued_entry, requeued_entry, entry_count_of_client, without_entry}
 use Rattle.request_queue.specs.declared.PendingRequest.{PendingRequest}
 use Rattle.request_queue.specs.Dispositions.{CompletesAllWith, BookAndLoans, AreResolved, keeps_loan}
-use Rattle.request_queue.specs.Machine.{BookRelation, EntryRelation}
+use Rattle.request_queue.specs.BookRelation.{BookRelation, EntryRelation}
 use Rattle.request_queue.specs.declared.disposition.Disposition.TheVariants.{Complete}
-use Rattle.server_history.specs.After.{RecoveryLaws, PortErrorLaws}
-use Rattle.server_history.specs.Basics.{AgeLaws, BasicLaws, SlotLaws, FrameHolderLaws}
-use Rattle.server_history.specs.Calls.{CallLaws, LookLaws}
+use Rattle.server_history.specs.RecoveryLaws.{RecoveryLaws, PortErrorLaws}
+use Rattle.server_history.specs.BasicLaws.{AgeLaws, BasicLaws, SlotLaws, FrameHolderLaws}
+use Rattle.server_history.specs.CallLaws.{CallLaws, LookLaws}
 
 pub record PrerequisiteLaws : Type 0 where
   -- steps one after another
@@ -72,9 +72,9 @@ pub record PrerequisiteLaws : Type 0 where
       → BookRelation entries m.book
       → EntryRelation e (newly_accepted r) → BookRelation (entries ++ e ∷ []) (after_step m (Accept r)).book
   pub issues : (entries : List BookEntry) (m : Machine) (mode : QueueMode) (p : Pending) → BookRelation entries m.book
-      → BookRelation (map (update_if_id p.request.id issue) entries) (after_step m (Issue mode p)).book
+      → BookRelation (map (update_if_id p.request.id issued_entry) entries) (after_step m (Issue mode p)).book
   pub again : (entries : List BookEntry) (m : Machine) (p : Pending) → BookRelation entries m.book
-      → BookRelation (map (update_if_id p.request.id requeued_entry) entries) (after_step m (Again p)).book
+      → BookRelation (map (update_if_id p.request.id requeued_entry) entries) (after_step m (WaitAgain p)).book
   pub answers : (entries : List BookEntry) (m : Machine) (p : Pending) (outcome : Outcome) → BookRelation entries m.book
       → BookRelation (without_entry p.request.id entries) (after_step m (Answer p outcome)).book
   pub revokes : (entries : List BookEntry) (m : Machine) (client : ClientId) (grant : ℕ) → BookRelation entries m.book
@@ -90,7 +90,7 @@ pub record PrerequisiteLaws : Type 0 where
       → 1 ≤ e.entry.client.0 → e.entry.client.0 ≤ 8 → entry_count_of_client entries e.entry.client.0 < 16
       → BookIsInOrder (entries ++ e ∷ [])
   pub issued : (entries : List BookEntry) (id : RequestId) → BookIsInOrder entries → IsWaiting id entries
-      → BookIsInOrder (map (update_if_id id issue) entries)
+      → BookIsInOrder (map (update_if_id id issued_entry) entries)
   pub requeued : (entries : List BookEntry) (id : RequestId) → BookIsInOrder entries → MayGoAgain id entries
       → BookIsInOrder (map (update_if_id id requeued_entry) entries)
   pub fewer : (entries : List BookEntry) (id : RequestId) → BookIsInOrder entries
@@ -102,19 +102,21 @@ pub record PrerequisiteLaws : Type 0 where
       → e.entry.id ≢ id → Contains (map (update_if_id id change) entries) e
   pub left : (entries : List BookEntry) (id : RequestId) (e : BookEntry) → Contains (without_entry id entries) e
       ↔ (Contains entries e × (e.entry.id ≢ id))
-  pub asked : (entries : List BookEntry) → BookIsInOrder entries → IsInOrder (asks_of entries)
+  pub asked : (entries : List BookEntry) → BookIsInOrder entries → IsInOrder (unanswered_of entries)
   -- what is lent
-  pub still_lent : (old new : Table) (entries : List BookEntry) (frames : List Frame) (to : Option RequestId)
+  pub still_lent : (old new : FrameOwnership) (entries : List BookEntry) (frames : List Frame) (to : Option RequestId)
       → LendsOnly old new frames to → All (λ f. lent_to old f ≡ None) frames → All (IsAccepted old) entries
       → All (IsAccepted new) entries
-  pub still_answered : (old new : Table) (entries : List BookEntry) (e : BookEntry) → Contains entries e
+  pub still_answered : (old new : FrameOwnership) (entries : List BookEntry) (e : BookEntry) → Contains entries e
       → LendsOnly old new e.frames None → All (IsAccepted old) entries
       → All (IsAccepted new) (without_entry e.entry.id entries)
-  pub still_issued : (table : Table) (entries : List BookEntry) (id : RequestId) → All (IsAccepted table) entries
-      → All (IsAccepted table) (map (update_if_id id issue) entries)
-  pub still_requeued : (table : Table) (entries : List BookEntry) (id : RequestId) → All (IsAccepted table) entries
+  pub still_issued : (table : FrameOwnership) (entries : List BookEntry) (id : RequestId)
+      → All (IsAccepted table) entries
+      → All (IsAccepted table) (map (update_if_id id issued_entry) entries)
+  pub still_requeued : (table : FrameOwnership) (entries : List BookEntry) (id : RequestId)
+      → All (IsAccepted table) entries
       → All (IsAccepted table) (map (update_if_id id requeued_entry) entries)
-  pub still_marked : (table : Table) (entries : List BookEntry) (client : ClientId) (grant : ℕ)
+  pub still_marked : (table : FrameOwnership) (entries : List BookEntry) (client : ClientId) (grant : ℕ)
       → All (IsAccepted table) entries → All (IsAccepted table) (all_marked_under client grant entries)
   -- requests that are answered with one outcome
   pub answered_each : (passes : PendingRequest → Bool) (outcome : Outcome)
@@ -134,12 +136,13 @@ pub record PrerequisiteLaws : Type 0 where
   pub backed_parts : (old mid new : Device) (m : Machine) (early late : List Step) → IsBacked old mid m early
       → IsBacked mid new (after m early) late → IsBacked old new m (late ++ early)
   -- what is due
-  pub waits : (mode : QueueMode) (entries : List BookEntry) (r : Unanswered) → IsDue mode (asks_of entries) r
+  pub waits : (mode : QueueMode) (entries : List BookEntry) (r : Unanswered) → IsDue mode (unanswered_of entries) r
       → IsWaiting r.id entries
-  pub asks_issued : (entries : List BookEntry) (id : RequestId) → asks_of (map (update_if_id id issue) entries)
-      ≡ with_issued id (asks_of entries)
+  pub asks_issued : (entries : List BookEntry) (id : RequestId)
+      → unanswered_of (map (update_if_id id issued_entry) entries)
+      ≡ with_issued id (unanswered_of entries)
   pub asks_answered : (entries : List BookEntry) (id : RequestId)
-      → asks_of (without_entry id entries) ≡ without_request id (asks_of entries)
+      → unanswered_of (without_entry id entries) ≡ without_request id (unanswered_of entries)
   pub exact : (mode : QueueMode) (port : Port) (book : List Unanswered) (r : Unanswered) → r.port ≡ port
       → Contains (due_of mode port book) r ↔ IsDue mode book r
   pub own : (mode : QueueMode) (port : Port) (book : List Unanswered) (r : Unanswered)
@@ -148,11 +151,12 @@ pub record PrerequisiteLaws : Type 0 where
   pub in_turn : (mode : QueueMode) (port : Port) (book : List Unanswered) → IsInOrder book
       → AreAllDueInOrder mode port (map (λ r. r.id) (due_of mode port book)) book
   pub same_due : (mode : QueueMode) (port : Port) (book other : List Unanswered) (r : Unanswered)
-      → of_port port book ≡ of_port port other → r.port ≡ port → IsDue mode book r ↔ IsDue mode other r
+      → requests_of_port port book ≡ requests_of_port port other → r.port ≡ port → IsDue mode book r
+      ↔ IsDue mode other r
   pub issued_apart : (port : Port) (book : List Unanswered) (r : Unanswered) → IsInOrder book → Contains book r
-      → r.port ≢ port → of_port port (with_issued r.id book) ≡ of_port port book
+      → r.port ≢ port → requests_of_port port (with_issued r.id book) ≡ requests_of_port port book
   pub answered_apart : (port : Port) (book : List Unanswered) (r : Unanswered) → IsInOrder book → Contains book r
-      → r.port ≢ port → of_port port (without_request r.id book) ≡ of_port port book
+      → r.port ≢ port → requests_of_port port (without_request r.id book) ≡ requests_of_port port book
   -- accesses that serve ports
   pub looks : Laws
   pub looking : LookLaws
@@ -184,15 +188,16 @@ pub record PrerequisiteLaws : Type 0 where
       → ((port : ℕ) → IsDiskOf m (d.port port) port) → SameMemory m d.memory
       → (d.telling ≡ true → (port : ℕ) → SameSectors m (d.port port).disk port)
       → (d.telling ≡ true → (port k : ℕ)
-      → m.aside (port_at port) k ≡ replug_candidates d.tape (d.port port).lasting port k) → DriverRelation m (idle d)
+      → m.blocks_since_flush (port_at port) k ≡ replug_candidates d.tape (d.port port).lasting port k)
+      → DriverRelation m (idle_driver_state d)
   -- clients' bytes
-  pub acceptable_owned : (s : Situation) (r : Request) → IsAcceptable s r
+  pub acceptable_owned : (s : AdmissionContext) (r : Request) → IsAcceptable s r
       → All (λ frame. s.owner frame ≡ Some r.client) r.frames.items
   pub open_owned : (owner : Frame → Option ClientId) (lent : Frame → Option RequestId) (client : ClientId)
       (frame : Frame) (offset count : ℕ) → MayAccessFrame owner lent client frame offset count
       → owner frame ≡ Some client
   pub client_stores : (k : DriverState) (m : Machine) (client : ClientId) (frame : Frame) (offset : ℕ) (bytes : List ℕ)
-      (new : Device) → IsReachable m → DriverRelation m k → May m (Store client frame offset bytes)
+      (new : Device) → IsReachable m → DriverRelation m k → IsEnabled m (Store client frame offset bytes)
       → Stores (FRAME_BYTES * frame.0 + offset) bytes k.device new
       → EndsInStep k m (Store client frame offset bytes) (record k { device = new })
   pub client_loads : (k : DriverState) (m : Machine) (client : ClientId) (frame : Frame) (offset : ℕ) (bytes : List ℕ)
@@ -206,11 +211,11 @@ pub record PrerequisiteLaws : Type 0 where
       → MayAccessFrame m.owner m.lent client frame offset n → IsStable (IsUnowned (FRAME_BYTES * frame.0 + offset) n) d
   -- a port that runs does so still
   pub runs_over : (port : Port) (access : Access) (old new : Device) → IsOn old → DoesNotWrite (Px port Sctl) access
-      → DoesNotWrite (Px port Cmd) access → Does access old new → RunsOn port.0 old new
+      → DoesNotWrite (Px port Cmd) access → Does access old new → StaysRunning port.0 old new
   pub runs_on : (port : Port) (accesses : List Access) (old new : Device) → IsOn old → DoesAll accesses old new
       → All (DoesNotWrite Ghc) accesses → All (DoesNotWrite (Px port Sctl)) accesses
-      → All (DoesNotWrite (Px port Cmd)) accesses → RunsOn port.0 old new
-  pub runs_well : (port : ℕ) (old new : Device) → RunsOn port old new → Undisturbed port old new
+      → All (DoesNotWrite (Px port Cmd)) accesses → StaysRunning port.0 old new
+  pub runs_well : (port : ℕ) (old new : Device) → StaysRunning port old new → Undisturbed port old new
       → RunsWell (old.port port) → RunsWell (new.port port)
   -- a port is recovered
   pub recovery : RecoveryLaws
@@ -226,7 +231,7 @@ pub record PrerequisiteLaws : Type 0 where
   pub recovering_stores : (port : Port) (address : ℕ) (bytes : List ℕ) → port.0 < 4
       → IsRecoveryAccess port (Storing address bytes)
       → address + length bytes ≤ DRIVER_BYTES
-  pub booting_of : (port : Port) (access : Access) → IsOfBoot port access → SparesOtherPorts port access
+  pub booting_of : (port : Port) (access : Access) → IsBootAccess port access → SparesOtherPorts port access
   -- what accesses tell of a port's engines
   pub falls_then : (early late : List Access) (start running : ℕ) (port : Port) → EngineFalls start running port early
       → EngineFalls start running port (early ++ late)
@@ -245,11 +250,11 @@ pub record PrerequisiteLaws : Type 0 where
       → GainsNoMove port.0 ReadLog new end → BringsLog port old new page → BringsLog port start end page
   -- a request that waits again
   pub asks_requeued : (entries : List BookEntry) (id : RequestId)
-      → asks_of (map (update_if_id id requeued_entry) entries)
-      ≡ with_waiting id (asks_of entries)
+      → unanswered_of (map (update_if_id id requeued_entry) entries)
+      ≡ with_waiting id (unanswered_of entries)
   -- requests that are marked
   pub asks_marked : (entries : List BookEntry) (client : ClientId) (grant : ℕ)
-      → asks_of (all_marked_under client grant entries) ≡ asks_of entries
+      → unanswered_of (all_marked_under client grant entries) ≡ unanswered_of entries
   -- a disk that comes, or goes
   pub out_on : (port : Port) (access : Access) (old new : Device) → NoDiskComes port.0 old new → Does access old new
       → (old.port port.0).present ≡ false → (new.port port.0).present ≡ false

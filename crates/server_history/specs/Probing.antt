@@ -10,16 +10,16 @@ use Rattle.error_recovery.specs.Recovery.{StopsForReset}
 use Rattle.error_recovery.specs.declared.Next.{Next}
 use Rattle.error_recovery.specs.declared.Next.TheVariants as next
 use Rattle.error_recovery.specs.declared.Recovered.{Recovered}
-use Rattle.host_boot.specs.Again.{RebootsPort}
+use Rattle.host_boot.specs.Reboots.{RebootsPort}
 use Rattle.host_boot.specs.TakeOver.{probe_result_of, wanted_of}
 use Rattle.host_boot.specs.declared.Booted.{Booted}
 use Rattle.host_boot.specs.declared.ProbeResult.{ProbeResult}
 use Rattle.host_boot.specs.declared.ProbeResult.TheVariants.{Unready}
 use Rattle.identify.specs.declared.wanted.Wanted.{Wanted}
-use Rattle.port_control.specs.Glances.{FindsChange, FindsDevice}
-use Rattle.slots.specs.Uses.{PortSlots}
+use Rattle.port_control.specs.DeviceChecks.{FindsChange, FindsDevice}
+use Rattle.slots.specs.SlotUses.{PortSlots}
 use Rattle.server_history.specs.ErrorHandling.{HasNoUsedSlot}
-use Rattle.server_history.specs.Server.{ServerState, probed_mode}
+use Rattle.server_history.specs.ServerState.{ServerState, probed_mode}
 
 -- What a port in such a state is looked at for, and whether that was found: an absent one for a device that shows; one
 -- whose disk isn't served, for a change of its link, or a device that doesn't show. A dead port isn't looked at.
@@ -42,17 +42,17 @@ pub record ProbesAnew (wanted : Wanted) (port : Port) (found : ProbeResult) (mod
   pub result : Recovered
   pub stopped : Device
   pub gives_up : StopsForReset port 0 true result old stopped
-  pub is : IsProbedAnew wanted port result.next stopped new found
+  pub is_probed_anew : IsProbedAnew wanted port result.next stopped new found
   pub mode_is : mode ≡ probed_mode new.cap found
 
 -- So it was, and uses no slot. (The disk that it was last ready with is remembered, if there was one.)
 pub record BootsUnreadyPort (port : Port) (old new : ServerState) : Type 0 where
   pub found : ProbeResult
   pub mode : QueueMode
-  pub anew : ProbesAnew (wanted_of old.wanted port.0) port found mode old.device new.device
+  pub probes_anew : ProbesAnew (wanted_of old.wanted port.0) port found mode old.device new.device
   pub slots : PortSlots
-  pub unused : HasNoUsedSlot mode slots
-  pub server : new ≡ record old {
+  pub has_no_used_slot : HasNoUsedSlot mode slots
+  pub server_is : new ≡ record old {
     device = new.device;
     ports = slice_set old.ports port.0 found;
     modes = slice_set old.modes port.0 mode;
@@ -63,9 +63,9 @@ pub record BootsUnreadyPort (port : Port) (old new : ServerState) : Type 0 where
 -- looked at for.
 pub record ProbesPort (port : Port) (old new : ServerState) : Type 0 where
   pub state : PortState
-  pub is : probe_result_of old.ports port.0 ≡ Unready state
+  pub unready_state_is : probe_result_of old.ports port.0 ≡ Unready state
   pub result : Bool
   pub seen : Device
-  pub looks : IsLookedAt state port result old.device seen
+  pub is_looked_at : IsLookedAt state port result old.device seen
   pub left : result ≡ false → new ≡ record old { device = seen }
   pub boots : result ≡ true → BootsUnreadyPort port (record old { device = seen }) new

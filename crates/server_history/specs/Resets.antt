@@ -11,14 +11,14 @@ use Rattle.host_boot.specs.declared.ProbeResult.{ProbeResult}
 use Rattle.host_boot.specs.declared.ProbeResult.TheVariants.{Ready, Unready}
 use Rattle.host_boot.specs.declared.Host.{Host}
 use Rattle.identify.specs.declared.DiskInfo.{DiskInfo}
-use Rattle.request_queue.specs.Entries.{BookEntry, IsAccepted, BookIsInOrder}
+use Rattle.request_queue.specs.BookEntries.{BookEntry, IsAccepted, BookIsInOrder}
 use Rattle.request_queue.specs.Dispositions.{BookAndLoans, AreResolved, disposition_of}
 use Rattle.request_queue.specs.declared.disposition.Revalidation.{Revalidation}
 use Rattle.request_queue.specs.declared.disposition.Revalidation.TheVariants.{SameDisk, DiskLost, Dead}
-use Rattle.server_history.specs.Kept.{IsKeptIn, TakesBack}
+use Rattle.server_history.specs.KeptLoans.{IsKeptIn, TakesBack}
 use Rattle.server_history.specs.ErrorHandling.{IsSameDisk, book_and_loans_of, requests_of}
-use Rattle.server_history.specs.Served.{IssuesAll}
-use Rattle.server_history.specs.Server.{ServerState, last_disk_in, quarantined_at, mode_at, probed_mode, remembered_at, slots_at, used_for}
+use Rattle.server_history.specs.IssuingAndAnswering.{IssuesAll}
+use Rattle.server_history.specs.ServerState.{ServerState, last_disk_in, quarantined_at, mode_at, probed_mode, remembered_at, slots_at, used_for}
 
 -- ---- the adapter is taken over again
 
@@ -26,13 +26,13 @@ use Rattle.server_history.specs.Server.{ServerState, last_disk_in, quarantined_a
 -- what they were found to be, with no slot used; and the disk that each was last ready with is remembered. No request
 -- is answered, nor issued.
 pub record IsReinitialized (old taken : ServerState) : Type 0 where
-  pub idle : Device
-  pub resets : Resets old.device idle
-  pub back : TakesBack old.table taken.table (IsKeptIn old.kept)
+  pub idle_device : Device
+  pub resets : Resets old.device idle_device
+  pub loans_are_taken_back : TakesBack old.table taken.table (IsKeptIn old.kept)
   pub unkept : (port : ℕ) → quarantined_at taken.kept port ≡ []
   pub four_kept : length taken.kept ≡ 4
   pub host : Host
-  pub takes : TakesOver old.wanted host idle taken.device
+  pub takes : TakesOver old.wanted host idle_device taken.device
   pub four : length host.ports ≡ 4
   pub remembered : (port : ℕ) → remembered_at taken.remembered port ≡ last_disk_in old (port_at port)
   pub four_remembered : length taken.remembered ≡ 4
@@ -43,7 +43,7 @@ pub record IsReinitialized (old taken : ServerState) : Type 0 where
   pub places : (port : ℕ) → port < 4 → length (slots_at taken.slots port).places ≡ 32
   pub usable : (port : ℕ) → port < 4 → (slots_at taken.slots port).usable ≡ (mode_at taken.modes port).usable
   pub unused : (port slot : ℕ) → used_for taken.slots port slot ≡ None
-  pub server : taken ≡ record old {
+  pub server_is : taken ≡ record old {
     device = taken.device;
     table = taken.table;
     ports = host.ports;
@@ -75,12 +75,12 @@ with_book_and_loans port now s = record s {
 -- its port's revalidation says. So it came to this server.
 pub record ResolvesPort (port : Port) (replies : List Reply) (old new : ServerState) : Type 0 where
   pub revalidation : Revalidation
-  pub expects : IsResetRevalidation (remembered_at old.remembered port.0)
+  pub is_revalidation : IsResetRevalidation (remembered_at old.remembered port.0)
       (probe_result_of old.ports port.0) revalidation
-  pub now : BookAndLoans
-  pub meets : AreResolved (disposition_of None revalidation) (requests_of port old.book) replies
-      (book_and_loans_of port old) now
-  pub server : new ≡ with_book_and_loans port now old
+  pub book_and_loans_after : BookAndLoans
+  pub are_resolved : AreResolved (disposition_of None revalidation) (requests_of port old.book) replies
+      (book_and_loans_of port old) book_and_loans_after
+  pub server_is : new ≡ with_book_and_loans port book_and_loans_after old
 
 -- so it was with these ports, one after another, of which the first has this number
 abbrev pub ResolvePorts : ℕ → List ProbeResult → List Reply → ServerState → ServerState → Type 0
@@ -94,8 +94,8 @@ ResolvePorts port (found ∷ rest) replies old new =
 -- its port.
 pub record MayResolve (s : ServerState) : Type 0 where
   pub four_kept : length s.kept ≡ 4
-  pub ordered : BookIsInOrder s.book
-  pub accepted : All (IsAccepted s.table) s.book
+  pub book_is_in_order : BookIsInOrder s.book
+  pub requests_are_accepted : All (IsAccepted s.table) s.book
   pub places : (port : Port) → length (quarantined_at s.kept port.0) + count_by (λ (e : BookEntry). e.entry.issued)
       (requests_of port s.book) ≤ 32
 

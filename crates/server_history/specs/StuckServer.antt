@@ -14,9 +14,9 @@ use Rattle.host_boot.specs.Resets.{ResetStaysPending}
 use Rattle.host_boot.specs.TakeOver.{IsServed, probe_result_of, wanted_of}
 use Rattle.host_boot.specs.declared.ProbeResult.{ProbeResult}
 use Rattle.host_boot.specs.declared.ProbeResult.TheVariants.{Unserved, Unready}
-use Rattle.request_queue.specs.Entries.{BookEntry, IsAccepted, BookIsInOrder}
+use Rattle.request_queue.specs.BookEntries.{BookEntry, IsAccepted, BookIsInOrder}
 use Rattle.server_history.specs.ErrorHandling.{requests_of}
-use Rattle.server_history.specs.Server.{ServerState, MachineRelation, RevokedMarkInvariant, OwnedFramesAreClients, last_disk_in, is_served, quarantined_at, mode_at, plain_mode, remembered_at, slots_at, used_for}
+use Rattle.server_history.specs.ServerState.{ServerState, MachineRelation, RevokedMarkInvariant, OwnedFramesAreClients, last_disk_in, is_served, quarantined_at, mode_at, plain_mode, remembered_at, slots_at, used_for}
 
 -- What holds of a server whether or not its adapter is on. The adapter has the memory of the driver and of the clients.
 -- Ports are served in which a disk is wanted, and which the adapter has; another one is idle, has no slot that is used,
@@ -25,28 +25,29 @@ use Rattle.server_history.specs.Server.{ServerState, MachineRelation, RevokedMar
 -- are as they were accepted, in order, with marks that tell of their grants, of served ports, and by ids that were
 -- handed out; and some machine that a history leads to stands for the server.
 pub record ServerInvariant (s : ServerState) : Type 0 where
-  pub room : DRIVER_BYTES ≤ s.device.size
+  pub driver_memory_fits : DRIVER_BYTES ≤ s.device.size
   pub served : (port : ℕ) → port < 4 → (is_served (probe_result_of s.ports port) ≡ true)
       ↔ IsServed (wanted_of s.wanted port) port s.device
-  pub few : (port : ℕ) → is_served (probe_result_of s.ports port) ≡ true → port < 4
-  pub idle : (port : ℕ) → port < 4 → probe_result_of s.ports port ≡ Unserved → IsIdlePort (s.device.port port)
+  pub few_are_served : (port : ℕ) → is_served (probe_result_of s.ports port) ≡ true → port < 4
+  pub unserved_are_idle : (port : ℕ) → port < 4 → probe_result_of s.ports port ≡ Unserved
+      → IsIdlePort (s.device.port port)
   pub unused : (port slot : ℕ) → probe_result_of s.ports port ≡ Unserved → used_for s.slots port slot ≡ None
-  pub four : length s.slots ≡ 4
+  pub four_slots : length s.slots ≡ 4
   pub four_modes : length s.modes ≡ 4
   pub four_remembered : length s.remembered ≡ 4
   pub four_kept : length s.kept ≡ 4
   pub places : (port : Port) → length (quarantined_at s.kept port.0) + count_by (λ (e : BookEntry). e.entry.issued)
       (requests_of port s.book) ≤ 32
-  pub rows : All IsValidRow s.grants
-  pub owners : OwnedFramesAreClients s.table s.device.size
-  pub accepted : All (IsAccepted s.table) s.book
-  pub ordered : BookIsInOrder s.book
-  pub marked : All (RevokedMarkInvariant s.grants) s.book
-  pub handed_out : All (λ e. e.entry.id.0 ≤ s.last) s.book
-  pub asked : All (λ e. is_served (probe_result_of s.ports e.entry.port.0) ≡ true) s.book
+  pub rows_are_valid : All IsValidRow s.grants
+  pub owned_frames_are_clients : OwnedFramesAreClients s.table s.device.size
+  pub requests_are_accepted : All (IsAccepted s.table) s.book
+  pub book_is_in_order : BookIsInOrder s.book
+  pub revoked_marks_agree : All (RevokedMarkInvariant s.grants) s.book
+  pub ids_were_handed_out : All (λ e. e.entry.id.0 ≤ s.last_id) s.book
+  pub requests_are_of_served_ports : All (λ e. is_served (probe_result_of s.ports e.entry.port.0) ≡ true) s.book
   pub machine : Machine
   pub reached : IsReachable machine
-  pub stands : MachineRelation s machine
+  pub machine_relation : MachineRelation s machine
 
 -- each port that is served is dead
 abbrev pub AreDead : List ProbeResult → Type 0
@@ -56,9 +57,9 @@ AreDead found = (port : ℕ) → is_served (probe_result_of found port) ≡ true
 -- when the reset ended unseen), and each port that is served is dead. Requests from before that reset may wait for the
 -- service that tells them.
 pub record StuckInvariant (s : ServerState) : Type 0 where
-  pub booked : ServerInvariant s
-  pub off : IsOn s.device → ⊥
-  pub dead : AreDead s.ports
+  pub server_invariant : ServerInvariant s
+  pub adapter_is_not_on : IsOn s.device → ⊥
+  pub served_ports_are_dead : AreDead s.ports
 
 -- the port as it is after that: dead, if it is served
 abbrev pub found_after_stuck_reset : ProbeResult → ProbeResult
@@ -78,7 +79,7 @@ pub record ResetGetsStuck (old new : ServerState) : Type 0 where
   pub places : (port : ℕ) → port < 4 → length (slots_at new.slots port).places ≡ 32
   pub usable : (port : ℕ) → port < 4 → (slots_at new.slots port).usable ≡ (mode_at new.modes port).usable
   pub unused : (port slot : ℕ) → used_for new.slots port slot ≡ None
-  pub server : new ≡ record old {
+  pub server_is : new ≡ record old {
     device = new.device;
     ports = new.ports;
     remembered = new.remembered;

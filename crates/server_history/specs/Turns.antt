@@ -10,32 +10,32 @@ use Rattle.adapter.specs.declared.access.DeviceStep.{DeviceStep}
 use Rattle.adapter.specs.declared.command.Operation.TheVariants.{ReadLog}
 use Rattle.adapter.specs.declared.tape.Fault as tape_fault
 use Rattle.refinement.specs.Relation.{port_at}
-use Rattle.refinement.specs.Driven.{SparesOtherPorts, GainsNoMove}
+use Rattle.refinement.specs.Fragments.{SparesOtherPorts, GainsNoMove}
 use Rattle.refinement.specs.Driver.{IsBacked}
-use Rattle.block_machine.specs.Events.{AbstractCall, AllAnswersLawful, AllMay, AnswersEnded, AreStepsOfCall, UnpluggedLostDisk, ShownDiskWasInOrCame, IsByDevice, IssuesLast, AbstractState, NoneStaysIssued, Served, Service, RepliesMatch, Tick, AnswersAllUnplugged}
-use Rattle.block_machine.specs.Due.{of_port}
+use Rattle.block_machine.specs.Events.{AbstractCall, AllAnswersLawful, AllEnabled, AnswersEnded, AreStepsOfCall, UnpluggedLostDisk, ShownDiskWasInOrCame, IsByDevice, IssuesLast, AbstractState, NoneStaysIssued, Served, Service, RepliesMatch, Tick, AnswersAllUnplugged}
+use Rattle.block_machine.specs.DueRequests.{requests_of_port}
 use Rattle.block_machine.specs.Histories.{JointEvent, JointState, IsReachable}
 use Rattle.block_machine.specs.Expected.{after}
 use Rattle.block_machine.specs.Ports.{Evidence, RequestFault, IsStoppedOrStuck, IsServiced, Ports, SameDisk, SamePort}
 use Rattle.block_machine.specs.State.{Machine, Pending}
-use Rattle.block_machine.specs.Steps.{Step, Again, Answer, Issue}
-use Rattle.driver_history.specs.Heeding.{OnlyFailedPortsRequeue}
+use Rattle.block_machine.specs.Steps.{Step, WaitAgain, Answer, Issue}
+use Rattle.driver_history.specs.EvidenceHandling.{OnlyFailedPortsRequeue}
 use Rattle.driver_history.specs.Evidence.{IsEvidencedOf}
 use Rattle.error_recovery.specs.Evidence.{BringsLog, HasFailed}
 use Rattle.identify.specs.Log.{TellsError}
 use Rattle.driver_history.specs.Histories.{FindsDone, IsIssuedOn, IssuesDue, LosesNoPortError, RunsWellAnew, PortCorresponds}
 use Rattle.driver_history.specs.PortInvariants.{HasNoUnanswered}
-use Rattle.driver_history.specs.Trace.{IsDriversOwn, ResetsLink}
-use Rattle.driver_history.specs.Parts.{EndsNoLinkDue}
+use Rattle.driver_history.specs.AccessTrace.{IsDriversOwn, ResetsLink}
+use Rattle.driver_history.specs.PortTurn.{EndsNoLinkDue}
 use Rattle.host_boot.specs.TakeOver.{probe_result_of}
 use Rattle.host_boot.specs.declared.ProbeResult.{ProbeResult}
 use Rattle.host_boot.specs.declared.ProbeResult.TheVariants.{Ready, Unready, Unserved}
-use Rattle.request_queue.specs.Entries.{BookEntry, IsOverdue, aged, asks_of}
+use Rattle.request_queue.specs.BookEntries.{BookEntry, IsOverdue, aged_entries, unanswered_of}
 use Rattle.port_control.specs.declared.events.PortError.TheVariants.{TimedOut}
 use Rattle.server_history.specs.ErrorHandling.{HandlesPortError}
 use Rattle.server_history.specs.Probing.{ProbesPort}
-use Rattle.server_history.specs.Served.{TurnAnswers, HasTurnWithoutError}
-use Rattle.server_history.specs.Server.{ServerState, MachineRelation, SettledInvariant, mode_at, mode_in, ports_of, remembered_at, slots_at, state_of, used_for}
+use Rattle.server_history.specs.IssuingAndAnswering.{TurnAnswers, HasTurnWithoutError}
+use Rattle.server_history.specs.ServerState.{ServerState, MachineRelation, SettledInvariant, mode_at, mode_in, ports_of, remembered_at, slots_at, state_of, used_for}
 use Rattle.slots.specs.declared.SlotUse.{SlotUse}
 
 -- the abstract and the joint state in which a machine stands for the server
@@ -48,7 +48,7 @@ joint_state_of s m = record { device = s.device; abstract = abstract_state_of s 
 -- the step is the device's own, or the server's with a request of such a port
 abbrev pub IsStepOf : (Port → Type 0) → Step → Type 0
 IsStepOf Such (Issue mode e) = Such e.request.port
-IsStepOf Such (Again e) = Such e.request.port
+IsStepOf Such (WaitAgain e) = Such e.request.port
 IsStepOf Such (Answer e outcome) = Such e.request.port
 IsStepOf Such step = IsByDevice step
 
@@ -59,7 +59,7 @@ IsOfTurn port step = IsStepOf (λ q. q ≡ port) step
 -- the evidence names this port and no other
 pub record NamesOnly (port : Port) (evidence : Evidence) : Type 0 where
   pub lost : All (λ q. q ≡ port) evidence.lost
-  pub gone : All (λ q. q ≡ port) evidence.gone
+  pub link_changed : All (λ q. q ≡ port) evidence.link_changed
   pub failed : All (λ q. q ≡ port) evidence.failed
   pub fatal : All (λ q. q ≡ port) evidence.fatal
   pub stopped : All (λ q. q ≡ port) evidence.stopped
@@ -82,10 +82,10 @@ pub record TellsFault (port : Port) (accesses : List Access) (old new : ServerSt
     (told : RequestFault) : Type 0 where
   pub slot : ℕ
   pub used : SlotUse
-  pub served : used_for old.slots port.0 slot ≡ Some used
+  pub slot_use_is : used_for old.slots port.0 slot ≡ Some used
   pub id_is : used.id ≡ told.id
-  pub its : IsFaultOfCommand used.queued port accesses old.device new.device slot told
-  pub lives : used.queued ≡ true → state_of (probe_result_of new.ports port.0) ≢ Dead
+  pub is_fault_of_command : IsFaultOfCommand used.queued port accesses old.device new.device slot told
+  pub port_is_not_dead : used.queued ≡ true → state_of (probe_result_of new.ports port.0) ≢ Dead
 
 -- ---- a turn
 
@@ -102,8 +102,8 @@ ask_of_turn InRestart = Tick
 ask_of_turn AtRest = Tick
 
 -- a turn, as though it were a call of its own
-abbrev pub happening_of_turn : Turn → List Reply → ServerState → Evidence → List Step → JointEvent Device DeviceStep
-happening_of_turn turn replies new evidence steps = record {
+abbrev pub joint_event_of_turn : Turn → List Reply → ServerState → Evidence → List Step → JointEvent Device DeviceStep
+joint_event_of_turn turn replies new evidence steps = record {
   event =
       record {
         ask = ask_of_turn turn;
@@ -118,8 +118,8 @@ happening_of_turn turn replies new evidence steps = record {
 -- What a call does of a port's trouble: none is lost unless the port was stopped, and then it runs well anew.
 pub record HandlesShownErrors (port : Port) (accesses : List Access) (old : JointState Device) (evidence : Evidence)
     (ports : Ports) (new : Device) : Type 0 where
-  pub port_error : LosesNoPortError evidence old ports new port
-  pub well : RunsWellAnew evidence accesses old ports new port
+  pub loses_no_error : LosesNoPortError evidence old ports new port
+  pub runs_well_anew : RunsWellAnew evidence accesses old ports new port
 
 -- As such a call it has done of its port what a service does of one; where it probed a port that showed X, and no disk
 -- came, no link is due at its end (EndsNoLinkDue); and where it restarts the port it has done what a call does of
@@ -127,11 +127,11 @@ pub record HandlesShownErrors (port : Port) (accesses : List Access) (old : Join
 abbrev pub TurnCorresponds : Turn → Port → List Reply → List Access → ServerState → ServerState → Machine → Evidence
     → List Step → Type 0
 TurnCorresponds InService port replies accesses old new m evidence steps =
-    PortCorresponds (joint_state_of old m) (happening_of_turn InService replies new evidence steps) accesses port
+    PortCorresponds (joint_state_of old m) (joint_event_of_turn InService replies new evidence steps) accesses port
 TurnCorresponds InRestart port replies accesses old new m evidence steps =
     HandlesShownErrors port accesses (joint_state_of old m) evidence (ports_of new) new.device
 TurnCorresponds InProbe port replies accesses old new m evidence steps =
-    PortCorresponds (joint_state_of old m) (happening_of_turn InProbe replies new evidence steps) accesses port
+    PortCorresponds (joint_state_of old m) (joint_event_of_turn InProbe replies new evidence steps) accesses port
     × EndsNoLinkDue port (joint_state_of old m) (ports_of new) new.device
 TurnCorresponds AtRest port replies accesses old new m evidence steps = Unit {0}
 
@@ -152,11 +152,12 @@ pub record RestartsPort (port : Port) (accesses : List Access) (old new : Server
     (steps : List Step) : Type 0 where
   pub finds : FindsDoneInTurn port accesses old m steps
   pub boots : (state_of (probe_result_of new.ports port.0) ≡ Dead) ⊎ ResetsLink port accesses
-  pub ended : AnswersEnded m steps port
-  pub interrupts : IsStoppedOrStuck evidence port
-  pub anew : NoneStaysIssued steps (after m steps) port
-  pub another : UnpluggedLostDisk steps (ports_of old) (ports_of new)
-  pub disk : ShownDiskWasInOrCame (abstract_state_of old m) steps (abstract_state_of new (after m steps)) port
+  pub answers_ended : AnswersEnded m steps port
+  pub is_interrupted : IsStoppedOrStuck evidence port
+  pub none_stays_issued : NoneStaysIssued steps (after m steps) port
+  pub unplugged_lost_its_disk : UnpluggedLostDisk steps (ports_of old) (ports_of new)
+  pub shown_disk_was_in_or_came : ShownDiskWasInOrCame (abstract_state_of old m) steps
+      (abstract_state_of new (after m steps)) port
 
 -- What a turn owes besides. In a service requests wait again, are aborted, told Revoked or a fault, on ports alone that
 -- failed; of a port that isn't ready no fault is told, and no loss. A restart owes what it does, and tells no fault.
@@ -181,28 +182,28 @@ pub record SimulatesTurn (turn : Turn) (port : Port) (replies : List Reply) (acc
     (m : Machine) : Type 0 where
   pub steps : List Step
   pub evidence : Evidence
-  pub may : AllMay m steps
-  pub stands : MachineRelation new (after m steps)
-  pub backed : IsBacked old.device new.device m steps
-  pub own : All (IsOfTurn port) steps
-  pub belong : AreStepsOfCall (ask_of_turn turn) (ports_of new) steps
-  pub last : IssuesLast steps
-  pub names : NamesOnly port evidence
-  pub lawful : AllAnswersLawful (abstract_state_of old m) evidence (ports_of new) steps
-  pub owes : MeetsTurnDuty turn port accesses old new m evidence steps
-  pub tells : RepliesMatch steps replies
-  pub unplugs : AnswersAllUnplugged steps (after m steps)
-  pub becomes : IsServiced (ports_of old) evidence (ports_of new) port
-  pub disk : SamePort (ports_of old) (ports_of new) port
+  pub steps_are_enabled : AllEnabled m steps
+  pub machine_relation : MachineRelation new (after m steps)
+  pub is_backed : IsBacked old.device new.device m steps
+  pub steps_are_of_turn : All (IsOfTurn port) steps
+  pub steps_are_of_call : AreStepsOfCall (ask_of_turn turn) (ports_of new) steps
+  pub issues_are_last : IssuesLast steps
+  pub names_only_port : NamesOnly port evidence
+  pub answers_are_lawful : AllAnswersLawful (abstract_state_of old m) evidence (ports_of new) steps
+  pub meets_turn_duty : MeetsTurnDuty turn port accesses old new m evidence steps
+  pub replies_match : RepliesMatch steps replies
+  pub answers_all_unplugged : AnswersAllUnplugged steps (after m steps)
+  pub port_is_serviced : IsServiced (ports_of old) evidence (ports_of new) port
+  pub shown_disk_was_in_or_came : SamePort (ports_of old) (ports_of new) port
       ⊎ ShownDiskWasInOrCame (abstract_state_of old m) steps (abstract_state_of new (after m steps)) port
-  pub keeps : SameDisk (ports_of old) (ports_of new) port ⊎ HasNoUnanswered (after m steps) port
-  pub issues : (ports_of new).state port ≡ ReadyState → IssuesDue (mode_in new port) steps (after m steps) port
-  pub evidenced : IsEvidencedOf (ask_of_turn turn) (Served replies) accesses (joint_state_of old m)
+  pub disk_is_kept_or_none_waits : SameDisk (ports_of old) (ports_of new) port ⊎ HasNoUnanswered (after m steps) port
+  pub issues_due : (ports_of new).state port ≡ ReadyState → IssuesDue (mode_in new port) steps (after m steps) port
+  pub is_evidenced : IsEvidencedOf (ask_of_turn turn) (Served replies) accesses (joint_state_of old m)
       (ports_of new) new.device
       evidence port
   pub faults : (told : RequestFault) → Contains evidence.faults told → TellsFault port accesses old new told
-  pub ties : TurnCorresponds turn port replies accesses old new m evidence steps
-  pub finds : turn ≡ InService → (e : Pending) → IsIssuedOn port m e → FindsDoneInTurn port accesses old m steps
+  pub turn_corresponds : TurnCorresponds turn port replies accesses old new m evidence steps
+  pub finds_done : turn ≡ InService → (e : Pending) → IsIssuedOn port m e → FindsDoneInTurn port accesses old m steps
 
 -- what a turn of the port leaves of the server: its grants, the disks that are wanted, the id that was handed out last,
 -- and what it has of other ports and their requests (the machine that stands for it has the owners, and the loans that
@@ -210,25 +211,27 @@ pub record SimulatesTurn (turn : Turn) (port : Port) (replies : List Reply) (acc
 pub record LeavesOthers (port : Port) (old new : ServerState) : Type 0 where
   pub grants : new.grants ≡ old.grants
   pub wanted : new.wanted ≡ old.wanted
-  pub last : new.last ≡ old.last
+  pub last_id : new.last_id ≡ old.last_id
   pub found : (q : ℕ) → q ≢ port.0 → probe_result_of new.ports q ≡ probe_result_of old.ports q
   pub remembered : (q : ℕ) → q ≢ port.0 → remembered_at new.remembered q ≡ remembered_at old.remembered q
   pub modes : (q : ℕ) → q ≢ port.0 → mode_at new.modes q ≡ mode_at old.modes q
   pub slots : (q : ℕ) → q ≢ port.0 → slots_at new.slots q ≡ slots_at old.slots q
-  pub book : (q : Port) → q ≢ port → of_port q (asks_of new.book) ≡ of_port q (asks_of old.book)
+  pub book : (q : Port) → q ≢ port → requests_of_port q (unanswered_of new.book)
+      ≡ requests_of_port q (unanswered_of old.book)
 
 -- A port's turn, in which these replies were given: its accesses are of the port, and those of memory in the driver's
 -- frames; it leaves the other ports, of which each that isn't dead is sent no page of the log; and from each machine
 -- that stands for the old server it makes one that stands for the new.
 pub record IsPortTurn (turn : Turn) (port : Port) (replies : List Reply) (old new : ServerState) : Type 0 where
   pub accesses : List Access
-  pub does : DoesAll accesses old.device new.device
-  pub of : All (SparesOtherPorts port) accesses
-  pub own : All IsDriversOwn accesses
-  pub others : LeavesOthers port old new
-  pub silent : (q : ℕ) → q ≢ port.0 → state_of (probe_result_of old.ports q) ≢ Dead
+  pub accesses_are_done : DoesAll accesses old.device new.device
+  pub accesses_are_of_port : All (SparesOtherPorts port) accesses
+  pub accesses_are_drivers_own : All IsDriversOwn accesses
+  pub leaves_others : LeavesOthers port old new
+  pub others_get_no_log : (q : ℕ) → q ≢ port.0 → state_of (probe_result_of old.ports q) ≢ Dead
       → GainsNoMove q ReadLog old.device new.device
-  pub makes : (m : Machine) → IsReachable m → MachineRelation old m → SimulatesTurn turn port replies accesses old new m
+  pub simulates_turn : (m : Machine) → IsReachable m → MachineRelation old m
+      → SimulatesTurn turn port replies accesses old new m
 
 -- The port's error was handled, where a look told of one; else those of its requests were answered that were found
 -- done.
@@ -239,15 +242,15 @@ DoesTurn port replies old new =
     ⊎ ((handling : HandlesPortError port replies old new) × (handling.settled.error_handled.port_error ≢ TimedOut))
 
 -- What serving a port does: the port has its turn, which is a part of a service.
-pub record ServesPort (port : Port) (replies : List Reply) (old new : ServerState) : Type 0 where
-  pub does : DoesTurn port replies old new
-  pub part : IsPortTurn InService port replies old new
+pub record ServicesPort (port : Port) (replies : List Reply) (old new : ServerState) : Type 0 where
+  pub does_turn : DoesTurn port replies old new
+  pub is_port_turn : IsPortTurn InService port replies old new
 
 -- What serving a port that isn't ready does: it is looked at, and probed where it may have a disk, which is a part of a
 -- service.
 pub record ProbesUnready (port : Port) (old new : ServerState) : Type 0 where
-  pub does : ProbesPort port old new
-  pub part : IsPortTurn InProbe port [] old new
+  pub does_turn : ProbesPort port old new
+  pub is_port_turn : IsPortTurn InProbe port [] old new
 
 -- Ports that were found ready have such turns, and other ones that are served have theirs, one after another; the first
 -- of these ports has this number.
@@ -266,8 +269,8 @@ EachPortTakesTurn Such Other port (Unserved ∷ rest) replies old new =
     EachPortTakesTurn Such Other (port + 1) rest replies old new
 
 -- so they are served
-abbrev pub ServePorts : ℕ → List ProbeResult → List Reply → ServerState → ServerState → Type 0
-ServePorts port found replies old new = EachPortTakesTurn ServesPort ProbesUnready port found replies old new
+abbrev pub ServicePorts : ℕ → List ProbeResult → List Reply → ServerState → ServerState → Type 0
+ServicePorts port found replies old new = EachPortTakesTurn ServicesPort ProbesUnready port found replies old new
 
 -- ---- a tick
 
@@ -278,7 +281,7 @@ is_ready found = false
 
 -- the server, with each issued request of a ready port a tick older
 abbrev pub a_tick_older : ServerState → ServerState
-a_tick_older s = record s { book = aged (λ port. is_ready (probe_result_of s.ports port.0)) s.book }
+a_tick_older s = record s { book = aged_entries (λ port. is_ready (probe_result_of s.ports port.0)) s.book }
 
 -- A ready port's turn in a tick, where the book was this when requests had got older: its error was handled, where one
 -- was overdue; else it rests.

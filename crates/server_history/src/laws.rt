@@ -12,21 +12,21 @@ ghost use Rattle.ata_types.specs.declared.request.Reply.{Reply};
 ghost use Rattle.ata_types.specs.declared.request.Request.{Request};
 ghost use Rattle.ata_types.specs.declared.request.RequestId.{RequestId};
 ghost use Rattle.adapter.specs.Access.{Loads, Stores};
-ghost use Rattle.adapter.specs.Asked.{Asked};
+ghost use Rattle.adapter.specs.ToldSteps.{DoesOrFailsStep};
 ghost use Rattle.adapter.specs.Device.{Device};
 ghost use Rattle.adapter.specs.Idle.{IsIdle, TellsDisks};
 ghost use Rattle.adapter.specs.Rules.{HasPort, IsUnowned, IsOn, IsStable};
 ghost use Rattle.adapter.specs.Steps.{Steps};
 ghost use Rattle.adapter.specs.declared.access.DeviceStep.{DeviceStep};
-ghost use Rattle.refinement.specs.Driven.{RelatesWith, AnyUse, IsSimulated};
+ghost use Rattle.refinement.specs.Fragments.{RelatesWith, AnyUse, IsSimulated};
 ghost use Rattle.refinement.specs.PortFacts.{RunsWell, Undisturbed};
 ghost use Rattle.refinement.specs.Slots.{IsOver};
-ghost use Rattle.block_machine.specs.Due.{IsDue, is_plain};
+ghost use Rattle.block_machine.specs.DueRequests.{IsDue, is_plain};
 ghost use Rattle.block_machine.specs.Events.{Submit, StoreAt, LoadAt, RevokeOf, Service, State, Tick, Device as Told, Submitted, Served, Shown, Stepped, WasRevoked};
 ghost use Rattle.block_machine.specs.Refusals.{IsAcceptable, IsFirstRefusal, MayAccessFrame, IsFirstMemFault};
 ghost use Rattle.block_machine.specs.Rules.{HasRow, IsNamed};
-ghost use Rattle.command_table.specs.Written.{IsUnused};
-ghost use Rattle.dma_frames.specs.Table.{Table, LendsOnly, owner_of, lent_to};
+ghost use Rattle.command_table.specs.TableStores.{IsUnused};
+ghost use Rattle.dma_frames.specs.FrameTables.{FrameOwnership, LendsOnly, owner_of, lent_to};
 ghost use Rattle.host_boot.specs.TakeOver.{probe_result_of, TakesOver};
 ghost use Rattle.host_boot.specs.declared.ProbeResult.TheVariants.{Ready, Unready};
 ghost use Rattle.identify.specs.declared.DiskInfo.{DiskInfo};
@@ -34,19 +34,19 @@ ghost use Rattle.host_boot.specs.declared.Host.{Host};
 ghost use Rattle.hba_regs.specs.Bits.{bit};
 ghost use Rattle.commands.specs.Batches.{PlacedTask};
 ghost use Rattle.commands.specs.Masks.{ReadsDone, SeesClear};
-ghost use Rattle.request_queue.specs.Entries.{BookEntry, asks, asks_of, due_ids};
+ghost use Rattle.request_queue.specs.BookEntries.{BookEntry, as_unanswered, unanswered_of, due_ids};
 ghost use Rattle.server_history.specs.Histories.{ExtendsSettled, ExtendsByStuck, ExtendsHistory, StartsHistory, InvariantByStuck, load_said, store_said};
-ghost use Rattle.server_history.specs.Kept.{LoansEndInTurn};
-ghost use Rattle.server_history.specs.Revoked.{RevokesGrant};
-ghost use Rattle.server_history.specs.Served.{Accepts, AnswersDone, AnswersOne, IsEmptyMask, IsMaskOf, IssuesAll, IssuesTogetherIfAny, ChangesSlotsAndBook, FindsSlotFor, PutsInSlot, PutsInSlots, with_accepted};
+ghost use Rattle.server_history.specs.KeptLoans.{LoansEndInTurn};
+ghost use Rattle.server_history.specs.Revoking.{RevokesGrant};
+ghost use Rattle.server_history.specs.IssuingAndAnswering.{Accepts, AnswersDone, AnswersOne, IsEmptyMask, IsMaskOf, IssuesAll, IssuesTogetherIfAny, ChangesSlotsAndBook, FindsSlotFor, PutsInSlot, PutsInSlots, with_accepted};
 ghost use Rattle.server_history.specs.StuckServer.{ServerInvariant};
 ghost use Rattle.server_history.specs.Probing.{ProbesPort};
-ghost use Rattle.server_history.specs.Turns.{IsPortTurn, InRestart, ServePorts, ServesPort, Ticks, ProbesUnready, a_tick_older};
+ghost use Rattle.server_history.specs.Turns.{IsPortTurn, InRestart, ServicePorts, ServicesPort, Ticks, ProbesUnready, a_tick_older};
 ghost use Rattle.port_control.specs.declared.events.PortError.TheVariants.{TimedOut};
-ghost use Rattle.server_history.specs.Server.{ServerState, probed_mode, InCallInvariant, IsNewServer, SettledInvariant, quarantined_at, mode_in, ports_of, admission_context, slots_at, state_of, used_for};
-ghost use Rattle.slots.specs.Uses.{IsLowestFree, IsTaken};
+ghost use Rattle.server_history.specs.ServerState.{ServerState, probed_mode, InCallInvariant, IsNewServer, SettledInvariant, quarantined_at, mode_in, ports_of, admission_context, slots_at, state_of, used_for};
+ghost use Rattle.slots.specs.SlotUses.{IsLowestFree, IsTaken};
 ghost use Rattle.slots.specs.declared.SlotUse.{SlotUse};
-ghost use Rattle.port_control.specs.Looks.{IsLooking, LooksAt};
+ghost use Rattle.port_control.specs.PortEvents.{IsEventAccess, TakesEvent};
 ghost use Rattle.port_control.specs.declared.events.PortEvent.TheVariants.{TaskFileError, NoEvent};
 ghost use Rattle.ata_types.specs.declared.PortState.{PortState};
 ghost use Rattle.error_recovery.specs.Recovery.{PlainUsesSlot0, StopsForReset, PlainIsSlot0, MayRecover};
@@ -84,7 +84,7 @@ pub fn law_a_new_server_has_begun()
 /// switched on.
 pub fn law_device_steps_extend_history()
     ensures done { (stuck : Bool) (s : ServerState) (new : Device) (step : DeviceStep) → InvariantByStuck stuck s
-        → Asked step s.device new → Steps s.device new
+        → DoesOrFailsStep step s.device new → Steps s.device new
         → ExtendsByStuck stuck s (record s { device = new }) (Told step) (Stepped true) }
     ensures refused { (stuck : Bool) (s : ServerState) (step : DeviceStep) → InvariantByStuck stuck s
         → ExtendsHistory s s (Told step) (Stepped false) }
@@ -146,13 +146,13 @@ pub fn law_client_bytes_extend_history()
 /// command; and some machine agrees with a driver that doesn't use it.
 pub fn law_a_due_request_may_issue()
     ensures lowest { (s : ServerState) (request : BookEntry) → InCallInvariant s → Contains s.book request
-        → IsDue (mode_in s request.entry.port) (asks_of s.book) (asks request.entry)
+        → IsDue (mode_in s request.entry.port) (unanswered_of s.book) (as_unanswered request.entry)
         → (slot : ℕ) → IsLowestFree (slots_at s.slots request.entry.port.0) slot
         → (slot < (mode_in s request.entry.port).usable) × (slot < 32) × (slot ≤ s.device.cap / 256 % 32)
         × (is_plain (mode_in s request.entry.port) request.entry.op ≡ true → slot ≡ 0)
         × RelatesWith (IsUnused request.entry.port.0 slot) s.device }
     ensures full { (s : ServerState) (request : BookEntry) → InCallInvariant s → Contains s.book request
-        → IsDue (mode_in s request.entry.port) (asks_of s.book) (asks request.entry)
+        → IsDue (mode_in s request.entry.port) (unanswered_of s.book) (as_unanswered request.entry)
         → ((slot : ℕ) → slot < (slots_at s.slots request.entry.port.0).usable
         → IsTaken (slots_at s.slots request.entry.port.0) slot) → ⊥ }
 {
@@ -165,20 +165,21 @@ pub fn law_a_due_request_may_issue()
 pub fn law_due_requests_get_slots()
     ensures lowest { (s mid : ServerState) (port : Port) (ids : List RequestId) (tasks : List PlacedTask)
         (request : BookEntry) → InCallInvariant s → PutsInSlots port ids tasks s mid → Contains mid.book request
-        → request.entry.port ≡ port → IsDue (mode_in mid port) (asks_of mid.book) (asks request.entry)
+        → request.entry.port ≡ port → IsDue (mode_in mid port) (unanswered_of mid.book) (as_unanswered request.entry)
         → (slot : ℕ) → IsLowestFree (slots_at mid.slots port.0) slot → FindsSlotFor s port tasks request slot }
     ensures full { (s mid : ServerState) (port : Port) (ids : List RequestId) (tasks : List PlacedTask)
         (request : BookEntry) → InCallInvariant s → PutsInSlots port ids tasks s mid → Contains mid.book request
-        → request.entry.port ≡ port → IsDue (mode_in mid port) (asks_of mid.book) (asks request.entry)
+        → request.entry.port ≡ port → IsDue (mode_in mid port) (unanswered_of mid.book) (as_unanswered request.entry)
         → ((slot : ℕ) → slot < (slots_at mid.slots port.0).usable → IsTaken (slots_at mid.slots port.0) slot) → ⊥ }
     ensures together { (s mid : ServerState) (port : Port) (ids : List RequestId) (tasks : List PlacedTask)
         (request : BookEntry) → InCallInvariant s → PutsInSlots port ids tasks s mid → Contains mid.book request
-        → request.entry.port ≡ port → IsDue (mode_in mid port) (asks_of mid.book) (asks request.entry)
+        → request.entry.port ≡ port → IsDue (mode_in mid port) (unanswered_of mid.book) (as_unanswered request.entry)
         → (tasks ≡ [] → ⊥) → (is_plain (mode_in s port) request.entry.op ≡ false)
         × All (λ t. t.task.queued ≡ true) tasks }
-    ensures goes_on { (s mid : ServerState) (port : Port) (ids : List RequestId) (tasks : List PlacedTask)
+    ensures invariant_goes_on { (s mid : ServerState) (port : Port) (ids : List RequestId) (tasks : List PlacedTask)
         → InCallInvariant s → PutsInSlots port ids tasks s mid → ChangesSlotsAndBook s mid }
-    ensures more { (s mid new : ServerState) (port : Port) (ids : List RequestId) (tasks : List PlacedTask)
+    ensures one_more_gets_a_slot { (s mid new : ServerState) (port : Port) (ids : List RequestId)
+        (tasks : List PlacedTask)
         (id : RequestId) (t : PlacedTask) → PutsInSlots port ids tasks s mid → PutsInSlot port id t mid new
         → PutsInSlots port (ids ++ id ∷ []) (tasks ++ t ∷ []) s new }
 {
@@ -200,9 +201,10 @@ pub fn law_a_used_slot_has_its_request()
 pub fn law_requests_preserve_invariant()
     ensures ready { (s : ServerState) (r : Request) (row : GrantRow) → IsAcceptable (admission_context s) r
         → IsNamed s.grants r row → state_of (probe_result_of s.ports row.port.0) ≡ ReadyState }
-    ensures accepted { (s : ServerState) (port : Port) (r : Request) (row : GrantRow) (id : RequestId) (table : Table)
+    ensures accepted { (s : ServerState) (port : Port) (r : Request) (row : GrantRow) (id : RequestId)
+        (table : FrameOwnership)
         → InCallInvariant s → IsAcceptable (admission_context s) r → IsNamed s.grants r row → row.port ≡ port
-        → id.0 ≡ s.last + 1
+        → id.0 ≡ s.last_id + 1
         → LendsOnly s.table table r.frames.items (Some id) → InCallInvariant (with_accepted port r id table s) }
     ensures answered { (s new : ServerState) (port : Port) (request : BookEntry) → InCallInvariant s
         → state_of (probe_result_of s.ports port.0)
@@ -233,7 +235,7 @@ pub fn law_looks_preserve_invariant()
     ensures looking { (s : ServerState) (new : Device) (port : Port) → InCallInvariant s
         → state_of (probe_result_of s.ports port.0)
         ≡ ReadyState
-        → IsSimulated (IsLooking port) AnyUse s.device new
+        → IsSimulated (IsEventAccess port) AnyUse s.device new
         → InCallInvariant (record s { device = new }) }
     ensures finding { (s : ServerState) (new : Device) (port : Port) (mask done : ℕ) → InCallInvariant s
         → state_of (probe_result_of s.ports port.0) ≡ ReadyState → ReadsDone port mask done s.device new
@@ -241,7 +243,7 @@ pub fn law_looks_preserve_invariant()
     ensures found { (s : ServerState) (new : Device) (port : Port) (mask done slot : ℕ) → InCallInvariant s
         → state_of (probe_result_of s.ports port.0) ≡ ReadyState → IsMaskOf (slots_at s.slots port.0) mask → slot < 32
         → ReadsDone port mask done s.device new → bit done slot ≡ true → IsOver (new.port port.0) slot }
-    ensures none { (port : Port) (device : Device) → IsSimulated (IsLooking port) AnyUse device device }
+    ensures no_look_is_one { (port : Port) (device : Device) → IsSimulated (IsEventAccess port) AnyUse device device }
 {
     law_history_prerequisites();
 }
@@ -253,24 +255,24 @@ pub fn law_a_port_is_served()
     ensures idle { (s : ServerState) (seen : Device) (port : Port) → SettledInvariant s
         → state_of (probe_result_of s.ports port.0)
         ≡ ReadyState
-        → LooksAt port NoEvent s.device seen → IsSimulated (IsLooking port) AnyUse s.device seen
-        → IsMaskOf (slots_at s.slots port.0) 0 → ServesPort port [] s (record s { device = seen }) }
+        → TakesEvent port NoEvent s.device seen → IsSimulated (IsEventAccess port) AnyUse s.device seen
+        → IsMaskOf (slots_at s.slots port.0) 0 → ServicesPort port [] s (record s { device = seen }) }
     ensures unfinished { (s : ServerState) (seen new : Device) (port : Port) (mask : ℕ) → SettledInvariant s
-        → state_of (probe_result_of s.ports port.0) ≡ ReadyState → LooksAt port NoEvent s.device seen
-        → IsSimulated (IsLooking port) AnyUse s.device seen → IsMaskOf (slots_at s.slots port.0) mask
+        → state_of (probe_result_of s.ports port.0) ≡ ReadyState → TakesEvent port NoEvent s.device seen
+        → IsSimulated (IsEventAccess port) AnyUse s.device seen → IsMaskOf (slots_at s.slots port.0) mask
         → (IsEmptyMask mask → ⊥) → (done : ℕ) → ReadsDone port mask done seen new → SeesClear port mask done seen
-        → IsEmptyMask done → ServesPort port [] s (record s { device = new }) }
+        → IsEmptyMask done → ServicesPort port [] s (record s { device = new }) }
     ensures finished { (s new : ServerState) (seen found : Device) (port : Port) (mask done : ℕ) (replies : List Reply)
         → SettledInvariant s → state_of (probe_result_of s.ports port.0) ≡ ReadyState
-        → LooksAt port NoEvent s.device seen → IsSimulated (IsLooking port) AnyUse s.device seen
+        → TakesEvent port NoEvent s.device seen → IsSimulated (IsEventAccess port) AnyUse s.device seen
         → IsMaskOf (slots_at s.slots port.0) mask → (IsEmptyMask mask → ⊥) → ReadsDone port mask done seen found
         → SeesClear port mask done seen → (IsEmptyMask done → ⊥)
-        → AnswersDone port done replies (record s { device = found }) new → ServesPort port replies s new }
+        → AnswersDone port done replies (record s { device = found }) new → ServicesPort port replies s new }
     ensures error_handled { (s new : ServerState) (port : Port) (replies : List Reply) → SettledInvariant s
         → state_of (probe_result_of s.ports port.0) ≡ ReadyState → (r : HandlesPortError port replies s new)
         → r.settled.error_handled.port_error ≢ TimedOut
-        → IsSimulated (IsLooking port) AnyUse s.device r.settled.error_handled.seen
-        → ServesPort port replies s new × SettledInvariant new }
+        → IsSimulated (IsEventAccess port) AnyUse s.device r.settled.error_handled.seen
+        → ServicesPort port replies s new × SettledInvariant new }
 {
     law_history_prerequisites();
 }
@@ -290,17 +292,17 @@ pub fn law_a_timed_out_port_is_restarted()
 /// A ready port that a look tells a failure of may be recovered once its masks were read: a fault has halted it, and it
 /// shows a device. Of plain commands a port has one alone, in slot 0.
 pub fn law_port_errors_may_be_handled()
-    ensures may { (s : ServerState) (seen found : Device) (port : Port) (mask done : ℕ) → InCallInvariant s
-        → state_of (probe_result_of s.ports port.0) ≡ ReadyState → LooksAt port TaskFileError s.device seen
-        → IsSimulated (IsLooking port) AnyUse s.device seen → ReadsDone port mask done seen found
+    ensures may_recover { (s : ServerState) (seen found : Device) (port : Port) (mask done : ℕ) → InCallInvariant s
+        → state_of (probe_result_of s.ports port.0) ≡ ReadyState → TakesEvent port TaskFileError s.device seen
+        → IsSimulated (IsEventAccess port) AnyUse s.device seen → ReadsDone port mask done seen found
         → MayRecover port.0 found }
     ensures agreed { (s : ServerState) (port : Port) (queued : Bool) → InCallInvariant s
         → state_of (probe_result_of s.ports port.0)
         ≡ ReadyState
         → AreAllQueuedAs queued (slots_at s.slots port.0) → RelatesWith (PlainUsesSlot0 queued port.0) s.device }
-    ensures alike { (s : ServerState) (port : Port) (slot : ℕ) (used : SlotUse) → InCallInvariant s
+    ensures are_queued_alike { (s : ServerState) (port : Port) (slot : ℕ) (used : SlotUse) → InCallInvariant s
         → used_for s.slots port.0 slot ≡ Some used → AreAllQueuedAs used.queued (slots_at s.slots port.0) }
-    ensures alone { (s : ServerState) (port : Port) (queued : Bool) (outstanding : ℕ) → InCallInvariant s
+    ensures plain_is_alone { (s : ServerState) (port : Port) (queued : Bool) (outstanding : ℕ) → InCallInvariant s
         → IsMaskOf (slots_at s.slots port.0) outstanding → AreAllQueuedAs queued (slots_at s.slots port.0)
         → PlainIsSlot0 queued outstanding }
 {
@@ -313,12 +315,13 @@ pub fn law_port_errors_may_be_handled()
 pub fn law_a_port_goes_on_after_its_errors()
     ensures bootable { (s mid : ServerState) (device : Device) (port : Port) (token : Stopped) → InCallInvariant s
         → state_of (probe_result_of s.ports port.0) ≡ ReadyState → (r : IsErrorHandled port s mid device)
-        → IsSimulated (IsLooking port) AnyUse s.device r.seen → r.result.next ≡ Restart token → IsBootable port device
+        → IsSimulated (IsEventAccess port) AnyUse s.device r.seen → r.result.next ≡ Restart token
+        → IsBootable port device
         × IsStopped (device.port port.0) × ((device.port port.0).notes.link_count ≡ MOST_READINGS) }
     ensures mode { (s mid : ServerState) (device : Device) (port : Port) → InCallInvariant s
         → state_of (probe_result_of s.ports port.0)
         ≡ ReadyState
-        → (r : IsErrorHandled port s mid device) → IsSimulated (IsLooking port) AnyUse s.device r.seen
+        → (r : IsErrorHandled port s mid device) → IsSimulated (IsEventAccess port) AnyUse s.device r.seen
         → mode_in s port ≡ probed_mode device.cap (probe_result_of s.ports port.0) }
     ensures places { (s : ServerState) (port : Port) → InCallInvariant s
         → state_of (probe_result_of s.ports port.0) ≡ ReadyState
@@ -326,10 +329,10 @@ pub fn law_a_port_goes_on_after_its_errors()
         (requests_of port s.book) ≤ 32) }
     ensures settled { (s new : ServerState) (port : Port) (later : List Reply) → InCallInvariant s
         → state_of (probe_result_of s.ports port.0) ≡ ReadyState → (a : HasResolved port later s new)
-        → IsSimulated (IsLooking port) AnyUse s.device a.error_handled.seen → InCallInvariant new }
+        → IsSimulated (IsEventAccess port) AnyUse s.device a.error_handled.seen → InCallInvariant new }
     ensures undue { (s : ServerState) (port : Port) → InCallInvariant s
         → ((info : DiskInfo) → probe_result_of s.ports port.0 ≡ Ready info
-        → ⊥) → due_ids (mode_in s port) port (asks_of s.book) ≡ [] }
+        → ⊥) → due_ids (mode_in s port) port (unanswered_of s.book) ≡ [] }
 {
     law_history_prerequisites();
 }
@@ -347,7 +350,7 @@ pub fn law_acceptances_extend_history()
 /// its port is issued.
 pub fn law_revocations_extend_history()
     ensures { (s mid new : ServerState) (client : ClientId) (number : ℕ) (replies : List Reply) → SettledInvariant s
-        → (revokes : RevokesGrant client number replies s mid) → IssuesAll revokes.has.0.port mid new
+        → (revokes : RevokesGrant client number replies s mid) → IssuesAll revokes.has_grant_row.0.port mid new
         → ExtendsSettled s new (RevokeOf client number) (WasRevoked (Some replies)) }
 {
     law_history_prerequisites();
@@ -355,7 +358,7 @@ pub fn law_revocations_extend_history()
 
 /// Ports that have their turns in a service one after another add an event: ready ones are served, and others probed.
 pub fn law_services_extend_history()
-    ensures { (s new : ServerState) (replies : List Reply) → SettledInvariant s → ServePorts 0 s.ports replies s new
+    ensures { (s new : ServerState) (replies : List Reply) → SettledInvariant s → ServicePorts 0 s.ports replies s new
         → ExtendsSettled s new Service (Served replies) }
 {
     law_history_prerequisites();
@@ -368,16 +371,17 @@ pub fn law_services_extend_history()
 pub fn law_an_unready_port_is_probed()
     ensures looked { (s : ServerState) (seen : Device) (port : Port) (state : PortState) → InCallInvariant s
         → probe_result_of s.ports port.0 ≡ Unready state → state ≢ Dead
-        → IsSimulated (IsLooking port) AnyUse s.device seen
+        → IsSimulated (IsEventAccess port) AnyUse s.device seen
         → IsOn seen × HasPort seen port.0 × RelatesWith AnyUse seen }
     ensures bootable { (s : ServerState) (seen stopped : Device) (port : Port) (state : PortState) (result : Recovered)
         (token : Stopped) → InCallInvariant s
         → probe_result_of s.ports port.0 ≡ Unready state → state ≢ Dead
-        → IsSimulated (IsLooking port) AnyUse s.device seen
+        → IsSimulated (IsEventAccess port) AnyUse s.device seen
         → StopsForReset port 0 true result seen stopped → result.next ≡ Restart token
         → (token.port ≡ port) × IsBootable port stopped × IsStopped (stopped.port port.0) }
     ensures tried { (s new : ServerState) (port : Port) → SettledInvariant s → (probes : ProbesPort port s new)
-        → (probes.state ≢ Dead → IsSimulated (IsLooking port) AnyUse s.device probes.seen) → ProbesUnready port s new
+        → (probes.state ≢ Dead → IsSimulated (IsEventAccess port) AnyUse s.device probes.seen)
+        → ProbesUnready port s new
         × SettledInvariant new }
 {
     law_history_prerequisites();

@@ -1,8 +1,8 @@
 // What laws of the crates below say, for this crate's proofs. Nothing comes of calling these functions.
-ghost use Rattle.server_history.specs.After.{RecoveryLaws, PortErrorLaws};
-ghost use Rattle.server_history.specs.Basics.{AgeLaws, BasicLaws, FrameHolderLaws, SlotLaws};
+ghost use Rattle.server_history.specs.RecoveryLaws.{RecoveryLaws, PortErrorLaws};
+ghost use Rattle.server_history.specs.BasicLaws.{AgeLaws, BasicLaws, FrameHolderLaws, SlotLaws};
 ghost use Rattle.server_history.specs.Prerequisites.{PrerequisiteLaws};
-ghost use Rattle.server_history.specs.Calls.{CallLaws, LookLaws};
+ghost use Rattle.server_history.specs.CallLaws.{CallLaws, LookLaws};
 
 use adapter::laws::law_accesses_compose;
 use adapter::laws::law_decoding_is_unique;
@@ -56,13 +56,13 @@ use port_control::events::laws::law_services_keep_ports_running;
 use port_control::events::laws::law_services_spare_registers;
 use port_control::events::prerequisites::law_prerequisites;
 use port_control::laws::law_what_is_told_of_engines_stays;
+use refinement::access_kinds::law_fragment_prerequisites;
 use refinement::acts::law_acts_advance_driver;
 use refinement::disks::law_no_disk_comes_in;
 use refinement::fragments::law_other_ports_are_left;
 use refinement::giving_up::law_fault_is_outstanding;
 use refinement::giving_up::law_given_up_requests_are_parked;
 use refinement::giving_up::law_slots_are_given_up;
-use refinement::kinds::law_fragment_prerequisites;
 use refinement::laws::law_accepting_agrees;
 use refinement::laws::law_advances_compose;
 use refinement::laws::law_an_idle_device_agrees;

@@ -2,10 +2,10 @@
 ghost use Rattle.std.specs.Prelude.{List, Some};
 ghost use Rattle.ata_types.specs.declared.request.Reply.{Reply};
 ghost use Rattle.block_machine.specs.Events.{Reset, WasReset};
-ghost use Rattle.server_history.specs.Ended.{ResetLaws};
+ghost use Rattle.server_history.specs.ResetLaws.{ResetLaws};
 ghost use Rattle.server_history.specs.Histories.{ExtendsSettled};
 ghost use Rattle.server_history.specs.Resets.{IsReinitialized, IssuePorts, MayResolve, ResetsServer, ResolvePorts};
-ghost use Rattle.server_history.specs.Server.{InCallInvariant, SettledInvariant, ServerState};
+ghost use Rattle.server_history.specs.ServerState.{InCallInvariant, SettledInvariant, ServerState};
 ghost use Rattle.server_history.specs.StuckServer.{ServerInvariant};
 
 use super::prerequisites::law_history_prerequisites;

@@ -8,11 +8,11 @@ ghost use Rattle.ata_types.specs.declared.request.Request.{Request};
 ghost use Rattle.block_machine.specs.Events.{Reset, RevokeOf, Served, Service, Tick, WasReset, WasRevoked};
 ghost use Rattle.block_machine.specs.Refusals.{IsAcceptable};
 ghost use Rattle.dma_frames.specs.Loan.{Lending};
-ghost use Rattle.request_queue.specs.Entries.{BookEntry};
+ghost use Rattle.request_queue.specs.BookEntries.{BookEntry};
 ghost use Rattle.server_history.specs.Histories.{ExtendsStuck};
-ghost use Rattle.server_history.specs.Revoked.{RevokesGrant};
+ghost use Rattle.server_history.specs.Revoking.{RevokesGrant};
 ghost use Rattle.server_history.specs.Resets.{MayResolve, ResolvePorts, ResolvesPort};
-ghost use Rattle.server_history.specs.Server.{DifferInRequest, InCallInvariant, IsLentOut, ServerState, quarantined_at, admission_context};
+ghost use Rattle.server_history.specs.ServerState.{DifferInRequest, InCallInvariant, IsLentOut, ServerState, quarantined_at, admission_context};
 ghost use Rattle.server_history.specs.StuckServer.{ResetGetsStuck, ServerInvariant, StuckInvariant};
 
 use super::prerequisites::{law_frame_holder_prerequisites, law_history_prerequisites};
@@ -30,9 +30,9 @@ pub fn law_server_invariant_holds()
 pub fn law_quarantined_loans_are_lent()
     ensures lent { (s : ServerState) (port : ℕ) → ServerInvariant s
         → All (IsLentOut s.table) (quarantined_at s.kept port) }
-    ensures two { (s : ServerState) (port : ℕ) → ServerInvariant s
+    ensures differ_in_one_port { (s : ServerState) (port : ℕ) → ServerInvariant s
         → AllPairs DifferInRequest (quarantined_at s.kept port) }
-    ensures one { (s : ServerState) (port other : ℕ) (a b : Lending) → ServerInvariant s
+    ensures differ_between_ports { (s : ServerState) (port other : ℕ) (a b : Lending) → ServerInvariant s
         → Contains (quarantined_at s.kept port) a
         → Contains (quarantined_at s.kept other) b → a.request ≡ b.request → (port ≡ other) × (a ≡ b) }
     ensures answered { (s : ServerState) (port : ℕ) (loan : Lending) (e : BookEntry) → ServerInvariant s

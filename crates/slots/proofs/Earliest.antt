@@ -7,7 +7,7 @@ use Rattle.std.proofs.lemmas.Bool.{cases_eq, cases_lt, true≢false}
 use Rattle.std.proofs.Math.Nat.{div-le_self, div-lt_iff_lt-mul}
 use Rattle.std.proofs.lemmas.Nat.{pow_pos, shr-shr}
 use Rattle.std.proofs.lemmas.Nat.Bits.{bit_at-lt, bit_at-trailing_zeros, bit_at_above, bit_at_and}
-use Rattle.slots.specs.Uses.{HasLeastIdOf, IsMask}
+use Rattle.slots.specs.SlotUses.{HasLeastIdOf, IsTakenMask}
 use Rattle.slots.specs.declared.SlotUse.{SlotUse}
 
 -- no place below this one is used and has its bit set
@@ -105,10 +105,10 @@ module _ (places : List (Option SlotUse)) (mask at : ℕ) where
     pub all_found : (found : Option ℕ) (least : ℕ) → ProbeResult places mask at found least → IfSome found (λ place. HasLeastIdOf places mask place)
     all_found None least none = tt
     all_found (Some place) least so_far = record {
-      small = let h = so_far.here in omega (arith, h, small);
-      marked = so_far.marked;
-      used = so_far.used;
-      taken = so_far.taken;
+      slot_in_range = let h = so_far.here in omega (arith, h, small);
+      mask_has_slot = so_far.marked;
+      slot_use = so_far.used;
+      use_is = so_far.taken;
       least = λ other its lt m its_is. ⊎_elim
           (λ (low : other < at). let l = so_far.least other its low m its_is in let i = so_far.id_is in omega (arith, l, i))
           (λ (high : at ≤ other). absurd (above other high lt m))
@@ -195,13 +195,13 @@ both a b k one =
     let y = bit_at-lt b k in
     (omega (arith, one, is, x, y), omega (arith, one, is, x, y))
 
-module _ (places : List (Option SlotUse)) (mask marks : ℕ) (are : IsMask places marks) where
+module _ (places : List (Option SlotUse)) (mask marks : ℕ) (are : IsTakenMask places marks) where
   pub of_taken : (place : ℕ) → HasLeastIdOf places (bit_and mask marks) place → HasLeastIdOf places mask place
   of_taken place is = record {
-    small = is.small;
-    marked = (both mask marks place is.marked).0;
-    used = is.used;
-    taken = is.taken;
+    slot_in_range = is.slot_in_range;
+    mask_has_slot = (both mask marks place is.mask_has_slot).0;
+    slot_use = is.slot_use;
+    use_is = is.use_is;
     least = λ other its lt marked its_is. is.least other its lt (one other marked (in_mask other its lt its_is)) its_is;
   }
     where

@@ -5,7 +5,7 @@
 #![tactic(auto)]
 
 ghost use Rattle.std.specs.Prelude.{◌≡◌, ◌↔◌, ℕ, ◌<◌, ◌≤◌, length, IfSome, IfNone, Some, None, IsSome, true, slice_index_or};
-ghost use Rattle.slots.specs.Uses.{HasLeastId, HasLeastIdOf, IsTaken, IsLowestClear, IsLowestFree, use_at, with_use};
+ghost use Rattle.slots.specs.SlotUses.{HasLeastId, HasLeastIdOf, IsTaken, IsLowestClear, IsLowestFree, use_at, with_use};
 ghost use Rattle.std.specs.Int.{bit_at};
 
 use ata_types::{RequestId, SLOTS, Slot};
@@ -30,13 +30,13 @@ pub struct Slots {
 
 impl Model for Slots {
     ghost use Rattle.std.specs.Prelude.{◌≡◌, ◌≤◌, length};
-    ghost use Rattle.slots.specs.Uses.{IsMask, PortSlots};
+    ghost use Rattle.slots.specs.SlotUses.{IsTakenMask, PortSlots};
 
     ghost Value = { PortSlots };
 
     ghost view = { λ s. record { usable = s.usable; places = s.places } };
 
-    ghost invariant = { λ s. (s.usable ≤ 32) × (length s.places ≡ 32) × IsMask s.places s.taken };
+    ghost invariant = { λ s. (s.usable ≤ 32) × (length s.places ≡ 32) × IsTakenMask s.places s.taken };
 }
 
 impl Slots {

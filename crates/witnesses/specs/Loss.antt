@@ -13,13 +13,13 @@ use Rattle.adapter.specs.Access.Access.{Reading, Writing}
 use Rattle.adapter.specs.Device.{Device}
 use Rattle.adapter.specs.declared.access.DeviceStep.{DeviceStep}
 use Rattle.refinement.specs.Relation.{port_at}
-use Rattle.refinement.specs.Witness.{first_id}
+use Rattle.refinement.specs.ReadWitness.{first_id}
 use Rattle.block_machine.specs.Events.{Submit, Service, Submitted, Served}
-use Rattle.block_machine.specs.Histories.{JointState, JointEvent, now}
+use Rattle.block_machine.specs.Histories.{JointState, JointEvent, joint_state_after}
 use Rattle.block_machine.specs.Ports.{Evidence}
 use Rattle.identify.specs.declared.wanted.Wanted.TheVariants.{Any}
 use Rattle.driver_history.specs.Histories.{IsDriverHistory, PortCorresponds}
-use Rattle.witnesses.specs.Allowed.{AreAllowed}
+use Rattle.witnesses.specs.AllowedAccesses.{AreAllowed}
 
 -- the turn of port 0: the masks are read
 abbrev pub completing_turn : List Access
@@ -37,7 +37,7 @@ abbrev pub loss_evidence : Evidence
 loss_evidence = record {
   faults = [];
   lost = port_at 1 ∷ [];
-  gone = port_at 1 ∷ [];
+  link_changed = port_at 1 ∷ [];
   failed = [];
   fatal = [];
   stopped = port_at 1 ∷ [];
@@ -49,14 +49,15 @@ loss_evidence = record {
 -- stopped, and absent after the call. The service's accesses keep to the adapter's rules. Each port's part in both
 -- calls is done, whether it stays healthy or not.
 pub record LossIsAHistory : Type 0 where
-  pub first : JointState Device
-  pub ready : (first.abstract.ports.state (port_at 0) ≡ Ready) × (first.abstract.ports.state (port_at 1) ≡ Ready)
+  pub initial_state : JointState Device
+  pub ready : (initial_state.abstract.ports.state (port_at 0) ≡ Ready)
+      × (initial_state.abstract.ports.state (port_at 1) ≡ Ready)
   pub submit : JointEvent Device DeviceStep
   pub asked : Request
   pub reads : asked.op ≡ Read
   pub submits : (submit.event.ask ≡ Submit asked) × (submit.event.said ≡ Submitted (Ok first_id))
   pub service : JointEvent Device DeviceStep
-  pub serves : (service.event.ask ≡ Service)
+  pub asks_for_service : (service.event.ask ≡ Service)
       × (service.event.said ≡ Served (record { id = first_id; client = asked.client; outcome = outcome.Ok } ∷ []))
   pub between : Device
   pub finding : DoesAll completing_turn submit.device between
@@ -67,7 +68,8 @@ pub record LossIsAHistory : Type 0 where
   pub evidence : service.event.evidence ≡ loss_evidence
   pub still : service.event.ports.state (port_at 0) ≡ Ready
   pub absent : service.event.ports.state (port_at 1) ≡ Absent
-  pub history : IsDriverHistory (Any ∷ Any ∷ []) first (service ∷ submit ∷ [])
+  pub history : IsDriverHistory (Any ∷ Any ∷ []) initial_state (service ∷ submit ∷ [])
   pub turns : history.2.accesses ≡ completing_turn ++ losing_turn
-  pub submit_parts : (port : Port) → PortCorresponds first submit history.0.2.accesses port
-  pub service_parts : (port : Port) → PortCorresponds (now first (submit ∷ [])) service history.2.accesses port
+  pub submit_parts : (port : Port) → PortCorresponds initial_state submit history.0.2.accesses port
+  pub service_parts : (port : Port) → PortCorresponds (joint_state_after initial_state (submit ∷ [])) service
+      history.2.accesses port

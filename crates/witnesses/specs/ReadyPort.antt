@@ -10,7 +10,9 @@ use Rattle.witnesses.specs.RunningAdapter.{fit_page, page_entry}
 
 -- Any disk is wanted in ports 0 and 1. Both are ready, and the pages of their disks stand on the tape.
 pub record ReadyPortHasBegun : Type 0 where
-  pub first : JointState Device
-  pub ready : (first.abstract.ports.state (port_at 0) ≡ Ready) × (first.abstract.ports.state (port_at 1) ≡ Ready)
-  pub asked : Contains first.device.tape (page_entry fit_page 0) × Contains first.device.tape (page_entry fit_page 1)
-  pub begun : IsDriverHistory (Any ∷ Any ∷ []) first []
+  pub initial_state : JointState Device
+  pub ready : (initial_state.abstract.ports.state (port_at 0) ≡ Ready)
+      × (initial_state.abstract.ports.state (port_at 1) ≡ Ready)
+  pub asked : Contains initial_state.device.tape (page_entry fit_page 0)
+      × Contains initial_state.device.tape (page_entry fit_page 1)
+  pub begun : IsDriverHistory (Any ∷ Any ∷ []) initial_state []

@@ -14,13 +14,13 @@ use Rattle.adapter.specs.Access.Access.{Reading, Writing}
 use Rattle.adapter.specs.Device.{Device}
 use Rattle.adapter.specs.declared.access.DeviceStep.{DeviceStep}
 use Rattle.refinement.specs.Relation.{port_at}
-use Rattle.refinement.specs.Witness.{first_id}
+use Rattle.refinement.specs.ReadWitness.{first_id}
 use Rattle.block_machine.specs.Events.{Submit, Service, Submitted, Served}
-use Rattle.block_machine.specs.Histories.{JointState, JointEvent, now}
+use Rattle.block_machine.specs.Histories.{JointState, JointEvent, joint_state_after}
 use Rattle.block_machine.specs.Ports.{RequestFault, Evidence}
 use Rattle.identify.specs.declared.wanted.Wanted.TheVariants.{Any}
 use Rattle.driver_history.specs.Histories.{IsDriverHistory, PortCorresponds}
-use Rattle.witnesses.specs.Allowed.{AreAllowed}
+use Rattle.witnesses.specs.AllowedAccesses.{AreAllowed}
 
 -- The masks are read, then PxTFD; the port is stopped; PxSERR and PxIS are cleared; PxTFD is read again, and ST is set.
 abbrev pub recovery_accesses : List Access
@@ -39,7 +39,7 @@ abbrev pub fault_evidence : Evidence
 fault_evidence = record {
   faults = told_fault ∷ [];
   lost = [];
-  gone = [];
+  link_changed = [];
   failed = port_at 0 ∷ [];
   fatal = [];
   stopped = port_at 0 ∷ [];
@@ -50,22 +50,23 @@ fault_evidence = record {
 -- answers it with that fault, and leaves the port ready: it runs well. The service's accesses keep to the adapter's
 -- rules. Each port's part in both calls is done, whether it stays healthy or not.
 pub record RecoveryIsAHistory : Type 0 where
-  pub first : JointState Device
+  pub initial_state : JointState Device
   pub submit : JointEvent Device DeviceStep
   pub asked : Request
   pub reads : asked.op ≡ Read
   pub submits : (submit.event.ask ≡ Submit asked) × (submit.event.said ≡ Submitted (Ok first_id))
   pub ready : submit.event.ports.state (port_at 0) ≡ Ready
   pub service : JointEvent Device DeviceStep
-  pub serves : (service.event.ask ≡ Service)
+  pub asks_for_service : (service.event.ask ≡ Service)
       × (service.event.said ≡ Served (record { id = first_id; client = asked.client; outcome = DeviceError 0x41 0x40 }
       ∷ []))
   pub evidence : service.event.evidence ≡ fault_evidence
   pub still : service.event.ports.state (port_at 0) ≡ Ready
-  pub well : RunsWell (service.device.port 0)
+  pub port_runs_well : RunsWell (service.device.port 0)
   pub does : DoesAll recovery_accesses submit.device service.device
   pub allowed : AreAllowed recovery_accesses submit.device service.device does
-  pub history : IsDriverHistory (Any ∷ Any ∷ []) first (service ∷ submit ∷ [])
+  pub history : IsDriverHistory (Any ∷ Any ∷ []) initial_state (service ∷ submit ∷ [])
   pub accesses : history.2.accesses ≡ recovery_accesses
-  pub submit_parts : (port : Port) → PortCorresponds first submit history.0.2.accesses port
-  pub service_parts : (port : Port) → PortCorresponds (now first (submit ∷ [])) service history.2.accesses port
+  pub submit_parts : (port : Port) → PortCorresponds initial_state submit history.0.2.accesses port
+  pub service_parts : (port : Port) → PortCorresponds (joint_state_after initial_state (submit ∷ [])) service
+      history.2.accesses port

@@ -13,13 +13,13 @@ use Rattle.adapter.specs.Access.Access.{Reading, Writing}
 use Rattle.adapter.specs.Device.{Device}
 use Rattle.adapter.specs.declared.access.DeviceStep.{DeviceStep}
 use Rattle.refinement.specs.Relation.{port_at}
-use Rattle.refinement.specs.Places.{list_of, received_of}
-use Rattle.refinement.specs.Witness.{first_id}
+use Rattle.refinement.specs.MemoryLayout.{list_of, received_of}
+use Rattle.refinement.specs.ReadWitness.{first_id}
 use Rattle.block_machine.specs.Events.{Submit, Reset, Submitted, WasReset}
-use Rattle.block_machine.specs.Histories.{JointState, JointEvent, now}
+use Rattle.block_machine.specs.Histories.{JointState, JointEvent, joint_state_after}
 use Rattle.identify.specs.declared.wanted.Wanted.TheVariants.{Any}
 use Rattle.driver_history.specs.Histories.{IsDriverHistory, PortCorresponds}
-use Rattle.witnesses.specs.Allowed.{AreAllowed}
+use Rattle.witnesses.specs.AllowedAccesses.{AreAllowed}
 
 -- HR of GHC is set, and is read 0; then AE and IE are set
 abbrev pub adapter_reset : List Access
@@ -46,21 +46,22 @@ reset_and_boot_accesses = adapter_reset ++ (boot_accesses 0 ++ boot_accesses 1)
 -- port is booted, and no ATA disk is found. So both are unfit, the read is answered Unplugged, and its frame is given
 -- back. The reset's accesses keep to the adapter's rules. Each port's part in both calls is done.
 pub record ResetIsAHistory : Type 0 where
-  pub first : JointState Device
+  pub initial_state : JointState Device
   pub submit : JointEvent Device DeviceStep
   pub asked : Request
   pub submits : (submit.event.ask ≡ Submit asked) × (submit.event.said ≡ Submitted (Ok first_id))
   pub frame : Frame
-  pub its : asked.frames.items ≡ frame ∷ []
-  pub lent : (now first (submit ∷ [])).abstract.machine.lent frame ≡ Some first_id
+  pub frames_are : asked.frames.items ≡ frame ∷ []
+  pub lent : (joint_state_after initial_state (submit ∷ [])).abstract.machine.lent frame ≡ Some first_id
   pub reset : JointEvent Device DeviceStep
   pub resets : (reset.event.ask ≡ Reset)
       × (reset.event.said ≡ WasReset (Some (record { id = first_id; client = asked.client; outcome = Unplugged } ∷ [])))
   pub unfit : (reset.event.ports.state (port_at 0) ≡ Unfit 8) × (reset.event.ports.state (port_at 1) ≡ Unfit 8)
-  pub freed : (now first (reset ∷ submit ∷ [])).abstract.machine.lent frame ≡ None
+  pub freed : (joint_state_after initial_state (reset ∷ submit ∷ [])).abstract.machine.lent frame ≡ None
   pub does : DoesAll reset_and_boot_accesses submit.device reset.device
   pub allowed : AreAllowed reset_and_boot_accesses submit.device reset.device does
-  pub history : IsDriverHistory (Any ∷ Any ∷ []) first (reset ∷ submit ∷ [])
+  pub history : IsDriverHistory (Any ∷ Any ∷ []) initial_state (reset ∷ submit ∷ [])
   pub accesses : history.2.accesses ≡ reset_and_boot_accesses
-  pub submit_parts : (port : Port) → PortCorresponds first submit history.0.2.accesses port
-  pub reset_parts : (port : Port) → PortCorresponds (now first (submit ∷ [])) reset history.2.accesses port
+  pub submit_parts : (port : Port) → PortCorresponds initial_state submit history.0.2.accesses port
+  pub reset_parts : (port : Port) → PortCorresponds (joint_state_after initial_state (submit ∷ [])) reset
+      history.2.accesses port

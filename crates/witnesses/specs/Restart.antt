@@ -42,7 +42,7 @@ abbrev pub restart_evidence : List Port → Evidence
 restart_evidence failed = record {
   faults = [];
   lost = port_at 0 ∷ [];
-  gone = [];
+  link_changed = [];
   failed = failed;
   fatal = failed;
   stopped = port_at 0 ∷ [];

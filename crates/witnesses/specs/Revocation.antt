@@ -4,9 +4,9 @@ use Rattle.ata_types.specs.declared.Port.{Port}
 use Rattle.ata_types.specs.declared.request.Request.{Request}
 use Rattle.adapter.specs.Device.{Device}
 use Rattle.adapter.specs.declared.access.DeviceStep.{DeviceStep}
-use Rattle.refinement.specs.Witness.{first_id}
+use Rattle.refinement.specs.ReadWitness.{first_id}
 use Rattle.block_machine.specs.Events.{RevokeOf, Submit, Submitted, WasRevoked}
-use Rattle.block_machine.specs.Histories.{JointState, JointEvent, now}
+use Rattle.block_machine.specs.Histories.{JointState, JointEvent, joint_state_after}
 use Rattle.block_machine.specs.State.{Pending}
 use Rattle.block_machine.specs.Steps.{HasGrant}
 use Rattle.identify.specs.declared.wanted.Wanted.TheVariants.{Any}
@@ -16,17 +16,18 @@ use Rattle.driver_history.specs.Histories.{IsDriverHistory, PortCorresponds}
 -- no access is made. The read goes on: it is issued still, though its grant is gone. Each port's part in both calls is
 -- done.
 pub record RevocationIsAHistory : Type 0 where
-  pub first : JointState Device
+  pub initial_state : JointState Device
   pub submit : JointEvent Device DeviceStep
   pub asked : Request
   pub submits : (submit.event.ask ≡ Submit asked) × (submit.event.said ≡ Submitted (Ok first_id))
   pub revoke : JointEvent Device DeviceStep
   pub revokes : (revoke.event.ask ≡ RevokeOf asked.client asked.grant) × (revoke.event.said ≡ WasRevoked (Some []))
   pub issued : Pending
-  pub book : (now first (revoke ∷ submit ∷ [])).abstract.machine.book ≡ issued ∷ []
+  pub book : (joint_state_after initial_state (revoke ∷ submit ∷ [])).abstract.machine.book ≡ issued ∷ []
   pub goes_on : (issued.request.asked ≡ asked) × (issued.issued ≡ true)
-  pub gone : HasGrant (now first (revoke ∷ submit ∷ [])).abstract.machine issued → ⊥
-  pub history : IsDriverHistory (Any ∷ Any ∷ []) first (revoke ∷ submit ∷ [])
+  pub gone : HasGrant (joint_state_after initial_state (revoke ∷ submit ∷ [])).abstract.machine issued → ⊥
+  pub history : IsDriverHistory (Any ∷ Any ∷ []) initial_state (revoke ∷ submit ∷ [])
   pub accesses : history.2.accesses ≡ []
-  pub submit_parts : (port : Port) → PortCorresponds first submit history.0.2.accesses port
-  pub revoke_parts : (port : Port) → PortCorresponds (now first (submit ∷ [])) revoke history.2.accesses port
+  pub submit_parts : (port : Port) → PortCorresponds initial_state submit history.0.2.accesses port
+  pub revoke_parts : (port : Port) → PortCorresponds (joint_state_after initial_state (submit ∷ [])) revoke
+      history.2.accesses port

@@ -12,7 +12,7 @@ use Rattle.adapter.specs.declared.command.Operation.TheVariants.{Identify}
 use Rattle.adapter.specs.declared.tape.Entry.{Entry}
 use Rattle.adapter.specs.declared.tape.Entry.TheVariants as entry
 use Rattle.adapter.specs.declared.tape.Move as tape_move
-use Rattle.refinement.specs.Places.{scratch_of}
+use Rattle.refinement.specs.MemoryLayout.{scratch_of}
 use Rattle.block_machine.specs.Ports.{Ports}
 use Rattle.block_machine.specs.declared.due.QueueMode.{QueueMode}
 use Rattle.driver_history.specs.PortInvariants.{mode_of_disk}
@@ -26,15 +26,15 @@ use Rattle.port_control.specs.Ports.{programmed}
 abbrev pub page_rest : List ℕ
 page_rest = 0x64 ∷ (replicate 33 0 ++ (1 ∷ replicate 310 0))
 
-abbrev pub page_with : ℕ → ℕ → List ℕ
-page_with depth queues = replicate 150 0 ++ (depth ∷ 0 ∷ 0 ∷ queues ∷ (replicate 13 0 ++ page_rest))
+abbrev pub identify_page : ℕ → ℕ → List ℕ
+identify_page depth queues = replicate 150 0 ++ (depth ∷ 0 ∷ 0 ∷ queues ∷ (replicate 13 0 ++ page_rest))
 
 -- that of a disk with no queue, and that of one which queues 32 commands
 abbrev pub fit_page : List ℕ
-fit_page = page_with 0 0
+fit_page = identify_page 0 0
 
 abbrev pub queueing_page : List ℕ
-queueing_page = page_with 31 1
+queueing_page = identify_page 31 1
 
 -- the port's disk sent the page
 abbrev pub page_move : List ℕ → ℕ → tape_move.Move
@@ -72,18 +72,18 @@ abbrev pub queueing_cap : ℕ
 queueing_cap = 0x40001f03
 
 -- the adapter of the first read, but for that, which tells of its causes, with this tape, this memory, and these ports
-abbrev pub device_with : List Entry → (ℕ → ℕ) → List DevicePort → Device
-device_with tape memory ports =
+abbrev pub running_device : List Entry → (ℕ → ℕ) → List DevicePort → Device
+running_device tape memory ports =
     record first_read_device { cap = queueing_cap; ie = true; tape = tape; memory = memory; port = port_or_empty ports }
 
 -- ---- what clients see
 
 -- commands are plain, one at a time; or queued, 32 at a time
-abbrev pub plain : QueueMode
-plain = record { queued = false; usable = 1 }
+abbrev pub plain_disk_mode : QueueMode
+plain_disk_mode = record { queued = false; usable = 1 }
 
-abbrev pub queued : QueueMode
-queued = record { queued = true; usable = 32 }
+abbrev pub queued_disk_mode : QueueMode
+queued_disk_mode = record { queued = true; usable = 32 }
 
 -- These ports are served, and in these states; their disks are alike, and this is what their page says.
 abbrev pub ports_with_disks : DiskInfo → List Bool → List shown.PortState → Ports

@@ -3,8 +3,8 @@ ghost use Rattle.std.specs.Prelude.{◌≡◌, ◌≢◌, ◌⊎◌, ◌<◌, Bo
 ghost use Rattle.adapter.specs.Device.{Device, IsSector};
 ghost use Rattle.adapter.specs.Steps.{Can};
 ghost use Rattle.adapter.specs.Steps.DeviceTransition.{FetchFault as SenselessFetch, Plug};
-ghost use Rattle.witnesses.specs.Runs.{StepComes, ComesSafely, FirstHasFailed, IsBeingReset, CommandsAreSafe, TransitionKind, SecondEndsFirst};
-ghost use Rattle.witnesses.specs.Runs.TransitionKind.{FetchFault};
+ghost use Rattle.witnesses.specs.AdapterRuns.{StepComes, ComesSafely, FirstHasFailed, IsBeingReset, CommandsAreSafe, TransitionKind, SecondEndsFirst};
+ghost use Rattle.witnesses.specs.AdapterRuns.TransitionKind.{FetchFault};
 
 use adapter::laws::{law_decoding_is_unique, law_kept_bytes_stay};
 

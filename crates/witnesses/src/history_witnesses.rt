@@ -1,14 +1,14 @@
 // Laws of the definitions: the clause is the theorem. These functions do nothing.
 ghost use Rattle.witnesses.specs.ReadyPort.{ReadyPortHasBegun};
-ghost use Rattle.witnesses.specs.Dead.{StuckResetIsAHistory};
-ghost use Rattle.witnesses.specs.Fatal.{FatalErrorIsAHistory};
-ghost use Rattle.witnesses.specs.Hung.{HungPortIsAHistory};
+ghost use Rattle.witnesses.specs.StuckReset.{StuckResetIsAHistory};
+ghost use Rattle.witnesses.specs.FatalError.{FatalErrorIsAHistory};
+ghost use Rattle.witnesses.specs.HungPort.{HungPortIsAHistory};
 ghost use Rattle.witnesses.specs.Loss.{LossIsAHistory};
-ghost use Rattle.witnesses.specs.Queued.{ReadsEndInAnyOrder};
+ghost use Rattle.witnesses.specs.QueuedReads.{ReadsEndInAnyOrder};
 ghost use Rattle.witnesses.specs.Recovery.{RecoveryIsAHistory};
 ghost use Rattle.witnesses.specs.Revocation.{RevocationIsAHistory};
 ghost use Rattle.witnesses.specs.Reset.{ResetIsAHistory};
-ghost use Rattle.witnesses.specs.Missing.{MissingDiskIsAHistory};
+ghost use Rattle.witnesses.specs.MissingDisk.{MissingDiskIsAHistory};
 
 /// There is an instant at which a history may begin with ports that are ready.
 pub fn law_a_ready_port_has_begun()

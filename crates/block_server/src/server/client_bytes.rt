@@ -10,17 +10,17 @@ use server_history::laws::{
 use server_history::stuck_server::law_server_invariant_holds;
 
 impl<A: Adapter> Server<A> {
-    ghost use Rattle.adapter.specs.Counted.{MakesAtMost};
+    ghost use Rattle.adapter.specs.AccessBounds.{MakesAtMost};
     ghost use Rattle.block_machine.specs.Events.{LoadAt, StoreAt};
     ghost use Rattle.block_machine.specs.Refusals.{IsFirstMemFault, MayAccessFrame};
     ghost use Rattle.block_server.specs.Calls.{LoadsFrame, StoresFrame};
-    ghost use Rattle.block_server.specs.View.{server_of};
-    ghost use Rattle.dma_frames.specs.Table.{lent_to, owner_of};
+    ghost use Rattle.block_server.specs.ServerView.{server_of};
+    ghost use Rattle.dma_frames.specs.FrameTables.{lent_to, owner_of};
     ghost use Rattle.server_history.specs.Histories.{ExtendsHistory, load_said, store_said};
 
     /// Where in memory so many bytes of a client's own frame begin, from an offset in bytes on. The first that applies
     /// of `FrameForeign`, `FrameLent` and `OutsideFrame` is told.
-    fn open(
+    fn open_frame_address(
         &self,
         client: ClientId,
         frame: Frame,
@@ -65,7 +65,7 @@ impl<A: Adapter> Server<A> {
         law_server_invariant_holds();
         law_open_frames_are_accessible();
         law_client_bytes_extend_history();
-        let address = self.open(client, frame, offset, bytes.len())?;
+        let address = self.open_frame_address(client, frame, offset, bytes.len())?;
         self.adapter.store(address, bytes);
         Ok(())
     }
@@ -87,7 +87,7 @@ impl<A: Adapter> Server<A> {
         law_server_invariant_holds();
         law_open_frames_are_accessible();
         law_client_bytes_extend_history();
-        let address = self.open(client, frame, offset, out.len())?;
+        let address = self.open_frame_address(client, frame, offset, out.len())?;
         self.adapter.load(address, out);
         Ok(())
     }

@@ -15,9 +15,9 @@ use server_history::stuck_server::{
 impl<A: Adapter> Server<A> {
     ghost use Rattle.block_machine.specs.Events.{RevokeOf, WasRevoked};
     ghost use Rattle.block_server.specs.Revoking.{Revokes, revoke_said};
-    ghost use Rattle.block_server.specs.View.{server_of};
+    ghost use Rattle.block_server.specs.ServerView.{server_of};
     ghost use Rattle.server_history.specs.Histories.{ExtendsHistory};
-    ghost use Rattle.adapter.specs.Counted.{MakesAtMost};
+    ghost use Rattle.adapter.specs.AccessBounds.{MakesAtMost};
     ghost use Rattle.block_server.specs.Costs.{MOST_REVOKE_ACCESSES};
 
     /// Revokes the client's grant of this number.

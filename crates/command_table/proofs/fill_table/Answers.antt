@@ -1,7 +1,7 @@
 use Rattle.ata_types.specs.declared.memory.TheConstants.{PRD_BYTES, TABLE_HEAD}
 use Rattle.std.proofs.Common.{◌≡◌, ℕ, ◌+◌, ◌*◌, ◌<◌, ◌≤◌, List, length, slice_index, slice_index_or, sym, subst, ap, ◌∙◌, arith, below_more}
 use Rattle.std.proofs.lemmas.List.{get_or_default}
-use Rattle.command_table.specs.Bytes.{bytes_from}
+use Rattle.command_table.specs.BufferBytes.{bytes_from}
 use Rattle.command_table.proofs.Parts.{part_before, part_whole}
 use Rattle.adapter.specs.Encoding.{EncodesCommand}
 use Rattle.adapter.specs.declared.command.Prd.{Prd}
@@ -49,6 +49,6 @@ returns c =
     record {
       size = v.size;
       fis = v.fis;
-      between = v.between;
-      entries = λ k d lt. v.entries k d (omega arith);
+      zeros_are_between = v.between;
+      prds_stand = λ k d lt. v.entries k d (omega arith);
     }

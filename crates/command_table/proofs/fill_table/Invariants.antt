@@ -1,6 +1,6 @@
 use Rattle.ata_types.specs.declared.memory.TheConstants.{PRD_BYTES, TABLE_HEAD}
 use Rattle.std.proofs.Common.{ℕ, ◌+◌, ◌*◌, ◌<◌, ◌≤◌, length, slice_index_or}
-use Rattle.command_table.specs.Bytes.{bytes_from}
+use Rattle.command_table.specs.BufferBytes.{bytes_from}
 use Rattle.adapter.specs.Encoding.{AreZero, EncodesCommand}
 use Rattle.adapter.specs.declared.command.Prd.{Prd}
 use Rattle.adapter.specs.Encoding.{EncodesPrd}

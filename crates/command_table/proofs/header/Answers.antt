@@ -9,8 +9,8 @@ returns-clause-says c =
     let bytes : List ℕ = dword c.to_le_bytes-first.result ++ replicate 4 0 ++ dword c.to_le_bytes-table.result ++ replicate 20 0 in
     record {
       size = refl;
-      first = grind (arith, common_steps);
-      points = search rules;
+      dword0_is = grind (arith, common_steps);
+      table_address_is = search rules;
       aligned = c.requires;
       zeros = λ i ge lt. zero_from bytes 12 20 i refl ge;
     }

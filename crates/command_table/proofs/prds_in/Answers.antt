@@ -9,8 +9,8 @@ pub loop-covered-init : goal.loop-covered-init
 loop-covered-init g c = record {
   number = let e = ap length c.new-entries.ensures in omega (arith, e);
   room = omega arith;
-  within = let w = c.requires.fill.within in omega (arith, w);
-  last = let l = c.requires.fill.last in omega (arith, l);
+  within = let w = c.requires.fill.bytes_fit in omega (arith, w);
+  last = let l = c.requires.fill.last_frame_is_used in omega (arith, l);
   joined = λ es j. subst (λ (xs : List Prd). PrdsCoverFrames c.args.frames.now c.args.bytes (xs ++ es)) (sym c.new-entries.ensures) j;
 }
 
@@ -23,7 +23,7 @@ loop-covered-preserved g c =
     let run = c.run_length-count.ensures in
     let d = length-drop covered frames in
     let w = run.within in
-    let some = run.some in
+    let some = run.is_not_empty in
     let room = v.room in
     let size = c.min-bytes.ensures in
     let last = v.last in
@@ -48,13 +48,13 @@ returns g c =
     let number = v.number in
     let room = v.room in
     let over = c.loop-covered-test.false in
-    let fits : Fits frames c.args.bytes = record { within = c.requires.fill.within; last = c.requires.fill.last } in
+    let fits : Fits frames c.args.bytes = record { within = c.requires.fill.bytes_fit; last = c.requires.fill.last_frame_is_used } in
     let j : PrdsCoverFrames frames c.args.bytes c.loop-covered.entries.items =
     subst (PrdsCoverFrames frames c.args.bytes) (append-nil c.loop-covered.entries.items) (v.joined [] (drop_all c.loop-covered.covered frames over, omega (arith, within, over))) in
     record {
       joined = j;
       number = omega (arith, number, room);
-      allowed = all_allowed c.loop-covered.entries.items frames c.args.bytes fits c.requires.fill.even (let few = c.requires.fill.room in omega (arith, few)) j;
+      allowed = all_allowed c.loop-covered.entries.items frames c.args.bytes fits c.requires.fill.even (let few = c.requires.fill.frame_count_is_allowed in omega (arith, few)) j;
       whole = λ whole. all_whole c.loop-covered.entries.items frames c.args.bytes whole j;
       places = λ whole. joined_cover frames c.args.bytes c.loop-covered.entries.items fits j whole;
     }

@@ -1,5 +1,5 @@
 use Rattle.std.proofs.Common.{ℕ, ◌≡◌, ◌+◌, ◌<◌}
-use Rattle.command_table.specs.Places.{frame_number}
+use Rattle.command_table.specs.SectorPlaces.{frame_number}
 use Rattle.command_table.proofs.run_length.Given as goal
 
 abbrev pub invariant-loop-count : goal.invariant-loop-count

@@ -9,9 +9,9 @@ use Rattle.adapter.specs.Device.{Device}
 use Rattle.adapter.specs.Memory.{bytes_at}
 use Rattle.adapter.specs.Rules.{IsUnowned, IsStable}
 use Rattle.adapter.specs.Encoding.{EncodesHeader}
-use Rattle.refinement.specs.Places.{list_of, table_of}
+use Rattle.refinement.specs.MemoryLayout.{list_of, table_of}
 use Rattle.command_table.specs.Laws.AccessPurpose.{Tables}
-use Rattle.command_table.specs.Written.{IsTableStore}
+use Rattle.command_table.specs.TableStores.{IsTableStore}
 use Rattle.command_table.proofs.Storing.{store_free, store_followed, store_on, store_size, store_there, store_agrees, stored_says}
 use Rattle.command_table.proofs.write_table.Goals as goal
 
@@ -44,18 +44,18 @@ store_table-requires-clause-free g c =
     let Free : ℕ → Type 0 = λ k. IsStable (IsUnowned (table_of c.args.port.0 c.args.slot.0) k) (g.A.Adapter.device c.args.adapter.now) in
     at_places F c.from-list.result c.from.result c.args.port.0 c.args.slot.0 (sym c.from-list.ensures) (sym c.from.ensures)
     (subst Free (length-replicate {A = ℕ} (TABLE_HEAD + PRD_BYTES * n) 0)
-    (store_free c.law_prerequisites.ensures r.may.agreed.0 _ c.args.port.0 c.args.slot.0 _ _ r.may.agreed.2 r.may.room r.may.small r.fits.small r.may.agreed.1 (table_room c.args.port.0 c.args.slot.0 n r.fits.few)))
+    (store_free c.law_prerequisites.ensures r.may.machine_is_related.0 _ c.args.port.0 c.args.slot.0 _ _ r.may.machine_is_related.2 r.may.driver_memory_fits r.may.small r.fits.slot_in_range r.may.machine_is_related.1 (table_room c.args.port.0 c.args.slot.0 n r.fits.prd_count_is_allowed)))
 
 pub store-requires : goal.store-requires
 store-requires g c =
     let r = c.requires in
     let first = table_stored _ _ _ _ _ _ _ c.from-list.ensures c.from.ensures c.store_table.ensures.stores.stored in
-    let here = table_bounds c.args.port.0 c.args.slot.0 (length c.args.prds.now) c.store_table.ensures.stores.bytes r.fits.few in
-    let size = store_size c.law_prerequisites.ensures c.args.port.0 c.args.slot.0 r.may.small r.fits.small _ _ _ _ here first in
-    let room : DRIVER_BYTES ≤ (g.A.Adapter.device c.store_table.new.adapter).size = let had = r.may.room in omega (arith, size, had) in
+    let here = table_bounds c.args.port.0 c.args.slot.0 (length c.args.prds.now) c.store_table.ensures.stores.bytes r.fits.prd_count_is_allowed in
+    let size = store_size c.law_prerequisites.ensures c.args.port.0 c.args.slot.0 r.may.small r.fits.slot_in_range _ _ _ _ here first in
+    let room : DRIVER_BYTES ≤ (g.A.Adapter.device c.store_table.new.adapter).size = let had = r.may.driver_memory_fits in omega (arith, size, had) in
     let F : ℕ → ℕ → Type 0 = λ p s. IsStable (IsUnowned (PORT_BYTES * p + 32 * s) (length c.header-head.result)) (g.A.Adapter.device c.store_table.new.adapter) in
     at_places F c.from-list.result c.from-2.result c.args.port.0 c.args.slot.0 (sym c.from-list.ensures) (sym c.from-2.ensures)
-    (store_free c.law_prerequisites.ensures r.may.agreed.0 _ c.args.port.0 c.args.slot.0 _ _ (store_agrees c.law_prerequisites.ensures c.args.port.0 c.args.slot.0 r.may.small r.fits.small _ _ _ _ here first r.may.on r.may.agreed.0 r.may.agreed.1 r.may.agreed.2) room r.may.small r.fits.small r.may.agreed.1
+    (store_free c.law_prerequisites.ensures r.may.machine_is_related.0 _ c.args.port.0 c.args.slot.0 _ _ (store_agrees c.law_prerequisites.ensures c.args.port.0 c.args.slot.0 r.may.small r.fits.slot_in_range _ _ _ _ here first r.may.adapter_is_on r.may.machine_is_related.0 r.may.machine_is_related.1 r.may.machine_is_related.2) room r.may.small r.fits.slot_in_range r.may.machine_is_related.1
     (header_bounds c.args.port.0 c.args.slot.0 c.header-head.result c.header-head.ensures.says.size c.header-head.ensures.none_moved))
 
 pub returns-clause-on : goal.returns-clause-on
@@ -63,25 +63,25 @@ returns-clause-on g c =
     let r = c.requires in
     let first = table_stored _ _ _ _ _ _ _ c.from-list.ensures c.from.ensures c.store_table.ensures.stores.stored in
     let second = header_stored _ _ _ _ _ _ _ c.from-list.ensures c.from-2.ensures c.store.ensures.does in
-    let here = table_bounds c.args.port.0 c.args.slot.0 (length c.args.prds.now) c.store_table.ensures.stores.bytes r.fits.few in
+    let here = table_bounds c.args.port.0 c.args.slot.0 (length c.args.prds.now) c.store_table.ensures.stores.bytes r.fits.prd_count_is_allowed in
     let there = header_bounds c.args.port.0 c.args.slot.0 c.header-head.result c.header-head.ensures.says.size c.header-head.ensures.none_moved in
-    store_on c.law_prerequisites.ensures c.args.port.0 c.args.slot.0 r.may.small r.fits.small _ _ _ _ there second (store_on c.law_prerequisites.ensures c.args.port.0 c.args.slot.0 r.may.small r.fits.small _ _ _ _ here first r.may.on)
+    store_on c.law_prerequisites.ensures c.args.port.0 c.args.slot.0 r.may.small r.fits.slot_in_range _ _ _ _ there second (store_on c.law_prerequisites.ensures c.args.port.0 c.args.slot.0 r.may.small r.fits.slot_in_range _ _ _ _ here first r.may.adapter_is_on)
 
 pub returns-clause-followed : goal.returns-clause-followed
 returns-clause-followed g c =
     let r = c.requires in
     let first = table_stored _ _ _ _ _ _ _ c.from-list.ensures c.from.ensures c.store_table.ensures.stores.stored in
     let second = header_stored _ _ _ _ _ _ _ c.from-list.ensures c.from-2.ensures c.store.ensures.does in
-    let here = table_bounds c.args.port.0 c.args.slot.0 (length c.args.prds.now) c.store_table.ensures.stores.bytes r.fits.few in
+    let here = table_bounds c.args.port.0 c.args.slot.0 (length c.args.prds.now) c.store_table.ensures.stores.bytes r.fits.prd_count_is_allowed in
     let there = header_bounds c.args.port.0 c.args.slot.0 c.header-head.result c.header-head.ensures.says.size c.header-head.ensures.none_moved in
     (c.law_prerequisites.ensures.fragments.both (Tables c.args.port.0 c.args.slot.0) (Tables c.args.port.0 c.args.slot.0) (λ uses. uses) (λ uses. uses) (λ access is. is) (λ uses free. free) _ _ _
-    (store_followed c.law_prerequisites.ensures c.args.port.0 c.args.slot.0 r.may.small r.fits.small _ _ _ _ here first)
-    (store_followed c.law_prerequisites.ensures c.args.port.0 c.args.slot.0 r.may.small r.fits.small _ _ _ _ there second)).followed
+    (store_followed c.law_prerequisites.ensures c.args.port.0 c.args.slot.0 r.may.small r.fits.slot_in_range _ _ _ _ here first)
+    (store_followed c.law_prerequisites.ensures c.args.port.0 c.args.slot.0 r.may.small r.fits.slot_in_range _ _ _ _ there second)).followed
 
 pub returns-clause-says : goal.returns-clause-says
 returns-clause-says g c =
     let r = c.requires in
-    let few = r.fits.few in
+    let few = r.fits.prd_count_is_allowed in
     let first = table_stored _ _ _ _ _ _ _ c.from-list.ensures c.from.ensures c.store_table.ensures.stores.stored in
     let second = header_stored _ _ _ _ _ _ _ c.from-list.ensures c.from-2.ensures c.store.ensures.does in
     let size = c.store_table.ensures.stores.table.size in
@@ -89,8 +89,8 @@ returns-clause-says g c =
     let H : ℕ → ℕ → Type 0 = λ p s. EncodesHeader c.header-head.result c.is_write.result (length c.args.prds.now) (PORT_BYTES * p + TABLES_OFFSET + TABLE_BYTES * s) in
     let heads : EncodesHeader c.header-head.result c.is_write.result (length c.args.prds.now) (table_of c.args.port.0 c.args.slot.0) =
     at_places H c.args.port.0 c.args.slot.0 _ _ c.from-list.ensures c.from.ensures c.header-head.ensures.says in
-    stored_says c.law_prerequisites.ensures c.args.port.0 c.args.slot.0 r.may.small r.fits.small r.may.agreed.0 r.may.agreed.1 _ _ _ r.may.on r.may.agreed.2 c.args.prds.now c.store_table.ensures.stores.bytes c.header-head.result few size
-    (omega (arith, cut, size, few)) first second c.is_write.result c.args.command.now c.is_write.ensures c.store_table.ensures.stores.table.fis c.store_table.ensures.stores.table.entries heads c.header-head.ensures.none_moved
+    stored_says c.law_prerequisites.ensures c.args.port.0 c.args.slot.0 r.may.small r.fits.slot_in_range r.may.machine_is_related.0 r.may.machine_is_related.1 _ _ _ r.may.adapter_is_on r.may.machine_is_related.2 c.args.prds.now c.store_table.ensures.stores.bytes c.header-head.result few size
+    (omega (arith, cut, size, few)) first second c.is_write.result c.args.command.now c.is_write.ensures c.store_table.ensures.stores.table.fis c.store_table.ensures.stores.table.prds_stand heads c.header-head.ensures.none_moved
 
 pub returns-clause-none_moved : goal.returns-clause-none_moved
 returns-clause-none_moved g c =
@@ -100,5 +100,5 @@ returns-clause-none_moved g c =
     let there = header_bounds c.args.port.0 c.args.slot.0 c.header-head.result heads.says.size heads.none_moved in
     let at : ℕ = list_of c.args.port.0 + 32 * c.args.slot.0 in
     let P : ℕ → Type 0 = λ n. bytes_at (g.A.Adapter.device c.store.new.self).memory at n ≡ c.header-head.result in
-    let same = subst P heads.says.size (store_there c.law_prerequisites.ensures c.args.port.0 c.args.slot.0 r.may.small r.fits.small _ _ _ _ there second) in
+    let same = subst P heads.says.size (store_there c.law_prerequisites.ensures c.args.port.0 c.args.slot.0 r.may.small r.fits.slot_in_range _ _ _ _ there second) in
     ap (little_from 4 4) same ∙ heads.none_moved

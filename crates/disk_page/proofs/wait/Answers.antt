@@ -1,13 +1,13 @@
 use Rattle.ata_types.specs.declared.limits.TheConstants.{MOST_READINGS}
 use Rattle.std.proofs.Common.{ℕ, ◌≡◌, sym, ◌∙◌, subst, arith, rules}
-use Rattle.refinement.specs.Driven.{AnyUse, IsSimulatedAlong}
-use Rattle.disk_page.specs.Asking.{AreVainReadings, IsPageAccess}
+use Rattle.refinement.specs.Fragments.{AnyUse, IsSimulatedAlong}
+use Rattle.disk_page.specs.PageRequests.{AreIssuedReadings, IsPageAccess}
 use Rattle.disk_page.proofs.Asking.{pending_first, pending_again, pending_over}
 use Rattle.disk_page.proofs.wait.Goals as goal
 
 pub loop-reading-init : goal.loop-reading-init
 loop-reading-init g c = record {
-  known = pending_first c.law_prerequisites.ensures c.args.port _ c.requires.may.on c.requires.may.there c.requires.may.det;
+  known = pending_first c.law_prerequisites.ensures c.args.port _ c.requires.may.adapter_is_on c.requires.may.has_port c.requires.may.no_comreset;
   cost = omega arith;
 }
 
@@ -36,4 +36,4 @@ returns-then-not-is_set-clause-over g c = λ _.
 pub returns-clause-vain : goal.returns-clause-vain
 returns-clause-vain g c = λ _.
     let all : c.loop-reading._reading ≡ MOST_READINGS = omega arith in
-    (search rules, subst (λ (n : ℕ). IsSimulatedAlong (AreVainReadings c.args.port n) (IsPageAccess c.args.port) AnyUse (g.A.Adapter.device c.args.adapter.now) (g.A.Adapter.device c.loop-reading.adapter)) all c.loop-reading.invariant.known.told)
+    (search rules, subst (λ (n : ℕ). IsSimulatedAlong (AreIssuedReadings c.args.port n) (IsPageAccess c.args.port) AnyUse (g.A.Adapter.device c.args.adapter.now) (g.A.Adapter.device c.loop-reading.adapter)) all c.loop-reading.invariant.known.told)

@@ -1,4 +1,4 @@
-use Rattle.adapter.specs.Counted.{MakesAtMost}
+use Rattle.adapter.specs.AccessBounds.{MakesAtMost}
 use Rattle.disk_page.proofs.Asking.{IsPending}
 use Rattle.disk_page.proofs.wait.Given as goal
 

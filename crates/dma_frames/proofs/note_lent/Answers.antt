@@ -2,7 +2,7 @@ use Rattle.std.proofs.Common.{ℕ, ◌≡◌, None, Some, get_or, ap, sym, ◌�
 use Rattle.std.proofs.lemmas.List.{length-set}
 use Rattle.std.proofs.lemmas.List.Elements.{Contains-get_or}
 use Rattle.std.specs.List.{Contains}
-use Rattle.dma_frames.specs.Stored.{borrowers_of}
+use Rattle.dma_frames.specs.TableLists.{borrowers_of}
 use Rattle.dma_frames.proofs.StoredLemmas.{frames_more, lent_here, lent_others}
 use Rattle.dma_frames.proofs.note_lent.Goals as goal
 

@@ -2,7 +2,7 @@ use Rattle.std.proofs.Common.{◌≡◌, ℕ, ◌<◌, get_or, length, None}
 use Rattle.std.specs.List.{Contains}
 use Rattle.ata_types.specs.declared.request.Frame.{Frame}
 use Rattle.ata_types.specs.declared.memory.TheConstants.{MOST_FRAMES}
-use Rattle.dma_frames.specs.Stored.{borrowers_of}
+use Rattle.dma_frames.specs.TableLists.{borrowers_of}
 use Rattle.dma_frames.proofs.note_returned.Given as goal
 
 abbrev pub invariant-loop-frame : goal.invariant-loop-frame

@@ -2,8 +2,8 @@ use Rattle.ata_types.specs.declared.memory.TheConstants.{MOST_FRAMES}
 use Rattle.std.proofs.Common.{ℕ, ◌≡◌, ◌≢◌, ◌<◌, ◌≤◌, ◌+◌, get_or, set, ap, sym, ◌∙◌, arith, inl, inr}
 use Rattle.std.proofs.lemmas.Bool.{cases_eq, cases_lt}
 use Rattle.std.proofs.lemmas.List.{get_or-set_other, get_or-set_same, length-set}
-use Rattle.dma_frames.specs.Table.{FrameExtent, IsOwnerExtent}
-use Rattle.dma_frames.specs.Stored.{client_of}
+use Rattle.dma_frames.specs.FrameTables.{FrameExtent, IsOwnerExtent}
+use Rattle.dma_frames.specs.TableLists.{client_of}
 use Rattle.dma_frames.proofs.StoredLemmas.{owner_is, some_client}
 use Rattle.dma_frames.proofs.set_owner_of_run.Goals as goal
 

@@ -13,8 +13,8 @@ returns-then-is_bsy_or_drq-clause-recovers g c = λ old r.
     (rests_on_fault port c.args.outstanding c.args.quieted.fault.0 _ old _ t c.fault_of-failed.result c.fault_of-failed.ensures.named)
     (λ is. is_named c.args.outstanding c.fault_of-failed.result c.fault_of-failed.ensures.none) (λ on. absurd (false≢true on))
 
-pub go_on-requires : goal.go_on-requires
-go_on-requires g c =
+pub start_again-requires : goal.start_again-requires
+start_again-requires g c =
     let r = c.requires.resumes in
     record { may = may_go_on c.args.quieted.stopped.port c.args.outstanding false _ _ r.0 _ r.1 (sym c.is_bsy_or_drq.ensures ∙ c.if-is_bsy_or_drq.false) }
 
@@ -22,8 +22,8 @@ pub returns-clause-recovers : goal.returns-clause-recovers
 returns-clause-recovers g c = λ old r.
     let laws = c.law_prerequisites.ensures in
     let port = c.args.quieted.stopped.port in
-    let s = c.go_on.ensures.goes in
+    let s = c.start_again.ensures.goes in
     let t = goes_again_told laws port c.args.outstanding false _ _ old _ r _ s in
-    goes_again laws port c.args.outstanding false _ _ old _ r _ s c.fault_of-failed.result c.others-again.result c.go_on.result c.go_on.ensures.names refl c.others-again.ensures
+    goes_again laws port c.args.outstanding false _ _ old _ r _ s c.fault_of-failed.result c.others-again.result c.start_again.result c.start_again.ensures.names refl c.others-again.ensures
     (rests_on_fault port c.args.outstanding c.args.quieted.fault.0 _ old _ t c.fault_of-failed.result c.fault_of-failed.ensures.named)
     (is_named c.args.outstanding c.fault_of-failed.result c.fault_of-failed.ensures.none)

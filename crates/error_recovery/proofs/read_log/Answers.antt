@@ -8,7 +8,7 @@ pub read_page-requires : goal.read_page-requires
 read_page-requires g c =
     let r = c.requires in
     let a = r.agreed in
-    record { may = record { on = r.room.on; there = r.room.there; room = r.room.room; agreed = (a.0, a.1 0, a.2); may = r.may } }
+    record { may = record { adapter_is_on = r.room.adapter_is_on; has_port = r.room.has_port; driver_memory_fits = r.room.driver_memory_fits; machine_is_related = (a.0, a.1 0, a.2); may_ask = r.may } }
 
 pub returns-in_default-clause-agreed : goal.returns-in_default-clause-agreed
 returns-in_default-clause-agreed g c = let a = c.requires.agreed in (_, tt, c.in_default.ensures.gets.agrees a.0 (a.1 0) a.2)
@@ -25,8 +25,8 @@ returns-in_default-clause-asks g c =
     record {
       reads = inl c.in_default.ensures.gets.reads;
       leaves = c.in_default.ensures.gets.leaves;
-      running = tt;
-      silent = c.in_default.ensures.gets.silent Identify refl (λ (e : Identify ≡ ReadLog). absurd (cc));
+      is_not_halted = tt;
+      no_identify_moves = c.in_default.ensures.gets.no_other_page_moves Identify refl (λ (e : Identify ≡ ReadLog). absurd (cc));
     }
 
 pub returns-in_default-parse_log-clause-asks : goal.returns-in_default-parse_log-clause-asks
@@ -34,8 +34,8 @@ returns-in_default-parse_log-clause-asks g c =
     record {
       reads = inr (_, c.in-Some.ensures.gets.reads, inl (c.in_default-parse_log.ensures.none.0 refl));
       leaves = c.in-Some.ensures.gets.leaves;
-      running = tt;
-      silent = c.in-Some.ensures.gets.silent Identify refl (λ (e : Identify ≡ ReadLog). absurd (cc));
+      is_not_halted = tt;
+      no_identify_moves = c.in-Some.ensures.gets.no_other_page_moves Identify refl (λ (e : Identify ≡ ReadLog). absurd (cc));
     }
 
 pub returns-then-is_set-clause-asks : goal.returns-then-is_set-clause-asks
@@ -44,8 +44,8 @@ returns-then-is_set-clause-asks g c =
     record {
       reads = (_, c.in-Some.ensures.gets.reads, told, ap (λ (n : ℕ). bit c.args.outstanding n) (sym c.from.ensures) ∙ (sym c.is_set.ensures ∙ c.if-is_set.true));
       leaves = c.in-Some.ensures.gets.leaves;
-      running = c.in-Some.ensures.gets.running c.requires.agreed;
-      silent = c.in-Some.ensures.gets.silent Identify refl (λ (e : Identify ≡ ReadLog). absurd (cc));
+      is_not_halted = c.in-Some.ensures.gets.is_not_halted c.requires.agreed;
+      no_identify_moves = c.in-Some.ensures.gets.no_other_page_moves Identify refl (λ (e : Identify ≡ ReadLog). absurd (cc));
     }
 
 pub returns-else-is_set-clause-asks : goal.returns-else-is_set-clause-asks
@@ -60,10 +60,10 @@ returns-else-is_set-clause-asks g c =
           status = _;
           error = _;
           tells = told;
-          foreign = ap (λ (n : ℕ). bit c.args.outstanding n) (sym c.from.ensures) ∙ (sym c.is_set.ensures ∙ c.if-is_set.false);
+          is_not_outstanding = ap (λ (n : ℕ). bit c.args.outstanding n) (sym c.from.ensures) ∙ (sym c.is_set.ensures ∙ c.if-is_set.false);
         }),
       );
       leaves = c.in-Some.ensures.gets.leaves;
-      running = tt;
-      silent = c.in-Some.ensures.gets.silent Identify refl (λ (e : Identify ≡ ReadLog). absurd (cc));
+      is_not_halted = tt;
+      no_identify_moves = c.in-Some.ensures.gets.no_other_page_moves Identify refl (λ (e : Identify ≡ ReadLog). absurd (cc));
     }

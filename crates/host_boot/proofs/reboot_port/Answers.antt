@@ -1,5 +1,5 @@
 use Rattle.std.proofs.Common.{sym, subst}
-use Rattle.host_boot.specs.Again.{BootsStopped}
+use Rattle.host_boot.specs.Reboots.{BootsStopped}
 use Rattle.host_boot.specs.declared.ProbeResult.{ProbeResult}
 use Rattle.host_boot.proofs.Booting.{asked_bootable, asked_boots, asked_stopped}
 use Rattle.host_boot.proofs.Leaving.{cap_leaves}
@@ -11,7 +11,7 @@ boot_stopped-found-requires-clause-bootable g c = asked_bootable c.law_prerequis
 pub boot_stopped-found-requires-clause-stopped : goal.boot_stopped-found-requires-clause-stopped
 boot_stopped-found-requires-clause-stopped g c =
     let port = c.args.stopped.port in
-    asked_stopped c.law_prerequisites.ensures _ _ _ c.read.ensures.does port (cap_leaves c.law_prerequisites.ensures _ c.requires.bootable.on.no_reset port.0 _ _ c.read.ensures.does) c.requires.stopped
+    asked_stopped c.law_prerequisites.ensures _ _ _ c.read.ensures.does port (cap_leaves c.law_prerequisites.ensures _ c.requires.bootable.adapter_is_on.no_reset port.0 _ _ c.read.ensures.does) c.requires.stopped
 
 pub returns-clause-boots : goal.returns-clause-boots
 returns-clause-boots g c =

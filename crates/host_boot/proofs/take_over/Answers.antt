@@ -3,7 +3,7 @@ use Rattle.hba_regs.specs.Bits.{bit, field}
 use Rattle.ata_types.specs.declared.Port.{Port}
 use Rattle.adapter.specs.Device.{Device}
 use Rattle.refinement.specs.Links.{SameAdapter}
-use Rattle.host_boot.specs.TakeOver.{IsOfHost}
+use Rattle.host_boot.specs.TakeOver.{IsHostAccess}
 use Rattle.host_boot.proofs.Taking.{IsUnderway, begins, boots_same, ends, next}
 use Rattle.host_boot.proofs.Ways.{IsOnWay, way_more, way_over}
 use Rattle.host_boot.proofs.take_over.Goals as goal
@@ -35,11 +35,11 @@ boot_port-requires g c =
     let u = c.loop-number.invariant.underway in
     record {
       may = record {
-        on = u.on;
-        small = c.loop-number-test.true;
-        there = c.loop-number.invariant.there;
-        room = let same = u.same.size in let room = c.requires.room in omega (arith, same, room);
-        agreed = (u.uses, λ slot. u.free c.loop-number.number slot (omega arith), u.agreed);
+        adapter_is_on = u.on;
+        port_in_range = c.loop-number-test.true;
+        implemented_is_pi = c.loop-number.invariant.there;
+        driver_memory_fits = let same = u.same.size in let room = c.requires.room in omega (arith, same, room);
+        machine_is_related = (u.uses, λ slot. u.free c.loop-number.number slot (omega arith), u.agreed);
         idle = u.idle c.loop-number.number (omega arith);
       };
     }
@@ -51,9 +51,9 @@ loop-number-preserved g c =
     boots_same c.law_prerequisites.ensures port _ _ c.boot_port.result c.boot_port.ensures.finds.boots in
     record {
       underway = next c.law_prerequisites.ensures c.args.wanted.now c.loop-number.ports port c.loop-number-test.true _ _ _ c.boot_port.result c.loop-number.invariant.underway
-          c.boot_port.ensures.on c.boot_port.ensures.finds.stands c.boot_port.ensures.finds.reset c.boot_port.ensures.finds.halts c.boot_port.ensures.finds.boots;
+          c.boot_port.ensures.on c.boot_port.ensures.finds.result_is_backed c.boot_port.ensures.finds.sctl_was_written c.boot_port.ensures.finds.halt_is_of_taken c.boot_port.ensures.finds.boots;
       way = way_more c.loop-number.ports c.loop-number.number c.boot_port.result _ _ _ c.loop-number.invariant.underway.long c.loop-number-test.true c.loop-number.invariant.way
-          c.boot_port.ensures.finds.way;
+          c.boot_port.ensures.finds.stops_and_boots;
       there = c.loop-number.invariant.there ∙ sym same.pi;
       capable = c.loop-number.invariant.capable ∙ sym same.cap;
       cost = omega arith;
@@ -67,7 +67,7 @@ returns g c =
     let d : Device = g.A.Adapter.device c.loop-number.adapter in
     let new : Device = g.A.Adapter.device c.enable_interrupts.new.adapter in
     let four : c.loop-number.number ≡ 4 = omega (arith, c.loop-number-test.false, c.loop-number.auto.number-end) in
-    let same : SameAdapter d new = same_over c.law_prerequisites.ensures IsOfHost d new c.enable_interrupts.ensures.followed.driven in
+    let same : SameAdapter d new = same_over c.law_prerequisites.ensures IsHostAccess d new c.enable_interrupts.ensures.followed.is_driven in
     let cap : c.survey-implemented.result.0.0 ≡ new.cap = c.loop-number.invariant.capable ∙ sym same.cap in
     record {
       taken = ends c.law_prerequisites.ensures c.args.wanted.now (g.A.Adapter.device c.args.adapter.now) c.loop-number.ports d new

@@ -1,6 +1,6 @@
 use Rattle.std.proofs.Common.{◌≡◌, ◌+◌, ◌*◌}
-use Rattle.adapter.specs.Counted.{MakesAtMost}
-use Rattle.host_boot.specs.Costs.{FIRST_BOOT_ACCESSES}
+use Rattle.adapter.specs.AccessBounds.{MakesAtMost}
+use Rattle.host_boot.specs.Costs.{STOP_AND_BOOT_ACCESSES}
 use Rattle.host_boot.proofs.Taking.{IsUnderway}
 use Rattle.host_boot.proofs.Ways.{IsOnWay}
 use Rattle.host_boot.proofs.take_over.Given as goal
@@ -11,5 +11,5 @@ invariant-loop-number g l = record {
   way : IsOnWay l.ports l.number (g.A.Adapter.device l.fn.adapter) (g.A.Adapter.device l.adapter);
   there : l.implemented ≡ (g.A.Adapter.device l.adapter).pi;
   capable : l.capabilities.0 ≡ (g.A.Adapter.device l.adapter).cap;
-  cost : MakesAtMost (3 + FIRST_BOOT_ACCESSES * l.number) (g.A.Adapter.access_count l.fn.adapter) (g.A.Adapter.access_count l.adapter);
+  cost : MakesAtMost (3 + STOP_AND_BOOT_ACCESSES * l.number) (g.A.Adapter.access_count l.fn.adapter) (g.A.Adapter.access_count l.adapter);
 }

@@ -28,9 +28,9 @@ returns-in_err-running-clause-unready g c =
     handed_on (λ state. EndsUnready c.args.wanted.now c.args.stopped.port state (g.A.Adapter.device c.args.adapter.now) (g.A.Adapter.device c.bring_up.new.adapter))
     c.from_residual.result state c.from_residual.ensures.1
     (record {
-      ended = e.ended c.args.wanted.now;
-      since = e.since;
+      state_is_backed = e.state_is_backed c.args.wanted.now;
+      sctl_written_in_boot = e.sctl_written_in_boot;
       boots = e.boots;
-      early = early_alone c.args.stopped.port state _ _ e.early;
-      late = early_is_not_late c.args.stopped.port state _ _ e.early;
+      ends_before_start = early_alone c.args.stopped.port state _ _ e.dead_or_before_start;
+      ends_after_start = early_is_not_late c.args.stopped.port state _ _ e.dead_or_before_start;
     })

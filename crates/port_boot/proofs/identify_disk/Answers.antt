@@ -16,12 +16,12 @@ pub write-requires : goal.write-requires
 write-requires g c = let e = c.in-Some.ensures in enabling c.law_prerequisites.ensures c.args.port c.causes.result _ (identified c.law_prerequisites.ensures c.args.port _ _ _ c.in-Some.page c.requires.up.1 e.on e.gets.leaves e.gets.reads e.gets.agrees).bootable
 
 pub halt-requires-in-Err-clause-there : goal.halt-requires-in-Err-clause-there
-halt-requires-in-Err-clause-there g c = let e = c.in-Some.ensures in (identified c.law_prerequisites.ensures c.args.port _ _ _ c.in-Some.page c.requires.up.1 e.on e.gets.leaves e.gets.reads e.gets.agrees).bootable.there
+halt-requires-in-Err-clause-there g c = let e = c.in-Some.ensures in (identified c.law_prerequisites.ensures c.args.port _ _ _ c.in-Some.page c.requires.up.1 e.on e.gets.leaves e.gets.reads e.gets.agrees).bootable.has_port
 
 pub halt-requires-in-Err-clause-agreed : goal.halt-requires-in-Err-clause-agreed
 halt-requires-in-Err-clause-agreed g c =
     let e = c.in-Some.ensures in
-    let a = (identified c.law_prerequisites.ensures c.args.port _ _ _ c.in-Some.page c.requires.up.1 e.on e.gets.leaves e.gets.reads e.gets.agrees).bootable.agreed in
+    let a = (identified c.law_prerequisites.ensures c.args.port _ _ _ c.in-Some.page c.requires.up.1 e.on e.gets.leaves e.gets.reads e.gets.agrees).bootable.machine_is_related in
     (a.0, tt, a.2)
 
 pub returns-in-Ok-clause-on : goal.returns-in-Ok-clause-on
@@ -39,9 +39,9 @@ returns-in-Ok-clause-identifies g c =
     record {
       ready = enabled_ready c.law_prerequisites.ensures c.args.port _ _ _ c.in-Some.page c.requires.up.1 e.on e.gets.leaves e.gets.reads e.gets.agrees _ _ c.write.ensures.does c.args.wanted.now _ c.causes.ensures c.in-Ok.ensures.fit;
       boots = enabled_boots c.law_prerequisites.ensures c.args.port _ _ _ c.in-Some.page c.requires.up.1 e.on e.gets.leaves e.gets.reads e.gets.agrees _ _ c.write.ensures.does;
-      asked = record { asked = _; asks = e.gets.reads.1.driven; tells = subst W c.causes.ensures c.write.ensures.does };
-      halts = enabled_halts c.law_prerequisites.ensures c.args.port _ _ _ c.in-Some.page c.requires.up.1 e.on e.gets.leaves e.gets.reads e.gets.agrees _ _ c.write.ensures.does e.gets.running c.args.wanted.now _ c.causes.ensures c.in-Ok.ensures.fit;
-      runs_on = told_runs_on c.law_prerequisites.ensures c.args.port _ _ _ c.requires.up.1 e.gets.reads.1.driven _ _ e.on c.write.ensures.does;
+      asks_disk = record { asked = _; asks = e.gets.reads.1.is_driven; tells = subst W c.causes.ensures c.write.ensures.does };
+      halt_is_of_taken = enabled_halts c.law_prerequisites.ensures c.args.port _ _ _ c.in-Some.page c.requires.up.1 e.on e.gets.leaves e.gets.reads e.gets.agrees _ _ c.write.ensures.does e.gets.is_not_halted c.args.wanted.now _ c.causes.ensures c.in-Ok.ensures.fit;
+      runs_on = told_runs_on c.law_prerequisites.ensures c.args.port _ _ _ c.requires.up.1 e.gets.reads.1.is_driven _ _ e.on c.write.ensures.does;
     }
 
 pub returns-in_default-clause-fails : goal.returns-in_default-clause-fails
@@ -49,10 +49,10 @@ returns-in_default-clause-fails g c =
     let e = c.in_default.ensures in
     let h = c.halt.ensures in
     record {
-      ended = unasked_ends c.law_prerequisites.ensures c.args.port _ _ _ c.requires.up.1 e.on e.gets.leaves e.gets.reads e.gets.agrees _ h.has c.args.wanted.now _ h.halted;
+      state_is_backed = unasked_ends c.law_prerequisites.ensures c.args.port _ _ _ c.requires.up.1 e.on e.gets.leaves e.gets.reads e.gets.agrees _ h.has c.args.wanted.now _ h.halted;
       boots = unasked_boots c.law_prerequisites.ensures c.args.port _ _ _ c.requires.up.1 e.on e.gets.leaves e.gets.reads e.gets.agrees _ h.has _ h.halted;
-      stops = stops_then c.law_prerequisites.ensures c.args.port _ _ _ c.requires.up.1 e.gets.reads.1.followed.driven _ e.on e.gets.leaves (halt_driven c.args.port _ _ _ _ c.halt.ensures.halted);
-      late = halted_late c.args.port _ _ _ _ no_page_late h.halted;
+      stops_with_link_up = stops_then c.law_prerequisites.ensures c.args.port _ _ _ c.requires.up.1 e.gets.reads.1.followed.is_driven _ e.on e.gets.leaves (halt_driven c.args.port _ _ _ _ c.halt.ensures.halted);
+      was_started = halted_late c.args.port _ _ _ _ no_page_late h.halted;
     }
 
 pub returns-in-Err-clause-fails : goal.returns-in-Err-clause-fails
@@ -60,8 +60,8 @@ returns-in-Err-clause-fails g c =
     let e = c.in-Some.ensures in
     let h = c.halt-in-Err.ensures in
     record {
-      ended = halted_ends c.law_prerequisites.ensures c.args.port _ _ _ c.in-Some.page c.requires.up.1 e.on e.gets.leaves e.gets.reads e.gets.agrees _ (halt_driven c.args.port _ _ _ _ h.halted) h.has c.args.wanted.now _ _ c.in-Err.ensures.judged h.halted;
+      state_is_backed = halted_ends c.law_prerequisites.ensures c.args.port _ _ _ c.in-Some.page c.requires.up.1 e.on e.gets.leaves e.gets.reads e.gets.agrees _ (halt_driven c.args.port _ _ _ _ h.halted) h.has c.args.wanted.now _ _ c.in-Err.ensures.judged h.halted;
       boots = halted_boots c.law_prerequisites.ensures c.args.port _ _ _ c.in-Some.page c.requires.up.1 e.on e.gets.leaves e.gets.reads e.gets.agrees c.args.wanted.now _ _ _ c.in-Err.ensures.judged h.halted;
-      stops = stops_then c.law_prerequisites.ensures c.args.port _ _ _ c.requires.up.1 e.gets.reads.1.driven _ e.on e.gets.leaves (halt_driven c.args.port _ _ _ _ c.halt-in-Err.ensures.halted);
-      late = halted_late c.args.port _ _ _ _ (judged_late c.args.wanted.now _ _ c.in-Err.ensures.judged) h.halted;
+      stops_with_link_up = stops_then c.law_prerequisites.ensures c.args.port _ _ _ c.requires.up.1 e.gets.reads.1.is_driven _ e.on e.gets.leaves (halt_driven c.args.port _ _ _ _ c.halt-in-Err.ensures.halted);
+      was_started = halted_late c.args.port _ _ _ _ (judged_late c.args.wanted.now _ _ c.in-Err.ensures.judged) h.halted;
     }

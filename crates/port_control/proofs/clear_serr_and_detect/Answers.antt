@@ -10,7 +10,7 @@ write-requires g c = serr_may c.law_prerequisites.ensures c.args.port 0xffffffff
 pub read-requires : goal.read-requires
 read-requires g c =
     let u = clearing c.law_prerequisites.ensures c.args.port _ _ (g.A.Adapter.device c.args.adapter.now) c.requires.usable c.write.ensures.does in
-    (u.on, u.there)
+    (u.adapter_is_on, u.has_port)
 
 pub returns-clause-on : goal.returns-clause-on
 returns-clause-on g c = seen_on c.law_prerequisites.ensures c.args.port _ _ _ _ c.requires.usable c.write.ensures.does c.read.ensures.does
@@ -21,7 +21,7 @@ returns-clause-followed g c = seen_followed c.law_prerequisites.ensures c.args.p
 pub returns-clause-asks : goal.returns-clause-asks
 returns-clause-asks g c = record {
   stopped = seen_stopped c.law_prerequisites.ensures c.args.port _ _ _ _ c.requires.usable c.write.ensures.does c.read.ensures.does;
-  clear = seen_clear c.law_prerequisites.ensures c.args.port _ _ _ _ c.requires.usable c.write.ensures.does c.read.ensures.does;
-  there = λ is. let device = eqb-true _ _ is in let shown = c.detection.ensures in seen_there c.law_prerequisites.ensures c.args.port _ _ _ _ c.requires.usable c.write.ensures.does c.read.ensures.does (omega (arith, device, shown));
-  none = λ is. let shown = c.detection.ensures in seen_none c.law_prerequisites.ensures c.args.port _ _ _ _ c.requires.usable c.write.ensures.does c.read.ensures.does (λ three. absurd (true≢false (sym (eq-eqb _ 3 (omega (arith, three, shown))) ∙ is)));
+  errors_are_clear = seen_clear c.law_prerequisites.ensures c.args.port _ _ _ _ c.requires.usable c.write.ensures.does c.read.ensures.does;
+  device_is_shown = λ is. let device = eqb-true _ _ is in let shown = c.detection.ensures in seen_there c.law_prerequisites.ensures c.args.port _ _ _ _ c.requires.usable c.write.ensures.does c.read.ensures.does (omega (arith, device, shown));
+  no_device_is_backed = λ is. let shown = c.detection.ensures in seen_none c.law_prerequisites.ensures c.args.port _ _ _ _ c.requires.usable c.write.ensures.does c.read.ensures.does (λ three. absurd (true≢false (sym (eq-eqb _ 3 (omega (arith, three, shown))) ∙ is)));
 }

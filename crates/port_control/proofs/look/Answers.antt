@@ -18,7 +18,7 @@ clear_errors-requires-clause-usable g c =
 
 pub clear_errors-requires-clause-receives : goal.clear_errors-requires-clause-receives
 clear_errors-requires-clause-receives g c =
-    let seen = settles c.law_prerequisites.ensures c.args.port _ _ c.requires.usable.on c.wait_for_device.ensures.followed.driven in
+    let seen = settles c.law_prerequisites.ensures c.args.port _ _ c.requires.usable.adapter_is_on c.wait_for_device.ensures.followed.is_driven in
     seen.receiving c.requires.receives
 
 pub wait_until_idle-requires-clause-usable : goal.wait_until_idle-requires-clause-usable
@@ -30,29 +30,29 @@ wait_until_idle-requires-clause-usable g c =
 pub wait_until_idle-requires-clause-det : goal.wait_until_idle-requires-clause-det
 wait_until_idle-requires-clause-det g c =
     let first = usable_after c.law_prerequisites.ensures Clearing c.args.port _ _ c.requires.usable c.wait_for_device.ensures.followed in
-    let seen = settles c.law_prerequisites.ensures c.args.port _ _ c.requires.usable.on c.wait_for_device.ensures.followed.driven in
-    let cleared = settles c.law_prerequisites.ensures c.args.port _ _ first.on c.clear_errors.ensures.followed.driven in
+    let seen = settles c.law_prerequisites.ensures c.args.port _ _ c.requires.usable.adapter_is_on c.wait_for_device.ensures.followed.is_driven in
+    let cleared = settles c.law_prerequisites.ensures c.args.port _ _ first.adapter_is_on c.clear_errors.ensures.followed.is_driven in
     cleared.det ∙ seen.det ∙ c.requires.det
 
 pub wait_until_idle-requires-clause-saw : goal.wait_until_idle-requires-clause-saw
 wait_until_idle-requires-clause-saw g c =
-    c.clear_errors.ensures.saw (c.wait_for_device.ensures.finds c.if-not-wait_for_device.false).saw
+    c.clear_errors.ensures.saw (c.wait_for_device.ensures.finds c.if-not-wait_for_device.false).device_was_seen
 
 pub read-signature-requires : goal.read-signature-requires
 read-signature-requires g c =
     let first = usable_after c.law_prerequisites.ensures Clearing c.args.port _ _ c.requires.usable c.wait_for_device.ensures.followed in
     let second = usable_after c.law_prerequisites.ensures Clearing c.args.port _ _ first c.clear_errors.ensures.followed in
     let third = usable_after c.law_prerequisites.ensures Clearing c.args.port _ _ second c.wait_until_idle.ensures.followed in
-    (third.on, third.there)
+    (third.adapter_is_on, third.has_port)
 
 pub returns-then-not-wait_for_device-clause-fault : goal.returns-then-not-wait_for_device-clause-fault
 returns-then-not-wait_for_device-clause-fault g c =
     let missed = c.wait_for_device.ensures.misses c.if-not-wait_for_device.true in
     record {
-      looks = missed.misses;
-      fault = (missed.fault, λ (e : NoDevice ≡ EngineStuck). absurd (cc));
-      found = λ other. absurd (other refl);
-      signature = λ signature (e : NoDevice ≡ NotAta signature). absurd (cc);
+      looks = missed.reads_in_vain;
+      fault_is_backed = (missed.fault, λ (e : NoDevice ≡ EngineStuck). absurd (cc));
+      device_is_found = λ other. absurd (other refl);
+      signature_is_shown = λ signature (e : NoDevice ≡ NotAta signature). absurd (cc);
     }
 
 pub returns-then-not-wait_until_idle-clause-followed : goal.returns-then-not-wait_until_idle-clause-followed
@@ -61,20 +61,20 @@ returns-then-not-wait_until_idle-clause-followed g c = followed_then c.law_prere
 pub returns-then-not-wait_until_idle-clause-fault : goal.returns-then-not-wait_until_idle-clause-fault
 returns-then-not-wait_until_idle-clause-fault g c =
     let first = usable_after c.law_prerequisites.ensures Clearing c.args.port _ _ c.requires.usable c.wait_for_device.ensures.followed in
-    let seen = settles c.law_prerequisites.ensures c.args.port _ _ c.requires.usable.on c.wait_for_device.ensures.followed.driven in
+    let seen = settles c.law_prerequisites.ensures c.args.port _ _ c.requires.usable.adapter_is_on c.wait_for_device.ensures.followed.is_driven in
     let second = usable_after c.law_prerequisites.ensures Clearing c.args.port _ _ first c.clear_errors.ensures.followed in
-    let cleared = settles c.law_prerequisites.ensures c.args.port _ _ first.on c.clear_errors.ensures.followed.driven in
-    let waited = settles c.law_prerequisites.ensures c.args.port _ _ second.on c.wait_until_idle.ensures.followed.driven in
+    let cleared = settles c.law_prerequisites.ensures c.args.port _ _ first.adapter_is_on c.clear_errors.ensures.followed.is_driven in
+    let waited = settles c.law_prerequisites.ensures c.args.port _ _ second.adapter_is_on c.wait_until_idle.ensures.followed.is_driven in
     let found = c.wait_for_device.ensures.finds c.if-not-wait_for_device.false in
     let errors = c.clear_errors.ensures.clears in
     let awaits = c.wait_until_idle.ensures.awaits in
     let link = finds_link c.args.port found.sees errors.clears in
-    let busy = awaits.busy c.if-not-wait_until_idle.true in
+    let busy = awaits.busy_is_backed c.if-not-wait_until_idle.true in
     record {
       looks = finds_busy c.args.port link busy.1;
-      fault = (busy.0, λ (e : Busy ≡ EngineStuck). absurd (cc));
-      found = λ _. has_device c.law_prerequisites.ensures c.args.port _ _ _ _ c.requires.receives seen cleared waited found.up errors.calm errors.clear awaits.quiet;
-      signature = λ signature (e : Busy ≡ NotAta signature). absurd (cc);
+      fault_is_backed = (busy.0, λ (e : Busy ≡ EngineStuck). absurd (cc));
+      device_is_found = λ _. has_device c.law_prerequisites.ensures c.args.port _ _ _ _ c.requires.receives seen cleared waited found.link_is_up errors.no_cause_is_set errors.errors_are_clear awaits.is_clean_to_start;
+      signature_is_shown = λ signature (e : Busy ≡ NotAta signature). absurd (cc);
     }
 
 pub returns-then-signature-ne-ATA_SIGNATURE-clause-followed : goal.returns-then-signature-ne-ATA_SIGNATURE-clause-followed
@@ -83,24 +83,24 @@ returns-then-signature-ne-ATA_SIGNATURE-clause-followed g c = followed_then c.la
 pub returns-then-signature-ne-ATA_SIGNATURE-clause-fault : goal.returns-then-signature-ne-ATA_SIGNATURE-clause-fault
 returns-then-signature-ne-ATA_SIGNATURE-clause-fault g c =
     let first = usable_after c.law_prerequisites.ensures Clearing c.args.port _ _ c.requires.usable c.wait_for_device.ensures.followed in
-    let seen = settles c.law_prerequisites.ensures c.args.port _ _ c.requires.usable.on c.wait_for_device.ensures.followed.driven in
+    let seen = settles c.law_prerequisites.ensures c.args.port _ _ c.requires.usable.adapter_is_on c.wait_for_device.ensures.followed.is_driven in
     let second = usable_after c.law_prerequisites.ensures Clearing c.args.port _ _ first c.clear_errors.ensures.followed in
-    let cleared = settles c.law_prerequisites.ensures c.args.port _ _ first.on c.clear_errors.ensures.followed.driven in
+    let cleared = settles c.law_prerequisites.ensures c.args.port _ _ first.adapter_is_on c.clear_errors.ensures.followed.is_driven in
     let third = usable_after c.law_prerequisites.ensures Clearing c.args.port _ _ second c.wait_until_idle.ensures.followed in
-    let signed = settles c.law_prerequisites.ensures c.args.port _ _ second.on (followed_then c.law_prerequisites.ensures (Controlling Clearing c.args.port) _ _ _ c.wait_until_idle.ensures.followed (looks c.law_prerequisites.ensures c.args.port Sig _ _ _ c.read-signature.ensures.does)).driven in
+    let signed = settles c.law_prerequisites.ensures c.args.port _ _ second.adapter_is_on (followed_then c.law_prerequisites.ensures (Controlling Clearing c.args.port) _ _ _ c.wait_until_idle.ensures.followed (looks c.law_prerequisites.ensures c.args.port Sig _ _ _ c.read-signature.ensures.does)).is_driven in
     let found = c.wait_for_device.ensures.finds c.if-not-wait_for_device.false in
     let errors = c.clear_errors.ensures.clears in
     let awaits = c.wait_until_idle.ensures.awaits in
     let link = finds_link c.args.port found.sees errors.clears in
-    let idle = awaits.idle c.if-not-wait_until_idle.false in
+    let idle = awaits.disk_is_idle c.if-not-wait_until_idle.false in
     record {
       looks = finds_signature c.args.port _ link idle.1 c.read-signature.ensures.does;
-      fault = (
-        (sig_saw c.law_prerequisites.ensures c.args.port _ _ _ third c.read-signature.ensures.does awaits.saw, sig_idle c.law_prerequisites.ensures c.args.port _ _ _ third c.read-signature.ensures.does idle.0, sig_last c.law_prerequisites.ensures c.args.port _ _ _ third c.read-signature.ensures.does, λ ata. absurd (omega arith)),
+      fault_is_backed = (
+        (sig_saw c.law_prerequisites.ensures c.args.port _ _ _ third c.read-signature.ensures.does awaits.device_was_seen, sig_idle c.law_prerequisites.ensures c.args.port _ _ _ third c.read-signature.ensures.does idle.0, sig_last c.law_prerequisites.ensures c.args.port _ _ _ third c.read-signature.ensures.does, λ ata. absurd (omega arith)),
         λ (e : NotAta c.read-signature.result ≡ EngineStuck). absurd (cc),
       );
-      found = λ _. has_device c.law_prerequisites.ensures c.args.port _ _ _ _ c.requires.receives seen cleared signed found.up errors.calm errors.clear (λ awaited unflagged. sig_quiet c.law_prerequisites.ensures c.args.port _ _ _ third c.read-signature.ensures.does (awaits.quiet awaited unflagged));
-      signature = λ signature is. sig_shown c.law_prerequisites.ensures c.args.port _ _ _ third c.read-signature.ensures.does;
+      device_is_found = λ _. has_device c.law_prerequisites.ensures c.args.port _ _ _ _ c.requires.receives seen cleared signed found.link_is_up errors.no_cause_is_set errors.errors_are_clear (λ awaited unflagged. sig_quiet c.law_prerequisites.ensures c.args.port _ _ _ third c.read-signature.ensures.does (awaits.is_clean_to_start awaited unflagged));
+      signature_is_shown = λ signature is. sig_shown c.law_prerequisites.ensures c.args.port _ _ _ third c.read-signature.ensures.does;
     }
 
 pub returns-clause-followed : goal.returns-clause-followed
@@ -109,21 +109,21 @@ returns-clause-followed g c = followed_then c.law_prerequisites.ensures (Control
 pub returns-clause-sees : goal.returns-clause-sees
 returns-clause-sees g c =
     let first = usable_after c.law_prerequisites.ensures Clearing c.args.port _ _ c.requires.usable c.wait_for_device.ensures.followed in
-    let seen = settles c.law_prerequisites.ensures c.args.port _ _ c.requires.usable.on c.wait_for_device.ensures.followed.driven in
+    let seen = settles c.law_prerequisites.ensures c.args.port _ _ c.requires.usable.adapter_is_on c.wait_for_device.ensures.followed.is_driven in
     let second = usable_after c.law_prerequisites.ensures Clearing c.args.port _ _ first c.clear_errors.ensures.followed in
-    let cleared = settles c.law_prerequisites.ensures c.args.port _ _ first.on c.clear_errors.ensures.followed.driven in
+    let cleared = settles c.law_prerequisites.ensures c.args.port _ _ first.adapter_is_on c.clear_errors.ensures.followed.is_driven in
     let third = usable_after c.law_prerequisites.ensures Clearing c.args.port _ _ second c.wait_until_idle.ensures.followed in
-    let signed = settles c.law_prerequisites.ensures c.args.port _ _ second.on (followed_then c.law_prerequisites.ensures (Controlling Clearing c.args.port) _ _ _ c.wait_until_idle.ensures.followed (looks c.law_prerequisites.ensures c.args.port Sig _ _ _ c.read-signature.ensures.does)).driven in
+    let signed = settles c.law_prerequisites.ensures c.args.port _ _ second.adapter_is_on (followed_then c.law_prerequisites.ensures (Controlling Clearing c.args.port) _ _ _ c.wait_until_idle.ensures.followed (looks c.law_prerequisites.ensures c.args.port Sig _ _ _ c.read-signature.ensures.does)).is_driven in
     let found = c.wait_for_device.ensures.finds c.if-not-wait_for_device.false in
     let errors = c.clear_errors.ensures.clears in
     let awaits = c.wait_until_idle.ensures.awaits in
     let link = finds_link c.args.port found.sees errors.clears in
-    let idle = awaits.idle c.if-not-wait_until_idle.false in
+    let idle = awaits.disk_is_idle c.if-not-wait_until_idle.false in
     let ata : c.read-signature.result ≡ 0x101 = omega arith in
     let F : ℕ → Type 0 = λ n. FindsSignature c.args.port n (g.A.Adapter.device c.args.adapter.now) (g.A.Adapter.device c.read-signature.new.self) in
     record {
       looks = subst F ata (finds_signature c.args.port _ link idle.1 c.read-signature.ensures.does);
-      ready = (sig_saw c.law_prerequisites.ensures c.args.port _ _ _ third c.read-signature.ensures.does awaits.saw, sig_idle c.law_prerequisites.ensures c.args.port _ _ _ third c.read-signature.ensures.does idle.0, sig_last c.law_prerequisites.ensures c.args.port _ _ _ third c.read-signature.ensures.does ∙ ata);
-      found = has_device c.law_prerequisites.ensures c.args.port _ _ _ _ c.requires.receives seen cleared signed found.up errors.calm errors.clear (λ awaited unflagged. sig_quiet c.law_prerequisites.ensures c.args.port _ _ _ third c.read-signature.ensures.does (awaits.quiet awaited unflagged));
-      signature = sig_shown c.law_prerequisites.ensures c.args.port _ _ _ third c.read-signature.ensures.does;
+      disk_is_seen = (sig_saw c.law_prerequisites.ensures c.args.port _ _ _ third c.read-signature.ensures.does awaits.device_was_seen, sig_idle c.law_prerequisites.ensures c.args.port _ _ _ third c.read-signature.ensures.does idle.0, sig_last c.law_prerequisites.ensures c.args.port _ _ _ third c.read-signature.ensures.does ∙ ata);
+      device_is_found = has_device c.law_prerequisites.ensures c.args.port _ _ _ _ c.requires.receives seen cleared signed found.link_is_up errors.no_cause_is_set errors.errors_are_clear (λ awaited unflagged. sig_quiet c.law_prerequisites.ensures c.args.port _ _ _ third c.read-signature.ensures.does (awaits.is_clean_to_start awaited unflagged));
+      signature_is_shown = sig_shown c.law_prerequisites.ensures c.args.port _ _ _ third c.read-signature.ensures.does;
     }

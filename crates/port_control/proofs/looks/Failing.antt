@@ -13,7 +13,7 @@ use Rattle.adapter.specs.Rules.{IsOn}
 use Rattle.refinement.specs.PortFacts.{IsFaulted, FaultsOnRecord}
 use Rattle.refinement.specs.Links.{DoesNotWrite}
 use Rattle.port_control.specs.EventLaws.{Laws}
-use Rattle.port_control.specs.Looks.{LooksAt}
+use Rattle.port_control.specs.PortEvents.{TakesEvent}
 use Rattle.port_control.specs.declared.events.PortEvent.TheVariants as look
 use Rattle.port_control.proofs.looks.Stretching.{spared_on}
 use Rattle.port_control.proofs.looks.Telling.{answered_failed}
@@ -47,7 +47,7 @@ module _ (laws : Laws) (port : Port) where
   pub law_link_stays : (r : PortReg) (v : ℕ) (old new : Device) → r ≢ Ssts → Reads (Px port r) v old new → (new.port port.0).notes.last_ssts ≡ (old.port port.0).notes.last_ssts
   law_link_stays r v old new other reads = ((laws.access_notes port (Reading (Px port r) v) old new reads).link (λ e. other (let z : Px port r ≡ Px port Ssts = e in cc))).0
 
-  module _ (old new : Device) (on : IsOn old) (l : LooksAt port look.TaskFileError old new) (st : (old.port port.0).st ≡ true) (recorded : FaultsOnRecord old.tape (old.port port.0) port.0) where
+  module _ (old new : Device) (on : IsOn old) (l : TakesEvent port look.TaskFileError old new) (st : (old.port port.0).st ≡ true) (recorded : FaultsOnRecord old.tape (old.port port.0) port.0) where
     seen_on : IsOn l.seen
     seen_on = spared_on laws (Reading (Px port Is) l.causes) old l.seen tt l.reads on
 
@@ -55,20 +55,20 @@ module _ (laws : Laws) (port : Port) where
     cleared_on = spared_on laws (Writing (Px port Is) l.causes) l.seen l.cleared (λ e. cc) l.clears seen_on
 
     acknowledged_on : IsOn l.acknowledged
-    acknowledged_on = spared_on laws (Writing reg.Is l.own) l.cleared l.acknowledged (λ e. cc) l.acknowledges cleared_on
+    acknowledged_on = spared_on laws (Writing reg.Is l.port_mask) l.cleared l.acknowledged (λ e. cc) l.acknowledges cleared_on
 
     seen : StandsFaulted port l.seen
     seen = record {
       st = runs_on (Reading (Px port Is) l.causes) old l.seen on tt l.reads st;
       recorded = laws.access_recorded port (Reading (Px port Is) l.causes) old l.seen tt tt l.reads recorded;
-      halted = laws.fault_told port l.causes old l.seen on.no_reset st recorded l.reads (answered_failed l.causes l.status (sym l.tells)).0;
+      halted = laws.fault_told port l.causes old l.seen on.no_reset st recorded l.reads (answered_failed l.causes l.status (sym l.result_is)).0;
     }
 
     pub finds_fault : StandsFaulted port new
     finds_fault =
-        reading_on (Px port Ssts) l.status l.acknowledged new acknowledged_on l.shows
-        (writing_on reg.Is l.own l.cleared l.acknowledged cleared_on (λ e. let z : reg.Is ≡ Px port Cmd = e in cc) (λ e. let z : reg.Is ≡ Px port Sctl = e in cc) l.acknowledges
+        reading_on (Px port Ssts) l.status l.acknowledged new acknowledged_on l.reads_status
+        (writing_on reg.Is l.port_mask l.cleared l.acknowledged cleared_on (λ e. let z : reg.Is ≡ Px port Cmd = e in cc) (λ e. let z : reg.Is ≡ Px port Sctl = e in cc) l.acknowledges
         (writing_on (Px port Is) l.causes l.seen l.cleared seen_on (λ e. let z : Px port Is ≡ Px port Cmd = e in absurd cc) (λ e. let z : Px port Is ≡ Px port Sctl = e in absurd cc) l.clears seen))
 
     pub finds_link : (new.port port.0).notes.last_ssts % 16 ≡ 3
-    finds_link = ap (λ (n : ℕ). n % 16) (laws.link_seen port l.status l.acknowledged new l.shows) ∙ (answered_failed l.causes l.status (sym l.tells)).4
+    finds_link = ap (λ (n : ℕ). n % 16) (laws.link_seen port l.status l.acknowledged new l.reads_status) ∙ (answered_failed l.causes l.status (sym l.result_is)).4

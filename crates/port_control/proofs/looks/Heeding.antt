@@ -13,13 +13,13 @@ use Rattle.adapter.specs.Access.Access.{Reading, Writing}
 use Rattle.adapter.specs.Device.{DevicePort, Device}
 use Rattle.adapter.specs.Rules.{IsOn}
 use Rattle.adapter.specs.Steps.{Steps}
-use Rattle.refinement.specs.Driven.{TapeGrows, IsDrivenBy}
+use Rattle.refinement.specs.Fragments.{TapeGrows, IsDrivenBy}
 use Rattle.refinement.specs.Errors.{IsFatalOf, NoneFails, NoneFatal}
 use Rattle.refinement.specs.PortFacts.{IsFaultOf}
 use Rattle.refinement.specs.Links.{LeavesLink, NoPlugEvents, DoesNotWrite}
 use Rattle.port_control.specs.EventLaws.{Laws}
-use Rattle.port_control.specs.Looks.{LooksAt}
-use Rattle.port_control.specs.Services.{HasLoss, IsService, LeavesCauses, HidesNoPlugEvent, HidesNoFatal, HidesNoFault, ShowsNoFatal}
+use Rattle.port_control.specs.PortEvents.{TakesEvent}
+use Rattle.port_control.specs.ServiceAccesses.{LinkWasLost, IsServiceAccess, LeavesPxIs, HidesNoPlugEvent, HidesNoFatal, HidesNoFault, ShowsNoFatal}
 use Rattle.port_control.specs.declared.events.PortEvent.{PortEvent}
 use Rattle.port_control.specs.declared.events.PortEvent.TheVariants.{LinkChanged}
 use Rattle.port_control.proofs.looks.Seeing.{cleared_on, left_set, rest, seen_on}
@@ -52,12 +52,12 @@ module _ (laws : Laws) (Clear : DevicePort → Type 0) (None : ℕ → Device �
       let early = p late.0 in
       (early.0, more port.0 a b c early.1 late.1)
 
-  module _ (over : (access : Access) (old new : Device) → IsOn old → LeavesCauses port access → Does access old new → Shown old new) where
-    ordinary_over : (old new : Device) → IsOn old → IsDrivenBy (LeavesCauses port) old new → Shown old new
+  module _ (over : (access : Access) (old new : Device) → IsOn old → LeavesPxIs port access → Does access old new → Shown old new) where
+    ordinary_over : (old new : Device) → IsOn old → IsDrivenBy (LeavesPxIs port) old new → Shown old new
     ordinary_over old new on a =
-        (kept_on laws Shown (λ d clear. (clear, none port.0 d)) shown_more (LeavesCauses port) (λ access is. spares_ghc access is.0) (λ access x y here is does. over access x y here is does) old new on a).0
+        (kept_on laws Shown (λ d clear. (clear, none port.0 d)) shown_more (LeavesPxIs port) (λ access is. spares_ghc access is.0) (λ access x y here is does. over access x y here is does) old new on a).0
 
-    look_over : (result : PortEvent) (old new : Device) (l : LooksAt port result old new) → IsOn old → Shown l.seen l.cleared → Shown old new
+    look_over : (result : PortEvent) (old new : Device) (l : TakesEvent port result old new) → IsOn old → Shown l.seen l.cleared → Shown old new
     look_over result old new l on write =
         shown_more old l.seen new (over (Reading (Px port Is) l.causes) old l.seen on (tt, tt) l.reads)
         (shown_more l.seen l.cleared new write (ordinary_over l.cleared new (cleared_on laws port result old new l on) (rest port result old new l)))
@@ -70,7 +70,7 @@ module _ (laws : Laws) (Clear : DevicePort → Type 0) (None : ℕ → Device �
       (early.0, more port.0 old w.mid new early.1 (ends (sym (ap (λ (d : Device). d.tape) w.effect))))
 
 -- neither PxIS nor PxSERR is among the registers that are written
-ordinary_spares : (port : Port) (access : Access) → LeavesCauses port access → DoesNotWrite (Px port Serr) access
+ordinary_spares : (port : Port) (access : Access) → LeavesPxIs port access → DoesNotWrite (Px port Serr) access
 ordinary_spares port access is = spares_port port Serr (λ e. cc) (λ e. cc) (λ e. cc) access is.0
 
 module _ (laws : Laws) where
@@ -85,7 +85,7 @@ module _ (laws : Laws) where
         q.1 parts.1 x.0 x.1,
   )
 
-  service_linked : (port : Port) (access : Access) (old new : Device) → IsOn old → IsService access → Does access old new → StaysLinked port.0 old new
+  service_linked : (port : Port) (access : Access) (old new : Device) → IsOn old → IsServiceAccess access → Does access old new → StaysLinked port.0 old new
   service_linked port access old new on is does =
       let spares = spares_port port Sctl (λ e. cc) (λ e. cc) (λ e. cc) access is in (
         laws.tape.access_grows access old new does,
@@ -97,13 +97,13 @@ module _ (laws : Laws) where
 
   -- ---- what isn't shown hasn't come
 
-  fault_over : (port : Port) (access : Access) (old new : Device) → IsOn old → LeavesCauses port access → Does access old new → HidesNoFault port.0 old new
+  fault_over : (port : Port) (access : Access) (old new : Device) → IsOn old → LeavesPxIs port access → Does access old new → HidesNoFault port.0 old new
   fault_over port access old new on is does = laws.access_unfailed port access old new on.no_reset is.1 does
 
-  fatal_over : (port : Port) (access : Access) (old new : Device) → IsOn old → LeavesCauses port access → Does access old new → HidesNoFatal port.0 old new
+  fatal_over : (port : Port) (access : Access) (old new : Device) → IsOn old → LeavesPxIs port access → Does access old new → HidesNoFatal port.0 old new
   fatal_over port access old new on is does = laws.access_unbroken port access old new on.no_reset is.1 does
 
-  disk_over : (port : Port) (access : Access) (old new : Device) → IsOn old → LeavesCauses port access → Does access old new → HidesNoPlugEvent port.0 old new
+  disk_over : (port : Port) (access : Access) (old new : Device) → IsOn old → LeavesPxIs port access → Does access old new → HidesNoPlugEvent port.0 old new
   disk_over port access old new on is does = laws.access_undisturbed port access old new on.no_reset (ordinary_spares port access is) does
 
   abbrev Tfes : DevicePort → Type 0
@@ -112,13 +112,13 @@ module _ (laws : Laws) where
   abbrev Change : DevicePort → Type 0
   Change p = p.serr_n ≡ false
 
-  pub ordinary_shows : (port : Port) (old new : Device) → IsOn old → IsDrivenBy (LeavesCauses port) old new → HidesNoFault port.0 old new
+  pub ordinary_shows : (port : Port) (old new : Device) → IsOn old → IsDrivenBy (LeavesPxIs port) old new → HidesNoFault port.0 old new
   ordinary_shows port = ordinary_over laws Tfes NoneFails laws.tape.fails_none laws.tape.fails_more port (fault_over port)
 
-  pub ordinary_fatals : (port : Port) (old new : Device) → IsOn old → IsDrivenBy (LeavesCauses port) old new → HidesNoFatal port.0 old new
+  pub ordinary_fatals : (port : Port) (old new : Device) → IsOn old → IsDrivenBy (LeavesPxIs port) old new → HidesNoFatal port.0 old new
   ordinary_fatals port = ordinary_over laws ShowsNoFatal NoneFatal laws.tape.fatal_none laws.tape.fatal_more port (fatal_over port)
 
-  pub ordinary_disks : (port : Port) (old new : Device) → IsOn old → IsDrivenBy (LeavesCauses port) old new → HidesNoPlugEvent port.0 old new
+  pub ordinary_disks : (port : Port) (old new : Device) → IsOn old → IsDrivenBy (LeavesPxIs port) old new → HidesNoPlugEvent port.0 old new
   ordinary_disks port = ordinary_over laws Change NoPlugEvents laws.tape.plugs_none laws.tape.plugs_more port (disk_over port)
 
   -- a bit that is clear after a write that leaves it was clear
@@ -130,7 +130,7 @@ module _ (laws : Laws) where
 
   -- ---- a look
 
-  module _ (port : Port) (result : PortEvent) (old new : Device) (l : LooksAt port result old new) (on : IsOn old) where
+  module _ (port : Port) (result : PortEvent) (old new : Device) (l : TakesEvent port result old new) (on : IsOn old) where
     off : l.seen.hr ≡ false
     off = (seen_on laws port result old new l on).no_reset
 
@@ -139,14 +139,14 @@ module _ (laws : Laws) where
         look_over laws Tfes NoneFails laws.tape.fails_none laws.tape.fails_more port (fault_over port) result old new l on
         (write_over laws Tfes NoneFails laws.tape.fails_none laws.tape.fails_more port (laws.steps_unfailed port.0) l.causes l.seen l.cleared off l.clears
         (was_clear port l.causes 30 l.seen l.cleared off l.clears unread)
-        (λ tape. record { gained = []; tape = sym tape ∙ sym (append-nil l.clears.mid.tape); none = All-nil (λ e. IsFaultOf port.0 e → ⊥) }))
+        (λ tape. record { new_entries = []; tape_is = sym tape ∙ sym (append-nil l.clears.mid.tape); no_such_entry = All-nil (λ e. IsFaultOf port.0 e → ⊥) }))
 
     pub unread_fatals : ((place : ℕ) → 27 ≤ place → place ≤ 29 → bit l.causes place ≡ false) → HidesNoFatal port.0 old new
     unread_fatals unread =
         look_over laws ShowsNoFatal NoneFatal laws.tape.fatal_none laws.tape.fatal_more port (fatal_over port) result old new l on
         (write_over laws ShowsNoFatal NoneFatal laws.tape.fatal_none laws.tape.fatal_more port (laws.steps_unbroken port.0) l.causes l.seen l.cleared off l.clears
         (λ clear place from to. was_clear port l.causes place l.seen l.cleared off l.clears (unread place from to) (clear place from to))
-        (λ tape. record { gained = []; tape = sym tape ∙ sym (append-nil l.clears.mid.tape); none = All-nil (λ e. IsFatalOf port.0 e → ⊥) }))
+        (λ tape. record { new_entries = []; tape_is = sym tape ∙ sym (append-nil l.clears.mid.tape); no_such_entry = All-nil (λ e. IsFatalOf port.0 e → ⊥) }))
 
     -- the write of PxIS is none of PxSERR
     pub look_disks : HidesNoPlugEvent port.0 old new
@@ -155,32 +155,32 @@ module _ (laws : Laws) where
         (laws.access_undisturbed port (Writing (Px port Is) l.causes) l.seen l.cleared off (λ e. absurd (let z : Px port Is ≡ Px port Serr = e in cc)) l.clears)
 
     -- what comes before PxSSTS is read
-    early : IsDrivenBy IsService old l.acknowledged
+    early : IsDrivenBy IsServiceAccess old l.acknowledged
     early = record {
-      accesses = Reading (Px port Is) l.causes ∷ Writing (Px port Is) l.causes ∷ Writing reg.Is l.own ∷ [];
-      all = (l.seen, l.reads, (l.cleared, l.clears, (l.acknowledged, l.acknowledges, refl)));
-      only = All-cons IsService (Reading (Px port Is) l.causes) (Writing (Px port Is) l.causes ∷ Writing reg.Is l.own ∷ []) tt
-          (All-cons IsService (Writing (Px port Is) l.causes) (Writing reg.Is l.own ∷ []) (inr (port, inl refl))
-          (All-cons IsService (Writing reg.Is l.own) [] (inl refl) (All-nil IsService)));
+      accesses = Reading (Px port Is) l.causes ∷ Writing (Px port Is) l.causes ∷ Writing reg.Is l.port_mask ∷ [];
+      all_are_done = (l.seen, l.reads, (l.cleared, l.clears, (l.acknowledged, l.acknowledges, refl)));
+      accesses_are_of_kind = All-cons IsServiceAccess (Reading (Px port Is) l.causes) (Writing (Px port Is) l.causes ∷ Writing reg.Is l.port_mask ∷ []) tt
+          (All-cons IsServiceAccess (Writing (Px port Is) l.causes) (Writing reg.Is l.port_mask ∷ []) (inr (port, inl refl))
+          (All-cons IsServiceAccess (Writing reg.Is l.port_mask) [] (inl refl) (All-nil IsServiceAccess)));
     }
 
     -- It told a loss: so it had one to tell when it began, or a disk went or came meanwhile.
-    pub tells_loss : (old.port port.0).link_due ≡ false → result ≡ LinkChanged → HasLoss port.0 old new
+    pub tells_loss : (old.port port.0).link_due ≡ false → result ≡ LinkChanged → LinkWasLost port.0 old new
     tells_loss undue is = ⊎_elim
         (λ x. by_change (inr x))
         (λ more. ⊎_elim (λ n. by_change (inl n)) by_link more)
-        (answered_lost l.causes l.status (sym l.tells ∙ is))
+        (answered_lost l.causes l.status (sym l.result_is ∙ is))
       where
         reading : TapeGrows old l.seen
         reading = laws.tape.access_grows (Reading (Px port Is) l.causes) old l.seen l.reads
 
         showing : TapeGrows l.acknowledged new
-        showing = laws.tape.access_grows (Reading (Px port Ssts) l.status) l.acknowledged new l.shows
+        showing = laws.tape.access_grows (Reading (Px port Ssts) l.status) l.acknowledged new l.reads_status
 
         later : TapeGrows l.seen new
         later =
             laws.tape.grows_more l.seen l.cleared new (laws.tape.access_grows (Writing (Px port Is) l.causes) l.seen l.cleared l.clears)
-            (laws.tape.grows_more l.cleared l.acknowledged new (laws.tape.access_grows (Writing reg.Is l.own) l.cleared l.acknowledged l.acknowledges) showing)
+            (laws.tape.grows_more l.cleared l.acknowledged new (laws.tape.access_grows (Writing reg.Is l.port_mask) l.cleared l.acknowledged l.acknowledges) showing)
 
         linked : StaysLinked port.0 old l.acknowledged × IsOn l.acknowledged
         linked = services_keep laws (StaysLinked port.0) (λ d. (laws.tape.grows_none d, λ none due det. (due, det))) (linked_more port.0) (λ access x y ready kind does. service_linked port access x y ready kind does)
@@ -189,16 +189,16 @@ module _ (laws : Laws) where
         parts : NoPlugEvents port.0 old new → NoPlugEvents port.0 old l.acknowledged × NoPlugEvents port.0 l.acknowledged new
         parts = laws.tape.plugs_parts port.0 old l.acknowledged new linked.0.0.0 showing.0 linked.0.0.1 showing.1
 
-        by_change : (bit l.causes 22 ≡ true) ⊎ (bit l.causes 6 ≡ true) → HasLoss port.0 old new
+        by_change : (bit l.causes 22 ≡ true) ⊎ (bit l.causes 6 ≡ true) → LinkWasLost port.0 old new
         by_change told = ⊎_elim
             (λ n. inl (inl n))
             (λ more. ⊎_elim (λ x. inl (inr x)) (λ came. inr (inr (λ none. came (laws.tape.plugs_parts port.0 old l.seen new reading.0 later.0 reading.1 later.1 none).0))) more)
             (laws.changes_lost port l.causes old l.seen on.no_reset undue l.reads told)
 
-        by_link : l.status % 16 ≢ 3 → HasLoss port.0 old new
+        by_link : l.status % 16 ≢ 3 → LinkWasLost port.0 old new
         by_link other = ⊎_elim
             (λ (shows : (old.port port.0).ssts_det ≡ 3). inr (inr (λ none.
             let still = linked.0.1 (parts none).0 undue shows in
-            ⊎_elim (λ out. out still.1) (λ came. came (parts none).1) (laws.link_lost port l.status l.acknowledged new linked.1.no_reset still.0 l.shows other))))
+            ⊎_elim (λ out. out still.1) (λ came. came (parts none).1) (laws.link_lost port l.status l.acknowledged new linked.1.no_reset still.0 l.reads_status other))))
             (λ out. inr (inl out))
             (cases_eq (old.port port.0).ssts_det 3)

@@ -11,11 +11,11 @@ use Rattle.adapter.specs.Access.{Reads, Writes}
 use Rattle.adapter.specs.Access.Access.{Reading, Writing}
 use Rattle.adapter.specs.Device.{Device}
 use Rattle.adapter.specs.Rules.{IsOn, HasPort, MayWrite, IsStable}
-use Rattle.refinement.specs.Driven.{AnyUse, IsSoleBit, IsSimulated}
+use Rattle.refinement.specs.Fragments.{AnyUse, IsSoleBit, IsSimulated}
 use Rattle.refinement.specs.Links.{SameAdapter}
 use Rattle.port_control.specs.EventLaws.{Laws}
 use Rattle.port_control.specs.EventLaws.AccessPurpose.{Looking}
-use Rattle.port_control.specs.Looks.{port_event_of, IsLooking, LooksAt}
+use Rattle.port_control.specs.PortEvents.{port_event_of, IsEventAccess, TakesEvent}
 use Rattle.port_control.specs.declared.events.PortEvent.{PortEvent}
 use Rattle.port_control.proofs.looks.Stretching.{spared_on}
 
@@ -27,7 +27,7 @@ there_after port old new s there = (there.0, ap (λ (pi : ℕ). bit pi port) s.p
 pub bit_alone : (port place v : ℕ) → place ≡ port → v < 2 ^ 32 → bit v place ≡ true → ((k : ℕ) → k < 32 → k ≢ place → bit v k ≡ bit 0 k) → IsSoleBit port v
 bit_alone port place v same fits set others =
     let P : ℕ → Type 0 = λ p. IsSoleBit p v in
-    subst P same (record { here = set; alone = alone })
+    subst P same (record { bit_is_set = set; no_other_bit_is_set = alone })
   where
     alone : (k : ℕ) → k ≢ place → bit v k ≡ false
     alone k other = elim (cases_lt k 32) [
@@ -37,7 +37,7 @@ bit_alone port place v same fits set others =
 
 module _ (laws : Laws) (port : Port) (d0 d1 : Device) (causes : ℕ) (on : IsOn d0) (there : HasPort d0 port.0) (first : Reads (Px port Is) causes d0 d1) where
   -- one stretch of the look after another
-  then : (old mid new : Device) → IsSimulated (IsLooking port) AnyUse old mid → IsSimulated (IsLooking port) AnyUse mid new → IsSimulated (IsLooking port) AnyUse old new
+  then : (old mid new : Device) → IsSimulated (IsEventAccess port) AnyUse old mid → IsSimulated (IsEventAccess port) AnyUse mid new → IsSimulated (IsEventAccess port) AnyUse old new
   then old mid new a b = (laws.fragments.both (Looking port) (Looking port) (λ uses. uses) (λ uses. uses) (λ access may. may) (λ uses fits. fits) old mid new a b).followed
 
   pub one_on : IsOn d1
@@ -51,7 +51,7 @@ module _ (laws : Laws) (port : Port) (d0 d1 : Device) (causes : ℕ) (on : IsOn 
     pub changing_on : IsOn d2
     changing_on = spared_on laws (Reading (Px port Ssts) status) d1 d2 tt second one_on
 
-    pub changing_followed : IsSimulated (IsLooking port) AnyUse d0 d2
+    pub changing_followed : IsSimulated (IsEventAccess port) AnyUse d0 d2
     changing_followed =
         then d0 d1 d2 (laws.fragments.reads (Looking port) (Px port Is) causes d0 d1 (inl refl) first).followed
         (laws.fragments.reads (Looking port) (Px port Ssts) status d1 d2 (inr refl) second).followed
@@ -67,7 +67,7 @@ module _ (laws : Laws) (port : Port) (d0 d1 : Device) (causes : ℕ) (on : IsOn 
     pub acknowledging_may : (own : ℕ) → IsSoleBit port.0 own → IsStable (MayWrite reg.Is own) d2
     acknowledging_may own alone = laws.acknowledging_may port v d1 d2 one_on second own (λ q small set. elim (cases_eq q port.0) [
       | inl e ↦ inl e
-      | inr other ↦ absurd (true≢false (sym set ∙ alone.alone q other))
+      | inr other ↦ absurd (true≢false (sym set ∙ alone.no_other_bit_is_set q other))
     ])
 
     module _ (own : ℕ) (alone : IsSoleBit port.0 own) (d3 : Device) (third : Writes reg.Is own d2 d3) where
@@ -85,7 +85,7 @@ module _ (laws : Laws) (port : Port) (d0 d1 : Device) (causes : ℕ) (on : IsOn 
         pub looking_on : IsOn d4
         looking_on = spared_on laws (Reading (Px port Ssts) status) d3 d4 tt fourth three_on
 
-        pub looking_followed : IsSimulated (IsLooking port) AnyUse d0 d4
+        pub looking_followed : IsSimulated (IsEventAccess port) AnyUse d0 d4
         looking_followed =
             then d0 d1 d4 (laws.fragments.reads (Looking port) (Px port Is) causes d0 d1 (inl refl) first).followed
             (then d1 d2 d4 (laws.fragments.writes (Looking port) (Px port Is) v d1 d2 (inl refl) (clearing_may v) (λ uses is. tt) second).followed
@@ -94,18 +94,18 @@ module _ (laws : Laws) (port : Port) (d0 d1 : Device) (causes : ℕ) (on : IsOn 
 
 -- where what was read is written back, it was a look
 pub looked : (port : Port) (result : PortEvent) (d0 d1 d2 d3 d4 : Device) (causes own status : ℕ) → IsSoleBit port.0 own → Reads (Px port Is) causes d0 d1 → Writes (Px port Is) causes d1 d2 →
-    Writes reg.Is own d2 d3 → Reads (Px port Ssts) status d3 d4 → result ≡ port_event_of causes status → LooksAt port result d0 d4
+    Writes reg.Is own d2 d3 → Reads (Px port Ssts) status d3 d4 → result ≡ port_event_of causes status → TakesEvent port result d0 d4
 looked port result d0 d1 d2 d3 d4 causes own status alone first second third fourth is = record {
   causes = causes;
   seen = d1;
   reads = first;
   cleared = d2;
   clears = second;
-  own = own;
-  alone = alone;
+  port_mask = own;
+  is_sole_bit = alone;
   acknowledged = d3;
   acknowledges = third;
   status = status;
-  shows = fourth;
-  tells = is;
+  reads_status = fourth;
+  result_is = is;
 }

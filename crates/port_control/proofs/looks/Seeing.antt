@@ -11,12 +11,12 @@ use Rattle.adapter.specs.Access.Access.{Reading, Writing}
 use Rattle.adapter.specs.Device.{DevicePort, Device}
 use Rattle.adapter.specs.Rules.{IsOn}
 use Rattle.adapter.specs.RegisterEffects.{PortRegisterWritten}
-use Rattle.refinement.specs.Driven.{TapeGrows, IsDrivenBy}
+use Rattle.refinement.specs.Fragments.{TapeGrows, IsDrivenBy}
 use Rattle.refinement.specs.Errors.{KeepsErrors, NoDiskComes}
 use Rattle.refinement.specs.PortFacts.{RunsWell, ShowsNoTrouble, Undisturbed}
 use Rattle.port_control.specs.EventLaws.{Laws}
-use Rattle.port_control.specs.Looks.{IsLooking, LooksAt}
-use Rattle.port_control.specs.Services.{IsService, LeavesCauses, KeepsSerrNX}
+use Rattle.port_control.specs.PortEvents.{IsEventAccess, TakesEvent}
+use Rattle.port_control.specs.ServiceAccesses.{IsServiceAccess, LeavesPxIs, KeepsSerrNX}
 use Rattle.port_control.specs.declared.events.PortEvent.{PortEvent}
 use Rattle.port_control.specs.declared.events.PortEvent.TheVariants as look
 use Rattle.port_control.proofs.looks.Serving.{looking_service, spares_port, services_keep, calm_parts, services_well, errors_stay}
@@ -29,34 +29,34 @@ Unlinks port old new =
     TapeGrows old new
     × ((old.port port).link_due ≡ false → ((new.port port).link_due ≡ false) × (NoDiskComes port old new → (new.port port).ssts_det ≡ 3 → (old.port port).ssts_det ≡ 3))
 
-module _ (port : Port) (result : PortEvent) (old new : Device) (l : LooksAt port result old new) where
+module _ (port : Port) (result : PortEvent) (old new : Device) (l : TakesEvent port result old new) where
   -- the last of the accesses, the last two, and the last three
   abbrev shows : List Access
   shows = Reading (Px port Ssts) l.status ∷ []
 
   abbrev clears_own : List Access
-  clears_own = Writing reg.Is l.own ∷ shows
+  clears_own = Writing reg.Is l.port_mask ∷ shows
 
   abbrev clears_causes : List Access
   clears_causes = Writing (Px port Is) l.causes ∷ clears_own
 
-  pub look_driven : IsDrivenBy (IsLooking port) old new
+  pub look_driven : IsDrivenBy (IsEventAccess port) old new
   look_driven = record {
     accesses = Reading (Px port Is) l.causes ∷ clears_causes;
-    all = (l.seen, l.reads, (l.cleared, l.clears, (l.acknowledged, l.acknowledges, (new, l.shows, refl))));
-    only = All-cons (IsLooking port) (Reading (Px port Is) l.causes) clears_causes (inl refl)
-        (All-cons (IsLooking port) (Writing (Px port Is) l.causes) clears_own (inl refl)
-        (All-cons (IsLooking port) (Writing reg.Is l.own) shows (inr (refl, l.alone))
-        (All-cons (IsLooking port) (Reading (Px port Ssts) l.status) [] (inr refl) (All-nil (IsLooking port)))));
+    all_are_done = (l.seen, l.reads, (l.cleared, l.clears, (l.acknowledged, l.acknowledges, (new, l.reads_status, refl))));
+    accesses_are_of_kind = All-cons (IsEventAccess port) (Reading (Px port Is) l.causes) clears_causes (inl refl)
+        (All-cons (IsEventAccess port) (Writing (Px port Is) l.causes) clears_own (inl refl)
+        (All-cons (IsEventAccess port) (Writing reg.Is l.port_mask) shows (inr (refl, l.is_sole_bit))
+        (All-cons (IsEventAccess port) (Reading (Px port Ssts) l.status) [] (inr refl) (All-nil (IsEventAccess port)))));
   }
 
   -- what comes once PxIS is cleared
-  pub rest : IsDrivenBy (LeavesCauses port) l.cleared new
+  pub rest : IsDrivenBy (LeavesPxIs port) l.cleared new
   rest = record {
     accesses = clears_own;
-    all = (l.acknowledged, l.acknowledges, (new, l.shows, refl));
-    only = All-cons (LeavesCauses port) (Writing reg.Is l.own) shows (inl refl, λ e. let z : reg.Is ≡ Px port Is = e in cc)
-        (All-cons (LeavesCauses port) (Reading (Px port Ssts) l.status) [] (tt, tt) (All-nil (LeavesCauses port)));
+    all_are_done = (l.acknowledged, l.acknowledges, (new, l.reads_status, refl));
+    accesses_are_of_kind = All-cons (LeavesPxIs port) (Writing reg.Is l.port_mask) shows (inl refl, λ e. let z : reg.Is ≡ Px port Is = e in cc)
+        (All-cons (LeavesPxIs port) (Reading (Px port Ssts) l.status) [] (tt, tt) (All-nil (LeavesPxIs port)));
   }
 
 module _ (laws : Laws) where
@@ -71,7 +71,7 @@ module _ (laws : Laws) where
         (y.0, λ none up. let parts = laws.tape.comes_parts port a b c p.0.0 q.0.0 p.0.1 q.0.1 none in x.1 parts.0 (y.1 parts.1 up)),
   )
 
-  service_unlinks : (port : Port) (access : Access) (old new : Device) → IsOn old → IsService access → Does access old new → Unlinks port.0 old new
+  service_unlinks : (port : Port) (access : Access) (old new : Device) → IsOn old → IsServiceAccess access → Does access old new → Unlinks port.0 old new
   service_unlinks port access old new on is does = (
     laws.tape.access_grows access old new does,
     λ undue. (
@@ -80,7 +80,7 @@ module _ (laws : Laws) where
     ),
   )
 
-  unlinked_stays : (port : Port) (old new : Device) → IsOn old → IsDrivenBy IsService old new → Unlinks port.0 old new
+  unlinked_stays : (port : Port) (old new : Device) → IsOn old → IsDrivenBy IsServiceAccess old new → Unlinks port.0 old new
   unlinked_stays port old new on a =
       (services_keep laws (Unlinks port.0) (λ d. (laws.tape.grows_none d, λ undue. (undue, λ none up. up))) (unlinks_more port.0) (λ access x y ready is does. service_unlinks port access x y ready is does) old new on a).0
 
@@ -89,13 +89,13 @@ module _ (laws : Laws) where
   pub left_set : (port : Port) (v place : ℕ) (old new : Device) → old.hr ≡ false → (w : Writes (Px port Is) v old new) → (w.mid.port port.0).is place ≡ true → bit v place ≡ false → (new.port port.0).is place ≡ true
   left_set port v place old new off w set unread =
       let again : Writes (Px port Is) v w.mid new = record { mid = w.mid; steps = laws.steps_none w.mid; effect = w.effect } in
-      let p : PortRegisterWritten port.0 Is v w.mid new = laws.put port Is v w.mid new again ((laws.law_step_lists_keep_what_steps_keep old w.mid w.steps).on off).no_reset in
-      let still : (p.mid.port port.0).is place ≡ true = (p.keeps.on.controls port.0).is place set in
-      ap (λ (q : DevicePort). q.is place) p.here ∙ (ap (λ (b : Bool). b && not (bit v place)) still ∙ ap (λ (b : Bool). not b) unread)
+      let p : PortRegisterWritten port.0 Is v w.mid new = laws.put port Is v w.mid new again ((laws.law_step_lists_keep_what_steps_keep old w.mid w.steps).keeps_outside_reset off).no_reset in
+      let still : (p.mid.port port.0).is place ≡ true = (p.keeps.keeps_outside_reset.controls port.0).is place set in
+      ap (λ (q : DevicePort). q.is place) p.port_is_written ∙ (ap (λ (b : Bool). b && not (bit v place)) still ∙ ap (λ (b : Bool). not b) unread)
 
   -- ---- a look
 
-  module _ (port : Port) (result : PortEvent) (old new : Device) (l : LooksAt port result old new) (on : IsOn old) where
+  module _ (port : Port) (result : PortEvent) (old new : Device) (l : TakesEvent port result old new) (on : IsOn old) where
     pub seen_on : IsOn l.seen
     seen_on = spared_on laws (Reading (Px port Is) l.causes) old l.seen tt l.reads on
 
@@ -103,30 +103,30 @@ module _ (laws : Laws) where
     cleared_on = spared_on laws (Writing (Px port Is) l.causes) l.seen l.cleared (λ e. cc) l.clears seen_on
 
     acknowledged_on : IsOn l.acknowledged
-    acknowledged_on = spared_on laws (Writing reg.Is l.own) l.cleared l.acknowledged (λ e. cc) l.acknowledges cleared_on
+    acknowledged_on = spared_on laws (Writing reg.Is l.port_mask) l.cleared l.acknowledged (λ e. cc) l.acknowledges cleared_on
 
-    as_services : IsDrivenBy IsService old new
-    as_services = driven_as (IsLooking port) IsService old new (looking_service port) (look_driven port result old new l)
+    as_services : IsDrivenBy IsServiceAccess old new
+    as_services = driven_as (IsEventAccess port) IsServiceAccess old new (looking_service port) (look_driven port result old new l)
 
     -- what PxSSTS shows, the port has
     shown : l.status % 16 ≡ (new.port port.0).ssts_det
-    shown = laws.shown_after port Ssts l.status l.acknowledged new acknowledged_on.no_reset l.shows
+    shown = laws.shown_after port Ssts l.status l.acknowledged new acknowledged_on.no_reset l.reads_status
 
     -- ---- what it sees
 
     pub seen_calm : result ≡ look.NoEvent → ShowsNoTrouble (old.port port.0) × Undisturbed port.0 old l.seen
     seen_calm is =
-        let told = answered_undisturbed l.causes l.status (sym l.tells ∙ is) in
+        let told = answered_undisturbed l.causes l.status (sym l.result_is ∙ is) in
         laws.reads_show port.0 (Px port Is) l.causes old l.seen on.no_reset l.reads (laws.told_calm port l.causes old l.seen on.no_reset l.reads told.0)
 
     pub seen_changed : ((old.port port.0).serr_n ≡ true) ⊎ ((old.port port.0).serr_x ≡ true) → result ≡ look.LinkChanged
-    seen_changed (inl n) = l.tells ∙ told_lost l.causes l.status (inr (inl ((laws.changes_told port l.causes old l.seen on.no_reset l.reads).0 n)))
-    seen_changed (inr x) = l.tells ∙ told_lost l.causes l.status (inl ((laws.changes_told port l.causes old l.seen on.no_reset l.reads).1 x))
+    seen_changed (inl n) = l.result_is ∙ told_lost l.causes l.status (inr (inl ((laws.changes_told port l.causes old l.seen on.no_reset l.reads).0 n)))
+    seen_changed (inr x) = l.result_is ∙ told_lost l.causes l.status (inl ((laws.changes_told port l.causes old l.seen on.no_reset l.reads).1 x))
 
     pub seen_unlinked : (old.port port.0).ssts_det ≢ 3 → (old.port port.0).link_due ≡ false → NoDiskComes port.0 old new → result ≡ look.LinkChanged
     seen_unlinked none undue comes =
         let stays = unlinked_stays port old new on as_services in
-        l.tells ∙ told_lost l.causes l.status (inr (inr (λ (three : l.status % 16 ≡ 3). none ((stays.1 undue).1 comes (sym shown ∙ three)))))
+        l.result_is ∙ told_lost l.causes l.status (inr (inr (λ (three : l.status % 16 ≡ 3). none ((stays.1 undue).1 comes (sym shown ∙ three)))))
 
     -- ---- a port that runs well
 
@@ -135,11 +135,11 @@ module _ (laws : Laws) where
         let early : TapeGrows old l.seen = laws.tape.access_grows (Reading (Px port Is) l.causes) old l.seen l.reads in
         let late : TapeGrows l.seen new =
         laws.tape.grows_more l.seen l.cleared new (laws.tape.access_grows (Writing (Px port Is) l.causes) l.seen l.cleared l.clears)
-        (laws.tape.grows_more l.cleared l.acknowledged new (laws.tape.access_grows (Writing reg.Is l.own) l.cleared l.acknowledged l.acknowledges)
-        (laws.tape.access_grows (Reading (Px port Ssts) l.status) l.acknowledged new l.shows)) in
+        (laws.tape.grows_more l.cleared l.acknowledged new (laws.tape.access_grows (Writing reg.Is l.port_mask) l.cleared l.acknowledged l.acknowledges)
+        (laws.tape.access_grows (Reading (Px port Ssts) l.status) l.acknowledged new l.reads_status)) in
         let seen_so : RunsWell (l.seen.port port.0) = laws.healthy_reads port.0 (Px port Is) l.causes old l.seen on.no_reset l.reads (calm_parts laws port.0 old l.seen new early late calm).0 well in
         let still : RunsWell (new.port port.0) = services_well laws port old new on as_services calm well in
-        (l.tells ∙ told_undisturbed l.causes l.status (laws.calm_told port l.causes old l.seen on.no_reset l.reads seen_so.quiet) (shown ∙ still.det), still)
+        (l.result_is ∙ told_undisturbed l.causes l.status (laws.calm_told port l.causes old l.seen on.no_reset l.reads seen_so.shows_no_trouble) (shown ∙ still.det), still)
 
     -- ---- what it leaves told
 
@@ -154,4 +154,4 @@ module _ (laws : Laws) where
 
     -- a cause that wasn't read stays told
     pub looking_causes : (place : ℕ) → (l.clears.mid.port port.0).is place ≡ true → bit l.causes place ≡ false → (new.port port.0).is place ≡ true
-    looking_causes place set unread = later.is place (left_set port l.causes place l.seen l.cleared seen_on.no_reset l.clears set unread)
+    looking_causes place set unread = later.pxis_is_kept place (left_set port l.causes place l.seen l.cleared seen_on.no_reset l.clears set unread)

@@ -5,13 +5,13 @@ use Rattle.hba_regs.specs.declared.reg.Reg.TheVariants.{Ghc}
 use Rattle.adapter.specs.Access.{Access, Does, DoesAll}
 use Rattle.adapter.specs.Device.{Device}
 use Rattle.adapter.specs.Rules.{IsOn}
-use Rattle.refinement.specs.Driven.{IsDrivenBy}
+use Rattle.refinement.specs.Fragments.{IsDrivenBy}
 use Rattle.refinement.specs.Links.{DoesNotWrite}
 use Rattle.port_control.specs.EventLaws.{Laws}
 
 -- accesses of one kind are of each wider one
 pub driven_as : (May More : Access → Type 0) (old new : Device) → ((access : Access) → May access → More access) → IsDrivenBy May old new → IsDrivenBy More old new
-driven_as May More old new wider a = record { accesses = a.accesses; all = a.all; only = All-weaker May More wider a.accesses a.only }
+driven_as May More old new wider a = record { accesses = a.accesses; all_are_done = a.all_are_done; accesses_are_of_kind = All-weaker May More wider a.accesses a.accesses_are_of_kind }
 
 module _ (Keeps : Device → Device → Type 0) (none : (d : Device) → Keeps d d) (more : (a b c : Device) → Keeps a b → Keeps b c → Keeps a c) (May : Access → Type 0) where
   kept_over : ((access : Access) (old new : Device) → May access → Does access old new → Keeps old new) →
@@ -21,7 +21,7 @@ module _ (Keeps : Device → Device → Type 0) (none : (d : Device) → Keeps d
       more old mid new (each access old mid (All-head May access rest only) does) (kept_over each rest mid new (All-tail May access rest only) then)
 
   pub kept : ((access : Access) (old new : Device) → May access → Does access old new → Keeps old new) → (old new : Device) → IsDrivenBy May old new → Keeps old new
-  kept each old new a = kept_over each a.accesses old new a.only a.all
+  kept each old new a = kept_over each a.accesses old new a.accesses_are_of_kind a.all_are_done
 
 -- an access that doesn't write GHC leaves an adapter on
 pub spared_on : (laws : Laws) (access : Access) (old new : Device) → DoesNotWrite Ghc access → Does access old new → IsOn old → IsOn new

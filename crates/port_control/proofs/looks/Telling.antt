@@ -3,7 +3,7 @@ use Rattle.std.proofs.Common.{ℕ, ◌≡◌, ◌≢◌, ◌≤◌, ◌⊎◌, �
 use Rattle.std.proofs.lemmas.Bool.{cases_eq, eqb-true, eq-eqb, ne_eqb}
 use Rattle.hba_regs.specs.Bits.{bit}
 use Rattle.refinement.specs.PortFacts.{TellsNoTrouble}
-use Rattle.port_control.specs.Looks.{port_event_of}
+use Rattle.port_control.specs.PortEvents.{port_event_of}
 use Rattle.port_control.specs.declared.events.PortEvent.{PortEvent}
 use Rattle.port_control.specs.declared.events.PortEvent.TheVariants.{LinkChanged, FatalError, TaskFileError, NoEvent}
 
@@ -94,10 +94,10 @@ module _ (causes status : ℕ) where
   pub answered_undisturbed : port_event_of causes status ≡ NoEvent → TellsNoTrouble causes × (status % 16 ≡ 3)
   answered_undisturbed h =
       let x = calm (bit causes 6) (bit causes 22) (status % 16 == 3) (bit causes 28) (bit causes 29) (bit causes 27) (bit causes 30) h in
-      (record { change = x.0.0; ready = x.0.1; quiet = four_places (λ place. bit causes place ≡ false) x.1.2 x.1.0 x.1.1 x.1.3 }, eqb-true (status % 16) 3 x.2)
+      (record { pcs_is_clear = x.0.0; prcs_is_clear = x.0.1; no_error_bit_is_set = four_places (λ place. bit causes place ≡ false) x.1.2 x.1.0 x.1.1 x.1.3 }, eqb-true (status % 16) 3 x.2)
 
   pub told_undisturbed : TellsNoTrouble causes → status % 16 ≡ 3 → port_event_of causes status ≡ NoEvent
-  told_undisturbed t three = rw (t.change, t.ready, eq-eqb (status % 16) 3 three, t.quiet 28 (omega arith) (omega arith), t.quiet 29 (omega arith) (omega arith), t.quiet 27 (omega arith) (omega arith), t.quiet 30 (omega arith) (omega arith)) refl
+  told_undisturbed t three = rw (t.pcs_is_clear, t.prcs_is_clear, eq-eqb (status % 16) 3 three, t.no_error_bit_is_set 28 (omega arith) (omega arith), t.no_error_bit_is_set 29 (omega arith) (omega arith), t.no_error_bit_is_set 27 (omega arith) (omega arith), t.no_error_bit_is_set 30 (omega arith) (omega arith)) refl
 
   -- each of the three comes first
   pub told_lost : (bit causes 6 ≡ true) ⊎ (bit causes 22 ≡ true) ⊎ (status % 16 ≢ 3) → port_event_of causes status ≡ LinkChanged

@@ -46,7 +46,7 @@ returns-clause-places g c =
     let e = fb_placed c.law_prerequisites.ensures c.args.port _ _ _ _ d _ (ap (λ n. PORT_BYTES * n + RECEIVED_FIS_OFFSET) c.from-list.ensures) c.write-3.ensures.does in
     let f = fbu_placed c.law_prerequisites.ensures c.args.port _ _ _ _ e c.write-4.ensures.does in
     record {
-      quiet = f.quiet;
+      is_quiescent = f.quiet;
       bases = f.bases ∙ programmed_by c.args.port.0 _ ((g.A.Adapter.device c.args.adapter.now).port c.args.port.0).bases (ap (λ n. PORT_BYTES * n) c.from-list.ensures);
       same = f.same;
     }

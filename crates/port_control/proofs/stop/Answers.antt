@@ -20,23 +20,23 @@ loop-reading-init g c = record {
   cost = omega arith;
 }
 
-pub returns-then-not-list_running-clause-on : goal.returns-then-not-list_running-clause-on
-returns-then-not-list_running-clause-on g c = (falling_on c.law_prerequisites.ensures _ _ _ _ _ _ c.loop-reading.invariant.known c.read-in-loop-reading.ensures.does).on
+pub returns-then-not-is_list_running-clause-on : goal.returns-then-not-is_list_running-clause-on
+returns-then-not-is_list_running-clause-on g c = (falling_on c.law_prerequisites.ensures _ _ _ _ _ _ c.loop-reading.invariant.known c.read-in-loop-reading.ensures.does).adapter_is_on
 
-pub returns-then-not-list_running-clause-has : goal.returns-then-not-list_running-clause-has
-returns-then-not-list_running-clause-has g c = has_still c.law_prerequisites.ensures _ _ _ _ _ _ c.loop-reading.invariant.known c.read-in-loop-reading.ensures.does
+pub returns-then-not-is_list_running-clause-has : goal.returns-then-not-is_list_running-clause-has
+returns-then-not-is_list_running-clause-has g c = has_still c.law_prerequisites.ensures _ _ _ _ _ _ c.loop-reading.invariant.known c.read-in-loop-reading.ensures.does
 
-pub returns-then-not-list_running-clause-halts : goal.returns-then-not-list_running-clause-halts
-returns-then-not-list_running-clause-halts g c =
-    let clear = sym c.list_running.ensures ∙ c.if-not-list_running.true in
+pub returns-then-not-is_list_running-clause-halts : goal.returns-then-not-is_list_running-clause-halts
+returns-then-not-is_list_running-clause-halts g c =
+    let clear = sym c.is_list_running.ensures ∙ c.if-not-is_list_running.true in
     record {
-      told = falls c.law_prerequisites.ensures _ _ _ _ _ _ c.loop-reading.invariant.known c.read-in-loop-reading.ensures.does clear;
+      is_simulated = falls c.law_prerequisites.ensures _ _ _ _ _ _ c.loop-reading.invariant.known c.read-in-loop-reading.ensures.does clear;
       stopped = fallen c.law_prerequisites.ensures _ _ _ _ _ _ c.loop-reading.invariant.known c.read-in-loop-reading.ensures.does clear;
     }
 
 pub loop-reading-preserved : goal.loop-reading-preserved
 loop-reading-preserved g c = record {
-  known = falls_still c.law_prerequisites.ensures _ _ _ _ _ _ c.loop-reading.invariant.known c.read-in-loop-reading.ensures.does (omega arith) (sym c.list_running.ensures ∙ c.if-not-list_running.false);
+  known = falls_still c.law_prerequisites.ensures _ _ _ _ _ _ c.loop-reading.invariant.known c.read-in-loop-reading.ensures.does (omega arith) (sym c.is_list_running.ensures ∙ c.if-not-is_list_running.false);
   cost = omega arith;
 }
 
@@ -46,4 +46,4 @@ returns-clause-fails g c =
     let all : c.loop-reading._reading ≡ MOST_READINGS = omega arith in
     let low = w.low in
     let high = w.high (omega (arith, all)) in
-    (refl, record { told = told_awaits c.law_prerequisites.ensures 0 15 c.args.port _ all _ _ w.told; stuck = omega (arith, all, low, high) })
+    (refl, record { is_simulated = told_awaits c.law_prerequisites.ensures 0 15 c.args.port _ all _ _ w.told; stuck_is_backed = omega (arith, all, low, high) })

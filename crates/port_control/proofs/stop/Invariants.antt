@@ -1,5 +1,5 @@
 use Rattle.std.proofs.Common.{◌+◌}
-use Rattle.adapter.specs.Counted.{MakesAtMost}
+use Rattle.adapter.specs.AccessBounds.{MakesAtMost}
 use Rattle.port_control.proofs.Ceasing.{IsFalling}
 use Rattle.port_control.proofs.stop.Given as goal
 

@@ -26,20 +26,20 @@ loop-reading-init g c = record {
   cost = omega arith;
 }
 
-pub returns-then-not-receive_running-clause-stops : goal.returns-then-not-receive_running-clause-stops
-returns-then-not-receive_running-clause-stops g c = λ _. empties_told c.law_prerequisites.ensures _ _ _ _ _ _ c.loop-reading.invariant.known c.read-in-loop-reading.ensures.does (sym c.receive_running.ensures ∙ c.if-not-receive_running.true)
+pub returns-then-not-is_receive_running-clause-stops : goal.returns-then-not-is_receive_running-clause-stops
+returns-then-not-is_receive_running-clause-stops g c = λ _. empties_told c.law_prerequisites.ensures _ _ _ _ _ _ c.loop-reading.invariant.known c.read-in-loop-reading.ensures.does (sym c.is_receive_running.ensures ∙ c.if-not-is_receive_running.true)
 
-pub returns-then-not-receive_running-clause-clears : goal.returns-then-not-receive_running-clause-clears
-returns-then-not-receive_running-clause-clears g c =
+pub returns-then-not-is_receive_running-clause-clears : goal.returns-then-not-is_receive_running-clause-clears
+returns-then-not-is_receive_running-clause-clears g c =
     let has = empties c.law_prerequisites.ensures _ _ _ _ _ _ c.loop-reading.invariant.known c.read-in-loop-reading.ensures.does in
     record { stopped = has.stopped; fre = has.fre; bases = has.bases; same = has.same }
 
-pub returns-then-not-receive_running-clause-fallen : goal.returns-then-not-receive_running-clause-fallen
-returns-then-not-receive_running-clause-fallen g c = λ _. emptied c.law_prerequisites.ensures _ _ _ _ _ _ c.loop-reading.invariant.known c.read-in-loop-reading.ensures.does (sym c.receive_running.ensures ∙ c.if-not-receive_running.true)
+pub returns-then-not-is_receive_running-clause-fallen : goal.returns-then-not-is_receive_running-clause-fallen
+returns-then-not-is_receive_running-clause-fallen g c = λ _. emptied c.law_prerequisites.ensures _ _ _ _ _ _ c.loop-reading.invariant.known c.read-in-loop-reading.ensures.does (sym c.is_receive_running.ensures ∙ c.if-not-is_receive_running.true)
 
 pub loop-reading-preserved : goal.loop-reading-preserved
 loop-reading-preserved g c = record {
-  known = empties_still c.law_prerequisites.ensures _ _ _ _ _ _ c.loop-reading.invariant.known c.read-in-loop-reading.ensures.does (omega arith) (sym c.receive_running.ensures ∙ c.if-not-receive_running.false);
+  known = empties_still c.law_prerequisites.ensures _ _ _ _ _ _ c.loop-reading.invariant.known c.read-in-loop-reading.ensures.does (omega arith) (sym c.is_receive_running.ensures ∙ c.if-not-is_receive_running.false);
   cost = omega arith;
 }
 

@@ -28,8 +28,8 @@ returns-then-detection-eq-DEVICE_WITH_LINK-clause-followed g c = missing_followe
 pub returns-then-detection-eq-DEVICE_WITH_LINK-clause-finds : goal.returns-then-detection-eq-DEVICE_WITH_LINK-clause-finds
 returns-then-detection-eq-DEVICE_WITH_LINK-clause-finds g c = λ _. record {
   sees = sees_device c.law_prerequisites.ensures _ _ _ _ _ _ c.loop-reading.invariant.known c.read.ensures.does (omega arith) (omega arith);
-  saw = device_seen c.law_prerequisites.ensures _ _ _ _ _ _ c.loop-reading.invariant.known c.read.ensures.does (omega arith);
-  up = device_up c.law_prerequisites.ensures _ _ _ _ _ _ c.loop-reading.invariant.known c.read.ensures.does (omega arith);
+  device_was_seen = device_seen c.law_prerequisites.ensures _ _ _ _ _ _ c.loop-reading.invariant.known c.read.ensures.does (omega arith);
+  link_is_up = device_up c.law_prerequisites.ensures _ _ _ _ _ _ c.loop-reading.invariant.known c.read.ensures.does (omega arith);
 }
 
 pub loop-reading-preserved : goal.loop-reading-preserved
@@ -42,6 +42,6 @@ pub returns-clause-misses : goal.returns-clause-misses
 returns-clause-misses g c = λ _.
     let all : c.loop-reading._reading ≡ MOST_READINGS = omega arith in
     record {
-      misses = subst (λ (n : ℕ). ReadsInVain c.args.port Ssts HasLink n (g.A.Adapter.device c.args.adapter.now) (g.A.Adapter.device c.loop-reading.adapter)) all c.loop-reading.invariant.known.misses;
+      reads_in_vain = subst (λ (n : ℕ). ReadsInVain c.args.port Ssts HasLink n (g.A.Adapter.device c.args.adapter.now) (g.A.Adapter.device c.loop-reading.adapter)) all c.loop-reading.invariant.known.misses;
       fault = search rules;
     }

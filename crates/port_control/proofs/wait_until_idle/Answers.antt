@@ -31,13 +31,13 @@ returns-then-not-is_bsy_or_drq-clause-awaits g c =
     let known = c.loop-reading.invariant.known in
     let clear = sym c.is_bsy_or_drq.ensures ∙ c.if-not-is_bsy_or_drq.true in
     record {
-      saw = busy_saw c.law_prerequisites.ensures _ _ _ _ _ _ known c.read.ensures.does;
-      idle = λ _. (
+      device_was_seen = busy_saw c.law_prerequisites.ensures _ _ _ _ _ _ known c.read.ensures.does;
+      disk_is_idle = λ _. (
         idle_seen c.law_prerequisites.ensures _ _ _ _ _ _ known c.read.ensures.does clear,
         busy_waits c.law_prerequisites.ensures _ _ _ _ _ _ known c.read.ensures.does (omega arith) clear,
       );
-      busy = λ is. absurd (cc);
-      quiet = λ awaited unflagged. busy_quiet c.law_prerequisites.ensures _ _ _ _ _ _ known c.read.ensures.does (awaited, unflagged);
+      busy_is_backed = λ is. absurd (cc);
+      is_clean_to_start = λ awaited unflagged. busy_quiet c.law_prerequisites.ensures _ _ _ _ _ _ known c.read.ensures.does (awaited, unflagged);
     }
 
 pub loop-reading-preserved : goal.loop-reading-preserved
@@ -50,11 +50,11 @@ pub returns-clause-awaits : goal.returns-clause-awaits
 returns-clause-awaits g c =
     let all : c.loop-reading._reading ≡ MOST_READINGS = omega arith in
     record {
-      saw = c.loop-reading.invariant.known.saw;
-      idle = λ is. absurd (cc);
-      busy = λ _. (
+      device_was_seen = c.loop-reading.invariant.known.saw;
+      disk_is_idle = λ is. absurd (cc);
+      busy_is_backed = λ _. (
         search rules,
         subst (λ (n : ℕ). ReadsInVain c.args.port Tfd ShowsIdle n (g.A.Adapter.device c.args.adapter.now) (g.A.Adapter.device c.loop-reading.adapter)) all c.loop-reading.invariant.known.stays,
       );
-      quiet = search rules;
+      is_clean_to_start = search rules;
     }

@@ -1,4 +1,4 @@
-use Rattle.adapter.specs.Counted.{MakesAtMost}
+use Rattle.adapter.specs.AccessBounds.{MakesAtMost}
 use Rattle.port_control.proofs.Looking.{IsBusyStill}
 use Rattle.port_control.proofs.wait_until_idle.Given as goal
 

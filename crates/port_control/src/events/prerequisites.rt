@@ -5,9 +5,9 @@ ghost use Rattle.port_control.specs.EventLaws.{Laws};
 use adapter::laws::{
     law_port_register_accesses, law_step_lists_keep_what_steps_keep, law_steps_compose,
 };
+use refinement::access_kinds::law_fragment_prerequisites;
 use refinement::disks::law_looks_tell_trouble;
 use refinement::fragments::{law_other_ports_are_left, law_tape_prerequisites};
-use refinement::kinds::law_fragment_prerequisites;
 use refinement::laws::{
     law_acknowledging_is_permitted, law_clear_bits_stay, law_writing_is_permitted,
 };

@@ -6,7 +6,7 @@ use Rattle.hba_regs.specs.declared.reg.Reg.TheVariants.{Cap, Ghc, Is, Pi, Vs, Ca
 use Rattle.adapter.specs.Access.{Access, Does, Stores, noted, written}
 use Rattle.adapter.specs.Access.Access.{Reading, Writing, Loading, Storing}
 use Rattle.adapter.specs.Device.{Device}
-use Rattle.adapter.specs.Kept.{Keeps}
+use Rattle.adapter.specs.KeptBySteps.{Keeps}
 use Rattle.adapter.specs.Rules.{IsOn}
 use Rattle.adapter.specs.Steps.{Steps}
 use Rattle.adapter.proofs.KeptLemmas.{law_step_lists_keep_what_steps_keep}
@@ -53,7 +53,7 @@ access_same (Storing at bytes) old new x =
 -- ---- it stays switched on
 
 steps_on : (old new : Device) → Steps old new → IsOn old → IsOn new
-steps_on old new s on = let k = (law_step_lists_keep_what_steps_keep s).on on.no_reset in record { ae = k.ae ∙ on.ae; no_reset = k.no_reset }
+steps_on old new s on = let k = (law_step_lists_keep_what_steps_keep s).keeps_outside_reset on.no_reset in record { ae = k.ae ∙ on.ae; no_reset = k.no_reset }
 
 noted_switched_on : (r : Reg) (v : ℕ) (d : Device) → IsOn d → IsOn (noted r v d)
 noted_switched_on (Px p r) v d on = record { ae = on.ae; no_reset = on.no_reset }

@@ -6,12 +6,12 @@ use Rattle.hba_regs.specs.declared.reg.Reg.TheVariants.{Ghc}
 use Rattle.adapter.specs.Access.{Reads, Writes}
 use Rattle.adapter.specs.Device.{DevicePort, Device}
 use Rattle.adapter.specs.FirstRead.{first_read_device}
-use Rattle.adapter.specs.Kept.{KeepsOutsideReset}
+use Rattle.adapter.specs.KeptBySteps.{KeepsOutsideReset}
 use Rattle.adapter.specs.Memory.{changed}
 use Rattle.adapter.specs.Rules.{IsOn}
 use Rattle.adapter.specs.Steps.{DeviceTransition, Can, device_after, Steps}
 use Rattle.adapter.specs.Steps.DeviceTransition.{Fetch, FetchFault, Move, Clear, Done, Fault, Fatal, Fall, FrFall, LinkUp, Unplug, Plug, ResetEnds, Scribble}
-use Rattle.refinement.specs.Below.{StepLaws}
+use Rattle.refinement.specs.StepLaws.{StepLaws}
 use Rattle.refinement.specs.Errors.{IsLeftByReset, ShowsResetState}
 use Rattle.refinement.specs.PortFacts.{ShowsDrqTillLink}
 use Rattle.refinement.proofs.device.AwaitedLink.{leads_keep, steps_awaited}
@@ -32,15 +32,15 @@ reset_begins v old new set call = ap (λ (d : Device). d.hr) call.effect ∙ or_
 
 pub switched_on : StepLaws → (v : ℕ) (old new : Device) → old.hr ≡ false → bit v 31 ≡ true → bit v 0 ≡ false → Writes Ghc v old new → IsOn new
 switched_on laws v old new off set none call =
-    let on : KeepsOutsideReset old call.mid = (laws.keeps _ _ call.steps).on off in
+    let on : KeepsOutsideReset old call.mid = (laws.keeps _ _ call.steps).keeps_outside_reset off in
     subst IsOn (sym call.effect) (record { ae = set; no_reset = ap (λ (b : Bool). call.mid.hr || b) none ∙ or_false call.mid.hr ∙ on.no_reset })
 
 -- ---- what a reset leaves
 
 reset_port : (d : Device) (port : ℕ) → IsLeftByReset ((device_after ResetEnds d).port port)
 reset_port d port = record {
-  stopped = reset_left d port;
-  is = λ place. refl;
+  is_quiescent = reset_left d port;
+  pxis_is_clear = λ place. refl;
   serr_n = refl;
   serr_x = refl;
   sctl_det = refl;
@@ -81,7 +81,7 @@ pub reset_clears : (v : ℕ) (old new : Device) → old.hr ≡ true → Reads Gh
 reset_clears v old new on call clear port =
     let s = reset_read v old new on call clear in
     let i : Idles (new.port port) = leads_keep Idles step_idles port s.1.steps (device_after ResetEnds s.0) new s.1.lead (refl, λ place. refl, refl, λ clear. (refl, refl, refl)) in
-    record { is = i.1; sctl_det = i.2; calm = i.3 }
+    record { pxis_is_clear = i.1; sctl_det = i.2; shows_no_link_until_x = i.3 }
 
 pub reset_awaits : (v : ℕ) (old new : Device) → old.hr ≡ true → Reads Ghc v old new → bit v 0 ≡ false → (port : ℕ) → ShowsDrqTillLink (new.port port)
 reset_awaits v old new on call clear port =

@@ -11,13 +11,13 @@ use Rattle.hba_regs.specs.declared.reg.PortReg.{PortReg}
 use Rattle.hba_regs.specs.declared.reg.PortReg.TheVariants.{Clb, Clbu, Fb, Fbu, Is, Ie, Cmd, Tfd, Sig, Ssts, Sctl, Serr, Sact, Ci}
 use Rattle.adapter.specs.Access.{Writes}
 use Rattle.adapter.specs.Device.{Bases, Notes, DevicePort, Device}
-use Rattle.adapter.specs.Kept.{Keeps, KeepsOutsideReset, KeepsPort, KeepsControls}
+use Rattle.adapter.specs.KeptBySteps.{Keeps, KeepsOutsideReset, KeepsPort, KeepsControls}
 use Rattle.adapter.specs.Rules.{IsOn, HasPort, MayStart, MaySetFre, MayStopReceiving, MayWriteCmd, MayWritePort, MayWrite, IsStable}
 use Rattle.adapter.proofs.Calls.{PortRegisterWritten, put, on_after, on_stays}
 use Rattle.adapter.proofs.KeptLemmas.{law_step_lists_keep_what_steps_keep}
 use Rattle.refinement.specs.Driver.{LeavesUses, AllFree, KeepsOtherCmdBits}
 use Rattle.refinement.specs.PortFacts.{KeepsFaultRecord, IsCleanToStart}
-use Rattle.refinement.specs.Places.{list_of, received_of}
+use Rattle.refinement.specs.MemoryLayout.{list_of, received_of}
 use Rattle.refinement.specs.Slots.{SlotStates}
 use Rattle.refinement.proofs.device.StartConditions.{steps_quiet}
 
@@ -29,7 +29,7 @@ module _ (p q : DevicePort) (k : KeepsPort p q) (c : KeepsControls p q) (notes :
 
   start_stays : MayStart p → MayStart q
   start_stays x = record {
-    fallen = k.cr x.fallen;
+    cr_is_clear = k.cr x.cr_is_clear;
     receives = c.fre ∙ x.receives;
     programmed = record {
       clb = same_base (λ b. b.clb_set) ∙ x.programmed.clb;
@@ -37,19 +37,19 @@ module _ (p q : DevicePort) (k : KeepsPort p q) (c : KeepsControls p q) (notes :
       fb = same_base (λ b. b.fb_set) ∙ x.programmed.fb;
       fbu = same_base (λ b. b.fbu_set) ∙ x.programmed.fbu;
     };
-    link = ap (λ (n : Notes). n.last_ssts % 16) notes ∙ x.link;
+    link_was_seen = ap (λ (n : Notes). n.last_ssts % 16) notes ∙ x.link_was_seen;
     not_busy = ap (λ (n : Notes). bit n.last_tfd 7 || bit n.last_tfd 3) notes ∙ x.not_busy;
   }
 
   receive_stays : MaySetFre p → MaySetFre q
   receive_stays x = record {
-    fallen = k.fr x.fallen;
+    fr_is_clear = k.fr x.fr_is_clear;
     fb = same_base (λ b. b.fb_set) ∙ x.fb;
     fbu = same_base (λ b. b.fbu_set) ∙ x.fbu;
   }
 
   stop_stays : MayStopReceiving p → MayStopReceiving q
-  stop_stays x = record { stopped = c.st ∙ x.stopped; fallen = k.cr x.fallen }
+  stop_stays x = record { st_is_clear = c.st ∙ x.st_is_clear; cr_is_clear = k.cr x.cr_is_clear }
 
   command_stays : (v : ℕ) → MayWriteCmd p v → MayWriteCmd q v
   command_stays v x = record {
@@ -84,14 +84,14 @@ pub write_stays : (r : Reg) (v : ℕ) (d : Device) → ((port : Port) → r ≢ 
 write_stays Ghc v d other x mid s = x
 write_stays adapter.Is v d other x mid s = (
   on_stays x.0 s,
-  λ port small set. ap (λ (n : Notes). n.acknowledged) ((law_step_lists_keep_what_steps_keep s).notes port) ∙ x.1 port small set,
+  λ port small set. ap (λ (n : Notes). n.acknowledged) ((law_step_lists_keep_what_steps_keep s).notes_are_kept port) ∙ x.1 port small set,
 )
 write_stays (Px port r) v d other x mid s =
     let k : Keeps d mid = law_step_lists_keep_what_steps_keep s in
-    let c : KeepsOutsideReset d mid = k.on x.0.no_reset in (
+    let c : KeepsOutsideReset d mid = k.keeps_outside_reset x.0.no_reset in (
       on_after x.0 c,
       (x.1.0, ap (λ (n : ℕ). bit n port.0) k.pi ∙ x.1.1),
-      port_stays (d.port port.0) (mid.port port.0) (k.port port.0) (c.controls port.0) (k.notes port.0) r v d mid k.size (λ e. other port (ap (Px port) e)) x.2,
+      port_stays (d.port port.0) (mid.port port.0) (k.ports_are_kept port.0) (c.controls port.0) (k.notes_are_kept port.0) r v d mid k.size (λ e. other port (ap (Px port) e)) x.2,
     )
 write_stays Cap v d other x mid s = x
 write_stays Pi v d other x mid s = x
@@ -104,10 +104,10 @@ write_stays Bohc v d other x mid s = x
 pub uses_stay : (uses : SlotStates) (r : Reg) (v : ℕ) (d : Device) → d.hr ≡ false → LeavesUses uses r v d → IsStable (LeavesUses uses r v) d
 uses_stay uses (Px port Cmd) v d off x mid s =
     let k : Keeps d mid = law_step_lists_keep_what_steps_keep s in
-    let c : KeepsOutsideReset d mid = k.on off in
+    let c : KeepsOutsideReset d mid = k.keeps_outside_reset off in
     record {
       start = λ b. ⊎_elim (λ (on : (d.port port.0).st ≡ true). inl ((c.controls port.0).st ∙ on)) (λ (free : AllFree uses port.0). inr free) (x.start b);
-      receive = λ b. let y = x.receive b in (y.0, ap (λ (z : Bases). z.fb) (k.port port.0).bases ∙ y.1);
+      receive = λ b. let y = x.receive b in (y.0, ap (λ (z : Bases). z.fb) (k.ports_are_kept port.0).bases ∙ y.1);
     }
 uses_stay uses (Px port Clb) v d off x mid s = x
 uses_stay uses (Px port Sact) v d off x mid s = x
@@ -132,9 +132,9 @@ uses_stay uses Bohc v d off x mid s = x
 
 pub record_stays : (r : Reg) (v : ℕ) (d : Device) → d.hr ≡ false → KeepsFaultRecord r v d → IsStable (KeepsFaultRecord r v) d
 record_stays (Px port Cmd) v d off x mid s =
-    let c : KeepsOutsideReset d mid = (law_step_lists_keep_what_steps_keep s).on off in
+    let c : KeepsOutsideReset d mid = (law_step_lists_keep_what_steps_keep s).keeps_outside_reset off in
     λ b. ⊎_elim (λ (on : (d.port port.0).st ≡ true). inl ((c.controls port.0).st ∙ on)) (λ (quiet : IsCleanToStart (d.port port.0)). inr (steps_quiet port.0 d mid s quiet)) (x b)
-record_stays (Px port Sctl) v d off x mid s = ((law_step_lists_keep_what_steps_keep s).port port.0).cr x
+record_stays (Px port Sctl) v d off x mid s = ((law_step_lists_keep_what_steps_keep s).ports_are_kept port.0).cr x
 record_stays (Px port Clb) v d off x mid s = x
 record_stays (Px port Clbu) v d off x mid s = x
 record_stays (Px port Fb) v d off x mid s = x
@@ -220,12 +220,12 @@ module _ (port : Port) (v : ℕ) (old new : Device) (on : IsOn old) (call : Writ
   wrote = put port Is v old new call on.no_reset
 
   acknowledged_here : (q : ℕ) → q ≡ port.0 → (new.port q).notes.acknowledged ≡ true
-  acknowledged_here q e = ap (λ (k : ℕ). (new.port k).notes.acknowledged) e ∙ ap (λ (p : DevicePort). p.notes.acknowledged) wrote.here
+  acknowledged_here q e = ap (λ (k : ℕ). (new.port k).notes.acknowledged) e ∙ ap (λ (p : DevicePort). p.notes.acknowledged) wrote.port_is_written
 
   acknowledged_still : (q : ℕ) → (old.port q).notes.acknowledged ≡ true → (new.port q).notes.acknowledged ≡ true
   acknowledged_still q was = ⊎_elim
       (acknowledged_here q)
-      (λ (ne : q ≡ port.0 → ⊥). ap (λ (p : DevicePort). p.notes.acknowledged) (wrote.others q ne) ∙ (ap (λ (n : Notes). n.acknowledged) (wrote.notes q) ∙ was))
+      (λ (ne : q ≡ port.0 → ⊥). ap (λ (p : DevicePort). p.notes.acknowledged) (wrote.other_ports_are_kept q ne) ∙ (ap (λ (n : Notes). n.acknowledged) (wrote.notes q) ∙ was))
       (cases_eq q port.0)
 
   pub acknowledging_may : (ports : ℕ) → ((q : ℕ) → q < 32 → bit ports q ≡ true → (q ≡ port.0) ⊎ ((old.port q).notes.acknowledged ≡ true)) → IsStable (MayWrite adapter.Is ports) new

@@ -8,14 +8,14 @@ use Rattle.hba_regs.specs.declared.reg.Reg.{Reg}
 use Rattle.hba_regs.specs.declared.reg.Reg.TheVariants.{Cap, Ghc, Pi, Vs, Cap2, Bohc, Px}
 use Rattle.hba_regs.specs.declared.reg.Reg.TheVariants as adapter
 use Rattle.hba_regs.specs.declared.reg.PortReg.TheVariants.{Clb, Clbu, Fb, Fbu, Is, Ie, Cmd, Tfd, Sig, Ssts, Sctl, Serr, Sact, Ci}
-use Rattle.adapter.specs.Access.{Reads, Writes, noted, written, port_written, with_st, with_fre, with_det, with_is_bit_cleared}
+use Rattle.adapter.specs.Access.{Reads, Writes, noted, written, port_after_write, port_after_st_write, port_after_fre_write, port_after_det_write, port_after_hba_is_write}
 use Rattle.adapter.specs.Device.{DevicePort, Device}
-use Rattle.adapter.specs.Kept.{KeepsPort}
+use Rattle.adapter.specs.KeptBySteps.{KeepsPort}
 use Rattle.adapter.specs.Rules.{MayWrite, IsStable}
 use Rattle.adapter.specs.Steps.{DeviceTransition, Can, device_after, TransitionsLead, Steps}
 use Rattle.adapter.specs.Steps.DeviceTransition.{Fetch, FetchFault, Move, Clear, Done, Fault, Fatal, Fall, FrFall, LinkUp, Unplug, Plug, ResetEnds, Scribble}
 use Rattle.adapter.proofs.Changed.{changed_same}
-use Rattle.refinement.specs.Below.{StepLaws}
+use Rattle.refinement.specs.StepLaws.{StepLaws}
 use Rattle.refinement.specs.PortFacts.{ShowsDrqTillLink, StoppedTfesClear, IsCleanToStart, KeepsFaultRecord}
 use Rattle.refinement.proofs.device.HealthyPort.{at_port}
 
@@ -42,7 +42,7 @@ step_awaited d port (FrFall p) can h = at_port ShowsDrqTillLink ShowsDrqTillLink
 step_awaited d port (LinkUp p sig n) can h = at_port ShowsDrqTillLink ShowsDrqTillLink d p port _ h
     (λ e x due. ⊎_elim
     (λ (up : false ≡ true). absurd (false≢true up))
-    (λ (one : (d.port p).sctl_det ≡ 1). absurd (let z : (d.port p).sctl_det ≡ 0 = can.det in omega (arith, one, z)))
+    (λ (one : (d.port p).sctl_det ≡ 1). absurd (let z : (d.port p).sctl_det ≡ 0 = can.no_comreset in omega (arith, one, z)))
     due)
     (λ ne x. x)
 step_awaited d port (Unplug p) can h = at_port ShowsDrqTillLink ShowsDrqTillLink d p port _ h (λ e x. x) (λ ne x. x)
@@ -71,11 +71,11 @@ drq_shown : (tfd : ℕ) → bit (0x7f + 256 * (tfd / 256)) 3 ≡ true
 drq_shown tfd = eq-eqb _ 1 (omega arith)
 
 module _ (p : DevicePort) (v tape : ℕ) where
-  comreset_awaited : p.cr ≡ false → v % 16 ≡ 1 → ShowsDrqTillLink (port_written Sctl v tape p)
-  comreset_awaited cr one = subst (λ (n : ℕ). ShowsDrqTillLink (with_det n tape p)) (sym one) (λ due. (cr, drq_shown p.tfd))
+  comreset_awaited : p.cr ≡ false → v % 16 ≡ 1 → ShowsDrqTillLink (port_after_write Sctl v tape p)
+  comreset_awaited cr one = subst (λ (n : ℕ). ShowsDrqTillLink (port_after_det_write n tape p)) (sym one) (λ due. (cr, drq_shown p.tfd))
 
-  released_awaited : p.cr ≡ false → ShowsDrqTillLink p → v % 16 ≡ 0 → ShowsDrqTillLink (port_written Sctl v tape p)
-  released_awaited cr h none = subst (λ (n : ℕ). ShowsDrqTillLink (with_det n tape p)) (sym none) (λ due. ⊎_elim
+  released_awaited : p.cr ≡ false → ShowsDrqTillLink p → v % 16 ≡ 0 → ShowsDrqTillLink (port_after_write Sctl v tape p)
+  released_awaited cr h none = subst (λ (n : ℕ). ShowsDrqTillLink (port_after_det_write n tape p)) (sym none) (λ due. ⊎_elim
       (λ (up : p.link_due || nat_eq p.sctl_det 1 && true ≡ true). (cr, (h (before up)).1))
       (λ (one : 0 ≡ 1). absurd (omega (arith, one)))
       due)
@@ -83,23 +83,23 @@ module _ (p : DevicePort) (v tape : ℕ) where
       before : p.link_due || nat_eq p.sctl_det 1 && true ≡ true → (p.link_due ≡ true) ⊎ (p.sctl_det ≡ 1)
       before up = ⊎_elim (λ (l : p.link_due ≡ true). inl l) (λ (o : (nat_eq p.sctl_det 1 && true) ≡ true). inr (eqb-true p.sctl_det 1 (and_parts _ _ o).0)) (or_cases _ _ up)
 
-  command_awaited : ShowsDrqTillLink p → (bit v 0 ≡ true → (p.st ≡ true) ⊎ IsCleanToStart p) → ShowsDrqTillLink (port_written Cmd v tape p)
+  command_awaited : ShowsDrqTillLink p → (bit v 0 ≡ true → (p.st ≡ true) ⊎ IsCleanToStart p) → ShowsDrqTillLink (port_after_write Cmd v tape p)
   command_awaited h may = by (bit v 0) refl p.st refl
     where
-      by : (b : Bool) → bit v 0 ≡ b → (s : Bool) → p.st ≡ s → ShowsDrqTillLink (with_fre (bit v 4) (with_st b tape p))
+      by : (b : Bool) → bit v 0 ≡ b → (s : Bool) → p.st ≡ s → ShowsDrqTillLink (port_after_fre_write (bit v 4) (port_after_st_write b tape p))
       by false e s is = h
-      by true e true is = subst (λ (x : DevicePort). ShowsDrqTillLink (with_fre (bit v 4) x)) (sym (cond-true p.st p _ is)) h
-      by true e false is = subst (λ (x : DevicePort). ShowsDrqTillLink (with_fre (bit v 4) x)) (sym (cond-false p.st p _ is))
+      by true e true is = subst (λ (x : DevicePort). ShowsDrqTillLink (port_after_fre_write (bit v 4) x)) (sym (cond-true p.st p _ is)) h
+      by true e false is = subst (λ (x : DevicePort). ShowsDrqTillLink (port_after_fre_write (bit v 4) x)) (sym (cond-false p.st p _ is))
           (⊎_elim
           (λ (on : p.st ≡ true). absurd (both_ways _ is on))
-          (λ (q : IsCleanToStart p) (due : (p.link_due ≡ true) ⊎ (p.sctl_det ≡ 1)). ⊎_elim (λ (l : p.link_due ≡ true). absurd (both_ways _ q.linked l)) (λ (o : p.sctl_det ≡ 1). absurd (q.no_comreset o)) due)
+          (λ (q : IsCleanToStart p) (due : (p.link_due ≡ true) ⊎ (p.sctl_det ≡ 1)). ⊎_elim (λ (l : p.link_due ≡ true). absurd (both_ways _ q.no_link_is_due l)) (λ (o : p.sctl_det ≡ 1). absurd (q.no_comreset o)) due)
           (may e))
 
 written_awaited : (port : ℕ) (d : Device) (r : Reg) (v : ℕ) → MayWrite r v d → KeepsFaultRecord r v d → ShowsDrqTillLink (d.port port) → ShowsDrqTillLink ((written r v d).port port)
 written_awaited port d Ghc v may x h = h
 written_awaited port d adapter.Is v may x h = by (bit v port)
   where
-    by : (b : Bool) → ShowsDrqTillLink (if b then with_is_bit_cleared (d.port port) else d.port port)
+    by : (b : Bool) → ShowsDrqTillLink (if b then port_after_hba_is_write (d.port port) else d.port port)
     by true = h
     by false = h
 written_awaited port d (Px p Clb) v may x h = at_port ShowsDrqTillLink ShowsDrqTillLink d p.0 port _ h (λ e y. y) (λ ne y. y)
@@ -134,7 +134,7 @@ writes_awaited port r v old new may keeps call h =
 
 pub comreset_begins : StepLaws → (port : Port) (v : ℕ) (old new : Device) → (old.port port.0).cr ≡ false → v % 16 ≡ 1 → Writes (Px port Sctl) v old new → ShowsDrqTillLink (new.port port.0)
 comreset_begins laws port v old new cr one call =
-    let k : KeepsPort (old.port port.0) (call.mid.port port.0) = (laws.keeps _ _ call.steps).port port.0 in
+    let k : KeepsPort (old.port port.0) (call.mid.port port.0) = (laws.keeps _ _ call.steps).ports_are_kept port.0 in
     subst ShowsDrqTillLink (sym (ap (λ (d : Device). d.port port.0) call.effect ∙ changed_same call.mid.port port.0 _))
     (comreset_awaited (call.mid.port port.0) v (length call.mid.tape) (k.cr cr) one)
 

@@ -6,11 +6,11 @@ use Rattle.hba_regs.specs.Bits.{bit}
 use Rattle.hba_regs.specs.declared.reg.PortReg.{PortReg}
 use Rattle.hba_regs.specs.declared.reg.PortReg.TheVariants.{Is, Cmd, Sctl}
 use Rattle.hba_regs.specs.declared.reg.Reg.TheVariants.{Px}
-use Rattle.adapter.specs.Access.{Access, Does, Writes, port_written, with_st, with_fre}
+use Rattle.adapter.specs.Access.{Access, Does, Writes, port_after_write, port_after_st_write, port_after_fre_write}
 use Rattle.adapter.specs.Device.{Notes, DevicePort, Device}
 use Rattle.adapter.specs.Steps.{DeviceTransition, Can, device_after, Steps}
 use Rattle.adapter.specs.Steps.DeviceTransition.{Fetch, FetchFault, Move, Clear, Done, Fault, Fatal, Fall, FrFall, LinkUp, Unplug, Plug, ResetEnds, Scribble}
-use Rattle.refinement.specs.Below.{StepLaws}
+use Rattle.refinement.specs.StepLaws.{StepLaws}
 use Rattle.refinement.proofs.device.AwaitedLink.{leads_keep}
 use Rattle.refinement.proofs.device.FactsOverAccesses.{access_steps, effect_keeps}
 use Rattle.refinement.proofs.device.ErrorBits.{command_beside}
@@ -44,7 +44,7 @@ module _ (place : ℕ) where
   abbrev IsClearAt : DevicePort → Type 0
   IsClearAt p = p.is place ≡ false
 
-  written_clear : (r : PortReg) (v tape : ℕ) (p : DevicePort) → IsClearAt p → IsClearAt (port_written r v tape p)
+  written_clear : (r : PortReg) (v tape : ℕ) (p : DevicePort) → IsClearAt p → IsClearAt (port_after_write r v tape p)
   written_clear Is v tape p h = ap (λ (b : Bool). b && not (bit v place)) h
   written_clear Cmd v tape p h = ap (λ (f : ℕ → Bool). f place) (command_beside v tape p).0 ∙ h
   written_clear _ v tape p h = h
@@ -58,10 +58,10 @@ module _ (place : ℕ) where
 
 -- ---- notes
 
-command_notes : (v tape : ℕ) (p : DevicePort) → bit v 0 ≡ false → (port_written Cmd v tape p).notes ≡ p.notes
-command_notes v tape p off = ap (λ (b : Bool). (with_fre (bit v 4) (with_st b tape p)).notes) off
+command_notes : (v tape : ℕ) (p : DevicePort) → bit v 0 ≡ false → (port_after_write Cmd v tape p).notes ≡ p.notes
+command_notes v tape p off = ap (λ (b : Bool). (port_after_fre_write (bit v 4) (port_after_st_write b tape p)).notes) off
 
-register_notes : (r : PortReg) (v tape : ℕ) (p : DevicePort) → r ≢ Sctl → r ≢ Is → (r ≡ Cmd → bit v 0 ≡ false) → (port_written r v tape p).notes ≡ p.notes
+register_notes : (r : PortReg) (v tape : ℕ) (p : DevicePort) → r ≢ Sctl → r ≢ Is → (r ≡ Cmd → bit v 0 ≡ false) → (port_after_write r v tape p).notes ≡ p.notes
 register_notes Sctl v tape p control is off = absurd (control refl)
 register_notes Is v tape p control is off = absurd (is refl)
 register_notes Cmd v tape p control is off = command_notes v tape p (off refl)
@@ -71,23 +71,23 @@ pub written_notes : StepLaws → (port : Port) (r : PortReg) (v : ℕ) (old new 
     (new.port port.0).notes ≡ (old.port port.0).notes
 written_notes laws port r v old new control is off x =
     seen (λ (p : DevicePort). p.notes ≡ (old.port port.0).notes) port r v old new x
-    (register_notes r v (length x.mid.tape) (x.mid.port port.0) control is off ∙ (laws.keeps _ _ x.steps).notes port.0)
+    (register_notes r v (length x.mid.tape) (x.mid.port port.0) control is off ∙ (laws.keeps _ _ x.steps).notes_are_kept port.0)
 
 -- all but when ST was set
 abbrev IsSetAlone : Notes → Notes → Type 0
 IsSetAlone old new = new ≡ record old { st_set_at = new.st_set_at }
 
-started_notes : (v tape : ℕ) (p : DevicePort) → IsSetAlone p.notes (port_written Cmd v tape p).notes
+started_notes : (v tape : ℕ) (p : DevicePort) → IsSetAlone p.notes (port_after_write Cmd v tape p).notes
 started_notes v tape p = by (bit v 0) p.st refl
   where
-    by : (b s : Bool) → p.st ≡ s → IsSetAlone p.notes (with_fre (bit v 4) (with_st b tape p)).notes
+    by : (b s : Bool) → p.st ≡ s → IsSetAlone p.notes (port_after_fre_write (bit v 4) (port_after_st_write b tape p)).notes
     by false s is = refl
-    by true true is = subst (λ (x : DevicePort). IsSetAlone p.notes (with_fre (bit v 4) x).notes) (sym (cond-true p.st p _ is)) refl
-    by true false is = subst (λ (x : DevicePort). IsSetAlone p.notes (with_fre (bit v 4) x).notes) (sym (cond-false p.st p _ is)) refl
+    by true true is = subst (λ (x : DevicePort). IsSetAlone p.notes (port_after_fre_write (bit v 4) x).notes) (sym (cond-true p.st p _ is)) refl
+    by true false is = subst (λ (x : DevicePort). IsSetAlone p.notes (port_after_fre_write (bit v 4) x).notes) (sym (cond-false p.st p _ is)) refl
 
 pub command_written_notes : StepLaws → (port : Port) (v : ℕ) (old new : Device) → Writes (Px port Cmd) v old new →
     (new.port port.0).notes ≡ record (old.port port.0).notes { st_set_at = (new.port port.0).notes.st_set_at }
 command_written_notes laws port v old new x =
     seen (λ (p : DevicePort). IsSetAlone (old.port port.0).notes p.notes) port Cmd v old new x
-    (subst (λ (n : Notes). IsSetAlone n (port_written Cmd v (length x.mid.tape) (x.mid.port port.0)).notes) ((laws.keeps _ _ x.steps).notes port.0)
+    (subst (λ (n : Notes). IsSetAlone n (port_after_write Cmd v (length x.mid.tape) (x.mid.port port.0)).notes) ((laws.keeps _ _ x.steps).notes_are_kept port.0)
     (started_notes v (length x.mid.tape) (x.mid.port port.0)))

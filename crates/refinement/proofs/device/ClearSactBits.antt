@@ -7,12 +7,12 @@ use Rattle.hba_regs.specs.declared.reg.Reg.{Reg}
 use Rattle.hba_regs.specs.declared.reg.Reg.TheVariants.{Px}
 use Rattle.hba_regs.specs.declared.reg.PortReg.{PortReg}
 use Rattle.hba_regs.specs.declared.reg.PortReg.TheVariants as px
-use Rattle.adapter.specs.Access.{Reads, Writes, note, port_written, with_st}
+use Rattle.adapter.specs.Access.{Reads, Writes, note, port_after_write, port_after_st_write}
 use Rattle.adapter.specs.Device.{DevicePort, Device}
 use Rattle.adapter.specs.Steps.{Steps, halt_after_start}
 use Rattle.block_machine.specs.State.{Machine}
-use Rattle.refinement.specs.Below.{StepLaws}
-use Rattle.refinement.specs.Slots.{SlotState, Free, Own, Serves, SlotStates, Stage, IsOver, RelatesSlot, Armed}
+use Rattle.refinement.specs.StepLaws.{StepLaws}
+use Rattle.refinement.specs.Slots.{SlotState, Free, Own, Serves, SlotStates, IsInSomeStage, IsOver, RelatesSlot, Armed}
 use Rattle.refinement.specs.Relation.{StateRelation, port_at}
 use Rattle.refinement.proofs.device.FactsOverAccesses.{noted_on, written_on}
 use Rattle.refinement.proofs.relation.OtherSlots.{some_none, true_false}
@@ -23,11 +23,11 @@ abbrev IsClearBit : ℕ → DevicePort → Type 0
 IsClearBit slot p = p.sact slot ≡ false
 
 pub steps_clear : StepLaws → (port slot : ℕ) (old new : Device) → Steps old new → (old.port port).sact slot ≡ false → (new.port port).sact slot ≡ false
-steps_clear laws port slot old new s u = ((laws.keeps _ _ s).port port).sact slot u
+steps_clear laws port slot old new s u = ((laws.keeps _ _ s).ports_are_kept port).sact slot u
 
 -- a slot in use whose command is over has no bit
 pub over_unarmed : (uses : SlotStates) (m : Machine) (d : Device) (port slot : ℕ) → StateRelation uses m d → (uses port slot ≡ Armed → ⊥) → IsOver (d.port port) slot → (d.port port).sact slot ≡ false
-over_unarmed uses m d port slot a unarmed over = by (uses port slot) refl (a.slot port slot)
+over_unarmed uses m d port slot a unarmed over = by (uses port slot) refl (a.relates_slots port slot)
   where
     by : (u : SlotState) → uses port slot ≡ u → RelatesSlot m d.memory d.tape (d.port port) port slot u → (d.port port).sact slot ≡ false
     by Free u h = h.unarmed
@@ -35,7 +35,7 @@ over_unarmed uses m d port slot a unarmed over = by (uses port slot) refl (a.slo
     by (Own o) u h = h.unqueued
     by (Serves id) u h = stage h.stage
       where
-        stage : Stage d.memory (d.port port) port slot h.pending h.command h.places → (d.port port).sact slot ≡ false
+        stage : IsInSomeStage d.memory (d.port port) port slot h.pending h.command h.places → (d.port port).sact slot ≡ false
         stage (inl w) = true_false w.issued over.issued
         stage (inr (inl t)) = some_none t.taken over.free
         stage (inr (inr (inl x))) = x.sact
@@ -43,7 +43,7 @@ over_unarmed uses m d port slot a unarmed over = by (uses port slot) refl (a.slo
 
 -- a free slot has none
 pub free_unarmed : (uses : SlotStates) (m : Machine) (d : Device) → StateRelation uses m d → (port slot : ℕ) → uses port slot ≡ Free → (d.port port).sact slot ≡ false
-free_unarmed uses m d a port slot free = (subst (λ (w : SlotState). RelatesSlot m d.memory d.tape (d.port port) port slot w) free (a.slot port slot)).unarmed
+free_unarmed uses m d a port slot free = (subst (λ (w : SlotState). RelatesSlot m d.memory d.tape (d.port port) port slot w) free (a.relates_slots port slot)).unarmed
 
 -- ---- over readings and writes
 
@@ -56,7 +56,7 @@ module _ (slot : ℕ) where
   reading_clear : (p : DevicePort) (r : PortReg) (v : ℕ) → IsClearBit slot p → IsClearBit slot (record p { notes = note r v p })
   reading_clear p r v u = u
 
-  command_clear : (st : Bool) (tape : ℕ) (p : DevicePort) → IsClearBit slot p → IsClearBit slot (with_st st tape p)
+  command_clear : (st : Bool) (tape : ℕ) (p : DevicePort) → IsClearBit slot p → IsClearBit slot (port_after_st_write st tape p)
   command_clear false tape p u = if_false p.st p.sact slot u
   command_clear true tape p u = by p.st
     where
@@ -64,7 +64,7 @@ module _ (slot : ℕ) where
       by true = u
       by false = u
 
-  writing_clear : (r : PortReg) (v tape : ℕ) (p : DevicePort) → (r ≡ px.Sact → bit v slot ≡ false) → IsClearBit slot p → IsClearBit slot (port_written r v tape p)
+  writing_clear : (r : PortReg) (v tape : ℕ) (p : DevicePort) → (r ≡ px.Sact → bit v slot ≡ false) → IsClearBit slot p → IsClearBit slot (port_after_write r v tape p)
   writing_clear px.Sact v tape p clear u = ap (λ (b : Bool). p.sact slot || b) (clear refl) ∙ or_false (p.sact slot) ∙ u
   writing_clear px.Cmd v tape p clear u = command_clear (bit v 0) tape p u
   writing_clear px.Clb v tape p clear u = u

@@ -6,29 +6,29 @@ use Rattle.hba_regs.specs.Bits.{bit}
 use Rattle.hba_regs.specs.declared.reg.Reg.TheVariants.{Px}
 use Rattle.hba_regs.specs.declared.reg.PortReg.{PortReg}
 use Rattle.hba_regs.specs.declared.reg.PortReg.TheVariants.{Clb, Clbu, Fb, Fbu, Ie, Cmd, Sctl}
-use Rattle.adapter.specs.Access.{Writes, port_written, with_st, with_fre}
+use Rattle.adapter.specs.Access.{Writes, port_after_write, port_after_st_write, port_after_fre_write}
 use Rattle.adapter.specs.Device.{DevicePort, Device}
 use Rattle.adapter.specs.Steps.{halt_after_start}
 use Rattle.adapter.proofs.Changed.{changed_same}
-use Rattle.refinement.specs.Below.{StepLaws}
+use Rattle.refinement.specs.StepLaws.{StepLaws}
 
 -- the port as the write leaves it
-port_is : (port : Port) (r : PortReg) (v : ℕ) (old new : Device) (x : Writes (Px port r) v old new) → new.port port.0 ≡ port_written r v (length x.mid.tape) (x.mid.port port.0)
+port_is : (port : Port) (r : PortReg) (v : ℕ) (old new : Device) (x : Writes (Px port r) v old new) → new.port port.0 ≡ port_after_write r v (length x.mid.tape) (x.mid.port port.0)
 port_is port r v old new x = ap (λ (d : Device). d.port port.0) x.effect ∙ changed_same x.mid.port port.0 _
 
 -- and what is seen of it
-pub seen : (P : DevicePort → Type 0) (port : Port) (r : PortReg) (v : ℕ) (old new : Device) (x : Writes (Px port r) v old new) → P (port_written r v (length x.mid.tape) (x.mid.port port.0)) → P (new.port port.0)
+pub seen : (P : DevicePort → Type 0) (port : Port) (r : PortReg) (v : ℕ) (old new : Device) (x : Writes (Px port r) v old new) → P (port_after_write r v (length x.mid.tape) (x.mid.port port.0)) → P (new.port port.0)
 seen P port r v old new x h = subst P (sym (port_is port r v old new x)) h
 
 -- the write adds nothing to the tape
 tape_is : (port : Port) (r : PortReg) (v : ℕ) (old new : Device) (x : Writes (Px port r) v old new) → length x.mid.tape ≡ length new.tape
 tape_is port r v old new x = ap (λ (d : Device). length d.tape) (sym x.effect)
 
-st_set : (b : Bool) (tape : ℕ) (p : DevicePort) → (with_st b tape p).st ≡ b
+st_set : (b : Bool) (tape : ℕ) (p : DevicePort) → (port_after_st_write b tape p).st ≡ b
 st_set false tape p = refl
 st_set true tape p = by p.st refl
   where
-    by : (s : Bool) → p.st ≡ s → (with_st true tape p).st ≡ true
+    by : (s : Bool) → p.st ≡ s → (port_after_st_write true tape p).st ≡ true
     by true is = ap (λ (x : DevicePort). x.st) (cond-true p.st p _ is) ∙ is
     by false is = ap (λ (x : DevicePort). x.st) (cond-false p.st p _ is)
 
@@ -37,14 +37,14 @@ command_set port v old new x = seen (λ (p : DevicePort). (p.st ≡ bit v 0) × 
 
 pub start_set : StepLaws → (port : Port) (v : ℕ) (old new : Device) → (old.port port.0).st ≡ false → bit v 0 ≡ true → Writes (Px port Cmd) v old new → ((new.port port.0).cr ≡ true) × ((new.port port.0).notes.st_set_at ≡ length new.tape)
 start_set laws port v old new off on x = seen (λ (p : DevicePort). (p.cr ≡ true) × (p.notes.st_set_at ≡ length new.tape)) port Cmd v old new x
-    (subst (λ (b : Bool). ((with_fre (bit v 4) (with_st b (length x.mid.tape) p)).cr ≡ true) × ((with_fre (bit v 4) (with_st b (length x.mid.tape) p)).notes.st_set_at ≡ length new.tape)) (sym on)
-    (subst (λ (y : DevicePort). ((with_fre (bit v 4) y).cr ≡ true) × ((with_fre (bit v 4) y).notes.st_set_at ≡ length new.tape)) (sym (cond-false p.st p started still)) (refl, tape_is port Cmd v old new x)))
+    (subst (λ (b : Bool). ((port_after_fre_write (bit v 4) (port_after_st_write b (length x.mid.tape) p)).cr ≡ true) × ((port_after_fre_write (bit v 4) (port_after_st_write b (length x.mid.tape) p)).notes.st_set_at ≡ length new.tape)) (sym on)
+    (subst (λ (y : DevicePort). ((port_after_fre_write (bit v 4) y).cr ≡ true) × ((port_after_fre_write (bit v 4) y).notes.st_set_at ≡ length new.tape)) (sym (cond-false p.st p started still)) (refl, tape_is port Cmd v old new x)))
   where
     p : DevicePort
     p = x.mid.port port.0
 
     still : (x.mid.port port.0).st ≡ false
-    still = ((laws.keeps _ _ x.steps).port port.0).st off
+    still = ((laws.keeps _ _ x.steps).ports_are_kept port.0).st off
 
     started : DevicePort
     started = record (x.mid.port port.0) {

@@ -7,15 +7,15 @@ use Rattle.hba_regs.specs.Bits.{bit}
 use Rattle.hba_regs.specs.declared.reg.Reg.TheVariants.{Ghc, Px}
 use Rattle.hba_regs.specs.declared.reg.PortReg.{PortReg}
 use Rattle.hba_regs.specs.declared.reg.PortReg.TheVariants.{Cmd, Sctl, Ssts}
-use Rattle.adapter.specs.Access.{Access, Does, Reads, Writes, note, with_is_bit_cleared, port_written, with_st, with_fre, with_det}
+use Rattle.adapter.specs.Access.{Access, Does, Reads, Writes, note, port_after_hba_is_write, port_after_write, port_after_st_write, port_after_fre_write, port_after_det_write}
 use Rattle.adapter.specs.Device.{DevicePort, Device}
 use Rattle.adapter.specs.Idle.{IsIdle}
-use Rattle.adapter.specs.Kept.{Keeps}
+use Rattle.adapter.specs.KeptBySteps.{Keeps}
 use Rattle.adapter.specs.Steps.{DeviceTransition, Can, device_after, TransitionsLead, Steps}
 use Rattle.adapter.specs.Steps.DeviceTransition.{Fetch, FetchFault, Move, Clear, Done, Fault, Fatal, Fall, FrFall, LinkUp, Unplug, Plug, ResetEnds, Scribble}
 use Rattle.adapter.specs.declared.tape.Entry.{Entry}
 use Rattle.adapter.proofs.Changed.{changed_same}
-use Rattle.refinement.specs.Below.{StepLaws}
+use Rattle.refinement.specs.StepLaws.{StepLaws}
 use Rattle.refinement.specs.Errors.{IsDiskComing, NoDiskComes}
 use Rattle.refinement.specs.Links.{ShowsDiskIfIn}
 use Rattle.refinement.proofs.device.FactsOverAccesses.{access_steps, effect_keeps}
@@ -36,14 +36,14 @@ leads_without laws port P keep [] old new e none h = subst (λ (d : Device). P (
 leads_without laws port P keep (step ∷ steps) old new (can, lead) none h =
     let k : Keeps old (device_after step old) = laws.step step _ can in
     let l : Keeps (device_after step old) new = laws.keeps _ _ (record { steps = steps; lead = lead }) in
-    let parts = comes_parts port old (device_after step old) new k.gained l.gained k.tape l.tape none in
-    leads_without laws port P keep steps (device_after step old) new lead parts.1 (keep old parts.0.gained parts.0.none step can parts.0.tape h)
+    let parts = comes_parts port old (device_after step old) new k.new_entries l.new_entries k.tape_grows l.tape_grows none in
+    leads_without laws port P keep steps (device_after step old) new lead parts.1 (keep old parts.0.new_entries parts.0.no_such_entry step can parts.0.tape_is h)
 
 -- and so do accesses, where their writes keep it
 access_without : StepLaws → (port : Port) (P : DevicePort → Type 0) →
     ((d : Device) (gained : List Entry) → NoneOf (IsDiskComing port.0) gained → (step : DeviceTransition) → Can step d → (device_after step d).tape ≡ d.tape ++ gained → P (d.port port.0) → P ((device_after step d).port port.0)) →
-    ((p : DevicePort) (r : PortReg) (v : ℕ) → P p → P (record p { notes = note r v p })) → ((p : DevicePort) → P p → P (with_is_bit_cleared p)) →
-    ((r : PortReg) (v tape : ℕ) (p : DevicePort) → P p → P (port_written r v tape p)) →
+    ((p : DevicePort) (r : PortReg) (v : ℕ) → P p → P (record p { notes = note r v p })) → ((p : DevicePort) → P p → P (port_after_hba_is_write p)) →
+    ((r : PortReg) (v tape : ℕ) (p : DevicePort) → P p → P (port_after_write r v tape p)) →
     (access : Access) (old new : Device) → NoDiskComes port.0 old new → Does access old new → P (old.port port.0) → P (new.port port.0)
 access_without laws port P keep noting acknowledging writing access old new none x h =
     let s = access_steps access old new x in
@@ -80,7 +80,7 @@ module _ (port : ℕ) (d : Device) (gained : List Entry) (none : NoneOf (IsDiskC
   step_out ResetEnds can is h = h
   step_out (Scribble p slot at bytes) can is h = h
 
-written_out : (r : PortReg) (v tape : ℕ) (p : DevicePort) → Out p → Out (port_written r v tape p)
+written_out : (r : PortReg) (v tape : ℕ) (p : DevicePort) → Out p → Out (port_after_write r v tape p)
 written_out Cmd v tape p h = (command_beside v tape p).6 ∙ h
 written_out _ v tape p h = h
 
@@ -96,7 +96,7 @@ abbrev Vacant : DevicePort → Type 0
 Vacant p = (p.present ≡ false) × (p.ssts_det ≢ 3)
 
 is_vacant : (p : DevicePort) → Vacant p → IsVacant p
-is_vacant p h = record { out = h.0; det = h.1 }
+is_vacant p h = record { no_disk_is_in = h.0; det = h.1 }
 
 module _ (port : ℕ) (d : Device) (gained : List Entry) (none : NoneOf (IsDiskComing port) gained) where
   step_vacant : (step : DeviceTransition) → Can step d → (device_after step d).tape ≡ d.tape ++ gained → Vacant (d.port port) → Vacant ((device_after step d).port port)
@@ -115,17 +115,17 @@ module _ (port : ℕ) (d : Device) (gained : List Entry) (none : NoneOf (IsDiskC
   step_vacant ResetEnds can is h = (h.0, λ z. not_three z)
   step_vacant (Scribble p slot at bytes) can is h = h
 
-written_vacant : (r : PortReg) (v tape : ℕ) (p : DevicePort) → Vacant p → Vacant (port_written r v tape p)
+written_vacant : (r : PortReg) (v tape : ℕ) (p : DevicePort) → Vacant p → Vacant (port_after_write r v tape p)
 written_vacant Cmd v tape p h = let c = command_beside v tape p in (c.6 ∙ h.0, λ up. h.1 (sym c.3 ∙ up))
 written_vacant Sctl v tape p h = (h.0, λ up. h.1 (det_was (nat_eq (v % 16) 1) p.ssts_det up))
 written_vacant _ v tape p h = h
 
 pub vacant_steps : StepLaws → (port : ℕ) (old new : Device) → NoDiskComes port old new → Steps old new → IsVacant (old.port port) → IsVacant (new.port port)
-vacant_steps laws port old new none s h = is_vacant (new.port port) (leads_without laws port Vacant (step_vacant port) s.steps old new s.lead none (h.out, h.det))
+vacant_steps laws port old new none s h = is_vacant (new.port port) (leads_without laws port Vacant (step_vacant port) s.steps old new s.lead none (h.no_disk_is_in, h.det))
 
 pub vacant_access : StepLaws → (port : Port) (access : Access) (old new : Device) → NoDiskComes port.0 old new → Does access old new → IsVacant (old.port port.0) → IsVacant (new.port port.0)
 vacant_access laws port access old new none x h =
-    is_vacant (new.port port.0) (access_without laws port Vacant (step_vacant port.0) (λ p r v y. y) (λ p y. y) written_vacant access old new none x (h.out, h.det))
+    is_vacant (new.port port.0) (access_without laws port Vacant (step_vacant port.0) (λ p r v y. y) (λ p y. y) written_vacant access old new none x (h.no_disk_is_in, h.det))
 
 -- ---- a disk that shows has sent its first FIS
 
@@ -147,15 +147,15 @@ module _ (port : ℕ) (d : Device) (gained : List Entry) (none : NoneOf (IsDiskC
   step_fresh (Scribble p slot at bytes) can is h = h
 
 -- a write of PxCMD leaves whether the first FIS has come
-command_fresh : (v tape : ℕ) (p : DevicePort) → (port_written Cmd v tape p).fresh ≡ p.fresh
+command_fresh : (v tape : ℕ) (p : DevicePort) → (port_after_write Cmd v tape p).fresh ≡ p.fresh
 command_fresh v tape p = by (bit v 0) p.st refl
   where
-    by : (b s : Bool) → p.st ≡ s → (with_fre (bit v 4) (with_st b tape p)).fresh ≡ p.fresh
+    by : (b s : Bool) → p.st ≡ s → (port_after_fre_write (bit v 4) (port_after_st_write b tape p)).fresh ≡ p.fresh
     by false s is = refl
     by true true is = ap (λ (x : DevicePort). x.fresh) (cond-true p.st p _ is)
     by true false is = ap (λ (x : DevicePort). x.fresh) (cond-false p.st p _ is)
 
-written_fresh : (r : PortReg) (v tape : ℕ) (p : DevicePort) → HasFirstFisIfShown p → HasFirstFisIfShown (port_written r v tape p)
+written_fresh : (r : PortReg) (v tape : ℕ) (p : DevicePort) → HasFirstFisIfShown p → HasFirstFisIfShown (port_after_write r v tape p)
 written_fresh Cmd v tape p h = λ up. command_fresh v tape p ∙ h (sym (command_beside v tape p).3 ∙ up)
 written_fresh Sctl v tape p h = λ up. h (det_was (nat_eq (v % 16) 1) p.ssts_det up)
 written_fresh _ v tape p h = h
@@ -174,7 +174,7 @@ module _ (laws : StepLaws) (v : ℕ) (old new : Device) (on : old.hr ≡ true) (
       let s = reset_read v old new on call clear in
       let a : Keeps old (device_after ResetEnds s.0) = laws.keeps _ _ s.2 in
       let b : Keeps (device_after ResetEnds s.0) new = laws.keeps _ _ s.1 in
-      let parts = comes_parts port old (device_after ResetEnds s.0) new a.gained b.gained a.tape b.tape none in
+      let parts = comes_parts port old (device_after ResetEnds s.0) new a.new_entries b.new_entries a.tape_grows b.tape_grows none in
       (vacant_steps laws) port (device_after ResetEnds s.0) new parts.1 s.1 (is_vacant _ (out_steps laws port old (device_after ResetEnds s.0) parts.0 s.2 out, λ z. not_three z))
 
   pub fresh_reset : HasFirstFisIfShown (new.port port)
@@ -182,13 +182,13 @@ module _ (laws : StepLaws) (v : ℕ) (old new : Device) (on : old.hr ≡ true) (
       let s = reset_read v old new on call clear in
       let a : Keeps old (device_after ResetEnds s.0) = laws.keeps _ _ s.2 in
       let b : Keeps (device_after ResetEnds s.0) new = laws.keeps _ _ s.1 in
-      let parts = comes_parts port old (device_after ResetEnds s.0) new a.gained b.gained a.tape b.tape none in
+      let parts = comes_parts port old (device_after ResetEnds s.0) new a.new_entries b.new_entries a.tape_grows b.tape_grows none in
       (fresh_steps laws) port (device_after ResetEnds s.0) new parts.1 s.1 (λ z. not_three z)
 
 pub fresh_comreset : (port : Port) (v : ℕ) (old new : Device) → v % 16 ≡ 1 → Writes (Px port Sctl) v old new → HasFirstFisIfShown (new.port port.0)
 fresh_comreset port v old new one call =
     subst HasFirstFisIfShown (sym (ap (λ (d : Device). d.port port.0) call.effect ∙ changed_same call.mid.port port.0 _))
-    (subst (λ (n : ℕ). HasFirstFisIfShown (with_det n (length call.mid.tape) (call.mid.port port.0))) (sym one) (λ z. not_three z))
+    (subst (λ (n : ℕ). HasFirstFisIfShown (port_after_det_write n (length call.mid.tape) (call.mid.port port.0))) (sym one) (λ z. not_three z))
 
 pub device_shown : (port : Port) (v : ℕ) (old new : Device) → Reads (Px port Ssts) v old new → v % 16 ≡ 3 → ShowsDiskIfIn (new.port port.0)
 device_shown port v old new call three =
@@ -199,5 +199,5 @@ device_shown port v old new call three =
 pub reset_read_idle : StepLaws → (v : ℕ) (old new : Device) → old.hr ≡ true → Reads Ghc v old new → bit v 0 ≡ false → IsIdle new
 reset_read_idle laws v old new on call clear = record {
   no_reset = (ghc_told v old new call).0 ∙ clear;
-  port = λ port. reset_idle (new.port port) (law_reset_is_found laws v old new on call clear port);
+  ports_are_idle = λ port. reset_idle (new.port port) (law_reset_is_found laws v old new on call clear port);
 }

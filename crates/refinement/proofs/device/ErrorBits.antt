@@ -8,17 +8,17 @@ use Rattle.hba_regs.specs.Bits.{bit}
 use Rattle.hba_regs.specs.declared.reg.Reg.TheVariants.{Px}
 use Rattle.hba_regs.specs.declared.reg.PortReg.{PortReg}
 use Rattle.hba_regs.specs.declared.reg.PortReg.TheVariants.{Is, Cmd, Sctl, Serr}
-use Rattle.adapter.specs.Access.{Access, Does, port_written, with_st, with_fre}
+use Rattle.adapter.specs.Access.{Access, Does, port_after_write, port_after_st_write, port_after_fre_write}
 use Rattle.adapter.specs.Device.{DevicePort, Device}
-use Rattle.adapter.specs.Kept.{Keeps, KeepsControls}
+use Rattle.adapter.specs.KeptBySteps.{Keeps, KeepsControls}
 use Rattle.adapter.specs.Memory.{changed}
 use Rattle.adapter.specs.Steps.{DeviceTransition, Can, device_after, TransitionsLead, Steps}
 use Rattle.adapter.specs.Steps.DeviceTransition.{Fetch, FetchFault, Move, Clear, Done, Fault, Fatal, Fall, FrFall, LinkUp, Unplug, Plug, ResetEnds, Scribble}
 use Rattle.adapter.specs.declared.tape.Entry.{Entry}
 use Rattle.adapter.specs.declared.tape.Entry.TheVariants as entry
 use Rattle.adapter.proofs.Changed.{changed_same, changed_other}
-use Rattle.refinement.specs.Below.{StepLaws}
-use Rattle.refinement.specs.Driven.{TapeGrows}
+use Rattle.refinement.specs.StepLaws.{StepLaws}
+use Rattle.refinement.specs.Fragments.{TapeGrows}
 use Rattle.refinement.specs.Errors.{KeepsErrors, IsDiskComing, NoDiskComes, ChangesByDisks}
 use Rattle.refinement.specs.Links.{DoesNotWrite, IsPlugEvent, NoPlugEvents}
 use Rattle.refinement.proofs.device.FactsOverAccesses.{access_steps, effect_keeps}
@@ -29,20 +29,20 @@ use Rattle.refinement.proofs.device.PortControls.{spared, plugs_nothing, plugs_m
 -- ---- disks that come
 
 pub comes_nothing : (port : ℕ) (d : Device) → NoDiskComes port d d
-comes_nothing port d = let g = gains_nothing (IsDiskComing port) d in record { gained = g.0; tape = g.1; none = g.2 }
+comes_nothing port d = let g = gains_nothing (IsDiskComing port) d in record { new_entries = g.0; tape_is = g.1; no_such_entry = g.2 }
 
 pub comes_more : (port : ℕ) (old mid new : Device) → NoDiskComes port old mid → NoDiskComes port mid new → NoDiskComes port old new
 comes_more port old mid new a b =
-    let g = gains_more (IsDiskComing port) old mid new (a.gained, a.tape, a.none) (b.gained, b.tape, b.none) in
-    record { gained = g.0; tape = g.1; none = g.2 }
+    let g = gains_more (IsDiskComing port) old mid new (a.new_entries, a.tape_is, a.no_such_entry) (b.new_entries, b.tape_is, b.no_such_entry) in
+    record { new_entries = g.0; tape_is = g.1; no_such_entry = g.2 }
 
 pub comes_parts : (port : ℕ) (old mid new : Device) (early late : List Entry) → mid.tape ≡ old.tape ++ early → new.tape ≡ mid.tape ++ late → NoDiskComes port old new → NoDiskComes port old mid × NoDiskComes port mid new
 comes_parts port old mid new early late a b h =
-    let g = gains_parts (IsDiskComing port) old mid new early late a b (h.gained, h.tape, h.none) in
-    (record { gained = g.0.0; tape = g.0.1; none = g.0.2 }, record { gained = g.1.0; tape = g.1.1; none = g.1.2 })
+    let g = gains_parts (IsDiskComing port) old mid new early late a b (h.new_entries, h.tape_is, h.no_such_entry) in
+    (record { new_entries = g.0.0; tape_is = g.0.1; no_such_entry = g.0.2 }, record { new_entries = g.1.0; tape_is = g.1.1; no_such_entry = g.1.2 })
 
 pub plugs_come : (port : ℕ) (old new : Device) → NoPlugEvents port old new → NoDiskComes port old new
-plugs_come port old new p = record { gained = p.gained; tape = p.tape; none = none_narrower (IsPlugEvent port) (IsDiskComing port) narrower p.gained p.none }
+plugs_come port old new p = record { new_entries = p.new_entries; tape_is = p.tape_is; no_such_entry = none_narrower (IsPlugEvent port) (IsDiskComing port) narrower p.new_entries p.no_such_entry }
   where
     narrower : (e : Entry) → IsDiskComing port e → IsPlugEvent port e
     narrower (entry.Plug at name) x = x
@@ -71,7 +71,7 @@ change_more port old mid new early late a b = record {
 
 -- before the effect of an access the tape has what it has after it
 pub comes_before : (port : ℕ) (old mid new : Device) → new.tape ≡ mid.tape → NoDiskComes port old new → NoDiskComes port old mid
-comes_before port old mid new same h = record { gained = h.gained; tape = sym same ∙ h.tape; none = h.none }
+comes_before port old mid new same h = record { new_entries = h.new_entries; tape_is = sym same ∙ h.tape_is; no_such_entry = h.no_such_entry }
 
 -- ---- a step while no link is due
 
@@ -81,10 +81,10 @@ SameNews p q = (q.link_due ≡ p.link_due) × (q.serr_n ≡ p.serr_n) × (q.serr
 
 -- the tape gains one entry, or none
 one_plugs : (port : ℕ) (d new : Device) (e : Entry) → (IsPlugEvent port e → ⊥) → new.tape ≡ d.tape ++ e ∷ [] → NoPlugEvents port d new
-one_plugs port d new e other is = record { gained = e ∷ []; tape = is; none = All-cons (λ e. IsPlugEvent port e → ⊥) e [] other (All-nil (λ e. IsPlugEvent port e → ⊥)) }
+one_plugs port d new e other is = record { new_entries = e ∷ []; tape_is = is; no_such_entry = All-cons (λ e. IsPlugEvent port e → ⊥) e [] other (All-nil (λ e. IsPlugEvent port e → ⊥)) }
 
 no_plugs : (port : ℕ) (d new : Device) → new.tape ≡ d.tape → NoPlugEvents port d new
-no_plugs port d new is = record { gained = []; tape = is ∙ sym (append-nil d.tape); none = All-nil (λ e. IsPlugEvent port e → ⊥) }
+no_plugs port d new is = record { new_entries = []; tape_is = is ∙ sym (append-nil d.tape); no_such_entry = All-nil (λ e. IsPlugEvent port e → ⊥) }
 
 -- a step, and then steps, while no link is due
 abbrev Turns : ℕ → Device → Device → Type 0
@@ -116,12 +116,12 @@ module _ (port : ℕ) (d : Device) (off : d.hr ≡ false) (undue : (d.port port)
   step_turns (Fatal p place) can = calm _ (at_port News News d p port _ (refl, refl, refl, refl) (λ e x. x) (λ ne x. x)) (one_plugs port d _ _ (λ x. x) refl)
   step_turns (Fall p) can = calm _ (at_port News News d p port _ (refl, refl, refl, refl) (λ e x. x) (λ ne x. x)) (no_plugs port d _ refl)
   step_turns (FrFall p) can = calm _ (at_port News News d p port _ (refl, refl, refl, refl) (λ e x. x) (λ ne x. x)) (no_plugs port d _ refl)
-  step_turns (LinkUp p sig n) can = calm _ (at_port News News d p port _ (refl, refl, refl, refl) (λ e x. absurd (both_ways _ (x.0 ∙ undue) can.due)) (λ ne x. x)) (no_plugs port d _ refl)
+  step_turns (LinkUp p sig n) can = calm _ (at_port News News d p port _ (refl, refl, refl, refl) (λ e x. absurd (both_ways _ (x.0 ∙ undue) can.link_is_due)) (λ ne x. x)) (no_plugs port d _ refl)
   step_turns (Unplug p) can = ⊎_elim
       (λ (e : p ≡ port). (
         at_port News (λ (q : DevicePort). q.link_due ≡ false) d p port _ (refl, refl, refl, refl) (λ _ x. x.0 ∙ undue) (λ _ x. undue),
         record {
-          serr_n = λ none h. absurd (gained_none (IsPlugEvent port) d.tape _ none.gained none.tape none.none e);
+          serr_n = λ none h. absurd (gained_none (IsPlugEvent port) d.tape _ none.new_entries none.tape_is none.no_such_entry e);
           serr_x = λ none h. at_port News (λ (q : DevicePort). q.serr_x ≡ false) d p port _ (refl, refl, refl, refl) (λ _ x. x.2 ∙ h) (λ _ x. h);
           det = λ none up. absurd (lost p e up);
         },
@@ -137,9 +137,9 @@ module _ (port : ℕ) (d : Device) (off : d.hr ≡ false) (undue : (d.port port)
       (λ (e : p ≡ port). (
         at_port News (λ (q : DevicePort). q.link_due ≡ false) d p port _ (refl, refl, refl, refl) (λ _ x. x.0 ∙ undue) (λ _ x. undue),
         record {
-          serr_n = λ none h. absurd (gained_none (IsPlugEvent port) d.tape _ none.gained none.tape none.none e);
-          serr_x = λ none h. absurd (gained_none (IsDiskComing port) d.tape _ none.gained none.tape none.none e);
-          det = λ none up. absurd (gained_none (IsDiskComing port) d.tape _ none.gained none.tape none.none e);
+          serr_n = λ none h. absurd (gained_none (IsPlugEvent port) d.tape _ none.new_entries none.tape_is none.no_such_entry e);
+          serr_x = λ none h. absurd (gained_none (IsDiskComing port) d.tape _ none.new_entries none.tape_is none.no_such_entry e);
+          det = λ none up. absurd (gained_none (IsDiskComing port) d.tape _ none.new_entries none.tape_is none.no_such_entry e);
         },
       ))
       (λ (ne : p ≡ port → ⊥). elsewhere p _ _ refl (one_plugs port d _ _ ne refl) ne)
@@ -153,17 +153,17 @@ leads_turn laws port (step ∷ steps) old new off undue (can, lead) =
     let k : Keeps old (device_after step old) = laws.step step _ can in
     let l : Keeps (device_after step old) new = laws.keeps _ _ (record { steps = steps; lead = lead }) in
     let a = step_turns port old off undue step can in
-    let b = leads_turn laws port steps (device_after step old) new (k.on off).no_reset a.0 lead in (
+    let b = leads_turn laws port steps (device_after step old) new (k.keeps_outside_reset off).no_reset a.0 lead in (
       b.0,
-      change_more port old (device_after step old) new (k.gained, k.tape) (l.gained, l.tape) a.1 b.1,
+      change_more port old (device_after step old) new (k.new_entries, k.tape_grows) (l.new_entries, l.tape_grows) a.1 b.1,
     )
 
 -- ---- steps
 
 pub steps_errors : StepLaws → (port : ℕ) (old new : Device) → old.hr ≡ false → Steps old new → KeepsErrors (old.port port) (new.port port)
 steps_errors laws port old new off s =
-    let c : KeepsControls (old.port port) (new.port port) = ((laws.keeps _ _ s).on off).controls port in
-    record { is = c.is; serr_n = c.serr_n; serr_x = c.serr_x }
+    let c : KeepsControls (old.port port) (new.port port) = ((laws.keeps _ _ s).keeps_outside_reset off).controls port in
+    record { pxis_is_kept = c.is; serr_n = c.serr_n; serr_x = c.serr_x }
 
 pub steps_change : StepLaws → (port : ℕ) (old new : Device) → old.hr ≡ false → (old.port port).link_due ≡ false → Steps old new → ChangesByDisks port old new
 steps_change laws port old new off undue s = (leads_turn laws port s.steps old new off undue s.lead).1
@@ -177,19 +177,19 @@ steps_undue laws port old new off undue s = (leads_turn laws port s.steps old ne
 abbrev pub SameBeside : DevicePort → DevicePort → Type 0
 SameBeside p q = (q.is ≡ p.is) × (q.serr_n ≡ p.serr_n) × (q.serr_x ≡ p.serr_x) × (q.ssts_det ≡ p.ssts_det) × (q.link_due ≡ p.link_due) × (q.disk ≡ p.disk) × (q.present ≡ p.present)
 
-pub command_beside : (v tape : ℕ) (p : DevicePort) → SameBeside p (port_written Cmd v tape p)
+pub command_beside : (v tape : ℕ) (p : DevicePort) → SameBeside p (port_after_write Cmd v tape p)
 command_beside v tape p = by (bit v 0) p.st refl
   where
-    by : (b s : Bool) → p.st ≡ s → SameBeside p (with_fre (bit v 4) (with_st b tape p))
+    by : (b s : Bool) → p.st ≡ s → SameBeside p (port_after_fre_write (bit v 4) (port_after_st_write b tape p))
     by false s is = (refl, refl, refl, refl, refl, refl, refl)
-    by true true is = subst (λ (x : DevicePort). SameBeside p (with_fre (bit v 4) x)) (sym (cond-true p.st p _ is)) (refl, refl, refl, refl, refl, refl, refl)
-    by true false is = subst (λ (x : DevicePort). SameBeside p (with_fre (bit v 4) x)) (sym (cond-false p.st p _ is)) (refl, refl, refl, refl, refl, refl, refl)
+    by true true is = subst (λ (x : DevicePort). SameBeside p (port_after_fre_write (bit v 4) x)) (sym (cond-true p.st p _ is)) (refl, refl, refl, refl, refl, refl, refl)
+    by true false is = subst (λ (x : DevicePort). SameBeside p (port_after_fre_write (bit v 4) x)) (sym (cond-false p.st p _ is)) (refl, refl, refl, refl, refl, refl, refl)
 
 -- N and X rise no more, and DET isn't raised to 3
 abbrev Unraised : DevicePort → DevicePort → Type 0
 Unraised first p = (first.serr_n ≡ false → p.serr_n ≡ false) × (first.serr_x ≡ false → p.serr_x ≡ false) × (p.ssts_det ≡ 3 → first.ssts_det ≡ 3)
 
-written_unraised : (first : DevicePort) (r : PortReg) (v tape : ℕ) (p : DevicePort) → Unraised first p → Unraised first (port_written r v tape p)
+written_unraised : (first : DevicePort) (r : PortReg) (v tape : ℕ) (p : DevicePort) → Unraised first p → Unraised first (port_after_write r v tape p)
 written_unraised first Cmd v tape p h =
     let c = command_beside v tape p in
     (λ n. c.1 ∙ h.0 n, λ x. c.2 ∙ h.1 x, λ up. h.2 (sym c.3 ∙ up))
@@ -213,14 +213,14 @@ access_change laws port access old new off undue x =
       serr_x = λ none h. u.1 (c.serr_x (comes_before port.0 old s.0 new s.2 none) h);
       det = λ none up.
           let y = c.det (comes_before port.0 old s.0 new s.2 none) (u.2 up) in
-          (y.0, record { gained = y.1.gained; tape = s.2 ∙ y.1.tape; none = y.1.none });
+          (y.0, record { new_entries = y.1.new_entries; tape_is = s.2 ∙ y.1.tape_is; no_such_entry = y.1.no_such_entry });
     }
 
 -- no link is due
 abbrev Undue : DevicePort → Type 0
 Undue p = p.link_due ≡ false
 
-written_undue : (r : PortReg) (v tape : ℕ) (p : DevicePort) → r ≢ Sctl → Undue p → Undue (port_written r v tape p)
+written_undue : (r : PortReg) (v tape : ℕ) (p : DevicePort) → r ≢ Sctl → Undue p → Undue (port_after_write r v tape p)
 written_undue Sctl v tape p other h = absurd (other refl)
 written_undue Cmd v tape p other h = (command_beside v tape p).4 ∙ h
 written_undue _ v tape p other h = h
@@ -236,7 +236,7 @@ access_undue laws port access old new off undue spares x =
 abbrev KeepsNews : DevicePort → DevicePort → Type 0
 KeepsNews first p = (first.serr_n ≡ true → p.serr_n ≡ true) × (first.serr_x ≡ true → p.serr_x ≡ true)
 
-written_news : (first : DevicePort) (r : PortReg) (v tape : ℕ) (p : DevicePort) → r ≢ Serr → KeepsNews first p → KeepsNews first (port_written r v tape p)
+written_news : (first : DevicePort) (r : PortReg) (v tape : ℕ) (p : DevicePort) → r ≢ Serr → KeepsNews first p → KeepsNews first (port_after_write r v tape p)
 written_news first Serr v tape p other h = absurd (other refl)
 written_news first Cmd v tape p other h = let c = command_beside v tape p in (λ n. c.1 ∙ h.0 n, λ x. c.2 ∙ h.1 x)
 written_news first _ v tape p other h = h
@@ -254,7 +254,7 @@ access_news laws port access old new off spares x =
 abbrev KeepsCauses : DevicePort → DevicePort → Type 0
 KeepsCauses first p = (place : ℕ) → first.is place ≡ true → p.is place ≡ true
 
-written_causes : (first : DevicePort) (r : PortReg) (v tape : ℕ) (p : DevicePort) → r ≢ Is → KeepsCauses first p → KeepsCauses first (port_written r v tape p)
+written_causes : (first : DevicePort) (r : PortReg) (v tape : ℕ) (p : DevicePort) → r ≢ Is → KeepsCauses first p → KeepsCauses first (port_after_write r v tape p)
 written_causes first Is v tape p other h = absurd (other refl)
 written_causes first Cmd v tape p other h = λ place set. ap (λ (f : ℕ → Bool). f place) (command_beside v tape p).0 ∙ h place set
 written_causes first _ v tape p other h = h
@@ -264,4 +264,4 @@ access_causes laws port access old new off spares x =
     let s = access_steps access old new x in
     effect_keeps (KeepsCauses (old.port port.0)) port (λ p r v h. h) (λ p h. h) access old new x
     (λ r v mid is steps h. written_causes (old.port port.0) r v (length mid.tape) (mid.port port.0) (spared port r Is access v spares is) h)
-    (steps_errors laws port.0 old s.0 off s.1).is
+    (steps_errors laws port.0 old s.0 off s.1).pxis_is_kept

@@ -8,8 +8,8 @@ use Rattle.hba_regs.specs.declared.reg.Reg.TheVariants.{Px}
 use Rattle.hba_regs.specs.declared.reg.PortReg.TheVariants.{Is, Sctl, Serr}
 use Rattle.adapter.specs.Access.{Writes}
 use Rattle.adapter.specs.Device.{DevicePort, Device}
-use Rattle.adapter.specs.Kept.{KeepsControls}
-use Rattle.refinement.specs.Below.{StepLaws}
+use Rattle.adapter.specs.KeptBySteps.{KeepsControls}
+use Rattle.refinement.specs.StepLaws.{StepLaws}
 use Rattle.refinement.proofs.device.ErrorBits.{steps_undue}
 use Rattle.refinement.proofs.device.ControlWrites.{seen}
 
@@ -21,14 +21,14 @@ comreset_shown port v old new one x = seen (λ (p : DevicePort). (p.ssts_det ≡
 
 pub release_due : StepLaws → (port : Port) (v : ℕ) (old new : Device) → old.hr ≡ false → (old.port port.0).sctl_det ≡ 1 → v % 16 ≡ 0 → Writes (Px port Sctl) v old new → (new.port port.0).link_due ≡ true
 release_due laws port v old new off one none x =
-    let c : KeepsControls (old.port port.0) (x.mid.port port.0) = ((laws.keeps _ _ x.steps).on off).controls port.0 in
+    let c : KeepsControls (old.port port.0) (x.mid.port port.0) = ((laws.keeps _ _ x.steps).keeps_outside_reset off).controls port.0 in
     seen (λ (p : DevicePort). p.link_due ≡ true) port Sctl v old new x
     (or_right (x.mid.port port.0).link_due _ (ap (λ (b : Bool). b && nat_eq (v % 16) 0) (eq-eqb (x.mid.port port.0).sctl_det 1 (c.sctl_det ∙ one)) ∙ eq-eqb (v % 16) 0 none))
 
 pub undue_written : StepLaws → (port : Port) (v : ℕ) (old new : Device) → old.hr ≡ false → (old.port port.0).link_due ≡ false → ((old.port port.0).sctl_det ≡ 1 → v % 16 ≢ 0) → Writes (Px port Sctl) v old new →
     (new.port port.0).link_due ≡ false
 undue_written laws port v old new off undue other x =
-    let c : KeepsControls (old.port port.0) (x.mid.port port.0) = ((laws.keeps _ _ x.steps).on off).controls port.0 in
+    let c : KeepsControls (old.port port.0) (x.mid.port port.0) = ((laws.keeps _ _ x.steps).keeps_outside_reset off).controls port.0 in
     let a : (x.mid.port port.0).link_due ≡ false = steps_undue laws port.0 old x.mid off undue x.steps in
     seen (λ (p : DevicePort). p.link_due ≡ false) port Sctl v old new x
     (ap (λ (z : Bool). z || nat_eq (x.mid.port port.0).sctl_det 1 && nat_eq (v % 16) 0) a ∙ both c (cases_eq (x.mid.port port.0).sctl_det 1))

@@ -7,13 +7,13 @@ use Rattle.hba_regs.specs.Bits.{bit}
 use Rattle.hba_regs.specs.declared.reg.Reg.{Reg}
 use Rattle.hba_regs.specs.declared.reg.Reg.TheVariants.{Cap, Ghc, Is, Pi, Vs, Cap2, Bohc, Px}
 use Rattle.hba_regs.specs.declared.reg.PortReg.{PortReg}
-use Rattle.adapter.specs.Access.{Access, Does, note, noted, written, port_written, with_is_bit_cleared}
+use Rattle.adapter.specs.Access.{Access, Does, note, noted, written, port_after_write, port_after_hba_is_write}
 use Rattle.adapter.specs.Access.Access.{Reading, Writing, Loading, Storing}
 use Rattle.adapter.specs.Device.{DevicePort, Device}
 use Rattle.adapter.specs.Steps.{Steps}
 use Rattle.adapter.proofs.Changed.{changed_other}
 use Rattle.refinement.specs.Relation.{port_at}
-use Rattle.refinement.specs.Driven.{SparesOtherPorts}
+use Rattle.refinement.specs.Fragments.{SparesOtherPorts}
 use Rattle.refinement.proofs.steps.AdapterCalls.{noted_tape}
 use Rattle.refinement.proofs.device.HealthyPort.{at_port, written_tape}
 
@@ -35,16 +35,16 @@ module _ (P : DevicePort → Type 0) (port : Port) (noting : (p : DevicePort) (r
   noted_on Cap2 v d h = h
   noted_on Bohc v d h = h
 
-  module _ (acknowledging : (p : DevicePort) → P p → P (with_is_bit_cleared p)) where
-    pub written_on : (r : Reg) (v : ℕ) (d : Device) → ((q : PortReg) → r ≡ Px port q → P (d.port port.0) → P (port_written q v (length d.tape) (d.port port.0))) → P (d.port port.0) → P ((written r v d).port port.0)
+  module _ (acknowledging : (p : DevicePort) → P p → P (port_after_hba_is_write p)) where
+    pub written_on : (r : Reg) (v : ℕ) (d : Device) → ((q : PortReg) → r ≡ Px port q → P (d.port port.0) → P (port_after_write q v (length d.tape) (d.port port.0))) → P (d.port port.0) → P ((written r v d).port port.0)
     written_on (Px p r) v d writing h = at_port P P d p.0 port.0 _ h
         (λ e x.
         let same : p ≡ port = ap port_at e in
-        subst (λ (q : Port). P (d.port q.0) → P (port_written r v (length d.tape) (d.port q.0))) (sym same) (writing r (ap (λ (q : Port). Px q r) same)) x)
+        subst (λ (q : Port). P (d.port q.0) → P (port_after_write r v (length d.tape) (d.port q.0))) (sym same) (writing r (ap (λ (q : Port). Px q r) same)) x)
         (λ ne x. x)
     written_on Is v d writing h = by (bit v port.0)
       where
-        by : (b : Bool) → P (if b then with_is_bit_cleared (d.port port.0) else d.port port.0)
+        by : (b : Bool) → P (if b then port_after_hba_is_write (d.port port.0) else d.port port.0)
         by true = acknowledging (d.port port.0) h
         by false = h
     written_on Cap v d writing h = h
@@ -56,7 +56,7 @@ module _ (P : DevicePort → Type 0) (port : Port) (noting : (p : DevicePort) (r
 
     -- what holds before the access's effect holds after it
     pub effect_keeps : (access : Access) (old new : Device) (x : Does access old new) →
-        ((r : PortReg) (v : ℕ) (mid : Device) → access ≡ Writing (Px port r) v → Steps old mid → P (mid.port port.0) → P (port_written r v (length mid.tape) (mid.port port.0))) →
+        ((r : PortReg) (v : ℕ) (mid : Device) → access ≡ Writing (Px port r) v → Steps old mid → P (mid.port port.0) → P (port_after_write r v (length mid.tape) (mid.port port.0))) →
         P ((access_steps access old new x).0.port port.0) → P (new.port port.0)
     unfolding access_steps
     effect_keeps (Reading r v) old new x writing h = subst (λ (d : Device). P (d.port port.0)) (sym x.effect) (noted_on r v x.mid h)
@@ -85,7 +85,7 @@ module _ (port : Port) (q : ℕ) (other : q ≢ port.0) where
   written_beside (Px p r) v d is = changed_other d.port p.0 _ q (beside p is)
   written_beside Cap v d is = absurd is
   written_beside Ghc v d is = absurd is
-  written_beside Is v d is = cond-false (bit v q) (with_is_bit_cleared (d.port q)) (d.port q) (is.alone q other)
+  written_beside Is v d is = cond-false (bit v q) (port_after_hba_is_write (d.port q)) (d.port q) (is.no_other_bit_is_set q other)
   written_beside Pi v d is = absurd is
   written_beside Vs v d is = absurd is
   written_beside Cap2 v d is = absurd is

@@ -9,15 +9,15 @@ use Rattle.hba_regs.specs.declared.reg.Reg.TheVariants.{Cap, Ghc, Pi, Vs, Cap2, 
 use Rattle.hba_regs.specs.declared.reg.Reg.TheVariants as adapter
 use Rattle.hba_regs.specs.declared.reg.PortReg.{PortReg}
 use Rattle.hba_regs.specs.declared.reg.PortReg.TheVariants.{Clb, Clbu, Fb, Fbu, Is, Ie, Cmd, Tfd, Sig, Ssts, Sctl, Serr, Sact, Ci}
-use Rattle.adapter.specs.Access.{Reads, Writes, noted, written, port_written, with_st, with_fre, with_is_bit_cleared}
+use Rattle.adapter.specs.Access.{Reads, Writes, noted, written, port_after_write, port_after_st_write, port_after_fre_write, port_after_hba_is_write}
 use Rattle.adapter.specs.Device.{DevicePort, Device}
-use Rattle.adapter.specs.Kept.{Keeps, KeepsOutsideReset}
+use Rattle.adapter.specs.KeptBySteps.{Keeps, KeepsOutsideReset}
 use Rattle.adapter.specs.Steps.{DeviceTransition, Can, device_after, Steps}
 use Rattle.adapter.specs.Steps.DeviceTransition.{Fetch, FetchFault, Move, Clear, Done, Fault, Fatal, Fall, FrFall, LinkUp, Unplug, Plug, ResetEnds, Scribble}
 use Rattle.adapter.specs.RegisterEffects.{PortRegisterRead}
 use Rattle.adapter.specs.declared.tape.Entry.{Entry}
 use Rattle.block_machine.specs.State.{Machine}
-use Rattle.refinement.specs.Below.{StepLaws}
+use Rattle.refinement.specs.StepLaws.{StepLaws}
 use Rattle.refinement.specs.Relation.{StateRelation}
 use Rattle.refinement.specs.Slots.{SlotState, Free, SlotStates, RelatesSlot, IsEmptySlot}
 use Rattle.refinement.proofs.steps.StillFrames.{over_unused}
@@ -42,7 +42,7 @@ step_stuck d port (Fault p slot error kept_bits t) can h = at_port IsStuck IsStu
 step_stuck d port (Fatal p place) can h = at_port IsStuck IsStuck d p port _ h (λ e x. x) (λ ne x. x)
 step_stuck d port (Fall p) can h = at_port IsStuck IsStuck d p port _ h (λ e x. x) (λ ne x. x)
 step_stuck d port (FrFall p) can h = at_port IsStuck IsStuck d p port _ h (λ e x. x) (λ ne x. x)
-step_stuck d port (LinkUp p sig n) can h = at_port IsStuck IsStuck d p port _ h (λ e x st. absurd (both_ways _ (x st).0 can.due)) (λ ne x. x)
+step_stuck d port (LinkUp p sig n) can h = at_port IsStuck IsStuck d p port _ h (λ e x st. absurd (both_ways _ (x st).0 can.link_is_due)) (λ ne x. x)
 step_stuck d port (Unplug p) can h = at_port IsStuck IsStuck d p port _ h (λ e x. x) (λ ne x. x)
 step_stuck d port (Plug p disk) can h = at_port IsStuck IsStuck d p port _ h (λ e x. x) (λ ne x. x)
 step_stuck d port ResetEnds can h = λ st. absurd (false≢true st)
@@ -50,10 +50,10 @@ step_stuck d port (Scribble p slot at bytes) can h = h
 
 module _ (laws : StepLaws) (port : ℕ) (old new : Device) (off : old.hr ≡ false) (st : (old.port port).st ≡ true) (h : FaultsOnRecord old.tape (old.port port) port) (faulted : IsFaulted (old.port port).halt) where
   running : Steps old new → (new.port port).st ≡ true
-  running s = let k : Keeps old new = laws.keeps _ _ s in let on : KeepsOutsideReset old new = k.on off in (on.controls port).st ∙ st
+  running s = let k : Keeps old new = laws.keeps _ _ s in let on : KeepsOutsideReset old new = k.keeps_outside_reset off in (on.controls port).st ∙ st
 
   pub steps_faulted : Steps old new → IsFaulted (new.port port).halt
-  steps_faulted s = (leads_keep IsStuck step_stuck port s.steps old new s.lead (λ on. ((h st).linked, faulted)) (running s)).1
+  steps_faulted s = (leads_keep IsStuck step_stuck port s.steps old new s.lead (λ on. ((h st).no_link_is_due, faulted)) (running s)).1
 
 noted_halt : (port : ℕ) (r : Reg) (v : ℕ) (d : Device) → IsFaulted (d.port port).halt → IsFaulted ((noted r v d).port port).halt
 noted_halt port (Px p r) v d h = at_port (λ x. IsFaulted x.halt) (λ x. IsFaulted x.halt) d p.0 port _ h (λ e x. x) (λ ne x. x)
@@ -71,10 +71,10 @@ reads_faulted laws port r v old new off st h faulted call =
     subst (λ (d : Device). IsFaulted (d.port port).halt) (sym call.effect) (noted_halt port r v call.mid (steps_faulted laws port old call.mid off st h faulted call.steps))
 
 -- no write ends a halt while ST is 1
-port_halt : (r : PortReg) (v tape : ℕ) (p : DevicePort) → p.st ≡ true → (port_written r v tape p).halt ≡ p.halt
+port_halt : (r : PortReg) (v tape : ℕ) (p : DevicePort) → p.st ≡ true → (port_after_write r v tape p).halt ≡ p.halt
 port_halt Cmd v tape p st = by (bit v 0)
   where
-    by : (b : Bool) → (with_fre (bit v 4) (with_st b tape p)).halt ≡ p.halt
+    by : (b : Bool) → (port_after_fre_write (bit v 4) (port_after_st_write b tape p)).halt ≡ p.halt
     by true = ap (λ (x : DevicePort). x.halt) (cond-true p.st p _ st)
     by false = refl
 port_halt Clb v tape p st = refl
@@ -96,7 +96,7 @@ written_halt port (Px p r) v d st = at_port (λ x. x.st ≡ true) (λ x. x.halt 
     (λ e x. port_halt r v (length d.tape) (d.port p.0) x ∙ ap (λ (k : ℕ). (d.port k).halt) e) (λ ne x. refl)
 written_halt port adapter.Is v d st = by (bit v port)
   where
-    by : (b : Bool) → (if b then with_is_bit_cleared (d.port port) else d.port port).halt ≡ (d.port port).halt
+    by : (b : Bool) → (if b then port_after_hba_is_write (d.port port) else d.port port).halt ≡ (d.port port).halt
     by true = refl
     by false = refl
 written_halt port Cap v d st = refl
@@ -119,8 +119,8 @@ pub tfes_tells : StepLaws → (port : Port) (v : ℕ) (old new : Device) → old
     IsFaulted (new.port port.0).halt
 tfes_tells laws port v old new off st h call set =
     let x : PortRegisterRead port.0 Is v old new = laws.seen port Is v old new call off in
-    let now : RecordsFaults new.tape (new.port port.0) port.0 = reads_recorded port.0 (Px port Is) v old new call h ((x.keeps.on.controls port.0).st ∙ st) in
-    now.flag (sym (x.shows 30 refl) ∙ set)
+    let now : RecordsFaults new.tape (new.port port.0) port.0 = reads_recorded port.0 (Px port Is) v old new call h ((x.keeps.keeps_outside_reset.controls port.0).st ∙ st) in
+    now.tfes_tells_fault (sym (x.shows 30 refl) ∙ set)
 
 -- the status and the error of the value
 parts_read : (v tfd status error : ℕ) → v % 65536 ≡ tfd → tfd ≡ status + 256 * error → status < 256 → error < 256 → (v % 256 ≡ status) × (v / 256 % 256 ≡ error)
@@ -131,13 +131,13 @@ pub fault_is_read : StepLaws → (port : Port) (v : ℕ) (old new : Device) → 
     Reads (Px port Tfd) v old new → (s : ShowsFault (drop (new.port port.0).notes.st_set_at new.tape) (new.port port.0) port.0) × (v % 256 ≡ s.fault.status) × (v / 256 % 256 ≡ s.fault.error)
 fault_is_read laws port v old new off st h faulted call =
     let x : PortRegisterRead port.0 Tfd v old new = laws.seen port Tfd v old new call off in
-    let now : RecordsFaults new.tape (new.port port.0) port.0 = reads_recorded port.0 (Px port Tfd) v old new call h ((x.keeps.on.controls port.0).st ∙ st) in
-    let s : ShowsFault (drop (new.port port.0).notes.st_set_at new.tape) (new.port port.0) port.0 = now.fault (reads_faulted laws port.0 (Px port Tfd) v old new off st h faulted call) in
-    let parts = parts_read v (new.port port.0).tfd s.fault.status s.fault.error x.shows s.shown s.fits.0 s.fits.1 in
+    let now : RecordsFaults new.tape (new.port port.0) port.0 = reads_recorded port.0 (Px port Tfd) v old new call h ((x.keeps.keeps_outside_reset.controls port.0).st ∙ st) in
+    let s : ShowsFault (drop (new.port port.0).notes.st_set_at new.tape) (new.port port.0) port.0 = now.shows_last_fault (reads_faulted laws port.0 (Px port Tfd) v old new off st h faulted call) in
+    let parts = parts_read v (new.port port.0).tfd s.fault.status s.fault.error x.shows s.tfd_is s.bytes_fit.0 s.bytes_fit.1 in
     (s, parts.0, parts.1)
 
 -- the slot of the fault is in use, so the driver has put something into it
 pub fault_has_a_use : (uses : SlotStates) (m : Machine) (d : Device) (port : ℕ) (entries : List Entry) → StateRelation uses m d → (s : ShowsFault entries (d.port port) port) → uses port s.fault.slot.0 ≢ Free
 fault_has_a_use uses m d port entries a s u =
-    let h : IsEmptySlot (d.port port) s.fault.slot.0 = subst (λ (w : SlotState). RelatesSlot m d.memory d.tape (d.port port) port s.fault.slot.0 w) u (a.slot port s.fault.slot.0) in
-    over_unused (d.port port) s.fault.slot.0 (record { issued = h.issued; free = h.free }) s.used
+    let h : IsEmptySlot (d.port port) s.fault.slot.0 = subst (λ (w : SlotState). RelatesSlot m d.memory d.tape (d.port port) port s.fault.slot.0 w) u (a.relates_slots port s.fault.slot.0) in
+    over_unused (d.port port) s.fault.slot.0 (record { issued = h.issued; free = h.free }) s.slot_is_in_use

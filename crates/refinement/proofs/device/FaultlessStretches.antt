@@ -10,10 +10,10 @@ use Rattle.refinement.proofs.device.TapeGains.{GainsNone, gains_nothing, gains_m
 -- ---- fatal errors
 
 as_fatal : (port : ℕ) (old new : Device) → GainsNone (IsFatalOf port) old new → NoneFatal port old new
-as_fatal port old new g = record { gained = g.0; tape = g.1; none = g.2 }
+as_fatal port old new g = record { new_entries = g.0; tape_is = g.1; no_such_entry = g.2 }
 
 pub fatal_gains : (port : ℕ) (old new : Device) → NoneFatal port old new → GainsNone (IsFatalOf port) old new
-fatal_gains port old new h = (h.gained, h.tape, h.none)
+fatal_gains port old new h = (h.new_entries, h.tape_is, h.no_such_entry)
 
 pub fatal_nothing : (port : ℕ) (d : Device) → NoneFatal port d d
 fatal_nothing port d = as_fatal port d d (gains_nothing (IsFatalOf port) d)
@@ -27,7 +27,7 @@ fatal_parts port old mid new early late a b h =
     (as_fatal port old mid g.0, as_fatal port mid new g.1)
 
 pub undisturbed_fatal : (port : ℕ) (old new : Device) → Undisturbed port old new → NoneFatal port old new
-undisturbed_fatal port old new u = record { gained = u.gained; tape = u.tape; none = none_narrower (IsDisturbance port) (IsFatalOf port) narrower u.gained u.calm }
+undisturbed_fatal port old new u = record { new_entries = u.new_entries; tape_is = u.tape_is; no_such_entry = none_narrower (IsDisturbance port) (IsFatalOf port) narrower u.new_entries u.no_disturbance }
   where
     narrower : (e : Entry) → IsFatalOf port e → IsDisturbance port e
     narrower (entry.Fatal at) x = x
@@ -36,10 +36,10 @@ undisturbed_fatal port old new u = record { gained = u.gained; tape = u.tape; no
 -- ---- faults
 
 as_fails : (port : ℕ) (old new : Device) → GainsNone (IsFaultOf port) old new → NoneFails port old new
-as_fails port old new g = record { gained = g.0; tape = g.1; none = g.2 }
+as_fails port old new g = record { new_entries = g.0; tape_is = g.1; no_such_entry = g.2 }
 
 pub fails_gains : (port : ℕ) (old new : Device) → NoneFails port old new → GainsNone (IsFaultOf port) old new
-fails_gains port old new h = (h.gained, h.tape, h.none)
+fails_gains port old new h = (h.new_entries, h.tape_is, h.no_such_entry)
 
 pub fails_nothing : (port : ℕ) (d : Device) → NoneFails port d d
 fails_nothing port d = as_fails port d d (gains_nothing (IsFaultOf port) d)
@@ -53,7 +53,7 @@ fails_parts port old mid new early late a b h =
     (as_fails port old mid g.0, as_fails port mid new g.1)
 
 pub undisturbed_fails : (port : ℕ) (old new : Device) → Undisturbed port old new → NoneFails port old new
-undisturbed_fails port old new u = record { gained = u.gained; tape = u.tape; none = none_narrower (IsDisturbance port) (IsFaultOf port) narrower u.gained u.calm }
+undisturbed_fails port old new u = record { new_entries = u.new_entries; tape_is = u.tape_is; no_such_entry = none_narrower (IsDisturbance port) (IsFaultOf port) narrower u.new_entries u.no_disturbance }
   where
     narrower : (e : Entry) → IsFaultOf port e → IsDisturbance port e
     narrower (entry.Fault fault) x = x

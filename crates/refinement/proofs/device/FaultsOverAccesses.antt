@@ -8,7 +8,7 @@ use Rattle.hba_regs.specs.declared.reg.Reg.{Reg}
 use Rattle.hba_regs.specs.declared.reg.Reg.TheVariants.{Cap, Ghc, Pi, Vs, Cap2, Bohc, Px}
 use Rattle.hba_regs.specs.declared.reg.Reg.TheVariants as adapter
 use Rattle.hba_regs.specs.declared.reg.PortReg.TheVariants.{Clb, Clbu, Fb, Fbu, Is, Ie, Cmd, Tfd, Sig, Ssts, Sctl, Serr, Sact, Ci}
-use Rattle.adapter.specs.Access.{Reads, Writes, noted, written, port_written, with_st, with_fre, with_is_bit_cleared}
+use Rattle.adapter.specs.Access.{Reads, Writes, noted, written, port_after_write, port_after_st_write, port_after_fre_write, port_after_hba_is_write}
 use Rattle.adapter.specs.Device.{DevicePort, Device}
 use Rattle.adapter.specs.Memory.{changed}
 use Rattle.adapter.specs.Rules.{MayWrite, IsStable}
@@ -45,28 +45,28 @@ module _ (tape : List Entry) (p : DevicePort) (port v : ℕ) (h : FaultsOnRecord
   -- ST is set on a quiet port: nothing is recorded yet
   started_recorded : IsCleanToStart p → FaultsOnRecord tape (record p { st = true; cr = true; broken = false; halt = halt_after_start p.halt; notes = record p.notes { st_set_at = length tape } }) port
   started_recorded q st = record {
-    known = le_refl (length tape);
-    linked = q.linked;
-    flag = λ f. absurd (both_ways _ q.unflagged.1 f);
-    fault = λ f. restarted_faulted p.halt f;
+    st_set_is_on_tape = le_refl (length tape);
+    no_link_is_due = q.no_link_is_due;
+    tfes_tells_fault = λ f. absurd (both_ways _ q.tfes_is_clear.1 f);
+    shows_last_fault = λ f. restarted_faulted p.halt f;
   }
 
-  fre_recorded : (fre : Bool) (x : DevicePort) → FaultsOnRecord tape x port → FaultsOnRecord tape (with_fre fre x) port
-  fre_recorded fre x r = recorded_on tape x (with_fre fre x) port (same_with x _ _ _ _ _ _ _ _ _ _ _ _ _ _ _) r
+  fre_recorded : (fre : Bool) (x : DevicePort) → FaultsOnRecord tape x port → FaultsOnRecord tape (port_after_fre_write fre x) port
+  fre_recorded fre x r = recorded_on tape x (port_after_fre_write fre x) port (same_with x _ _ _ _ _ _ _ _ _ _ _ _ _ _ _) r
 
-  command_recorded : (bit v 0 ≡ true → (p.st ≡ true) ⊎ IsCleanToStart p) → FaultsOnRecord tape (port_written Cmd v (length tape) p) port
-  command_recorded may = fre_recorded (bit v 4) (with_st (bit v 0) (length tape) p) (by (bit v 0) refl p.st refl)
+  command_recorded : (bit v 0 ≡ true → (p.st ≡ true) ⊎ IsCleanToStart p) → FaultsOnRecord tape (port_after_write Cmd v (length tape) p) port
+  command_recorded may = fre_recorded (bit v 4) (port_after_st_write (bit v 0) (length tape) p) (by (bit v 0) refl p.st refl)
     where
-      by : (b : Bool) → bit v 0 ≡ b → (s : Bool) → p.st ≡ s → FaultsOnRecord tape (with_st b (length tape) p) port
+      by : (b : Bool) → bit v 0 ≡ b → (s : Bool) → p.st ≡ s → FaultsOnRecord tape (port_after_st_write b (length tape) p) port
       by false e s is = stopped_recorded tape _ port refl
       by true e true is = subst (λ (x : DevicePort). FaultsOnRecord tape x port) (sym (cond-true p.st p _ is)) h
       by true e false is = subst (λ (x : DevicePort). FaultsOnRecord tape x port) (sym (cond-false p.st p _ is))
           (⊎_elim (λ (on : p.st ≡ true). absurd (both_ways _ is on)) (λ (q : IsCleanToStart p). started_recorded q) (may e))
 
-  acknowledged_recorded : FaultsOnRecord tape (if bit v port then with_is_bit_cleared p else p) port
+  acknowledged_recorded : FaultsOnRecord tape (if bit v port then port_after_hba_is_write p else p) port
   acknowledged_recorded = by (bit v port)
     where
-      by : (b : Bool) → FaultsOnRecord tape (if b then with_is_bit_cleared p else p) port
+      by : (b : Bool) → FaultsOnRecord tape (if b then port_after_hba_is_write p else p) port
       by true = recorded_on tape p _ port (record { st = refl; set_at = refl; linked = refl; flag = λ f. f; halt = refl; tfd = refl; used = λ slot u. u }) h
       by false = h
 

@@ -8,10 +8,10 @@ use Rattle.hba_regs.specs.declared.reg.Reg.TheVariants.{Ghc, Px}
 use Rattle.hba_regs.specs.declared.reg.PortReg.{PortReg}
 use Rattle.hba_regs.specs.declared.reg.PortReg.TheVariants as px
 use Rattle.hba_regs.specs.declared.reg.PortReg.TheVariants.{Cmd}
-use Rattle.adapter.specs.Access.{Reads, Writes, note, port_written, with_st, with_fre, with_is_bit_cleared}
+use Rattle.adapter.specs.Access.{Reads, Writes, note, port_after_write, port_after_st_write, port_after_fre_write, port_after_hba_is_write}
 use Rattle.adapter.specs.Device.{FetchedCommand, DevicePort, Device}
 use Rattle.adapter.specs.Idle.{IsIdlePort}
-use Rattle.adapter.specs.Kept.{KeepsPort}
+use Rattle.adapter.specs.KeptBySteps.{KeepsPort}
 use Rattle.adapter.specs.Rules.{MayWrite, MayWritePort, IsStable}
 use Rattle.adapter.specs.Steps.{DeviceTransition, Can, device_after, TransitionsLead, Steps}
 use Rattle.adapter.specs.Steps.DeviceTransition.{Fetch, FetchFault, Move, Clear, Done, Fault, Fatal, Fall, FrFall, LinkUp, Unplug, Plug, ResetEnds, Scribble}
@@ -19,11 +19,11 @@ use Rattle.adapter.proofs.Changed.{changed_same}
 use Rattle.block_machine.specs.State.{Machine}
 use Rattle.block_machine.specs.Histories.{IsReachable}
 use Rattle.block_machine.specs.Expected as left
-use Rattle.refinement.specs.Below.{StepLaws}
+use Rattle.refinement.specs.StepLaws.{StepLaws}
 use Rattle.refinement.specs.Relation.{StateRelation, port_at}
 use Rattle.refinement.specs.PortFacts.{IsEngineStopped, IsQuiescentPort}
-use Rattle.refinement.specs.Follows.{SimulatesSteps}
-use Rattle.refinement.specs.Slots.{SlotState, Free, Own, Serves, SlotStates, Stage, OwnWaits, OwnTaken, OwnOver, IsOver, RelatesSlot, Armed}
+use Rattle.refinement.specs.Simulation.{SimulatesSteps}
+use Rattle.refinement.specs.Slots.{SlotState, Free, Own, Serves, SlotStates, IsInSomeStage, OwnAwaitsFetch, OwnIsTaken, OwnIsOver, IsOver, RelatesSlot, Armed}
 use Rattle.refinement.proofs.device.FactsOverAccesses.{noted_on, written_on}
 use Rattle.refinement.proofs.steps.FollowedSteps.{steps_follow}
 use Rattle.refinement.proofs.device.ClearSactBits.{if_false}
@@ -31,25 +31,25 @@ use Rattle.refinement.proofs.device.ClearSactBits.{if_false}
 -- ---- it stays so
 
 pub halted_on : {old new : DevicePort} → KeepsPort old new → IsEngineStopped old → IsEngineStopped new
-halted_on k h = record { st = k.st h.st; cr = k.cr h.cr; ci = λ s. k.ci s (h.ci s); taken = k.idle h.cr h.taken }
+halted_on k h = record { st = k.st h.st; cr = k.cr h.cr; ci = λ s. k.ci s (h.ci s); taken = k.stays_without_commands h.cr h.taken }
 
 pub reset_on : {old new : DevicePort} → KeepsPort old new → IsQuiescentPort old → IsQuiescentPort new
-reset_on k h = record { halted = halted_on k h.halted; sact = λ s. k.sact s (h.sact s); fre = k.fre h.fre; fr = k.fr h.fr }
+reset_on k h = record { engine_is_stopped = halted_on k h.engine_is_stopped; sact = λ s. k.sact s (h.sact s); fre = k.fre h.fre; fr = k.fr h.fr }
 
 pub law_stopped_engine_stays : StepLaws → (port : ℕ) (old new : Device) → Steps old new → IsEngineStopped (old.port port) → IsEngineStopped (new.port port)
-law_stopped_engine_stays laws port old new s h = halted_on ((laws.keeps _ _ s).port port) h
+law_stopped_engine_stays laws port old new s h = halted_on ((laws.keeps _ _ s).ports_are_kept port) h
 
 pub reset_stays : StepLaws → (port : ℕ) (old new : Device) → Steps old new → IsQuiescentPort (old.port port) → IsQuiescentPort (new.port port)
-reset_stays laws port old new s h = reset_on ((laws.keeps _ _ s).port port) h
+reset_stays laws port old new s h = reset_on ((laws.keeps _ _ s).ports_are_kept port) h
 
 pub idle_halted : (p : DevicePort) → IsIdlePort p → IsEngineStopped p
 idle_halted p i = record { st = i.st; cr = i.cr; ci = i.ci; taken = i.taken }
 
 pub idle_reset : (p : DevicePort) → IsIdlePort p → IsQuiescentPort p
-idle_reset p i = record { halted = idle_halted p i; sact = i.sact; fre = i.fre; fr = i.fr }
+idle_reset p i = record { engine_is_stopped = idle_halted p i; sact = i.sact; fre = i.fre; fr = i.fr }
 
 pub reset_idle : (p : DevicePort) → IsQuiescentPort p → IsIdlePort p
-reset_idle p h = record { st = h.halted.st; cr = h.halted.cr; fre = h.fre; fr = h.fr; ci = h.halted.ci; sact = h.sact; taken = h.halted.taken }
+reset_idle p h = record { st = h.engine_is_stopped.st; cr = h.engine_is_stopped.cr; fre = h.fre; fr = h.fr; ci = h.engine_is_stopped.ci; sact = h.sact; taken = h.engine_is_stopped.taken }
 
 -- ---- over readings and writes
 
@@ -63,35 +63,35 @@ same_halted p new st cr ci taken h = record {
 }
 
 same_reset : (p new : DevicePort) → new.sact ≡ p.sact → new.fre ≡ p.fre → new.fr ≡ p.fr → IsQuiescentPort p → IsEngineStopped new → IsQuiescentPort new
-same_reset p new sact fre fr h halted = record { halted = halted; sact = λ s. ap (λ (f : ℕ → Bool). f s) sact ∙ h.sact s; fre = fre ∙ h.fre; fr = fr ∙ h.fr }
+same_reset p new sact fre fr h halted = record { engine_is_stopped = halted; sact = λ s. ap (λ (f : ℕ → Bool). f s) sact ∙ h.sact s; fre = fre ∙ h.fre; fr = fr ∙ h.fr }
 
 noted_halted : (p : DevicePort) (r : PortReg) (v : ℕ) → IsEngineStopped p → IsEngineStopped (record p { notes = note r v p })
 noted_halted p r v h = same_halted p _ refl refl refl refl h
 
 noted_reset : (p : DevicePort) (r : PortReg) (v : ℕ) → IsQuiescentPort p → IsQuiescentPort (record p { notes = note r v p })
-noted_reset p r v h = same_reset p _ refl refl refl h (noted_halted p r v h.halted)
+noted_reset p r v h = same_reset p _ refl refl refl h (noted_halted p r v h.engine_is_stopped)
 
-unacknowledged_halted : (p : DevicePort) → IsEngineStopped p → IsEngineStopped (with_is_bit_cleared p)
+unacknowledged_halted : (p : DevicePort) → IsEngineStopped p → IsEngineStopped (port_after_hba_is_write p)
 unacknowledged_halted p h = same_halted p _ refl refl refl refl h
 
-unacknowledged_reset : (p : DevicePort) → IsQuiescentPort p → IsQuiescentPort (with_is_bit_cleared p)
-unacknowledged_reset p h = same_reset p _ refl refl refl h (unacknowledged_halted p h.halted)
+unacknowledged_reset : (p : DevicePort) → IsQuiescentPort p → IsQuiescentPort (port_after_hba_is_write p)
+unacknowledged_reset p h = same_reset p _ refl refl refl h (unacknowledged_halted p h.engine_is_stopped)
 
 -- ST stays 0
 module _ (v tape : ℕ) (p : DevicePort) (off : bit v 0 ≡ false) where
-  stopped_halted : IsEngineStopped p → IsEngineStopped (port_written Cmd v tape p)
-  stopped_halted h = subst (λ (b : Bool). IsEngineStopped (with_fre (bit v 4) (with_st b tape p))) (sym off)
+  stopped_halted : IsEngineStopped p → IsEngineStopped (port_after_write Cmd v tape p)
+  stopped_halted h = subst (λ (b : Bool). IsEngineStopped (port_after_fre_write (bit v 4) (port_after_st_write b tape p))) (sym off)
       (record { st = refl; cr = h.cr; ci = λ s. if_false p.st p.ci s (h.ci s); taken = h.taken })
 
-  stopped_reset : bit v 4 ≡ false → IsQuiescentPort p → IsQuiescentPort (port_written Cmd v tape p)
+  stopped_reset : bit v 4 ≡ false → IsQuiescentPort p → IsQuiescentPort (port_after_write Cmd v tape p)
   stopped_reset fre h = record {
-    halted = stopped_halted h.halted;
-    sact = λ s. subst (λ (b : Bool). (with_fre (bit v 4) (with_st b tape p)).sact s ≡ false) (sym off) (if_false p.st p.sact s (h.sact s));
+    engine_is_stopped = stopped_halted h.engine_is_stopped;
+    sact = λ s. subst (λ (b : Bool). (port_after_fre_write (bit v 4) (port_after_st_write b tape p)).sact s ≡ false) (sym off) (if_false p.st p.sact s (h.sact s));
     fre = fre;
-    fr = subst (λ (b : Bool). (with_fre b (with_st (bit v 0) tape p)).fr ≡ false) (sym fre) (subst (λ (b : Bool). (with_st b tape p).fr ≡ false) (sym off) h.fr);
+    fr = subst (λ (b : Bool). (port_after_fre_write b (port_after_st_write (bit v 0) tape p)).fr ≡ false) (sym fre) (subst (λ (b : Bool). (port_after_st_write b tape p).fr ≡ false) (sym off) h.fr);
   }
 
-port_halted : (r : PortReg) (v : ℕ) (d : Device) (p : DevicePort) → MayWritePort r v d p → (r ≡ Cmd → bit v 0 ≡ false) → IsEngineStopped p → IsEngineStopped (port_written r v (length d.tape) p)
+port_halted : (r : PortReg) (v : ℕ) (d : Device) (p : DevicePort) → MayWritePort r v d p → (r ≡ Cmd → bit v 0 ≡ false) → IsEngineStopped p → IsEngineStopped (port_after_write r v (length d.tape) p)
 port_halted Cmd v d p may off h = stopped_halted v (length d.tape) p (off refl) h
 port_halted px.Ci v d p may off h = absurd (both_ways _ h.st may.running)
 port_halted px.Clb v d p may off h = same_halted p _ refl refl refl refl h
@@ -105,18 +105,18 @@ port_halted px.Serr v d p may off h = same_halted p _ refl refl refl refl h
 port_halted px.Sact v d p may off h = same_halted p _ refl refl refl refl h
 port_halted _ v d p may off h = h
 
-port_reset : (r : PortReg) (v : ℕ) (d : Device) (p : DevicePort) → MayWritePort r v d p → (r ≡ Cmd → (bit v 0 ≡ false) × (bit v 4 ≡ false)) → IsQuiescentPort p → IsQuiescentPort (port_written r v (length d.tape) p)
+port_reset : (r : PortReg) (v : ℕ) (d : Device) (p : DevicePort) → MayWritePort r v d p → (r ≡ Cmd → (bit v 0 ≡ false) × (bit v 4 ≡ false)) → IsQuiescentPort p → IsQuiescentPort (port_after_write r v (length d.tape) p)
 port_reset Cmd v d p may off h = stopped_reset v (length d.tape) p (off refl).0 (off refl).1 h
-port_reset px.Sact v d p may off h = absurd (both_ways _ h.halted.st may)
-port_reset px.Ci v d p may off h = absurd (both_ways _ h.halted.st may.running)
-port_reset px.Clb v d p may off h = same_reset p _ refl refl refl h (port_halted px.Clb v d p may (λ e. (off e).0) h.halted)
-port_reset px.Clbu v d p may off h = same_reset p _ refl refl refl h (port_halted px.Clbu v d p may (λ e. (off e).0) h.halted)
-port_reset px.Fb v d p may off h = same_reset p _ refl refl refl h (port_halted px.Fb v d p may (λ e. (off e).0) h.halted)
-port_reset px.Fbu v d p may off h = same_reset p _ refl refl refl h (port_halted px.Fbu v d p may (λ e. (off e).0) h.halted)
-port_reset px.Ie v d p may off h = same_reset p _ refl refl refl h (port_halted px.Ie v d p may (λ e. (off e).0) h.halted)
-port_reset px.Is v d p may off h = same_reset p _ refl refl refl h (port_halted px.Is v d p may (λ e. (off e).0) h.halted)
-port_reset px.Sctl v d p may off h = same_reset p _ refl refl refl h (port_halted px.Sctl v d p may (λ e. (off e).0) h.halted)
-port_reset px.Serr v d p may off h = same_reset p _ refl refl refl h (port_halted px.Serr v d p may (λ e. (off e).0) h.halted)
+port_reset px.Sact v d p may off h = absurd (both_ways _ h.engine_is_stopped.st may)
+port_reset px.Ci v d p may off h = absurd (both_ways _ h.engine_is_stopped.st may.running)
+port_reset px.Clb v d p may off h = same_reset p _ refl refl refl h (port_halted px.Clb v d p may (λ e. (off e).0) h.engine_is_stopped)
+port_reset px.Clbu v d p may off h = same_reset p _ refl refl refl h (port_halted px.Clbu v d p may (λ e. (off e).0) h.engine_is_stopped)
+port_reset px.Fb v d p may off h = same_reset p _ refl refl refl h (port_halted px.Fb v d p may (λ e. (off e).0) h.engine_is_stopped)
+port_reset px.Fbu v d p may off h = same_reset p _ refl refl refl h (port_halted px.Fbu v d p may (λ e. (off e).0) h.engine_is_stopped)
+port_reset px.Ie v d p may off h = same_reset p _ refl refl refl h (port_halted px.Ie v d p may (λ e. (off e).0) h.engine_is_stopped)
+port_reset px.Is v d p may off h = same_reset p _ refl refl refl h (port_halted px.Is v d p may (λ e. (off e).0) h.engine_is_stopped)
+port_reset px.Sctl v d p may off h = same_reset p _ refl refl refl h (port_halted px.Sctl v d p may (λ e. (off e).0) h.engine_is_stopped)
+port_reset px.Serr v d p may off h = same_reset p _ refl refl refl h (port_halted px.Serr v d p may (λ e. (off e).0) h.engine_is_stopped)
 port_reset _ v d p may off h = h
 
 pub halted_reads : StepLaws → (port : ℕ) (r : Reg) (v : ℕ) (old new : Device) → Reads r v old new → IsEngineStopped (old.port port) → IsEngineStopped (new.port port)
@@ -154,13 +154,13 @@ over_of m d port slot Free st cr h = record { issued = h.issued; free = h.free }
 over_of m d port slot Armed st cr h = record { issued = h.issued; free = h.free }
 over_of m d port slot (Own o) st cr h = of h.stage
   where
-    of : OwnWaits (d.port port) slot ⊎ (OwnTaken d.memory d.tape (d.port port) port slot h.command ⊎ OwnOver d.memory d.tape (d.port port) port slot h.command) → IsOver (d.port port) slot
+    of : OwnAwaitsFetch (d.port port) slot ⊎ (OwnIsTaken d.memory d.tape (d.port port) port slot h.command ⊎ OwnIsOver d.memory d.tape (d.port port) port slot h.command) → IsOver (d.port port) slot
     of (inl w) = absurd (both_ways _ st w.started)
     of (inr (inl t)) = absurd (both_ways _ cr t.running)
     of (inr (inr x)) = x.over
 over_of m d port slot (Serves id) st cr h = of h.stage
   where
-    of : Stage d.memory (d.port port) port slot h.pending h.command h.places → IsOver (d.port port) slot
+    of : IsInSomeStage d.memory (d.port port) port slot h.pending h.command h.places → IsOver (d.port port) slot
     of (inl w) = absurd (both_ways _ st w.started)
     of (inr (inl t)) = absurd (both_ways _ cr t.running)
     of (inr (inr (inl x))) = record { issued = x.issued; free = x.free }
@@ -168,14 +168,14 @@ over_of m d port slot (Serves id) st cr h = of h.stage
 
 pub stopped_halts : (uses : SlotStates) (m : Machine) (d : Device) (port : ℕ) → StateRelation uses m d → (d.port port).st ≡ false → (d.port port).cr ≡ false → IsEngineStopped (d.port port)
 stopped_halts uses m d port a st cr =
-    let over : (slot : ℕ) → IsOver (d.port port) slot = λ slot. over_of m d port slot (uses port slot) st cr (a.slot port slot) in
+    let over : (slot : ℕ) → IsOver (d.port port) slot = λ slot. over_of m d port slot (uses port slot) st cr (a.relates_slots port slot) in
     record { st = st; cr = cr; ci = λ s. (over s).issued; taken = λ s. (over s).free }
 
 pub law_stop_is_found : StepLaws → (uses : SlotStates) (m : Machine) (port : Port) (v : ℕ) (old new : Device) → IsReachable m → StateRelation uses m old →
     (old.port port.0).st ≡ false → Reads (Px port Cmd) v old new → bit v 15 ≡ false → IsEngineStopped (new.port port.0)
 law_stop_is_found laws uses m port v old new reached a st call clear =
     let f : SimulatesSteps uses m old call.mid = steps_follow uses m old call.mid reached a call.steps in
-    let k : KeepsPort (old.port port.0) (call.mid.port port.0) = (laws.keeps _ _ call.steps).port port.0 in
+    let k : KeepsPort (old.port port.0) (call.mid.port port.0) = (laws.keeps _ _ call.steps).ports_are_kept port.0 in
     let h : IsEngineStopped (call.mid.port port.0) = stopped_halts uses (left.after m f.steps) call.mid port.0 f.agrees (k.st st) (sym call.shows.3 ∙ clear) in
     let is : new.port port.0 ≡ record (call.mid.port port.0) { notes = note Cmd v (call.mid.port port.0) } = ap (λ (d : Device). d.port port.0) call.effect ∙ changed_same call.mid.port port.0 _ in
     subst IsEngineStopped (sym is) (record { st = h.st; cr = h.cr; ci = h.ci; taken = h.taken })
@@ -183,7 +183,7 @@ law_stop_is_found laws uses m port v old new reached a st call clear =
 -- ---- HR is read 0
 
 pub reset_left : (d : Device) (port : ℕ) → IsQuiescentPort ((device_after ResetEnds d).port port)
-reset_left d port = record { halted = record { st = refl; cr = refl; ci = λ s. refl; taken = λ s. refl }; sact = λ s. refl; fre = refl; fr = refl }
+reset_left d port = record { engine_is_stopped = record { st = refl; cr = refl; ci = λ s. refl; taken = λ s. refl }; sact = λ s. refl; fre = refl; fr = refl }
 
 -- a step, and then steps
 step_first : (step : DeviceTransition) (old mid : Device) → Can step old → Steps (device_after step old) mid → Steps old mid

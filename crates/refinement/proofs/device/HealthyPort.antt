@@ -16,18 +16,18 @@ use Rattle.refinement.proofs.device.TapeGains.{gains_nothing, gains_more, gains_
 -- ---- lists of entries
 
 pub undisturbed_none : (port : ℕ) (d : Device) → Undisturbed port d d
-undisturbed_none port d = let g = gains_nothing (IsDisturbance port) d in record { gained = g.0; tape = g.1; calm = g.2 }
+undisturbed_none port d = let g = gains_nothing (IsDisturbance port) d in record { new_entries = g.0; tape_is = g.1; no_disturbance = g.2 }
 
 pub undisturbed_more : (port : ℕ) (old mid new : Device) → Undisturbed port old mid → Undisturbed port mid new → Undisturbed port old new
 undisturbed_more port old mid new a b =
-    let g = gains_more (IsDisturbance port) old mid new (a.gained, a.tape, a.calm) (b.gained, b.tape, b.calm) in
-    record { gained = g.0; tape = g.1; calm = g.2 }
+    let g = gains_more (IsDisturbance port) old mid new (a.new_entries, a.tape_is, a.no_disturbance) (b.new_entries, b.tape_is, b.no_disturbance) in
+    record { new_entries = g.0; tape_is = g.1; no_disturbance = g.2 }
 
 pub undisturbed_parts : (port : ℕ) (old mid new : Device) (early late : List Entry) → mid.tape ≡ old.tape ++ early → new.tape ≡ mid.tape ++ late → Undisturbed port old new →
     Undisturbed port old mid × Undisturbed port mid new
 undisturbed_parts port old mid new early late a b h =
-    let g = gains_parts (IsDisturbance port) old mid new early late a b (h.gained, h.tape, h.calm) in
-    (record { gained = g.0.0; tape = g.0.1; calm = g.0.2 }, record { gained = g.1.0; tape = g.1.1; calm = g.1.2 })
+    let g = gains_parts (IsDisturbance port) old mid new early late a b (h.new_entries, h.tape_is, h.no_disturbance) in
+    (record { new_entries = g.0.0; tape_is = g.0.1; no_disturbance = g.0.2 }, record { new_entries = g.1.0; tape_is = g.1.1; no_disturbance = g.1.2 })
 
 -- ---- a step, and a write
 
@@ -59,8 +59,8 @@ first_healthy = subst RunsWell (sym (changed_same (λ _. empty_port) 0 reading_p
   det = refl;
   present = refl;
   fresh = refl;
-  linked = refl;
-  running = refl;
-  whole = refl;
-  quiet = record { serr_n = refl; serr_x = refl; quiet = λ place low up. refl };
+  no_link_is_due = refl;
+  is_not_halted = refl;
+  is_not_broken = refl;
+  shows_no_trouble = record { serr_n = refl; serr_x = refl; no_error_bit_is_set = λ place low up. refl };
 })

@@ -8,9 +8,9 @@ use Rattle.hba_regs.specs.declared.reg.PortReg.TheVariants.{Is, Ssts}
 use Rattle.adapter.specs.Access.{Reads}
 use Rattle.adapter.specs.Access.Access.{Reading}
 use Rattle.adapter.specs.Device.{Device}
-use Rattle.adapter.specs.Kept.{KeepsControls}
+use Rattle.adapter.specs.KeptBySteps.{KeepsControls}
 use Rattle.adapter.specs.RegisterEffects.{PortRegisterRead}
-use Rattle.refinement.specs.Below.{StepLaws}
+use Rattle.refinement.specs.StepLaws.{StepLaws}
 use Rattle.refinement.specs.Errors.{ChangesByDisks, NoneFails}
 use Rattle.refinement.specs.Links.{NoPlugEvents, LeavesLink, SameLink, ComesUp}
 use Rattle.refinement.proofs.device.ErrorBits.{access_change, plugs_come}
@@ -24,7 +24,7 @@ module _ (laws : StepLaws) (port : Port) (v : ℕ) (old new : Device) (off : old
     seen_is = laws.seen port Is v old new call off
 
     kept : KeepsControls (old.port port.0) (new.port port.0)
-    kept = seen_is.keeps.on.controls port.0
+    kept = seen_is.keeps.keeps_outside_reset.controls port.0
 
     pub causes_told : (place : ℕ) → 27 ≤ place → place ≤ 30 → (old.port port.0).is place ≡ true → bit v place ≡ true
     causes_told place low up set = shown_place v (new.port port.0) seen_is.shows place low up ∙ kept.is place set

@@ -6,7 +6,7 @@ use Rattle.hba_regs.specs.Bits.{bit}
 use Rattle.hba_regs.specs.declared.reg.Reg.TheVariants.{Px}
 use Rattle.hba_regs.specs.declared.reg.PortReg.{PortReg}
 use Rattle.hba_regs.specs.declared.reg.PortReg.TheVariants.{Clb, Clbu, Fb, Fbu, Is, Ie, Cmd, Tfd, Sig, Ssts, Sctl, Serr, Sact, Ci}
-use Rattle.adapter.specs.Access.{Access, Does, port_written}
+use Rattle.adapter.specs.Access.{Access, Does, port_after_write}
 use Rattle.adapter.specs.Device.{DevicePort, Device}
 use Rattle.adapter.specs.declared.tape.Entry.{Entry}
 use Rattle.refinement.specs.PortFacts.{ShowsDrqTillLink, FaultsOnRecord}
@@ -19,7 +19,7 @@ use Rattle.refinement.proofs.device.RecordedFaults.{SameRecord, same_with, recor
 
 -- ---- the link
 
-written_awaits : (r : PortReg) (v tape : ℕ) (p : DevicePort) → (r ≡ Cmd → ⊥) → (r ≡ Sctl → ⊥) → ShowsDrqTillLink p → ShowsDrqTillLink (port_written r v tape p)
+written_awaits : (r : PortReg) (v tape : ℕ) (p : DevicePort) → (r ≡ Cmd → ⊥) → (r ≡ Sctl → ⊥) → ShowsDrqTillLink p → ShowsDrqTillLink (port_after_write r v tape p)
 written_awaits Cmd v tape p command control h = absurd (command refl)
 written_awaits Sctl v tape p command control h = absurd (control refl)
 written_awaits _ v tape p command control h = h
@@ -34,7 +34,7 @@ access_awaited port access old new command control x h =
 
 -- ---- the record of faults
 
-same_written : (r : PortReg) (v tape : ℕ) (p : DevicePort) → (r ≡ Cmd → ⊥) → (r ≡ Sctl → ⊥) → SameRecord p (port_written r v tape p)
+same_written : (r : PortReg) (v tape : ℕ) (p : DevicePort) → (r ≡ Cmd → ⊥) → (r ≡ Sctl → ⊥) → SameRecord p (port_after_write r v tape p)
 same_written Cmd v tape p command control = absurd (command refl)
 same_written Sctl v tape p command control = absurd (control refl)
 same_written Is v tape p command control =

@@ -7,7 +7,7 @@ use Rattle.hba_regs.specs.Bits.{bit}
 use Rattle.hba_regs.specs.declared.reg.Reg.TheVariants.{Px}
 use Rattle.hba_regs.specs.declared.reg.PortReg.{PortReg}
 use Rattle.hba_regs.specs.declared.reg.PortReg.TheVariants.{Is, Cmd, Sact}
-use Rattle.adapter.specs.Access.{Access, Does, Reads, Writes, port_written, with_st, with_fre}
+use Rattle.adapter.specs.Access.{Access, Does, Reads, Writes, port_after_write, port_after_st_write, port_after_fre_write}
 use Rattle.adapter.specs.Commands.{Meaning, is_queued}
 use Rattle.adapter.specs.Device.{Halt, FetchedCommand, DevicePort, Device}
 use Rattle.adapter.specs.Device.Halt.{NotHalted, HaltedPlain, HaltedQueued, LogOnly}
@@ -18,14 +18,14 @@ use Rattle.adapter.proofs.SaysLemmas.{says_meaning}
 use Rattle.block_machine.specs.Histories.{IsReachable}
 use Rattle.block_machine.specs.Expected as left
 use Rattle.block_machine.specs.State.{Machine}
-use Rattle.refinement.specs.Below.{StepLaws}
+use Rattle.refinement.specs.StepLaws.{StepLaws}
 use Rattle.refinement.specs.Relation.{StateRelation}
 use Rattle.refinement.specs.PortFacts.{RunsWell, TellsNoTrouble}
-use Rattle.refinement.specs.Follows.{SimulatesSteps}
+use Rattle.refinement.specs.Simulation.{SimulatesSteps}
 use Rattle.refinement.specs.Links.{DoesNotWrite}
-use Rattle.refinement.specs.Places.{scratch_of}
-use Rattle.refinement.specs.Slots.{SlotState, Free, Armed, Own, Serves, SlotStates, Stage, OwnWaits, OwnTaken, OwnOver, RelatesSlot, op_of}
-use Rattle.refinement.specs.Started.{IsUp}
+use Rattle.refinement.specs.MemoryLayout.{scratch_of}
+use Rattle.refinement.specs.Slots.{SlotState, Free, Armed, Own, Serves, SlotStates, IsInSomeStage, OwnAwaitsFetch, OwnIsTaken, OwnIsOver, RelatesSlot, op_of}
+use Rattle.refinement.specs.StartedPort.{IsUp}
 use Rattle.refinement.proofs.relation.OneSlot.{changed_at}
 use Rattle.refinement.proofs.device.BootedPort.{well_is_found}
 use Rattle.refinement.proofs.device.FactsOverAccesses.{access_steps, effect_keeps}
@@ -34,37 +34,37 @@ use Rattle.refinement.proofs.device.HealthyPort.{at_port}
 use Rattle.refinement.proofs.device.PortControls.{spared}
 use Rattle.refinement.proofs.steps.TakenCommand.{own_plain, never_refused}
 use Rattle.refinement.proofs.device.ClearSactBits.{if_false}
-use Rattle.refinement.specs.Recovering.{IsLinked, WorksPlainly}
+use Rattle.refinement.specs.HaltRecovery.{IsLinked, WorksPlainly}
 
 -- as facts of a port's fields
 abbrev Plain : DevicePort → Type 0
 Plain p = (halt_after_start p.halt ≡ NotHalted) × ((slot : ℕ) → p.sact slot ≡ false) × ((slot : ℕ) (t : FetchedCommand) → p.taken slot ≡ Some t → is_queued t.meaning.operation ≡ false)
 
 plain_of : (p : DevicePort) → WorksPlainly p → Plain p
-plain_of p h = (h.restarts, h.unarmed, h.plain)
+plain_of p h = (h.start_ends_halt, h.unarmed, h.plain)
 
 works_plainly : (p : DevicePort) → Plain p → WorksPlainly p
-works_plainly p h = record { restarts = h.0; unarmed = h.1; plain = h.2 }
+works_plainly p h = record { start_ends_halt = h.0; unarmed = h.1; plain = h.2 }
 
 -- ---- what a slot says
 
 -- a slot that waits without its bit of SACT says a plain command
 module _ (uses : SlotStates) (m : Machine) (d : Device) (a : StateRelation uses m d) (port slot : ℕ) (c : Meaning) (places : List ℕ) where
   pub fetched_plain : MayFetch d port slot c places → (d.port port).sact slot ≡ false → is_queued c.operation ≡ false
-  fetched_plain can clear = by (uses port slot) (a.slot port slot)
+  fetched_plain can clear = by (uses port slot) (a.relates_slots port slot)
     where
       by : (u : SlotState) → RelatesSlot m d.memory d.tape (d.port port) port slot u → is_queued c.operation ≡ false
       by Free h = absurd (both_ways _ h.issued can.fetchable.issued)
       by Armed h = absurd (both_ways _ h.issued can.fetchable.issued)
       by (Own o) h =
-          let same : c ≡ h.command = says_meaning d.memory (d.port port).bases.clb slot c h.command places (scratch_of port ∷ []) can.says h.told.says in
+          let same : c ≡ h.command = says_meaning d.memory (d.port port).bases.clb slot c h.command places (scratch_of port ∷ []) can.says h.slot_decodes_to.decodes_to in
           own_plain c.operation (ap (λ (x : Meaning). op_of x.operation) same ∙ ap op_of h.operation_is ∙ h.own)
       by (Serves id) h = of h.stage
         where
           same : c ≡ h.command
-          same = says_meaning d.memory (d.port port).bases.clb slot c h.command places h.places can.says h.told.says
+          same = says_meaning d.memory (d.port port).bases.clb slot c h.command places h.places can.says h.slot_decodes_to.decodes_to
 
-          of : Stage d.memory (d.port port) port slot h.pending h.command h.places → is_queued c.operation ≡ false
+          of : IsInSomeStage d.memory (d.port port) port slot h.pending h.command h.places → is_queued c.operation ≡ false
           of (inl w) = ap (λ (x : Meaning). is_queued x.operation) same ∙ (sym w.sact ∙ clear)
           of (inr (inl t)) = absurd (none-some _ (sym can.fetchable.free ∙ t.taken))
           of (inr (inr (inl x))) = absurd (both_ways _ x.issued can.fetchable.issued)
@@ -72,7 +72,7 @@ module _ (uses : SlotStates) (m : Machine) (d : Device) (a : StateRelation uses 
 
 -- and one that is taken has a plain command, while ST is 1
 taken_plain : (uses : SlotStates) (m : Machine) (d : Device) (port slot : ℕ) (t : FetchedCommand) → StateRelation uses m d → (d.port port).st ≡ true → (d.port port).sact slot ≡ false → (d.port port).taken slot ≡ Some t → is_queued t.meaning.operation ≡ false
-taken_plain uses m d port slot t a st clear is = by (uses port slot) (a.slot port slot)
+taken_plain uses m d port slot t a st clear is = by (uses port slot) (a.relates_slots port slot)
   where
     here : (c : FetchedCommand) (w : Meaning) → (d.port port).taken slot ≡ Some c → c.meaning ≡ w → t.meaning ≡ w
     here c w e f = ap (λ (x : FetchedCommand). x.meaning) (same_Some _ _ (sym is ∙ e)) ∙ f
@@ -82,13 +82,13 @@ taken_plain uses m d port slot t a st clear is = by (uses port slot) (a.slot por
     by Armed h = absurd (none-some _ (sym h.free ∙ is))
     by (Own o) h = of h.stage
       where
-        of : OwnWaits (d.port port) slot ⊎ (OwnTaken d.memory d.tape (d.port port) port slot h.command ⊎ OwnOver d.memory d.tape (d.port port) port slot h.command) → is_queued t.meaning.operation ≡ false
+        of : OwnAwaitsFetch (d.port port) slot ⊎ (OwnIsTaken d.memory d.tape (d.port port) port slot h.command ⊎ OwnIsOver d.memory d.tape (d.port port) port slot h.command) → is_queued t.meaning.operation ≡ false
         of (inl w) = absurd (none-some _ (sym w.free ∙ is))
         of (inr (inl x)) = own_plain t.meaning.operation (ap (λ (w : Meaning). op_of w.operation) (here x.command h.command x.taken x.meaning) ∙ ap op_of h.operation_is ∙ h.own)
         of (inr (inr x)) = absurd (none-some _ (sym x.over.free ∙ is))
     by (Serves id) h = of h.stage
       where
-        of : Stage d.memory (d.port port) port slot h.pending h.command h.places → is_queued t.meaning.operation ≡ false
+        of : IsInSomeStage d.memory (d.port port) port slot h.pending h.command h.places → is_queued t.meaning.operation ≡ false
         of (inl w) = absurd (none-some _ (sym w.free ∙ is))
         of (inr (inl x)) =
             ap (λ (w : Meaning). is_queued w.operation) (here x.command h.command x.taken x.meaning)
@@ -164,15 +164,15 @@ steps_plain laws uses m port old new r a s h = works_plainly (new.port port) (le
 
 -- ---- an access
 
-command_plain : (v tape : ℕ) (p : DevicePort) → Plain p → Plain (port_written Cmd v tape p)
+command_plain : (v tape : ℕ) (p : DevicePort) → Plain p → Plain (port_after_write Cmd v tape p)
 command_plain v tape p h = by (bit v 0) p.st refl
   where
-    by : (b s : Bool) → p.st ≡ s → Plain (with_fre (bit v 4) (with_st b tape p))
+    by : (b s : Bool) → p.st ≡ s → Plain (port_after_fre_write (bit v 4) (port_after_st_write b tape p))
     by false s is = (h.0, λ slot. if_false p.st p.sact slot (h.1 slot), h.2)
-    by true true is = subst (λ (x : DevicePort). Plain (with_fre (bit v 4) x)) (sym (cond-true p.st p _ is)) h
-    by true false is = subst (λ (x : DevicePort). Plain (with_fre (bit v 4) x)) (sym (cond-false p.st p _ is)) (ap halt_after_start h.0, h.1, h.2)
+    by true true is = subst (λ (x : DevicePort). Plain (port_after_fre_write (bit v 4) x)) (sym (cond-true p.st p _ is)) h
+    by true false is = subst (λ (x : DevicePort). Plain (port_after_fre_write (bit v 4) x)) (sym (cond-false p.st p _ is)) (ap halt_after_start h.0, h.1, h.2)
 
-written_plain : (r : PortReg) (v tape : ℕ) (p : DevicePort) → (r ≡ Sact → ⊥) → Plain p → Plain (port_written r v tape p)
+written_plain : (r : PortReg) (v tape : ℕ) (p : DevicePort) → (r ≡ Sact → ⊥) → Plain p → Plain (port_after_write r v tape p)
 written_plain Cmd v tape p other h = command_plain v tape p h
 written_plain Sact v tape p other h = absurd (other refl)
 written_plain _ v tape p other h = h
@@ -189,10 +189,10 @@ access_plain laws uses m port access old new r a spares x h =
 -- ---- where it begins, and what it gives
 
 pub running_plainly : (uses : SlotStates) (m : Machine) (port : ℕ) (d : Device) → StateRelation uses m d → (d.port port).st ≡ true → (d.port port).halt ≡ NotHalted → ((slot : ℕ) → (d.port port).sact slot ≡ false) → WorksPlainly (d.port port)
-running_plainly uses m port d a st runs clear = record { restarts = ap halt_after_start runs; unarmed = clear; plain = λ slot t is. taken_plain uses m d port slot t a st (clear slot) is }
+running_plainly uses m port d a st runs clear = record { start_ends_halt = ap halt_after_start runs; unarmed = clear; plain = λ slot t is. taken_plain uses m d port slot t a st (clear slot) is }
 
 pub plainly_up : (p : DevicePort) → IsLinked p → WorksPlainly p → IsUp p
-plainly_up p l w = record { det = l.det; present = l.present; fresh = l.fresh; linked = l.linked; released = l.released; restarts = w.restarts }
+plainly_up p l w = record { det = l.det; present = l.present; fresh = l.fresh; no_link_is_due = l.no_link_is_due; comreset_is_over = l.comreset_is_over; start_ends_halt = w.start_ends_halt }
 
 pub plainly_well : StepLaws → (port : Port) (v causes : ℕ) (old mid new : Device) → old.hr ≡ false → (old.port port.0).st ≡ false → (old.port port.0).cr ≡ false → bit v 0 ≡ true → IsLinked (old.port port.0) → WorksPlainly (old.port port.0) →
     Writes (Px port Cmd) v old mid → Reads (Px port Is) causes mid new → TellsNoTrouble causes → RunsWell (new.port port.0)

@@ -8,16 +8,16 @@ use Rattle.hba_regs.specs.Bits.{bit}
 use Rattle.hba_regs.specs.declared.reg.Reg.TheVariants.{Px}
 use Rattle.hba_regs.specs.declared.reg.PortReg.{PortReg}
 use Rattle.hba_regs.specs.declared.reg.PortReg.TheVariants.{Cmd, Serr}
-use Rattle.adapter.specs.Access.{Access, Does, Reads, note, port_written}
+use Rattle.adapter.specs.Access.{Access, Does, Reads, note, port_after_write}
 use Rattle.adapter.specs.Access.Access.{Reading}
 use Rattle.adapter.specs.Device.{DevicePort, Device}
-use Rattle.adapter.specs.Kept.{Keeps}
+use Rattle.adapter.specs.KeptBySteps.{Keeps}
 use Rattle.adapter.specs.Memory.{changed}
 use Rattle.adapter.specs.Steps.{DeviceTransition, Can, device_after, TransitionsLead, Steps}
 use Rattle.adapter.specs.Steps.DeviceTransition.{Fetch, FetchFault, Move, Clear, Done, Fault, Fatal, Fall, FrFall, LinkUp, Unplug, Plug, ResetEnds, Scribble}
 use Rattle.adapter.specs.declared.tape.Entry.{Entry}
 use Rattle.adapter.proofs.Changed.{changed_same}
-use Rattle.refinement.specs.Below.{StepLaws}
+use Rattle.refinement.specs.StepLaws.{StepLaws}
 use Rattle.refinement.specs.Links.{DoesNotWrite, IsPlugEvent, NoPlugEvents}
 use Rattle.refinement.proofs.device.FactsOverAccesses.{access_steps, effect_keeps}
 use Rattle.refinement.proofs.device.ErrorBits.{command_beside}
@@ -76,11 +76,11 @@ leads_untold laws port [] old new off e untold gained is =
 leads_untold laws port (step ∷ steps) old new off (can, lead) untold gained is =
     let k : Keeps old (device_after step old) = laws.step step _ can in
     let l : Keeps (device_after step old) new = laws.keeps _ _ (record { steps = steps; lead = lead }) in
-    let off' : (device_after step old).hr ≡ false = (k.on off).no_reset in
-    subst (NoneOf (IsPlugEvent port)) (sym (gained_parts old.tape (device_after step old).tape new.tape k.gained l.gained gained k.tape l.tape is))
-    (All-append (λ e. IsPlugEvent port e → ⊥) k.gained l.gained
-    (plugs port ((device_after step old).port port).serr_n k.gained (step_raises port old step can k.gained k.tape) (λ x. untold (((l.on off').controls port).serr_n x)))
-    (leads_untold laws port steps (device_after step old) new off' lead untold l.gained l.tape))
+    let off' : (device_after step old).hr ≡ false = (k.keeps_outside_reset off).no_reset in
+    subst (NoneOf (IsPlugEvent port)) (sym (gained_parts old.tape (device_after step old).tape new.tape k.new_entries l.new_entries gained k.tape_grows l.tape_grows is))
+    (All-append (λ e. IsPlugEvent port e → ⊥) k.new_entries l.new_entries
+    (plugs port ((device_after step old).port port).serr_n k.new_entries (step_raises port old step can k.new_entries k.tape_grows) (λ x. untold (((l.keeps_outside_reset off').controls port).serr_n x)))
+    (leads_untold laws port steps (device_after step old) new off' lead untold l.new_entries l.tape_grows))
   where
     plugs : (port : ℕ) (noted : Bool) (gained : List Entry) → Raises port noted gained → (noted ≡ true → ⊥) → NoneOf (IsPlugEvent port) gained
     plugs port noted gained (inl e) untold = subst (NoneOf (IsPlugEvent port)) (sym e) (All-nil (λ e. IsPlugEvent port e → ⊥))
@@ -89,8 +89,8 @@ leads_untold laws port (step ∷ steps) old new off (can, lead) untold gained is
 pub noted_plugs : StepLaws → (port : ℕ) (old new : Device) → old.hr ≡ false → Steps old new → (new.port port).serr_n ≡ false → ((old.port port).serr_n ≡ false) × NoPlugEvents port old new
 noted_plugs laws port old new off s clear =
     let k : Keeps old new = laws.keeps _ _ s in (
-      was_false (old.port port).serr_n (new.port port).serr_n ((k.on off).controls port).serr_n clear,
-      record { gained = k.gained; tape = k.tape; none = leads_untold laws port s.steps old new off s.lead (λ n. absurd (both_ways _ clear n)) k.gained k.tape },
+      was_false (old.port port).serr_n (new.port port).serr_n ((k.keeps_outside_reset off).controls port).serr_n clear,
+      record { new_entries = k.new_entries; tape_is = k.tape_grows; no_such_entry = leads_untold laws port s.steps old new off s.lead (λ n. absurd (both_ways _ clear n)) k.new_entries k.tape_grows },
     )
 
 -- ---- accesses
@@ -99,7 +99,7 @@ noted_plugs laws port old new off s clear =
 abbrev SameFlag : DevicePort → DevicePort → Type 0
 SameFlag first p = p.serr_n ≡ first.serr_n
 
-written_flag : (first : DevicePort) (r : PortReg) (v tape : ℕ) (p : DevicePort) → r ≢ Serr → SameFlag first p → SameFlag first (port_written r v tape p)
+written_flag : (first : DevicePort) (r : PortReg) (v tape : ℕ) (p : DevicePort) → r ≢ Serr → SameFlag first p → SameFlag first (port_after_write r v tape p)
 written_flag first Serr v tape p other h = absurd (other refl)
 written_flag first Cmd v tape p other h = (command_beside v tape p).1 ∙ h
 written_flag first _ v tape p other h = h
@@ -117,7 +117,7 @@ access_plugs laws port access old new off spares x clear =
     let s = access_steps access old new x in
     let before : (s.0.port port.0).serr_n ≡ false = sym (effect_flag port access old new x spares) ∙ clear in
     let found = noted_plugs laws port.0 old s.0 off s.1 before in
-    (found.0, record { gained = found.1.gained; tape = s.2 ∙ found.1.tape; none = found.1.none })
+    (found.0, record { new_entries = found.1.new_entries; tape_is = s.2 ∙ found.1.tape_is; no_such_entry = found.1.no_such_entry })
 
 -- ---- what is read
 

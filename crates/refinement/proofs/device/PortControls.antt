@@ -6,17 +6,17 @@ use Rattle.hba_regs.specs.Bits.{bit}
 use Rattle.hba_regs.specs.declared.reg.Reg.TheVariants.{Px}
 use Rattle.hba_regs.specs.declared.reg.PortReg.{PortReg}
 use Rattle.hba_regs.specs.declared.reg.PortReg.TheVariants.{Clb, Clbu, Fb, Fbu, Ie, Is, Cmd, Sctl, Serr, Sact, Ci}
-use Rattle.adapter.specs.Access.{Access, Does, note, port_written, with_st, with_fre}
+use Rattle.adapter.specs.Access.{Access, Does, note, port_after_write, port_after_st_write, port_after_fre_write}
 use Rattle.adapter.specs.Access.Access.{Writing}
 use Rattle.adapter.specs.Device.{Bases, Disk, Notes, DevicePort, Device}
-use Rattle.adapter.specs.Kept.{Keeps, KeepsControls}
+use Rattle.adapter.specs.KeptBySteps.{Keeps, KeepsControls}
 use Rattle.adapter.specs.Steps.{DeviceTransition, Can, device_after, TransitionsLead, Steps, disk_after}
 use Rattle.adapter.specs.Steps.DeviceTransition.{Fetch, FetchFault, Move, Clear, Done, Fault, Fatal, Fall, FrFall, LinkUp, Unplug, Plug, ResetEnds, Scribble}
 use Rattle.adapter.specs.declared.command.Operation.{Operation}
 use Rattle.adapter.specs.declared.command.Operation.TheVariants as operation
 use Rattle.adapter.specs.declared.tape.Entry.{Entry}
 use Rattle.adapter.specs.declared.tape.Entry.TheVariants as entry
-use Rattle.refinement.specs.Below.{StepLaws}
+use Rattle.refinement.specs.StepLaws.{StepLaws}
 use Rattle.refinement.specs.Relation.{port_at}
 use Rattle.refinement.specs.PortFacts.{IsDisturbance, Undisturbed}
 use Rattle.refinement.specs.Links.{DoesNotWrite, LeavesControls, IsPlugEvent, NoPlugEvents, LeavesDisk, SameLink, ComesUp, LeavesLink}
@@ -28,20 +28,20 @@ use Rattle.refinement.proofs.device.HealthyPort.{at_port}
 -- ---- disks that go or come
 
 pub plugs_nothing : (port : ℕ) (d : Device) → NoPlugEvents port d d
-plugs_nothing port d = let g = gains_nothing (IsPlugEvent port) d in record { gained = g.0; tape = g.1; none = g.2 }
+plugs_nothing port d = let g = gains_nothing (IsPlugEvent port) d in record { new_entries = g.0; tape_is = g.1; no_such_entry = g.2 }
 
 pub plugs_more : (port : ℕ) (old mid new : Device) → NoPlugEvents port old mid → NoPlugEvents port mid new → NoPlugEvents port old new
 plugs_more port old mid new a b =
-    let g = gains_more (IsPlugEvent port) old mid new (a.gained, a.tape, a.none) (b.gained, b.tape, b.none) in
-    record { gained = g.0; tape = g.1; none = g.2 }
+    let g = gains_more (IsPlugEvent port) old mid new (a.new_entries, a.tape_is, a.no_such_entry) (b.new_entries, b.tape_is, b.no_such_entry) in
+    record { new_entries = g.0; tape_is = g.1; no_such_entry = g.2 }
 
 pub plugs_parts : (port : ℕ) (old mid new : Device) (early late : List Entry) → mid.tape ≡ old.tape ++ early → new.tape ≡ mid.tape ++ late → NoPlugEvents port old new → NoPlugEvents port old mid × NoPlugEvents port mid new
 plugs_parts port old mid new early late a b h =
-    let g = gains_parts (IsPlugEvent port) old mid new early late a b (h.gained, h.tape, h.none) in
-    (record { gained = g.0.0; tape = g.0.1; none = g.0.2 }, record { gained = g.1.0; tape = g.1.1; none = g.1.2 })
+    let g = gains_parts (IsPlugEvent port) old mid new early late a b (h.new_entries, h.tape_is, h.no_such_entry) in
+    (record { new_entries = g.0.0; tape_is = g.0.1; no_such_entry = g.0.2 }, record { new_entries = g.1.0; tape_is = g.1.1; no_such_entry = g.1.2 })
 
 pub undisturbed_plugs : (port : ℕ) (old new : Device) → Undisturbed port old new → NoPlugEvents port old new
-undisturbed_plugs port old new u = record { gained = u.gained; tape = u.tape; none = none_narrower (IsDisturbance port) (IsPlugEvent port) narrower u.gained u.calm }
+undisturbed_plugs port old new u = record { new_entries = u.new_entries; tape_is = u.tape_is; no_such_entry = none_narrower (IsDisturbance port) (IsPlugEvent port) narrower u.new_entries u.no_disturbance }
   where
     narrower : (e : Entry) → IsPlugEvent port e → IsDisturbance port e
     narrower (entry.Unplug at) x = x
@@ -97,21 +97,21 @@ leads_disk laws first port [] old new e plugs h = subst (λ (d : Device). Leaves
 leads_disk laws first port (step ∷ steps) old new (can, lead) plugs h =
     let k : Keeps old (device_after step old) = laws.step step _ can in
     let l : Keeps (device_after step old) new = laws.keeps _ _ (record { steps = steps; lead = lead }) in
-    let parts = plugs_parts port old (device_after step old) new k.gained l.gained k.tape l.tape plugs in
-    leads_disk laws first port steps (device_after step old) new lead parts.1 (step_disk first port old parts.0.gained parts.0.none step parts.0.tape h)
+    let parts = plugs_parts port old (device_after step old) new k.new_entries l.new_entries k.tape_grows l.tape_grows plugs in
+    leads_disk laws first port steps (device_after step old) new lead parts.1 (step_disk first port old parts.0.new_entries parts.0.no_such_entry step parts.0.tape_is h)
 
 pub steps_disk : StepLaws → (port : ℕ) (old new : Device) → Steps old new → NoPlugEvents port old new → LeavesDisk (old.port port) (new.port port)
 steps_disk laws port old new s plugs = leads_disk laws (old.port port) port s.steps old new s.lead plugs (disk_refl (old.port port))
 
-command_disk : (first : DevicePort) (v tape : ℕ) (p : DevicePort) → LeavesDisk first p → LeavesDisk first (port_written Cmd v tape p)
+command_disk : (first : DevicePort) (v tape : ℕ) (p : DevicePort) → LeavesDisk first p → LeavesDisk first (port_after_write Cmd v tape p)
 command_disk first v tape p h = by (bit v 0) p.st refl
   where
-    by : (b s : Bool) → p.st ≡ s → LeavesDisk first (with_fre (bit v 4) (with_st b tape p))
+    by : (b s : Bool) → p.st ≡ s → LeavesDisk first (port_after_fre_write (bit v 4) (port_after_st_write b tape p))
     by false s is = disk_on first p _ refl refl refl refl h
-    by true true is = subst (λ (x : DevicePort). LeavesDisk first (with_fre (bit v 4) x)) (sym (cond-true p.st p _ is)) (disk_on first p _ refl refl refl refl h)
-    by true false is = subst (λ (x : DevicePort). LeavesDisk first (with_fre (bit v 4) x)) (sym (cond-false p.st p _ is)) (disk_on first p _ refl refl refl refl h)
+    by true true is = subst (λ (x : DevicePort). LeavesDisk first (port_after_fre_write (bit v 4) x)) (sym (cond-true p.st p _ is)) (disk_on first p _ refl refl refl refl h)
+    by true false is = subst (λ (x : DevicePort). LeavesDisk first (port_after_fre_write (bit v 4) x)) (sym (cond-false p.st p _ is)) (disk_on first p _ refl refl refl refl h)
 
-written_disk : (first : DevicePort) (r : PortReg) (v tape : ℕ) (p : DevicePort) → LeavesDisk first p → LeavesDisk first (port_written r v tape p)
+written_disk : (first : DevicePort) (r : PortReg) (v tape : ℕ) (p : DevicePort) → LeavesDisk first p → LeavesDisk first (port_after_write r v tape p)
 written_disk first Cmd v tape p h = command_disk first v tape p h
 written_disk first Clb v tape p h = disk_on first p _ refl refl refl refl h
 written_disk first Clbu v tape p h = disk_on first p _ refl refl refl refl h
@@ -127,7 +127,7 @@ written_disk first _ v tape p h = h
 
 -- before the effect of an access the tape has what it has after it
 pub plugs_before : (port : ℕ) (old mid new : Device) → new.tape ≡ mid.tape → NoPlugEvents port old new → NoPlugEvents port old mid
-plugs_before port old mid new same plugs = record { gained = plugs.gained; tape = sym same ∙ plugs.tape; none = plugs.none }
+plugs_before port old mid new same plugs = record { new_entries = plugs.new_entries; tape_is = sym same ∙ plugs.tape_is; no_such_entry = plugs.no_such_entry }
 
 pub access_disk : StepLaws → (port : ℕ) (access : Access) (old new : Device) → Does access old new → NoPlugEvents port old new → LeavesDisk (old.port port) (new.port port)
 access_disk laws port access old new x plugs =
@@ -162,8 +162,8 @@ module _ (first : DevicePort) (port : ℕ) (d : Device) (gained : List Entry) (n
   step_link (FrFall p) off can is h = at_port Linked Linked d p port _ h (λ e x. link_on first _ _ refl refl refl refl refl refl x) (λ ne x. x)
   step_link (LinkUp p sig n) off can is h = at_port Linked Linked d p port _ h
       (λ e x. ⊎_elim
-      (λ (s : SameLink first (d.port p)). inr (record { due = sym s.due ∙ can.due; up = refl; det = refl; fresh = refl; present = can.present; released = can.det }))
-      (λ (s : ComesUp first (d.port p)). absurd (both_ways _ s.up can.due))
+      (λ (s : SameLink first (d.port p)). inr (record { due = sym s.due ∙ can.link_is_due; up = refl; det = refl; fresh = refl; present = can.present; released = can.no_comreset }))
+      (λ (s : ComesUp first (d.port p)). absurd (both_ways _ s.up can.link_is_due))
       x)
       (λ ne x. x)
   step_link (Unplug p) off can is h = at_port Linked Linked d p port _ h (λ e x. absurd (gained_none (IsPlugEvent port) d.tape _ gained is none e)) (λ ne x. x)
@@ -176,21 +176,21 @@ leads_link laws first port [] old new off e plugs h = subst (λ (d : Device). Le
 leads_link laws first port (step ∷ steps) old new off (can, lead) plugs h =
     let k : Keeps old (device_after step old) = laws.step step _ can in
     let l : Keeps (device_after step old) new = laws.keeps _ _ (record { steps = steps; lead = lead }) in
-    let parts = plugs_parts port old (device_after step old) new k.gained l.gained k.tape l.tape plugs in
-    leads_link laws first port steps (device_after step old) new (k.on off).no_reset lead parts.1 (step_link first port old parts.0.gained parts.0.none step off can parts.0.tape h)
+    let parts = plugs_parts port old (device_after step old) new k.new_entries l.new_entries k.tape_grows l.tape_grows plugs in
+    leads_link laws first port steps (device_after step old) new (k.keeps_outside_reset off).no_reset lead parts.1 (step_link first port old parts.0.new_entries parts.0.no_such_entry step off can parts.0.tape_is h)
 
 pub steps_link : StepLaws → (port : ℕ) (old new : Device) → old.hr ≡ false → Steps old new → NoPlugEvents port old new → LeavesLink (old.port port) (new.port port)
 steps_link laws port old new off s plugs = leads_link laws (old.port port) port s.steps old new off s.lead plugs (link_refl (old.port port))
 
-command_link : (first : DevicePort) (v tape : ℕ) (p : DevicePort) → LeavesLink first p → LeavesLink first (port_written Cmd v tape p)
+command_link : (first : DevicePort) (v tape : ℕ) (p : DevicePort) → LeavesLink first p → LeavesLink first (port_after_write Cmd v tape p)
 command_link first v tape p h = by (bit v 0) p.st refl
   where
-    by : (b s : Bool) → p.st ≡ s → LeavesLink first (with_fre (bit v 4) (with_st b tape p))
+    by : (b s : Bool) → p.st ≡ s → LeavesLink first (port_after_fre_write (bit v 4) (port_after_st_write b tape p))
     by false s is = link_on first p _ refl refl refl refl refl refl h
-    by true true is = subst (λ (x : DevicePort). LeavesLink first (with_fre (bit v 4) x)) (sym (cond-true p.st p _ is)) (link_on first p _ refl refl refl refl refl refl h)
-    by true false is = subst (λ (x : DevicePort). LeavesLink first (with_fre (bit v 4) x)) (sym (cond-false p.st p _ is)) (link_on first p _ refl refl refl refl refl refl h)
+    by true true is = subst (λ (x : DevicePort). LeavesLink first (port_after_fre_write (bit v 4) x)) (sym (cond-true p.st p _ is)) (link_on first p _ refl refl refl refl refl refl h)
+    by true false is = subst (λ (x : DevicePort). LeavesLink first (port_after_fre_write (bit v 4) x)) (sym (cond-false p.st p _ is)) (link_on first p _ refl refl refl refl refl refl h)
 
-written_link : (first : DevicePort) (r : PortReg) (v tape : ℕ) (p : DevicePort) → r ≢ Sctl → LeavesLink first p → LeavesLink first (port_written r v tape p)
+written_link : (first : DevicePort) (r : PortReg) (v tape : ℕ) (p : DevicePort) → r ≢ Sctl → LeavesLink first p → LeavesLink first (port_after_write r v tape p)
 written_link first Sctl v tape p other h = absurd (other refl)
 written_link first Cmd v tape p other h = command_link first v tape p h
 written_link first Clb v tape p other h = link_on first p _ refl refl refl refl refl refl h
@@ -241,7 +241,7 @@ module _ (access : Access) (port : Port) (first : DevicePort) where
   noted_controls p r v h = controls_on p _ refl refl (note_times r v p).0 refl refl (note_times r v p).1 refl refl h
 
   -- PxCMD leaves the others
-  command_controls : (v tape : ℕ) (p : DevicePort) → (DoesNotWrite (Px port Cmd) access → ⊥) → Controls p → Controls (port_written Cmd v tape p)
+  command_controls : (v tape : ℕ) (p : DevicePort) → (DoesNotWrite (Px port Cmd) access → ⊥) → Controls p → Controls (port_after_write Cmd v tape p)
   command_controls v tape p here h = record {
     command = λ s. absurd (here s);
     control = λ s. (rest.0 ∙ (h.control s).0, rest.1 ∙ (h.control s).1);
@@ -252,15 +252,15 @@ module _ (access : Access) (port : Port) (first : DevicePort) where
     received_upper = λ s. ap (λ (b : Bases). b.fbu_set) rest.2 ∙ h.received_upper s;
   }
     where
-      by : (b s : Bool) → p.st ≡ s → SameRest p (with_fre (bit v 4) (with_st b tape p))
+      by : (b s : Bool) → p.st ≡ s → SameRest p (port_after_fre_write (bit v 4) (port_after_st_write b tape p))
       by false s is = (refl, refl, refl, refl)
-      by true true is = subst (λ (x : DevicePort). SameRest p (with_fre (bit v 4) x)) (sym (cond-true p.st p _ is)) (refl, refl, refl, refl)
-      by true false is = subst (λ (x : DevicePort). SameRest p (with_fre (bit v 4) x)) (sym (cond-false p.st p _ is)) (refl, refl, refl, refl)
+      by true true is = subst (λ (x : DevicePort). SameRest p (port_after_fre_write (bit v 4) x)) (sym (cond-true p.st p _ is)) (refl, refl, refl, refl)
+      by true false is = subst (λ (x : DevicePort). SameRest p (port_after_fre_write (bit v 4) x)) (sym (cond-false p.st p _ is)) (refl, refl, refl, refl)
 
-      rest : SameRest p (with_fre (bit v 4) (with_st (bit v 0) tape p))
+      rest : SameRest p (port_after_fre_write (bit v 4) (port_after_st_write (bit v 0) tape p))
       rest = by (bit v 0) p.st refl
 
-  written_controls : (r : PortReg) (v tape : ℕ) (p : DevicePort) → (DoesNotWrite (Px port r) access → ⊥) → Controls p → Controls (port_written r v tape p)
+  written_controls : (r : PortReg) (v tape : ℕ) (p : DevicePort) → (DoesNotWrite (Px port r) access → ⊥) → Controls p → Controls (port_after_write r v tape p)
   written_controls Cmd v tape p here h = command_controls v tape p here h
   written_controls Sctl v tape p here h = record { command = h.command; control = λ s. absurd (here s); interrupts = h.interrupts; list = h.list; list_upper = h.list_upper; received = h.received; received_upper = h.received_upper }
   written_controls Clb v tape p here h = record { command = h.command; control = h.control; interrupts = h.interrupts; list = λ s. absurd (here s); list_upper = h.list_upper; received = h.received; received_upper = h.received_upper }
@@ -278,15 +278,15 @@ pub access_controls : StepLaws → (port : Port) (access : Access) (old new : De
 access_controls laws port access old new off x =
     let s = access_steps access old new x in
     let k : Keeps old s.0 = laws.keeps _ _ s.1 in
-    let c : KeepsControls (old.port port.0) (s.0.port port.0) = (k.on off).controls port.0 in
+    let c : KeepsControls (old.port port.0) (s.0.port port.0) = (k.keeps_outside_reset off).controls port.0 in
     effect_keeps (LeavesControls access port (old.port port.0)) port (noted_controls access port (old.port port.0)) (λ p h. controls_on access port (old.port port.0) p _ refl refl refl refl refl refl refl refl h) access old new x
     (λ r v mid is steps h. written_controls access port (old.port port.0) r v (length mid.tape) (mid.port port.0) (λ spares. spared port r r access v spares is refl) h)
     (record {
-      command = λ s. (c.st, c.fre, ap (λ (n : Notes). n.st_set_at) (k.notes port.0), c.runs);
-      control = λ s. (c.sctl_det, ap (λ (n : Notes). n.sctl_written_at) (k.notes port.0));
+      command = λ s. (c.st, c.fre, ap (λ (n : Notes). n.st_set_at) (k.notes_are_kept port.0), c.engine_stays_running);
+      control = λ s. (c.sctl_det, ap (λ (n : Notes). n.sctl_written_at) (k.notes_are_kept port.0));
       interrupts = λ s. c.ie;
-      list = λ s. (ap (λ (b : Bases). b.clb) (k.port port.0).bases, ap (λ (b : Bases). b.clb_set) (k.port port.0).bases);
-      list_upper = λ s. ap (λ (b : Bases). b.clbu_set) (k.port port.0).bases;
-      received = λ s. (ap (λ (b : Bases). b.fb) (k.port port.0).bases, ap (λ (b : Bases). b.fb_set) (k.port port.0).bases);
-      received_upper = λ s. ap (λ (b : Bases). b.fbu_set) (k.port port.0).bases;
+      list = λ s. (ap (λ (b : Bases). b.clb) (k.ports_are_kept port.0).bases, ap (λ (b : Bases). b.clb_set) (k.ports_are_kept port.0).bases);
+      list_upper = λ s. ap (λ (b : Bases). b.clbu_set) (k.ports_are_kept port.0).bases;
+      received = λ s. (ap (λ (b : Bases). b.fb) (k.ports_are_kept port.0).bases, ap (λ (b : Bases). b.fb_set) (k.ports_are_kept port.0).bases);
+      received_upper = λ s. ap (λ (b : Bases). b.fbu_set) (k.ports_are_kept port.0).bases;
     })

@@ -9,16 +9,16 @@ use Rattle.hba_regs.specs.declared.reg.Reg.TheVariants.{Cap, Ghc, Pi, Vs, Cap2, 
 use Rattle.hba_regs.specs.declared.reg.Reg.TheVariants as adapter
 use Rattle.hba_regs.specs.declared.reg.PortReg.{PortReg}
 use Rattle.hba_regs.specs.declared.reg.PortReg.TheVariants.{Is, Cmd, Tfd, Sig, Ssts, Sctl, Sact, Ci}
-use Rattle.adapter.specs.Access.{Access, Does, Reads, PortShows, note, noted, written, port_written, with_st, with_fre, with_is_bit_cleared}
+use Rattle.adapter.specs.Access.{Access, Does, Reads, PortShows, note, noted, written, port_after_write, port_after_st_write, port_after_fre_write, port_after_hba_is_write}
 use Rattle.adapter.specs.Access.Access.{Reading, Writing, Loading, Storing}
 use Rattle.adapter.specs.Device.{Notes, DevicePort, Device}
-use Rattle.adapter.specs.Kept.{KeepsControls}
+use Rattle.adapter.specs.KeptBySteps.{KeepsControls}
 use Rattle.adapter.specs.Steps.{Steps}
 use Rattle.adapter.proofs.Changed.{changed_same}
-use Rattle.refinement.specs.Below.{StepLaws}
+use Rattle.refinement.specs.StepLaws.{StepLaws}
 use Rattle.refinement.specs.Relation.{port_at}
 use Rattle.refinement.specs.Links.{DoesNotWrite}
-use Rattle.refinement.specs.Noted.{DoesNotRead, LeavesNotes}
+use Rattle.refinement.specs.PortNotes.{DoesNotRead, LeavesNotes}
 use Rattle.refinement.proofs.device.HealthyPort.{at_port}
 
 -- ---- what is noted
@@ -58,8 +58,8 @@ note_same _ v p q st fre det notes = notes
 pub notes_read : StepLaws → (port : Port) (r : PortReg) (v : ℕ) (old new : Device) → old.hr ≡ false → Reads (Px port r) v old new → (new.port port.0).notes ≡ note r v (old.port port.0)
 notes_read laws port r v old new off x =
     let k = laws.keeps _ _ x.steps in
-    let c : KeepsControls (old.port port.0) (x.mid.port port.0) = (k.on off).controls port.0 in
-    read_notes port r v old new x ∙ note_same r v (old.port port.0) (x.mid.port port.0) c.st c.fre c.sctl_det (k.notes port.0)
+    let c : KeepsControls (old.port port.0) (x.mid.port port.0) = (k.keeps_outside_reset off).controls port.0 in
+    read_notes port r v old new x ∙ note_same r v (old.port port.0) (x.mid.port port.0) c.st c.fre c.sctl_det (k.notes_are_kept port.0)
 
 pub shown_after : StepLaws → (port : Port) (r : PortReg) (v : ℕ) (old new : Device) → old.hr ≡ false → Reads (Px port r) v old new → PortShows r v (new.port port.0)
 shown_after laws port r v old new off x = (laws.seen port r v old new x off).shows
@@ -67,7 +67,7 @@ shown_after laws port r v old new off x = (laws.seen port r v old new x off).sho
 -- ---- what leaves it
 
 pub law_notes_stay : StepLaws → (port : ℕ) (old new : Device) → Steps old new → (new.port port).notes ≡ (old.port port).notes
-law_notes_stay laws port old new s = (laws.keeps _ _ s).notes port
+law_notes_stay laws port old new s = (laws.keeps _ _ s).notes_are_kept port
 
 module _ (access : Access) (port : Port) (first : Notes) where
   -- the fields of `LeavesNotes`
@@ -89,15 +89,15 @@ module _ (access : Access) (port : Port) (first : Notes) where
   noted_leaves Sig v p here h = (h.0, h.1, h.2, h.3, h.4, λ s. absurd (here s))
   noted_leaves _ v p here h = h
 
-  command_leaves : (v tape : ℕ) (p : DevicePort) → Leaves p → Leaves (port_written Cmd v tape p)
+  command_leaves : (v tape : ℕ) (p : DevicePort) → Leaves p → Leaves (port_after_write Cmd v tape p)
   command_leaves v tape p h = by (bit v 0) p.st refl
     where
-      by : (b s : Bool) → p.st ≡ s → Leaves (with_fre (bit v 4) (with_st b tape p))
+      by : (b s : Bool) → p.st ≡ s → Leaves (port_after_fre_write (bit v 4) (port_after_st_write b tape p))
       by false s is = h
-      by true true is = subst (λ (x : DevicePort). Leaves (with_fre (bit v 4) x)) (sym (cond-true p.st p _ is)) h
-      by true false is = subst (λ (x : DevicePort). Leaves (with_fre (bit v 4) x)) (sym (cond-false p.st p _ is)) h
+      by true true is = subst (λ (x : DevicePort). Leaves (port_after_fre_write (bit v 4) x)) (sym (cond-true p.st p _ is)) h
+      by true false is = subst (λ (x : DevicePort). Leaves (port_after_fre_write (bit v 4) x)) (sym (cond-false p.st p _ is)) h
 
-  written_leaves : (r : PortReg) (v tape : ℕ) (p : DevicePort) → (DoesNotWrite (Px port r) access → ⊥) → Leaves p → Leaves (port_written r v tape p)
+  written_leaves : (r : PortReg) (v tape : ℕ) (p : DevicePort) → (DoesNotWrite (Px port r) access → ⊥) → Leaves p → Leaves (port_after_write r v tape p)
   written_leaves Cmd v tape p here h = command_leaves v tape p h
   written_leaves Sctl v tape p here h = (
     h.0,
@@ -138,7 +138,7 @@ writing_leaves port first (Px p r) v d h = at_port (Leaves (Writing (Px p r) v) 
     (λ ne x. x)
 writing_leaves port first adapter.Is v d h = by (bit v port.0)
   where
-    by : (b : Bool) → Leaves (Writing adapter.Is v) port first (if b then with_is_bit_cleared (d.port port.0) else d.port port.0)
+    by : (b : Bool) → Leaves (Writing adapter.Is v) port first (if b then port_after_hba_is_write (d.port port.0) else d.port port.0)
     by true = h
     by false = h
 writing_leaves port first Cap v d h = h

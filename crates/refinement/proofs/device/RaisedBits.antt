@@ -5,16 +5,16 @@ use Rattle.ata_types.specs.declared.Port.{Port}
 use Rattle.hba_regs.specs.Bits.{bit}
 use Rattle.hba_regs.specs.declared.reg.PortReg.{PortReg}
 use Rattle.hba_regs.specs.declared.reg.PortReg.TheVariants.{Is, Cmd}
-use Rattle.adapter.specs.Access.{Access, Does, port_written}
+use Rattle.adapter.specs.Access.{Access, Does, port_after_write}
 use Rattle.adapter.specs.Device.{DevicePort, Device}
-use Rattle.adapter.specs.Kept.{Keeps}
+use Rattle.adapter.specs.KeptBySteps.{Keeps}
 use Rattle.adapter.specs.Steps.{DeviceTransition, Can, device_after, TransitionsLead, Steps}
 use Rattle.adapter.specs.Steps.DeviceTransition.{Fetch, FetchFault, Move, Clear, Done, Fault, Fatal, Fall, FrFall, LinkUp, Unplug, Plug, ResetEnds, Scribble}
 use Rattle.adapter.specs.declared.tape.Fault as tape_fault
 use Rattle.adapter.specs.declared.tape.Entry.{Entry}
 use Rattle.adapter.specs.declared.tape.Entry.TheVariants as entry
 use Rattle.adapter.proofs.Changed.{changed_other}
-use Rattle.refinement.specs.Below.{StepLaws}
+use Rattle.refinement.specs.StepLaws.{StepLaws}
 use Rattle.refinement.specs.Relation.{port_at}
 use Rattle.refinement.specs.Errors.{IsFatalOf, ChangesByErrors}
 use Rattle.refinement.specs.PortFacts.{IsFaultOf}
@@ -52,7 +52,7 @@ module _ (laws : StepLaws) (IsKind : Entry → Type 0) (port place : ℕ) (high 
     step_unset (Move p slot t bytes) can is h = at_port Unset Unset d p port _ h (λ e x. x) (λ ne x. x)
     step_unset (Clear p slot t from count) can is h = at_port Unset Unset d p port _ h (λ e x. x) (λ ne x. x)
     step_unset (Done p slot flag t) can is h = at_port Unset Unset d p port _ h
-        (λ e x. changed_other (d.port p).is flag true place (no_error flag place can.shown high) ∙ x) (λ ne x. x)
+        (λ e x. changed_other (d.port p).is flag true place (no_error flag place can.cause_is_allowed high) ∙ x) (λ ne x. x)
     step_unset (Fault p slot error kept_bits t) can is h = at_port Unset Unset d p port _ h
         (λ e x. ⊎_elim
         (λ (z : place ≡ 30). absurd (gained_none IsKind d.tape _ gained is none (faults (record { port = record { 0 = p }; slot = record { 0 = slot }; status = 0x41 + kept_bits; error = error }) e z)))
@@ -78,13 +78,13 @@ module _ (laws : StepLaws) (IsKind : Entry → Type 0) (port place : ℕ) (high 
   leads_unset (step ∷ steps) old new (can, lead) none h =
       let k : Keeps old (device_after step old) = laws.step step _ can in
       let l : Keeps (device_after step old) new = laws.keeps _ _ (record { steps = steps; lead = lead }) in
-      let parts = gains_parts IsKind old (device_after step old) new k.gained l.gained k.tape l.tape none in
+      let parts = gains_parts IsKind old (device_after step old) new k.new_entries l.new_entries k.tape_grows l.tape_grows none in
       leads_unset steps (device_after step old) new lead parts.1 (step_unset old parts.0.0 parts.0.2 step can parts.0.1 h)
 
   pub steps_unset : (old new : Device) → Steps old new → GainsNone IsKind old new → Unset (old.port port) → Unset (new.port port)
   steps_unset old new s none h = leads_unset s.steps old new s.lead none h
 
-  written_unset : (r : PortReg) (v tape : ℕ) (p : DevicePort) → Unset p → Unset (port_written r v tape p)
+  written_unset : (r : PortReg) (v tape : ℕ) (p : DevicePort) → Unset p → Unset (port_after_write r v tape p)
   written_unset Is v tape p h = and_left (p.is place) (not (bit v place)) h
   written_unset Cmd v tape p h = ap (λ (f : ℕ → Bool). f place) (command_beside v tape p).0 ∙ h
   written_unset _ v tape p h = h

@@ -84,23 +84,23 @@ shows_on entries p new port same s = record {
   before = s.before;
   fault = s.fault;
   later = s.later;
-  here = s.here;
+  entries_are_split = s.entries_are_split;
   port_is = s.port_is;
-  last = s.last;
-  fits = s.fits;
-  shown = same.tfd ∙ s.shown;
-  used = same.used s.fault.slot.0 s.used;
+  no_later_fault = s.no_later_fault;
+  bytes_fit = s.bytes_fit;
+  tfd_is = same.tfd ∙ s.tfd_is;
+  slot_is_in_use = same.used s.fault.slot.0 s.slot_is_in_use;
 }
 
 pub recorded_on : (tape : List Entry) (p new : DevicePort) (port : ℕ) → SameRecord p new → FaultsOnRecord tape p port → FaultsOnRecord tape new port
 recorded_on tape p new port same h st =
     let x : RecordsFaults tape p port = h (sym same.st ∙ st) in
     record {
-      known = subst (λ (n : ℕ). n ≤ length tape) (sym same.set_at) x.known;
-      linked = same.linked ∙ x.linked;
-      flag = λ f. subst IsFaulted (sym same.halt) (x.flag (same.flag f));
-      fault = λ f. subst (λ (n : ℕ). ShowsFault (drop n tape) new port) (sym same.set_at)
-          (shows_on (drop p.notes.st_set_at tape) p new port same (x.fault (subst IsFaulted same.halt f)));
+      st_set_is_on_tape = subst (λ (n : ℕ). n ≤ length tape) (sym same.set_at) x.st_set_is_on_tape;
+      no_link_is_due = same.linked ∙ x.no_link_is_due;
+      tfes_tells_fault = λ f. subst IsFaulted (sym same.halt) (x.tfes_tells_fault (same.flag f));
+      shows_last_fault = λ f. subst (λ (n : ℕ). ShowsFault (drop n tape) new port) (sym same.set_at)
+          (shows_on (drop p.notes.st_set_at tape) p new port same (x.shows_last_fault (subst IsFaulted same.halt f)));
     }
 
 -- one more entry, which is no fault of the port's
@@ -109,12 +109,12 @@ shows_more entries e p port none s = record {
   before = s.before;
   fault = s.fault;
   later = s.later ++ e ∷ [];
-  here = ap (λ (l : List Entry). l ++ e ∷ []) s.here ∙ append_assoc s.before (entry.Fault s.fault ∷ s.later) (e ∷ []);
+  entries_are_split = ap (λ (l : List Entry). l ++ e ∷ []) s.entries_are_split ∙ append_assoc s.before (entry.Fault s.fault ∷ s.later) (e ∷ []);
   port_is = s.port_is;
-  last = All-push (λ x. IsFaultOf port x → ⊥) s.later e s.last none;
-  fits = s.fits;
-  shown = s.shown;
-  used = s.used;
+  no_later_fault = All-push (λ x. IsFaultOf port x → ⊥) s.later e s.no_later_fault none;
+  bytes_fit = s.bytes_fit;
+  tfd_is = s.tfd_is;
+  slot_is_in_use = s.slot_is_in_use;
 }
 
 longer : (tape : List Entry) (e : Entry) (n : ℕ) → n ≤ length tape → n ≤ length (tape ++ e ∷ [])
@@ -124,11 +124,11 @@ recorded_more : (tape : List Entry) (e : Entry) (p : DevicePort) (port : ℕ) �
 recorded_more tape e p port none h st =
     let x : RecordsFaults tape p port = h st in
     record {
-      known = longer tape e p.notes.st_set_at x.known;
-      linked = x.linked;
-      flag = x.flag;
-      fault = λ f. subst (λ (entries : List Entry). ShowsFault entries p port) (sym (drop-append-le p.notes.st_set_at tape (e ∷ []) x.known))
-          (shows_more (drop p.notes.st_set_at tape) e p port none (x.fault f));
+      st_set_is_on_tape = longer tape e p.notes.st_set_at x.st_set_is_on_tape;
+      no_link_is_due = x.no_link_is_due;
+      tfes_tells_fault = x.tfes_tells_fault;
+      shows_last_fault = λ f. subst (λ (entries : List Entry). ShowsFault entries p port) (sym (drop-append-le p.notes.st_set_at tape (e ∷ []) x.st_set_is_on_tape))
+          (shows_more (drop p.notes.st_set_at tape) e p port none (x.shows_last_fault f));
     }
 
 -- a port that goes on with a command is halted by no fault
@@ -144,10 +144,10 @@ recorded_worked : (tape later : List Entry) (o : Operation) (p new : DevicePort)
 recorded_worked tape later o p new port more w h st =
     let x : RecordsFaults tape p port = h (sym w.st ∙ st) in
     record {
-      known = let k = x.known in let s = w.set_at in omega (arith, k, s, more);
-      linked = w.linked ∙ x.linked;
-      flag = λ f. faulted_admits p.halt o (x.flag (w.flag f)) w.admitted;
-      fault = λ f. faulted_admits p.halt o (w.halt f) w.admitted;
+      st_set_is_on_tape = let k = x.st_set_is_on_tape in let s = w.set_at in omega (arith, k, s, more);
+      no_link_is_due = w.linked ∙ x.no_link_is_due;
+      tfes_tells_fault = λ f. faulted_admits p.halt o (x.tfes_tells_fault (w.flag f)) w.admitted;
+      shows_last_fault = λ f. faulted_admits p.halt o (w.halt f) w.admitted;
     }
 
 -- a status of ERR, DRDY and what was left of BSY and DRQ
@@ -162,19 +162,19 @@ recorded_fault tape p new port q slot error kept_bits queued here st set_at link
     let x : RecordsFaults tape p port = h (sym st ∙ on) in
     let n : ℕ = p.notes.st_set_at in
     record {
-      known = subst (λ (k : ℕ). k ≤ length (tape ++ fault_entry q slot error kept_bits ∷ [])) (sym set_at) (longer tape (fault_entry q slot error kept_bits) p.notes.st_set_at x.known);
-      linked = linked ∙ x.linked;
-      flag = λ _. subst IsFaulted (sym halt) (fault_halts p.halt queued);
-      fault = λ _. subst (λ (k : ℕ). ShowsFault (drop k (tape ++ fault_entry q slot error kept_bits ∷ [])) new port) (sym set_at) (record {
+      st_set_is_on_tape = subst (λ (k : ℕ). k ≤ length (tape ++ fault_entry q slot error kept_bits ∷ [])) (sym set_at) (longer tape (fault_entry q slot error kept_bits) p.notes.st_set_at x.st_set_is_on_tape);
+      no_link_is_due = linked ∙ x.no_link_is_due;
+      tfes_tells_fault = λ _. subst IsFaulted (sym halt) (fault_halts p.halt queued);
+      shows_last_fault = λ _. subst (λ (k : ℕ). ShowsFault (drop k (tape ++ fault_entry q slot error kept_bits ∷ [])) new port) (sym set_at) (record {
         before = drop p.notes.st_set_at tape;
         fault = record { port = record { 0 = q }; slot = record { 0 = slot }; status = 0x41 + kept_bits; error = error };
         later = [];
-        here = drop-append-le p.notes.st_set_at tape (fault_entry q slot error kept_bits ∷ []) x.known;
+        entries_are_split = drop-append-le p.notes.st_set_at tape (fault_entry q slot error kept_bits ∷ []) x.st_set_is_on_tape;
         port_is = here;
-        last = All-nil (λ e. IsFaultOf port e → ⊥);
-        fits = fits;
-        shown = tfd;
-        used = used;
+        no_later_fault = All-nil (λ e. IsFaultOf port e → ⊥);
+        bytes_fit = fits;
+        tfd_is = tfd;
+        slot_is_in_use = used;
       });
     }
 
@@ -217,7 +217,7 @@ module _ (port : ℕ) (d : Device) (h : FaultsOnRecord d.tape (d.port port) port
       (λ e x. recorded_worked d.tape d.tape c.operation (d.port p) _ port (le_refl (length d.tape))
       (record { admitted = can.working.admitted; st = refl; set_at = refl; linked = refl; flag = λ f. f; halt = λ f. f }) x)
   step_recorded (FetchFault p slot queued kept_bits) can = entered p _ (fault_entry p slot 4 kept_bits) (λ f. f)
-      (λ e x. recorded_fault d.tape (d.port p) _ port p slot 4 kept_bits queued e refl refl refl refl refl (status_fits kept_bits can.kept, omega arith) (inl can.fetchable.issued) x)
+      (λ e x. recorded_fault d.tape (d.port p) _ port p slot 4 kept_bits queued e refl refl refl refl refl (status_fits kept_bits can.kept_bits_are_allowed, omega arith) (inl can.fetchable.issued) x)
   step_recorded (Move p slot t bytes) can = entered p _ _ (λ f. absurd f)
       (λ e x. recorded_worked d.tape _ t.meaning.operation (d.port p) _ port (one_longer d.tape _)
       (record { admitted = can.works.working.admitted; st = refl; set_at = refl; linked = refl; flag = λ f. f; halt = λ f. f }) x)
@@ -226,16 +226,16 @@ module _ (port : ℕ) (d : Device) (h : FaultsOnRecord d.tape (d.port port) port
       (record { admitted = can.works.working.admitted; st = refl; set_at = refl; linked = refl; flag = λ f. f; halt = λ f. f }) x)
   step_recorded (Done p slot flag t) can = entered p _ _ (λ f. absurd f)
       (λ e x. recorded_worked d.tape _ t.meaning.operation (d.port p) _ port (one_longer d.tape _)
-      (record { admitted = can.works.working.admitted; st = refl; set_at = refl; linked = refl; flag = other_flag (d.port p) flag (end_flag flag can.shown); halt = λ f. running_faulted f }) x)
+      (record { admitted = can.works.working.admitted; st = refl; set_at = refl; linked = refl; flag = other_flag (d.port p) flag (end_flag flag can.cause_is_allowed); halt = λ f. running_faulted f }) x)
   step_recorded (Fault p slot error kept_bits t) can = entered p _ (fault_entry p slot error kept_bits) (λ f. f)
-      (λ e x. recorded_fault d.tape (d.port p) _ port p slot error kept_bits _ e refl refl refl refl refl (status_fits kept_bits can.kept, can.is_byte) (inr (t, can.taken)) x)
+      (λ e x. recorded_fault d.tape (d.port p) _ port p slot error kept_bits _ e refl refl refl refl refl (status_fits kept_bits can.kept_bits_are_allowed, can.is_byte) (inr (t, can.taken)) x)
   step_recorded (Fatal p place) can = entered p _ _ (λ f. absurd f)
       (λ e x. recorded_more d.tape _ _ port (λ f. f) (recorded_on d.tape (d.port p) _ port
       (record { st = refl; set_at = refl; linked = refl; flag = other_flag (d.port p) place (fatal_flag place can.1); halt = refl; tfd = refl; used = λ slot u. u }) x))
   step_recorded (Fall p) can = silent p _ (λ e x. stopped_recorded d.tape _ port can.0)
   step_recorded (FrFall p) can = silent p _ (λ e x. recorded_on d.tape (d.port p) _ port
       (same_with (d.port p) _ _ _ _ _ _ _ _ _ _ _ _ _ _ _) x)
-  step_recorded (LinkUp p sig n) can = silent p _ (λ e x st. absurd (both_ways _ (x st).linked can.due))
+  step_recorded (LinkUp p sig n) can = silent p _ (λ e x st. absurd (both_ways _ (x st).no_link_is_due can.link_is_due))
   step_recorded (Unplug p) can = entered p _ _ (λ f. absurd f)
       (λ e x. recorded_more d.tape _ _ port (λ f. f) (recorded_on d.tape (d.port p) _ port
       (same_with (d.port p) _ _ _ _ _ _ _ _ _ _ _ _ _ _ _) x))

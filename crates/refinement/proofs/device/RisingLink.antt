@@ -7,19 +7,19 @@ use Rattle.hba_regs.specs.Bits.{bit}
 use Rattle.hba_regs.specs.declared.reg.Reg.TheVariants.{Ghc, Px}
 use Rattle.hba_regs.specs.declared.reg.PortReg.{PortReg}
 use Rattle.hba_regs.specs.declared.reg.PortReg.TheVariants.{Cmd, Ssts, Sctl}
-use Rattle.adapter.specs.Access.{Access, Does, Reads, Writes, port_written, with_st, with_fre, with_det}
+use Rattle.adapter.specs.Access.{Access, Does, Reads, Writes, port_after_write, port_after_st_write, port_after_fre_write, port_after_det_write}
 use Rattle.adapter.specs.Access.Access.{Reading, Writing}
 use Rattle.adapter.specs.Device.{DevicePort, Device}
 use Rattle.adapter.specs.Device.Halt.{NotHalted}
-use Rattle.adapter.specs.Kept.{Keeps, KeepsPort}
+use Rattle.adapter.specs.KeptBySteps.{Keeps, KeepsPort}
 use Rattle.adapter.specs.Steps.{DeviceTransition, Can, device_after, TransitionsLead, Steps, halt_after_start}
 use Rattle.adapter.specs.Steps.DeviceTransition.{Fetch, FetchFault, Move, Clear, Done, Fault, Fatal, Fall, FrFall, LinkUp, Unplug, Plug, ResetEnds, Scribble}
 use Rattle.adapter.specs.declared.tape.Entry.{Entry}
 use Rattle.adapter.proofs.Changed.{changed_same}
-use Rattle.refinement.specs.Below.{StepLaws}
+use Rattle.refinement.specs.StepLaws.{StepLaws}
 use Rattle.refinement.specs.Errors.{IsDiskComing, NoDiskComes}
 use Rattle.refinement.specs.Links.{DoesNotWrite, NoPlugEvents, SameLink, ComesUp}
-use Rattle.refinement.specs.Started.{IsUp, IsComingUp, SetsNoStart}
+use Rattle.refinement.specs.StartedPort.{IsUp, IsComingUp, SetsNoStart}
 use Rattle.refinement.proofs.device.FactsOverAccesses.{access_steps, effect_keeps}
 use Rattle.refinement.proofs.device.ErrorBits.{comes_parts, comes_before, plugs_come}
 use Rattle.refinement.proofs.device.TapeGains.{NoneOf, gained_none}
@@ -37,23 +37,23 @@ abbrev Coming : DevicePort → Type 0
 Coming p = (p.cr ≡ false) × (p.ssts_det ≡ 3 → Up p)
 
 pub up_of : (p : DevicePort) → IsUp p → Up p
-up_of p u = (u.det, u.present, u.fresh, u.linked, u.released, u.restarts)
+up_of p u = (u.det, u.present, u.fresh, u.no_link_is_due, u.comreset_is_over, u.start_ends_halt)
 
 pub is_up : (p : DevicePort) → Up p → IsUp p
-is_up p u = record { det = u.0; present = u.1; fresh = u.2; linked = u.3; released = u.4; restarts = u.5 }
+is_up p u = record { det = u.0; present = u.1; fresh = u.2; no_link_is_due = u.3; comreset_is_over = u.4; start_ends_halt = u.5 }
 
 coming_of : (p : DevicePort) → IsComingUp p → Coming p
-coming_of p h = (h.stands, λ det. up_of p (h.up det))
+coming_of p h = (h.cr_is_clear, λ det. up_of p (h.is_up_if_shown det))
 
 is_coming : (p : DevicePort) → Coming p → IsComingUp p
-is_coming p h = record { stands = h.0; up = λ det. is_up p (h.1 det) }
+is_coming p h = record { cr_is_clear = h.0; is_up_if_shown = λ det. is_up p (h.1 det) }
 
 -- no device shows
 not_three : {A : Type 0} → ◌≡◌ {A = ℕ} 0 3 → A
 not_three e = absurd (omega (arith, e))
 
 pub unlinked : (p : DevicePort) → p.cr ≡ false → p.ssts_det ≢ 3 → IsComingUp p
-unlinked p stands other = record { stands = stands; up = λ det. absurd (other det) }
+unlinked p stands other = record { cr_is_clear = stands; is_up_if_shown = λ det. absurd (other det) }
 
 -- ---- a step
 
@@ -73,7 +73,7 @@ module _ (port : ℕ) (d : Device) (gained : List Entry) (none : NoneOf (IsDiskC
   step_coming (Fall p) can is = at_port Coming Coming d p port _ h (λ e x. works p can.1 e) (λ ne x. x)
   step_coming (FrFall p) can is = at_port Coming Coming d p port _ h (λ e x. x) (λ ne x. x)
   step_coming (LinkUp p sig n) can is = at_port Coming Coming d p port _ h
-      (λ e x. (x.0, λ _. (refl, can.present, refl, refl, λ one. absurd (let z = can.det in omega (arith, one, z)), refl))) (λ ne x. x)
+      (λ e x. (x.0, λ _. (refl, can.present, refl, refl, λ one. absurd (let z = can.no_comreset in omega (arith, one, z)), refl))) (λ ne x. x)
   step_coming (Unplug p) can is = at_port Coming Coming d p port _ h (λ e x. (x.0, λ det. not_three det)) (λ ne x. x)
   step_coming (Plug p disk) can is = at_port Coming Coming d p port _ h
       (λ e x. absurd (gained_none (IsDiskComing port) d.tape _ gained is none e)) (λ ne x. x)
@@ -85,8 +85,8 @@ leads_coming laws port [] old new e none h = subst (λ (d : Device). Coming (d.p
 leads_coming laws port (step ∷ steps) old new (can, lead) none h =
     let k : Keeps old (device_after step old) = laws.step step _ can in
     let l : Keeps (device_after step old) new = laws.keeps _ _ (record { steps = steps; lead = lead }) in
-    let parts = comes_parts port old (device_after step old) new k.gained l.gained k.tape l.tape none in
-    leads_coming laws port steps (device_after step old) new lead parts.1 (step_coming port old parts.0.gained parts.0.none h step can parts.0.tape)
+    let parts = comes_parts port old (device_after step old) new k.new_entries l.new_entries k.tape_grows l.tape_grows none in
+    leads_coming laws port steps (device_after step old) new lead parts.1 (step_coming port old parts.0.new_entries parts.0.no_such_entry h step can parts.0.tape_is)
 
 pub steps_coming : StepLaws → (port : ℕ) (old new : Device) → NoDiskComes port old new → Steps old new → IsComingUp (old.port port) → IsComingUp (new.port port)
 steps_coming laws port old new none s h = is_coming (new.port port) (leads_coming laws port s.steps old new s.lead none (coming_of (old.port port) h))
@@ -94,11 +94,11 @@ steps_coming laws port old new none s h = is_coming (new.port port) (leads_comin
 -- ---- an access
 
 module _ (v tape : ℕ) (p : DevicePort) where
-  command_coming : bit v 0 ≡ false → Coming p → Coming (port_written Cmd v tape p)
-  command_coming off h = subst (λ (b : Bool). Coming (with_fre (bit v 4) (with_st b tape p))) (sym off) h
+  command_coming : bit v 0 ≡ false → Coming p → Coming (port_after_write Cmd v tape p)
+  command_coming off h = subst (λ (b : Bool). Coming (port_after_fre_write (bit v 4) (port_after_st_write b tape p))) (sym off) h
 
   -- DET of PxSCTL isn't 1, and wasn't
-  released_up : (w : ℕ) → w ≢ 1 → Up p → Up (with_det w tape p)
+  released_up : (w : ℕ) → w ≢ 1 → Up p → Up (port_after_det_write w tape p)
   released_up w other u = (
     ap (λ (b : Bool). if b then 0 else p.ssts_det) (not_one w other) ∙ u.0,
     u.1,
@@ -108,13 +108,13 @@ module _ (v tape : ℕ) (p : DevicePort) where
     u.5,
   )
 
-  control_coming : (w : ℕ) → Coming p → Coming (with_det w tape p)
+  control_coming : (w : ℕ) → Coming p → Coming (port_after_det_write w tape p)
   control_coming w h = ⊎_elim
-      (λ (one : w ≡ 1). subst (λ (n : ℕ). Coming (with_det n tape p)) (sym one) (h.0, λ det. not_three det))
+      (λ (one : w ≡ 1). subst (λ (n : ℕ). Coming (port_after_det_write n tape p)) (sym one) (h.0, λ det. not_three det))
       (λ (other : w ≡ 1 → ⊥). (h.0, λ det. released_up w other (h.1 (sym (ap (λ (b : Bool). if b then 0 else p.ssts_det) (not_one w other)) ∙ det))))
       (cases_eq w 1)
 
-written_coming : (r : PortReg) (v tape : ℕ) (p : DevicePort) → (r ≡ Cmd → bit v 0 ≡ false) → Coming p → Coming (port_written r v tape p)
+written_coming : (r : PortReg) (v tape : ℕ) (p : DevicePort) → (r ≡ Cmd → bit v 0 ≡ false) → Coming p → Coming (port_after_write r v tape p)
 written_coming Cmd v tape p off h = command_coming v tape p (off refl) h
 written_coming Sctl v tape p off h = control_coming v tape p (v % 16) h
 written_coming _ v tape p off h = h
@@ -132,23 +132,23 @@ module _ (laws : StepLaws) (port : Port) (access : Access) (old new : Device) (o
 
 pub comreset_comes : StepLaws → (port : Port) (v : ℕ) (old new : Device) → (old.port port.0).cr ≡ false → v % 16 ≡ 1 → Writes (Px port Sctl) v old new → IsComingUp (new.port port.0)
 comreset_comes laws port v old new stands one call =
-    let k : KeepsPort (old.port port.0) (call.mid.port port.0) = (laws.keeps _ _ call.steps).port port.0 in
+    let k : KeepsPort (old.port port.0) (call.mid.port port.0) = (laws.keeps _ _ call.steps).ports_are_kept port.0 in
     subst IsComingUp (sym (ap (λ (d : Device). d.port port.0) call.effect ∙ changed_same call.mid.port port.0 _))
-    (is_coming _ (subst (λ (n : ℕ). Coming (with_det n (length call.mid.tape) (call.mid.port port.0))) (sym one) (k.cr stands, λ det. not_three det)))
+    (is_coming _ (subst (λ (n : ℕ). Coming (port_after_det_write n (length call.mid.tape) (call.mid.port port.0))) (sym one) (k.cr stands, λ det. not_three det)))
 
 pub reset_comes : StepLaws → (v : ℕ) (old new : Device) → old.hr ≡ true → Reads Ghc v old new → bit v 0 ≡ false → (port : ℕ) → NoDiskComes port old new → IsComingUp (new.port port)
 reset_comes laws v old new on call clear port none =
     let s = reset_read v old new on call clear in
     let a : Keeps old (device_after ResetEnds s.0) = laws.keeps _ _ s.2 in
     let b : Keeps (device_after ResetEnds s.0) new = laws.keeps _ _ s.1 in
-    let parts = comes_parts port old (device_after ResetEnds s.0) new a.gained b.gained a.tape b.tape none in
+    let parts = comes_parts port old (device_after ResetEnds s.0) new a.new_entries b.new_entries a.tape_grows b.tape_grows none in
     (steps_coming laws) port (device_after ResetEnds s.0) new parts.1 s.1 (is_coming _ (refl, λ det. not_three det))
 
 -- ---- it is found up
 
 pub up_is_found : StepLaws → (port : Port) (v : ℕ) (old new : Device) → NoDiskComes port.0 old new → Reads (Px port Ssts) v old new → v % 16 ≡ 3 → IsComingUp (old.port port.0) → IsUp (new.port port.0)
 up_is_found laws port v old new none call three h =
-    (access_coming laws port (Reading (Px port Ssts) v) old new (λ w e. absurd (let z : Reading (Px port Ssts) v ≡ Writing (Px port Cmd) w = e in cc)) call none h).up
+    (access_coming laws port (Reading (Px port Ssts) v) old new (λ w e. absurd (let z : Reading (Px port Ssts) v ≡ Writing (Px port Cmd) w = e in cc)) call none h).is_up_if_shown
     (ap (λ (d : Device). (d.port port.0).ssts_det) call.effect ∙ ap (λ (p : DevicePort). p.ssts_det) (changed_same call.mid.port port.0 _) ∙ sym call.shows ∙ three)
 
 -- ---- and stays so
@@ -159,11 +159,11 @@ still_three p new three = ⊎_elim (λ (s : SameLink p new). s.det ∙ three) (�
 
 pub steps_up : StepLaws → (port : ℕ) (old new : Device) → old.hr ≡ false → (old.port port).cr ≡ false → NoPlugEvents port old new → Steps old new → IsUp (old.port port) → IsUp (new.port port)
 steps_up laws port old new off stands none s u =
-    (steps_coming laws port old new (plugs_come port old new none) s (record { stands = stands; up = λ _. u })).up
+    (steps_coming laws port old new (plugs_come port old new none) s (record { cr_is_clear = stands; is_up_if_shown = λ _. u })).is_up_if_shown
     (still_three (old.port port) (new.port port) u.det (steps_link laws port old new off s none))
 
 pub access_up : StepLaws → (port : Port) (access : Access) (old new : Device) → old.hr ≡ false → (old.port port.0).cr ≡ false → SetsNoStart port access → DoesNotWrite (Px port Sctl) access → NoPlugEvents port.0 old new → Does access old new →
     IsUp (old.port port.0) → IsUp (new.port port.0)
 access_up laws port access old new off stands sets spares none x u =
-    (access_coming laws port access old new sets x (plugs_come port.0 old new none) (record { stands = stands; up = λ _. u })).up
+    (access_coming laws port access old new sets x (plugs_come port.0 old new none) (record { cr_is_clear = stands; is_up_if_shown = λ _. u })).is_up_if_shown
     (still_three (old.port port.0) (new.port port.0) u.det (access_link laws port access old new off spares x none))

@@ -7,20 +7,20 @@ use Rattle.hba_regs.specs.declared.reg.Reg.{Reg}
 use Rattle.hba_regs.specs.declared.reg.Reg.TheVariants.{Px}
 use Rattle.hba_regs.specs.declared.reg.PortReg.{PortReg}
 use Rattle.hba_regs.specs.declared.reg.PortReg.TheVariants.{Cmd, Sctl}
-use Rattle.adapter.specs.Access.{Access, Does, Reads, Writes, port_written, with_st, with_fre}
+use Rattle.adapter.specs.Access.{Access, Does, Reads, Writes, port_after_write, port_after_st_write, port_after_fre_write}
 use Rattle.adapter.specs.Access.Access.{Reading, Writing}
 use Rattle.adapter.specs.Device.{DevicePort, Device}
 use Rattle.adapter.specs.Device.Halt.{NotHalted}
-use Rattle.adapter.specs.Kept.{Keeps}
+use Rattle.adapter.specs.KeptBySteps.{Keeps}
 use Rattle.adapter.specs.Steps.{DeviceTransition, Can, device_after, TransitionsLead, Steps}
 use Rattle.adapter.specs.Steps.DeviceTransition.{Fetch, FetchFault, Move, Clear, Done, Fault, Fatal, Fall, FrFall, LinkUp, Unplug, Plug, ResetEnds, Scribble}
 use Rattle.adapter.specs.declared.tape.Entry.{Entry}
-use Rattle.refinement.specs.Below.{StepLaws}
+use Rattle.refinement.specs.StepLaws.{StepLaws}
 use Rattle.refinement.specs.Relation.{port_at}
 use Rattle.refinement.specs.Errors.{ChangesByDisks, StaysClear}
 use Rattle.refinement.specs.PortFacts.{RunsWell, IsDisturbance, Undisturbed, ShowsNoTrouble}
 use Rattle.refinement.specs.Links.{DoesNotWrite}
-use Rattle.refinement.specs.Started.{IsStarted, ClearsNoStart}
+use Rattle.refinement.specs.StartedPort.{IsStarted, ClearsNoStart}
 use Rattle.refinement.proofs.device.FactsOverAccesses.{access_steps, effect_keeps}
 use Rattle.refinement.proofs.device.ErrorBits.{plugs_come, steps_change, access_change}
 use Rattle.refinement.proofs.device.TapeGains.{NoneOf, gained_none}
@@ -32,7 +32,7 @@ use Rattle.refinement.proofs.device.RaisedBits.{steps_unset, access_unset}
 
 -- before the effect of an access the tape has what it has after it
 pub calm_before : (port : ℕ) (old mid new : Device) → new.tape ≡ mid.tape → Undisturbed port old new → Undisturbed port old mid
-calm_before port old mid new same u = record { gained = u.gained; tape = sym same ∙ u.tape; calm = u.calm }
+calm_before port old mid new same u = record { new_entries = u.new_entries; tape_is = sym same ∙ u.tape_is; no_disturbance = u.no_disturbance }
 
 -- what each step keeps that is no disturbance, lists of them keep
 pub leads_calmly : StepLaws → (port : ℕ) (P : Device → Type 0) →
@@ -42,8 +42,8 @@ leads_calmly laws port P keep [] old new e u h = subst P (sym e) h
 leads_calmly laws port P keep (step ∷ steps) old new (can, lead) u h =
     let k : Keeps old (device_after step old) = laws.step step _ can in
     let l : Keeps (device_after step old) new = laws.keeps _ _ (record { steps = steps; lead = lead }) in
-    let parts = undisturbed_parts port old (device_after step old) new k.gained l.gained k.tape l.tape u in
-    leads_calmly laws port P keep steps (device_after step old) new lead parts.1 (keep old parts.0.gained parts.0.calm step can parts.0.tape h)
+    let parts = undisturbed_parts port old (device_after step old) new k.new_entries l.new_entries k.tape_grows l.tape_grows u in
+    leads_calmly laws port P keep steps (device_after step old) new lead parts.1 (keep old parts.0.new_entries parts.0.no_disturbance step can parts.0.tape_is h)
 
 -- ---- a port that was started
 
@@ -53,10 +53,10 @@ Started p =
     × (p.broken ≡ false)
 
 started_of : (p : DevicePort) → IsStarted p → Started p
-started_of p h = (h.st, h.cr, h.det, h.present, h.fresh, h.linked, h.running, h.whole)
+started_of p h = (h.st, h.cr, h.det, h.present, h.fresh, h.no_link_is_due, h.is_not_halted, h.is_not_broken)
 
 is_started : (p : DevicePort) → Started p → IsStarted p
-is_started p h = record { st = h.0; cr = h.1; det = h.2; present = h.3; fresh = h.4; linked = h.5; running = h.6; whole = h.7 }
+is_started p h = record { st = h.0; cr = h.1; det = h.2; present = h.3; fresh = h.4; no_link_is_due = h.5; is_not_halted = h.6; is_not_broken = h.7 }
 
 module _ (port : ℕ) (d : Device) (gained : List Entry) (calm : NoneOf (IsDisturbance port) gained) where
   abbrev At : DevicePort → Type 0
@@ -75,7 +75,7 @@ module _ (port : ℕ) (d : Device) (gained : List Entry) (calm : NoneOf (IsDistu
       (λ e x. absurd (gained_none (IsDisturbance port) d.tape _ gained is calm e)) (λ ne x. x)
   step_started (Fall p) off can is h = at_port At At d p port _ h (λ e x. absurd (both_ways _ can.0 x.0)) (λ ne x. x)
   step_started (FrFall p) off can is h = at_port At At d p port _ h (λ e x. x) (λ ne x. x)
-  step_started (LinkUp p sig n) off can is h = at_port At At d p port _ h (λ e x. absurd (both_ways _ x.5 can.due)) (λ ne x. x)
+  step_started (LinkUp p sig n) off can is h = at_port At At d p port _ h (λ e x. absurd (both_ways _ x.5 can.link_is_due)) (λ ne x. x)
   step_started (Unplug p) off can is h = at_port At At d p port _ h
       (λ e x. absurd (gained_none (IsDisturbance port) d.tape _ gained is calm e)) (λ ne x. x)
   step_started (Plug p disk) off can is h = at_port At At d p port _ h
@@ -90,19 +90,19 @@ OnStarted port d = (d.hr ≡ false) × Started (d.port port)
 on_started : StepLaws → (port : ℕ) (old new : Device) → old.hr ≡ false → Undisturbed port old new → Steps old new → Started (old.port port) → Started (new.port port)
 on_started laws port old new off u s h =
     (leads_calmly laws port (OnStarted port)
-    (λ d gained calm step can is x. (((laws.step step _ can).on x.0).no_reset, step_started port d gained calm step x.0 can is x.1))
+    (λ d gained calm step can is x. (((laws.step step _ can).keeps_outside_reset x.0).no_reset, step_started port d gained calm step x.0 can is x.1))
     s.steps old new s.lead u (off, h)).1
 
 pub steps_started : StepLaws → (port : ℕ) (old new : Device) → old.hr ≡ false → Undisturbed port old new → Steps old new → IsStarted (old.port port) → IsStarted (new.port port)
 steps_started laws port old new off u s h = is_started (new.port port) (on_started laws port old new off u s (started_of (old.port port) h))
 
 -- ST stays 1
-command_started : (v tape : ℕ) (p : DevicePort) → bit v 0 ≡ true → Started p → Started (port_written Cmd v tape p)
+command_started : (v tape : ℕ) (p : DevicePort) → bit v 0 ≡ true → Started p → Started (port_after_write Cmd v tape p)
 command_started v tape p on h =
-    subst (λ (b : Bool). Started (with_fre (bit v 4) (with_st b tape p))) (sym on)
-    (subst (λ (x : DevicePort). Started (with_fre (bit v 4) x)) (sym (cond-true p.st p _ h.0)) h)
+    subst (λ (b : Bool). Started (port_after_fre_write (bit v 4) (port_after_st_write b tape p))) (sym on)
+    (subst (λ (x : DevicePort). Started (port_after_fre_write (bit v 4) x)) (sym (cond-true p.st p _ h.0)) h)
 
-written_started : (r : PortReg) (v tape : ℕ) (p : DevicePort) → (r ≡ Cmd → bit v 0 ≡ true) → (r ≡ Sctl → ⊥) → Started p → Started (port_written r v tape p)
+written_started : (r : PortReg) (v tape : ℕ) (p : DevicePort) → (r ≡ Cmd → bit v 0 ≡ true) → (r ≡ Sctl → ⊥) → Started p → Started (port_after_write r v tape p)
 written_started Cmd v tape p on other h = command_started v tape p (on refl) h
 written_started Sctl v tape p on other h = absurd (other refl)
 written_started _ v tape p on other h = h
@@ -124,16 +124,16 @@ Quiets first p = (place : ℕ) → 27 ≤ place → place ≤ 30 → first.is pl
 
 -- faults and fatal errors are disturbances
 on_quiets : StepLaws → (port : ℕ) (old new : Device) → Undisturbed port old new → Steps old new → Quiets (old.port port) (new.port port)
-on_quiets laws port old new u s = λ place low up clear. steps_unset laws (IsDisturbance port) port place low (λ f e z. e) (λ at e z. e) old new s (u.gained, u.tape, u.calm) clear
+on_quiets laws port old new u s = λ place low up clear. steps_unset laws (IsDisturbance port) port place low (λ f e z. e) (λ at e z. e) old new s (u.new_entries, u.tape_is, u.no_disturbance) clear
 
 access_quiets : StepLaws → (port : ℕ) (access : Access) (old new : Device) → Undisturbed port old new → Does access old new → Quiets (old.port port) (new.port port)
-access_quiets laws port access old new u x = λ place low up clear. access_unset laws (IsDisturbance port) port place low (λ f e z. e) (λ at e z. e) access old new x (u.gained, u.tape, u.calm) clear
+access_quiets laws port access old new u x = λ place low up clear. access_unset laws (IsDisturbance port) port place low (λ f e z. e) (λ at e z. e) access old new x (u.new_entries, u.tape_is, u.no_disturbance) clear
 
 -- N and X, where no link is due
 clear_of : (port : ℕ) (old new : Device) → Undisturbed port old new → ChangesByDisks port old new → Quiets (old.port port) (new.port port) → StaysClear (old.port port) (new.port port)
 clear_of port old new u c quiets =
     let none = undisturbed_plugs port old new u in
-    record { serr_n = c.serr_n none; serr_x = c.serr_x (plugs_come port old new none); is = quiets }
+    record { serr_n = c.serr_n none; serr_x = c.serr_x (plugs_come port old new none); pxis_stays_clear = quiets }
 
 pub steps_clear : StepLaws → (port : ℕ) (old new : Device) → old.hr ≡ false → (old.port port).link_due ≡ false → Undisturbed port old new → Steps old new → StaysClear (old.port port) (new.port port)
 steps_clear laws port old new off undue u s = clear_of port old new u (steps_change laws port old new off undue s) (on_quiets laws port old new u s)
@@ -150,28 +150,28 @@ well_of p h quiet = record {
   det = h.det;
   present = h.present;
   fresh = h.fresh;
-  linked = h.linked;
-  running = h.running;
-  whole = h.whole;
-  quiet = quiet;
+  no_link_is_due = h.no_link_is_due;
+  is_not_halted = h.is_not_halted;
+  is_not_broken = h.is_not_broken;
+  shows_no_trouble = quiet;
 }
 
 pub started_well : (p : DevicePort) → RunsWell p → IsStarted p
-started_well p h = record { st = h.st; cr = h.cr; det = h.det; present = h.present; fresh = h.fresh; linked = h.linked; running = h.running; whole = h.whole }
+started_well p h = record { st = h.st; cr = h.cr; det = h.det; present = h.present; fresh = h.fresh; no_link_is_due = h.no_link_is_due; is_not_halted = h.is_not_halted; is_not_broken = h.is_not_broken }
 
 pub shows_still : (p new : DevicePort) → StaysClear p new → ShowsNoTrouble p → ShowsNoTrouble new
-shows_still p new c h = record { serr_n = c.serr_n h.serr_n; serr_x = c.serr_x h.serr_x; quiet = λ place low up. c.is place low up (h.quiet place low up) }
+shows_still p new c h = record { serr_n = c.serr_n h.serr_n; serr_x = c.serr_x h.serr_x; no_error_bit_is_set = λ place low up. c.pxis_stays_clear place low up (h.no_error_bit_is_set place low up) }
 
 pub law_healthy_stays : StepLaws → (port : ℕ) (old new : Device) → old.hr ≡ false → Steps old new → Undisturbed port old new → RunsWell (old.port port) → RunsWell (new.port port)
 law_healthy_stays laws port old new off s u h =
     well_of (new.port port) (steps_started laws port old new off u s (started_well (old.port port) h))
-    (shows_still (old.port port) (new.port port) (steps_clear laws port old new off h.linked u s) h.quiet)
+    (shows_still (old.port port) (new.port port) (steps_clear laws port old new off h.no_link_is_due u s) h.shows_no_trouble)
 
 healthy_access : StepLaws → (port : Port) (access : Access) (old new : Device) → old.hr ≡ false → ClearsNoStart port access → DoesNotWrite (Px port Sctl) access → Undisturbed port.0 old new → Does access old new →
     RunsWell (old.port port.0) → RunsWell (new.port port.0)
 healthy_access laws port access old new off keeps spares u x h =
     well_of (new.port port.0) (access_started laws port access old new off keeps spares u x (started_well (old.port port.0) h))
-    (shows_still (old.port port.0) (new.port port.0) (access_clear laws port access old new off h.linked u x) h.quiet)
+    (shows_still (old.port port.0) (new.port port.0) (access_clear laws port access old new off h.no_link_is_due u x) h.shows_no_trouble)
 
 -- a reading writes nothing
 pub reading_clears : (port : Port) (r : Reg) (v : ℕ) → ClearsNoStart port (Reading r v)

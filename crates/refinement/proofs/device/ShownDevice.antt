@@ -5,11 +5,11 @@ use Rattle.ata_types.specs.declared.Port.{Port}
 use Rattle.hba_regs.specs.declared.reg.Reg.TheVariants.{Px}
 use Rattle.hba_regs.specs.declared.reg.PortReg.{PortReg}
 use Rattle.hba_regs.specs.declared.reg.PortReg.TheVariants.{Cmd, Sctl}
-use Rattle.adapter.specs.Access.{Access, Does, port_written}
+use Rattle.adapter.specs.Access.{Access, Does, port_after_write}
 use Rattle.adapter.specs.Device.{DevicePort, Device}
 use Rattle.adapter.specs.Steps.{DeviceTransition, Can, device_after, TransitionsLead, Steps}
 use Rattle.adapter.specs.Steps.DeviceTransition.{Fetch, FetchFault, Move, Clear, Done, Fault, Fatal, Fall, FrFall, LinkUp, Unplug, Plug, ResetEnds, Scribble}
-use Rattle.refinement.specs.Below.{StepLaws}
+use Rattle.refinement.specs.StepLaws.{StepLaws}
 use Rattle.refinement.specs.Links.{DoesNotWrite, ShowsDiskIfIn}
 use Rattle.refinement.proofs.device.FactsOverAccesses.{access_steps, effect_keeps}
 use Rattle.refinement.proofs.device.ErrorBits.{command_beside}
@@ -38,12 +38,12 @@ step_shown port d (Scribble p slot at bytes) off can h = h
 leads_shown : StepLaws → (port : ℕ) (steps : List DeviceTransition) (old new : Device) → old.hr ≡ false → TransitionsLead steps old new → Shown (old.port port) → Shown (new.port port)
 leads_shown laws port [] old new off e h = subst (λ (d : Device). Shown (d.port port)) (sym e) h
 leads_shown laws port (step ∷ steps) old new off (can, lead) h =
-    leads_shown laws port steps (device_after step old) new ((laws.step step _ can).on off).no_reset lead (step_shown port old step off can h)
+    leads_shown laws port steps (device_after step old) new ((laws.step step _ can).keeps_outside_reset off).no_reset lead (step_shown port old step off can h)
 
 pub steps_shown : StepLaws → (port : ℕ) (old new : Device) → old.hr ≡ false → Steps old new → ShowsDiskIfIn (old.port port) → ShowsDiskIfIn (new.port port)
 steps_shown laws port old new off s h = leads_shown laws port s.steps old new off s.lead h
 
-written_shown : (r : PortReg) (v tape : ℕ) (p : DevicePort) → r ≢ Sctl → Shown p → Shown (port_written r v tape p)
+written_shown : (r : PortReg) (v tape : ℕ) (p : DevicePort) → r ≢ Sctl → Shown p → Shown (port_after_write r v tape p)
 written_shown Sctl v tape p other h = absurd (other refl)
 written_shown Cmd v tape p other h =
     let c = command_beside v tape p in

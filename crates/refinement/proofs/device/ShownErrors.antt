@@ -6,9 +6,9 @@ use Rattle.ata_types.specs.declared.Port.{Port}
 use Rattle.hba_regs.specs.declared.reg.Reg.TheVariants.{Px}
 use Rattle.hba_regs.specs.declared.reg.PortReg.{PortReg}
 use Rattle.hba_regs.specs.declared.reg.PortReg.TheVariants.{Is, Cmd}
-use Rattle.adapter.specs.Access.{Access, Does, port_written}
+use Rattle.adapter.specs.Access.{Access, Does, port_after_write}
 use Rattle.adapter.specs.Device.{DevicePort, Device}
-use Rattle.adapter.specs.Kept.{Keeps, KeepsControls}
+use Rattle.adapter.specs.KeptBySteps.{Keeps, KeepsControls}
 use Rattle.adapter.specs.Memory.{changed}
 use Rattle.adapter.specs.Steps.{DeviceTransition, Can, device_after, TransitionsLead, Steps}
 use Rattle.adapter.specs.Steps.DeviceTransition.{Fetch, FetchFault, Move, Clear, Done, Fault, Fatal, Fall, FrFall, LinkUp, Unplug, Plug, ResetEnds, Scribble}
@@ -91,18 +91,18 @@ module _ (keeps : (old new : Device) → Steps old new → Keeps old new) (low h
   leads_untold (step ∷ steps) old new off (can, lead) h =
       let k : Keeps old (device_after step old) = keeps old (device_after step old) (record { steps = step ∷ []; lead = (can, refl) }) in
       let l : Keeps (device_after step old) new = keeps (device_after step old) new (record { steps = steps; lead = lead }) in
-      let off' : (device_after step old).hr ≡ false = (k.on off).no_reset in
-      let mid : Untold ((device_after step old).port port) = untold_before ((device_after step old).port port) (new.port port) ((l.on off').controls port) h in
+      let off' : (device_after step old).hr ≡ false = (k.keeps_outside_reset off).no_reset in
+      let mid : Untold ((device_after step old).port port) = untold_before ((device_after step old).port port) (new.port port) ((l.keeps_outside_reset off').controls port) h in
       gains_more IsKind old (device_after step old) new (step_untold old step can mid) (leads_untold steps (device_after step old) new off' lead h)
 
   steps_untold : (old new : Device) → old.hr ≡ false → Steps old new → Untold (new.port port) → Untold (old.port port) × GainsNone IsKind old new
   steps_untold old new off s h =
       let k : Keeps old new = keeps old new s in (
-        untold_before (old.port port) (new.port port) ((k.on off).controls port) h,
+        untold_before (old.port port) (new.port port) ((k.keeps_outside_reset off).controls port) h,
         leads_untold s.steps old new off s.lead h,
       )
 
-  written_bits : (first : DevicePort) (r : PortReg) (v tape : ℕ) (p : DevicePort) → r ≢ Is → SameBits first p → SameBits first (port_written r v tape p)
+  written_bits : (first : DevicePort) (r : PortReg) (v tape : ℕ) (p : DevicePort) → r ≢ Is → SameBits first p → SameBits first (port_after_write r v tape p)
   written_bits first Is v tape p other h = absurd (other refl)
   written_bits first Cmd v tape p other h = λ place. ap (λ (f : ℕ → Bool). f place) (command_beside v tape p).0 ∙ h place
   written_bits first _ v tape p other h = h
@@ -142,7 +142,7 @@ ShowsNoFatal p = (place : ℕ) → 27 ≤ place → place ≤ 29 → p.is place 
 
 module _ (keeps : (old new : Device) → Steps old new → Keeps old new) where
   as_fails : (port : ℕ) (old new : Device) → Untold keeps 30 30 (IsFaultOf port) port (fault_only port) (old.port port) × GainsNone (IsFaultOf port) old new → ((old.port port).is 30 ≡ false) × NoneFails port old new
-  as_fails port old new (h, g) = (h 30 (omega arith) (omega arith), record { gained = g.0; tape = g.1; none = g.2 })
+  as_fails port old new (h, g) = (h 30 (omega arith) (omega arith), record { new_entries = g.0; tape_is = g.1; no_such_entry = g.2 })
 
   pub steps_fault : (port : ℕ) (old new : Device) → old.hr ≡ false → Steps old new → (new.port port).is 30 ≡ false → ((old.port port).is 30 ≡ false) × NoneFails port old new
   steps_fault port old new off s clear = as_fails port old new (steps_untold keeps 30 30 (IsFaultOf port) port (fault_only port) old new off s (alone (new.port port) clear))
@@ -153,7 +153,7 @@ module _ (keeps : (old new : Device) → Steps old new → Keeps old new) where
       as_fails port.0 old new (access_untold keeps 30 30 (IsFaultOf port.0) port.0 (fault_only port.0) port access old new refl off spares x (alone (new.port port.0) clear))
 
   as_fatal : (port : ℕ) (old new : Device) → ShowsNoFatal (old.port port) × GainsNone (IsFatalOf port) old new → ShowsNoFatal (old.port port) × NoneFatal port old new
-  as_fatal port old new (h, g) = (h, record { gained = g.0; tape = g.1; none = g.2 })
+  as_fatal port old new (h, g) = (h, record { new_entries = g.0; tape_is = g.1; no_such_entry = g.2 })
 
   pub steps_fatal : (port : ℕ) (old new : Device) → old.hr ≡ false → Steps old new → ShowsNoFatal (new.port port) → ShowsNoFatal (old.port port) × NoneFatal port old new
   steps_fatal port old new off s clear = as_fatal port old new (steps_untold keeps 27 29 (IsFatalOf port) port (fatal_only port) old new off s clear)

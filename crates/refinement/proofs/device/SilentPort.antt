@@ -5,13 +5,13 @@ use Rattle.std.proofs.lemmas.List.Elements.{All-nil, All-cons}
 use Rattle.std.proofs.lemmas.Bool.{both_ways}
 use Rattle.hba_regs.specs.declared.reg.PortReg.{PortReg}
 use Rattle.hba_regs.specs.declared.reg.PortReg.TheVariants.{Cmd}
-use Rattle.adapter.specs.Access.{Access, Does, port_written}
+use Rattle.adapter.specs.Access.{Access, Does, port_after_write}
 use Rattle.adapter.specs.Device.{Disk, DevicePort, Device}
-use Rattle.adapter.specs.Kept.{Keeps}
+use Rattle.adapter.specs.KeptBySteps.{Keeps}
 use Rattle.adapter.specs.Steps.{DeviceTransition, Can, device_after, TransitionsLead, Steps}
 use Rattle.adapter.specs.Steps.DeviceTransition.{Fetch, FetchFault, Move, Clear, Done, Fault, Fatal, Fall, FrFall, LinkUp, Unplug, Plug, ResetEnds, Scribble}
 use Rattle.adapter.specs.declared.tape.Entry.{Entry}
-use Rattle.refinement.specs.Below.{StepLaws}
+use Rattle.refinement.specs.StepLaws.{StepLaws}
 use Rattle.refinement.specs.Relation.{port_at}
 use Rattle.refinement.specs.Errors.{IsDiskComing, NoDiskComes, IsWork}
 use Rattle.refinement.proofs.device.FactsOverAccesses.{access_steps, effect_keeps}
@@ -52,7 +52,7 @@ leads_silent : StepLaws → (port : ℕ) (steps : List DeviceTransition) (old ne
 leads_silent laws port [] old new cr e = subst (GainsNone (IsWork port) old) (sym e) (gains_nothing (IsWork port) old)
 leads_silent laws port (step ∷ steps) old new cr (can, lead) =
     let k : Keeps old (device_after step old) = laws.step step _ can in
-    gains_more (IsWork port) old (device_after step old) new (step_silent port old cr step can) (leads_silent laws port steps (device_after step old) new ((k.port port).cr cr) lead)
+    gains_more (IsWork port) old (device_after step old) new (step_silent port old cr step can) (leads_silent laws port steps (device_after step old) new ((k.ports_are_kept port).cr cr) lead)
 
 pub steps_silent : StepLaws → (port : ℕ) (old new : Device) (gained : List Entry) → (old.port port).cr ≡ false → Steps old new → new.tape ≡ old.tape ++ gained → NoneOf (IsWork port) gained
 steps_silent laws port old new gained cr s is =
@@ -90,13 +90,13 @@ module _ (laws : StepLaws) (disk : Disk) where
   leads_rest port (step ∷ steps) old new (can, lead) comes h =
       let k : Keeps old (device_after step old) = laws.step step _ can in
       let l : Keeps (device_after step old) new = laws.keeps _ _ (record { steps = steps; lead = lead }) in
-      let parts = comes_parts port old (device_after step old) new k.gained l.gained k.tape l.tape comes in
-      leads_rest port steps (device_after step old) new lead parts.1 (step_rests port old parts.0.gained parts.0.none step can parts.0.tape h)
+      let parts = comes_parts port old (device_after step old) new k.new_entries l.new_entries k.tape_grows l.tape_grows comes in
+      leads_rest port steps (device_after step old) new lead parts.1 (step_rests port old parts.0.new_entries parts.0.no_such_entry step can parts.0.tape_is h)
 
   abbrev Holds : DevicePort → Type 0
   Holds p = p.disk ≡ disk
 
-  written_disk : (r : PortReg) (v tape : ℕ) (p : DevicePort) → Holds p → Holds (port_written r v tape p)
+  written_disk : (r : PortReg) (v tape : ℕ) (p : DevicePort) → Holds p → Holds (port_after_write r v tape p)
   written_disk Cmd v tape p h = (command_beside v tape p).5 ∙ h
   written_disk _ v tape p h = h
 

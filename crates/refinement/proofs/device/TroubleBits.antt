@@ -10,16 +10,16 @@ use Rattle.hba_regs.specs.declared.reg.Reg.TheVariants.{Cap, Ghc, Pi, Vs, Cap2, 
 use Rattle.hba_regs.specs.declared.reg.Reg.TheVariants as adapter
 use Rattle.hba_regs.specs.declared.reg.PortReg.{PortReg}
 use Rattle.hba_regs.specs.declared.reg.PortReg.TheVariants.{Clb, Clbu, Fb, Fbu, Is, Ie, Cmd, Tfd, Sig, Ssts, Sctl, Serr, Sact, Ci}
-use Rattle.adapter.specs.Access.{PortShows, Reads, Writes, Stores, noted, written, port_written, with_fre, with_is_bit_cleared}
+use Rattle.adapter.specs.Access.{PortShows, Reads, Writes, Stores, noted, written, port_after_write, port_after_fre_write, port_after_hba_is_write}
 use Rattle.adapter.specs.Device.{DevicePort, Device}
-use Rattle.adapter.specs.Kept.{Keeps, KeepsOutsideReset, KeepsControls}
+use Rattle.adapter.specs.KeptBySteps.{Keeps, KeepsOutsideReset, KeepsControls}
 use Rattle.adapter.specs.Memory.{changed}
 use Rattle.adapter.specs.Steps.{DeviceTransition, Can, device_after, TransitionsLead, Steps}
 use Rattle.adapter.specs.Steps.DeviceTransition.{Fetch, FetchFault, Move, Clear, Done, Fault, Fatal, Fall, FrFall, LinkUp, Unplug, Plug, ResetEnds, Scribble}
 use Rattle.adapter.specs.declared.tape.Entry.{Entry}
 use Rattle.adapter.specs.RegisterEffects.{PortRegisterRead}
 use Rattle.adapter.proofs.Changed.{changed_same}
-use Rattle.refinement.specs.Below.{StepLaws}
+use Rattle.refinement.specs.StepLaws.{StepLaws}
 use Rattle.refinement.specs.Relation.{port_at}
 use Rattle.refinement.specs.PortFacts.{RunsWell, IsDisturbance, Undisturbed, ShowsNoTrouble, TellsNoTrouble, ClearsNoTrouble}
 use Rattle.refinement.proofs.steps.AdapterCalls.{noted_tape}
@@ -38,7 +38,7 @@ shows_alike : (p q : DevicePort) → p.serr_n ≡ q.serr_n → p.serr_x ≡ q.se
 shows_alike p q n x is h = record {
   serr_n = n ∙ h.serr_n;
   serr_x = x ∙ h.serr_x;
-  quiet = λ place low up. is place ∙ h.quiet place low up;
+  no_error_bit_is_set = λ place low up. is place ∙ h.no_error_bit_is_set place low up;
 }
 
 -- what isn't set now wasn't before
@@ -46,7 +46,7 @@ shown_before : (p q : DevicePort) → KeepsControls p q → ShowsNoTrouble q →
 shown_before p q k h = record {
   serr_n = was_false p.serr_n q.serr_n k.serr_n h.serr_n;
   serr_x = was_false p.serr_x q.serr_x k.serr_x h.serr_x;
-  quiet = λ place low up. was_false (p.is place) (q.is place) (k.is place) (h.quiet place low up);
+  no_error_bit_is_set = λ place low up. was_false (p.is place) (q.is place) (k.is place) (h.no_error_bit_is_set place low up);
 }
 
 -- one port changed: what its new bits tell of the old
@@ -61,7 +61,7 @@ either P false x y f g h = g h
 
 -- nothing stands on the tape
 still : {port : ℕ} {d new : Device} → new.tape ≡ d.tape → Undisturbed port d new
-still {port} {d} {new} same = record { gained = []; tape = same ∙ sym (append-nil d.tape); calm = All-nil (λ x. IsDisturbance port x → ⊥) }
+still {port} {d} {new} same = record { new_entries = []; tape_is = same ∙ sym (append-nil d.tape); no_disturbance = All-nil (λ x. IsDisturbance port x → ⊥) }
 
 -- one entry stands there
 one_calm : (port : ℕ) (e : Entry) → (IsDisturbance port e → ⊥) → All (λ x. IsDisturbance port x → ⊥) (e ∷ [])
@@ -75,19 +75,19 @@ module _ (port : ℕ) (d : Device) where
 
   step_calm : (step : DeviceTransition) → d.hr ≡ false → Can step d → ShowsNoTrouble ((device_after step d).port port) → Undisturbed port d (device_after step d)
   step_calm (FetchFault p slot queued kept_bits) off can h = record {
-    gained = _;
-    tape = refl;
-    calm = one_calm port _ (at_port p _ h (λ x. absurd (both_ways _ (x.quiet 30 (omega arith) (omega arith)) (changed_same (d.port p).is 30 true))));
+    new_entries = _;
+    tape_is = refl;
+    no_disturbance = one_calm port _ (at_port p _ h (λ x. absurd (both_ways _ (x.no_error_bit_is_set 30 (omega arith) (omega arith)) (changed_same (d.port p).is 30 true))));
   }
   step_calm (Fault p slot error kept_bits t) off can h = record {
-    gained = _;
-    tape = refl;
-    calm = one_calm port _ (at_port p _ h (λ x. absurd (both_ways _ (x.quiet 30 (omega arith) (omega arith)) (changed_same (d.port p).is 30 true))));
+    new_entries = _;
+    tape_is = refl;
+    no_disturbance = one_calm port _ (at_port p _ h (λ x. absurd (both_ways _ (x.no_error_bit_is_set 30 (omega arith) (omega arith)) (changed_same (d.port p).is 30 true))));
   }
   step_calm (Fatal p place) off can h = record {
-    gained = _;
-    tape = refl;
-    calm = one_calm port _ (at_port p _ h (λ x. absurd (both_ways _ (x.quiet place (low can.1) (high can.1)) (changed_same (d.port p).is place true))));
+    new_entries = _;
+    tape_is = refl;
+    no_disturbance = one_calm port _ (at_port p _ h (λ x. absurd (both_ways _ (x.no_error_bit_is_set place (low can.1) (high can.1)) (changed_same (d.port p).is place true))));
   }
     where
       low : (place ≡ 27) ⊎ (place ≡ 29) → 27 ≤ place
@@ -97,11 +97,11 @@ module _ (port : ℕ) (d : Device) where
       high : (place ≡ 27) ⊎ (place ≡ 29) → place ≤ 30
       high (inl e) = omega (arith, e)
       high (inr e) = omega (arith, e)
-  step_calm (Unplug p) off can h = record { gained = _; tape = refl; calm = one_calm port _ (at_port p _ h (λ x. absurd (true≢false x.serr_n))) }
-  step_calm (Plug p disk) off can h = record { gained = _; tape = refl; calm = one_calm port _ (at_port p _ h (λ x. absurd (true≢false x.serr_n))) }
-  step_calm (Move p slot t bytes) off can h = record { gained = _; tape = refl; calm = one_calm port _ (λ x. x) }
-  step_calm (Clear p slot t first count) off can h = record { gained = _; tape = refl; calm = one_calm port _ (λ x. x) }
-  step_calm (Done p slot flag t) off can h = record { gained = _; tape = refl; calm = one_calm port _ (λ x. x) }
+  step_calm (Unplug p) off can h = record { new_entries = _; tape_is = refl; no_disturbance = one_calm port _ (at_port p _ h (λ x. absurd (true≢false x.serr_n))) }
+  step_calm (Plug p disk) off can h = record { new_entries = _; tape_is = refl; no_disturbance = one_calm port _ (at_port p _ h (λ x. absurd (true≢false x.serr_n))) }
+  step_calm (Move p slot t bytes) off can h = record { new_entries = _; tape_is = refl; no_disturbance = one_calm port _ (λ x. x) }
+  step_calm (Clear p slot t first count) off can h = record { new_entries = _; tape_is = refl; no_disturbance = one_calm port _ (λ x. x) }
+  step_calm (Done p slot flag t) off can h = record { new_entries = _; tape_is = refl; no_disturbance = one_calm port _ (λ x. x) }
   step_calm (Fetch p slot c places) off can h = still refl
   step_calm (Fall p) off can h = still refl
   step_calm (FrFall p) off can h = still refl
@@ -114,13 +114,13 @@ leads_calm laws port [] old new off e h = subst (Undisturbed port old) (sym e) (
 leads_calm laws port (step ∷ steps) old new off (can, lead) h =
     let k : Keeps old (device_after step old) = laws.step step _ can in
     let l : Keeps (device_after step old) new = laws.keeps _ _ (record { steps = steps; lead = lead }) in
-    let on : KeepsOutsideReset old (device_after step old) = k.on off in
-    let mid : ShowsNoTrouble ((device_after step old).port port) = shown_before ((device_after step old).port port) (new.port port) ((l.on on.no_reset).controls port) h in
+    let on : KeepsOutsideReset old (device_after step old) = k.keeps_outside_reset off in
+    let mid : ShowsNoTrouble ((device_after step old).port port) = shown_before ((device_after step old).port port) (new.port port) ((l.keeps_outside_reset on.no_reset).controls port) h in
     undisturbed_more port old (device_after step old) new (step_calm port old step off can mid) (leads_calm laws port steps (device_after step old) new on.no_reset lead h)
 
 pub steps_show : StepLaws → (port : ℕ) (old new : Device) → old.hr ≡ false → Steps old new → ShowsNoTrouble (new.port port) → ShowsNoTrouble (old.port port) × Undisturbed port old new
 steps_show laws port old new off s h =
-    let on : KeepsOutsideReset old new = (laws.keeps _ _ s).on off in
+    let on : KeepsOutsideReset old new = (laws.keeps _ _ s).keeps_outside_reset off in
     (shown_before (old.port port) (new.port port) (on.controls port) h, leads_calm laws port s.steps old new off s.lead h)
 
 -- ---- an access
@@ -130,7 +130,7 @@ module _ (laws : StepLaws) (port : ℕ) (old mid new : Device) (off : old.hr ≡
   then_effect : new.tape ≡ mid.tape → (ShowsNoTrouble (new.port port) → ShowsNoTrouble (mid.port port)) → ShowsNoTrouble (new.port port) → ShowsNoTrouble (old.port port) × Undisturbed port old new
   then_effect tape back h =
       let x = steps_show laws port old mid off s (back h) in
-      (x.0, record { gained = x.1.gained; tape = tape ∙ x.1.tape; calm = x.1.calm })
+      (x.0, record { new_entries = x.1.new_entries; tape_is = tape ∙ x.1.tape_is; no_disturbance = x.1.no_disturbance })
 
 noted_before : (port : ℕ) (r : Reg) (v : ℕ) (d : Device) → ShowsNoTrouble ((noted r v d).port port) → ShowsNoTrouble (d.port port)
 noted_before port (Px p r) v d = before_change d p.0 port _ (shows_alike (d.port p.0) _ refl refl (λ place. refl))
@@ -158,20 +158,20 @@ kept_bit true true keep clear = absurd (true≢false keep)
 kept_bit true false keep clear = clear
 kept_bit false b keep clear = refl
 
-port_before : (port : Port) (r : PortReg) (v tape : ℕ) (p : DevicePort) → ClearsNoTrouble port (Px port r) v → ShowsNoTrouble (port_written r v tape p) → ShowsNoTrouble p
+port_before : (port : Port) (r : PortReg) (v tape : ℕ) (p : DevicePort) → ClearsNoTrouble port (Px port r) v → ShowsNoTrouble (port_after_write r v tape p) → ShowsNoTrouble p
 port_before port Cmd v tape p keep h =
-    either (λ x. ShowsNoTrouble (with_fre (bit v 4) x)) (bit v 0) _ _
-    (either (λ x. ShowsNoTrouble (with_fre (bit v 4) x)) p.st _ _ (shows_alike p _ refl refl (λ place. refl)) (shows_alike p _ refl refl (λ place. refl)))
+    either (λ x. ShowsNoTrouble (port_after_fre_write (bit v 4) x)) (bit v 0) _ _
+    (either (λ x. ShowsNoTrouble (port_after_fre_write (bit v 4) x)) p.st _ _ (shows_alike p _ refl refl (λ place. refl)) (shows_alike p _ refl refl (λ place. refl)))
     (shows_alike p _ refl refl (λ place. refl)) h
 port_before port Serr v tape p keep h = record {
-  serr_n = kept_bit p.serr_n (bit v 16) (keep.serr refl).0 h.serr_n;
-  serr_x = kept_bit p.serr_x (bit v 26) (keep.serr refl).1 h.serr_x;
-  quiet = h.quiet;
+  serr_n = kept_bit p.serr_n (bit v 16) (keep.serr_trouble_is_kept refl).0 h.serr_n;
+  serr_x = kept_bit p.serr_x (bit v 26) (keep.serr_trouble_is_kept refl).1 h.serr_x;
+  no_error_bit_is_set = h.no_error_bit_is_set;
 }
 port_before port Is v tape p keep h = record {
   serr_n = h.serr_n;
   serr_x = h.serr_x;
-  quiet = λ place low up. kept_bit (p.is place) (bit v place) (keep.is refl place low up) (h.quiet place low up);
+  no_error_bit_is_set = λ place low up. kept_bit (p.is place) (bit v place) (keep.pxis_trouble_is_kept refl place low up) (h.no_error_bit_is_set place low up);
 }
 port_before port Sctl v tape p keep h = shows_alike p _ refl refl (λ place. refl) h
 port_before port Clb v tape p keep h = shows_alike p _ refl refl (λ place. refl) h
@@ -191,7 +191,7 @@ written_before port (Px p r) v d keep =
     (λ e. port_before p r v (length d.tape) (d.port p.0) (subst (λ (q : Port). ClearsNoTrouble q (Px p r) v) (sym (ap port_at e)) keep))
     (λ k _ _ h. h) port.0 refl
 written_before port adapter.Is v d keep =
-    either ShowsNoTrouble (bit v port.0) (with_is_bit_cleared (d.port port.0)) (d.port port.0) (shows_alike (d.port port.0) _ refl refl (λ place. refl)) (λ h. h)
+    either ShowsNoTrouble (bit v port.0) (port_after_hba_is_write (d.port port.0)) (d.port port.0) (shows_alike (d.port port.0) _ refl refl (λ place. refl)) (λ h. h)
 written_before port Cap v d keep = λ h. h
 written_before port Ghc v d keep = λ h. h
 written_before port Pi v d keep = λ h. h
@@ -226,16 +226,16 @@ module _ (laws : StepLaws) (port : Port) (v : ℕ) (old new : Device) (off : old
 
   pub told_calm : TellsNoTrouble v → ShowsNoTrouble (new.port port.0)
   told_calm h = record {
-    serr_n = sym (here.shows 22 refl) ∙ h.ready;
-    serr_x = sym (here.shows 6 refl) ∙ h.change;
-    quiet = λ place low up. sym (shown_place v (new.port port.0) here.shows place low up) ∙ h.quiet place low up;
+    serr_n = sym (here.shows 22 refl) ∙ h.prcs_is_clear;
+    serr_x = sym (here.shows 6 refl) ∙ h.pcs_is_clear;
+    no_error_bit_is_set = λ place low up. sym (shown_place v (new.port port.0) here.shows place low up) ∙ h.no_error_bit_is_set place low up;
   }
 
   pub calm_told : ShowsNoTrouble (new.port port.0) → TellsNoTrouble v
   calm_told h = record {
-    change = here.shows 6 refl ∙ h.serr_x;
-    ready = here.shows 22 refl ∙ h.serr_n;
-    quiet = λ place low up. shown_place v (new.port port.0) here.shows place low up ∙ h.quiet place low up;
+    pcs_is_clear = here.shows 6 refl ∙ h.serr_x;
+    prcs_is_clear = here.shows 22 refl ∙ h.serr_n;
+    no_error_bit_is_set = λ place low up. shown_place v (new.port port.0) here.shows place low up ∙ h.no_error_bit_is_set place low up;
   }
 
   pub calm_is_found : TellsNoTrouble v → RunsWell (old.port port.0) → Undisturbed port.0 old new × RunsWell (new.port port.0)
@@ -245,22 +245,22 @@ module _ (laws : StepLaws) (port : Port) (v : ℕ) (old new : Device) (off : old
 
 -- so it may be written back
 pub back_clears : (port : Port) (v : ℕ) → TellsNoTrouble v → ClearsNoTrouble port (Px port Is) v
-back_clears port v h = record { is = λ _. h.quiet; serr = λ e. absurd (let z : Px port Is ≡ Px port Serr = e in cc) }
+back_clears port v h = record { pxis_trouble_is_kept = λ _. h.no_error_bit_is_set; serr_trouble_is_kept = λ e. absurd (let z : Px port Is ≡ Px port Serr = e in cc) }
 
 pub healthy_shows : (p : DevicePort) → RunsWell p → ShowsNoTrouble p
-healthy_shows p h = h.quiet
+healthy_shows p h = h.shows_no_trouble
 
 -- PxIS, and then PxSERR
 pub pair_is_found : StepLaws → (port : Port) (v errors : ℕ) (old mid new : Device) → old.hr ≡ false → Reads (Px port Is) v old mid → Reads (Px port Serr) errors mid new →
     ((place : ℕ) → 27 ≤ place → place ≤ 30 → bit v place ≡ false) → bit errors 16 ≡ false → bit errors 26 ≡ false → RunsWell (old.port port.0) → Undisturbed port.0 old mid × RunsWell (mid.port port.0)
 pair_is_found laws port v errors old mid new off one two quiet n x healthy =
     let a : PortRegisterRead port.0 Is v old mid = laws.seen port Is v old mid one off in
-    let b : PortRegisterRead port.0 Serr errors mid new = laws.seen port Serr errors mid new two a.keeps.on.no_reset in
-    let c : KeepsControls (mid.port port.0) (new.port port.0) = b.keeps.on.controls port.0 in
+    let b : PortRegisterRead port.0 Serr errors mid new = laws.seen port Serr errors mid new two a.keeps.keeps_outside_reset.no_reset in
+    let c : KeepsControls (mid.port port.0) (new.port port.0) = b.keeps.keeps_outside_reset.controls port.0 in
     let shows : ShowsNoTrouble (mid.port port.0) = record {
       serr_n = was_false (mid.port port.0).serr_n (new.port port.0).serr_n c.serr_n (sym b.shows.0 ∙ n);
       serr_x = was_false (mid.port port.0).serr_x (new.port port.0).serr_x c.serr_x (sym b.shows.1 ∙ x);
-      quiet = λ place low up. sym (shown_place v (mid.port port.0) a.shows place low up) ∙ quiet place low up;
+      no_error_bit_is_set = λ place low up. sym (shown_place v (mid.port port.0) a.shows place low up) ∙ quiet place low up;
     } in
     let calm = reads_show laws port.0 (Px port Is) v old mid off one shows in
     (calm.1, healthy_reads laws port.0 (Px port Is) v old mid off one calm.1 healthy)

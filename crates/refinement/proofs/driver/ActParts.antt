@@ -13,12 +13,12 @@ use Rattle.block_machine.specs.Expected as left
 use Rattle.block_machine.specs.State.{Machine}
 use Rattle.block_machine.specs.Steps.{Step}
 use Rattle.block_machine.proofs.EventLemmas.{after-append}
-use Rattle.refinement.specs.Below.{StepLaws}
-use Rattle.refinement.specs.Acts.{Act, AccessLeads, IsActDone, AreActsDone, with_access, accesses_of, act_steps}
-use Rattle.refinement.specs.Driven.{GainsNoMove}
+use Rattle.refinement.specs.StepLaws.{StepLaws}
+use Rattle.refinement.specs.Acts.{Act, AccessLeads, IsActDone, AreActsDone, prepend_access, accesses_of, act_steps}
+use Rattle.refinement.specs.Fragments.{GainsNoMove}
 use Rattle.refinement.specs.Driver.{DriverState, DriverRelation, DriverAdvances}
 use Rattle.refinement.specs.Links.{DoesNotWrite}
-use Rattle.refinement.specs.Recovering.{WorksPlainly}
+use Rattle.refinement.specs.HaltRecovery.{WorksPlainly}
 use Rattle.refinement.specs.Slots.{SlotState, Own, IsMove, op_of}
 use Rattle.refinement.proofs.driver.ComposedMoves.{goes_none, goes_more, going_reaches}
 use Rattle.refinement.proofs.device.TapeGains.{gains_nothing, gains_more}
@@ -29,9 +29,9 @@ use Rattle.refinement.proofs.device.PlainPort.{access_plain}
 
 pub accesses_append : (early late : List Act) → accesses_of (early ++ late) ≡ accesses_of early ++ accesses_of late
 accesses_append [] late = refl
-accesses_append (act ∷ early) late = ap (with_access act.access) (accesses_append early late) ∙ with_append act.access (accesses_of early)
+accesses_append (act ∷ early) late = ap (prepend_access act.access) (accesses_append early late) ∙ with_append act.access (accesses_of early)
   where
-    with_append : (access : Option Access) (first : List Access) → with_access access (first ++ accesses_of late) ≡ with_access access first ++ accesses_of late
+    with_append : (access : Option Access) (first : List Access) → prepend_access access (first ++ accesses_of late) ≡ prepend_access access first ++ accesses_of late
     with_append None first = refl
     with_append (Some access) first = refl
 
@@ -51,24 +51,24 @@ done_more (act ∷ early) late a b c m x y = (
 pub done_goes : (acts : List Act) (k later : DriverState) (m : Machine) → DriverRelation m k → AreActsDone acts k m later → DriverAdvances k m (act_steps acts) later
 done_goes [] k later m x done = subst (λ (end : DriverState). DriverAdvances k m [] end) (sym done) (goes_none k m x)
 done_goes (act ∷ acts) k later m x done =
-    goes_more k act.later later m act.steps (act_steps acts) done.0.goes (done_goes acts act.later later (left.after m act.steps) done.0.goes.knows done.1)
+    goes_more k act.later later m act.steps (act_steps acts) done.0.driver_advances (done_goes acts act.later later (left.after m act.steps) done.0.driver_advances.driver_relation done.1)
 
 -- what the accesses are alone in, over acts without one
-leads_then : (access : Option Access) (rest : List Access) (old mid new : Device) → AccessLeads access old mid → DoesAll rest mid new → DoesAll (with_access access rest) old new
+leads_then : (access : Option Access) (rest : List Access) (old mid new : Device) → AccessLeads access old mid → DoesAll rest mid new → DoesAll (prepend_access access rest) old new
 leads_then None rest old mid new same all = subst (λ (d : Device). DoesAll rest d new) same all
 leads_then (Some access) rest old mid new does all = (mid, does, all)
 
 pub done_does : (acts : List Act) (k later : DriverState) (m : Machine) → AreActsDone acts k m later → DoesAll (accesses_of acts) k.device later.device
 done_does [] k later m done = ap (λ (x : DriverState). x.device) done
 done_does (act ∷ acts) k later m done =
-    leads_then act.access (accesses_of acts) k.device act.later.device later.device done.0.leads (done_does acts act.later later (left.after m act.steps) done.1)
+    leads_then act.access (accesses_of acts) k.device act.later.device later.device done.0.access_leads (done_does acts act.later later (left.after m act.steps) done.1)
 
 -- What each act keeps, with a machine that agrees before it, all of them keep.
 pub done_keeps : (P : DriverState → Type 0) (Q : Act → Type 0) → ((k : DriverState) (m : Machine) (act : Act) → IsReachable m → DriverRelation m k → IsActDone k m act → Q act → P k → P act.later) →
     (acts : List Act) (k later : DriverState) (m : Machine) → IsReachable m → DriverRelation m k → All Q acts → AreActsDone acts k m later → P k → P later
 done_keeps P Q each [] k later m reached x all done here = subst P (sym done) here
 done_keeps P Q each (act ∷ acts) k later m reached x all done here =
-    done_keeps P Q each acts act.later later (left.after m act.steps) (going_reaches k act.later m act.steps reached done.0.goes) done.0.goes.knows
+    done_keeps P Q each acts act.later later (left.after m act.steps) (going_reaches k act.later m act.steps reached done.0.driver_advances) done.0.driver_advances.driver_relation
     (All-tail Q act acts all) done.1 (each k m act reached x done.0 (All-head Q act acts all) here)
 
 -- what each of these acts is said to be, it is said to be in other words
@@ -91,18 +91,18 @@ pub acts_of_kind : (May : Access → Type 0) (acts : List Act) → All May (acce
 acts_of_kind May [] all = All-nil (λ (act : Act). IsOfKind May act.access)
 acts_of_kind May (act ∷ acts) all = let x = apart act.access (accesses_of acts) all in All-cons (λ (act : Act). IsOfKind May act.access) act acts x.0 (acts_of_kind May acts x.1)
   where
-    apart : (access : Option Access) (rest : List Access) → All May (with_access access rest) → IsOfKind May access × All May rest
+    apart : (access : Option Access) (rest : List Access) → All May (prepend_access access rest) → IsOfKind May access × All May rest
     apart None rest all = (tt, all)
     apart (Some access) rest all = (All-head May access rest all, All-tail May access rest all)
 
 -- A port for whose disk slot 0 has no command of this operation, before any of the acts, is sent no page by it.
 module _ (laws : StepLaws) (port : ℕ) (o : Operation) (own : op_of o ≡ None) where
   act_silent : (k : DriverState) (m : Machine) (act : Act) → IsReachable m → DriverRelation m k → IsActDone k m act → (k.uses port 0 ≡ Own o → ⊥) → GainsNoMove port o k.device act.later.device
-  act_silent k m act reached x done none = over act.access done.leads
+  act_silent k m act reached x done none = over act.access done.access_leads
     where
       over : (access : Option Access) → AccessLeads access k.device act.later.device → GainsNoMove port o k.device act.later.device
       over None same = subst (λ (d : Device). GainsNoMove port o k.device d) (sym same) (gains_nothing (IsMove port o) k.device)
-      over (Some access) does = access_sends_none laws k.uses m access k.device act.later.device port o reached x.agrees does own none
+      over (Some access) does = access_sends_none laws k.uses m access k.device act.later.device port o reached x.state_relation does own none
 
   pub done_silent : (acts : List Act) (k later : DriverState) (m : Machine) → IsReachable m → DriverRelation m k → (k.uses port 0 ≡ Own o → ⊥) →
       All (λ act. act.later.uses port 0 ≡ Own o → ⊥) acts → AreActsDone acts k m later → GainsNoMove port o k.device later.device
@@ -110,16 +110,16 @@ module _ (laws : StepLaws) (port : ℕ) (o : Operation) (own : op_of o ≡ None)
   done_silent (act ∷ acts) k later m reached x none all done =
       let Q = λ (act : Act). act.later.uses port 0 ≡ Own o → ⊥ in
       gains_more (IsMove port o) k.device act.later.device later.device (act_silent k m act reached x done.0 none)
-      (done_silent acts act.later later (left.after m act.steps) (going_reaches k act.later m act.steps reached done.0.goes) done.0.goes.knows
+      (done_silent acts act.later later (left.after m act.steps) (going_reaches k act.later m act.steps reached done.0.driver_advances) done.0.driver_advances.driver_relation
       (All-head Q act acts all) (All-tail Q act acts all) done.1)
 
 -- a port that works on plain commands alone goes on so, where none of the accesses writes its PxSACT
 pub done_plain : StepLaws → (acts : List Act) (k later : DriverState) (m : Machine) (port : Port) → IsReachable m → DriverRelation m k → All (DoesNotWrite (Px port Sact)) (accesses_of acts) → AreActsDone acts k m later →
     WorksPlainly (k.device.port port.0) → WorksPlainly (later.device.port port.0)
 done_plain laws acts k later m port reached x all done = done_keeps (λ (z : DriverState). WorksPlainly (z.device.port port.0)) (λ act. IsOfKind (DoesNotWrite (Px port Sact)) act.access)
-    (λ z n act r knows is spares. over z n act r knows act.access is.leads spares) acts k later m reached x (acts_of_kind (DoesNotWrite (Px port Sact)) acts all) done
+    (λ z n act r knows is spares. over z n act r knows act.access is.access_leads spares) acts k later m reached x (acts_of_kind (DoesNotWrite (Px port Sact)) acts all) done
   where
     over : (z : DriverState) (n : Machine) (act : Act) → IsReachable n → DriverRelation n z → (access : Option Access) → AccessLeads access z.device act.later.device → IsOfKind (DoesNotWrite (Px port Sact)) access →
         WorksPlainly (z.device.port port.0) → WorksPlainly (act.later.device.port port.0)
     over z n act r knows None same spares here = subst (λ (d : Device). WorksPlainly (d.port port.0)) (sym same) here
-    over z n act r knows (Some access) does spares here = access_plain laws z.uses n port access z.device act.later.device r knows.agrees spares does here
+    over z n act r knows (Some access) does spares here = access_plain laws z.uses n port access z.device act.later.device r knows.state_relation spares does here

@@ -15,8 +15,8 @@ use Rattle.block_machine.specs.Histories.{IsReachable, IsSimulatedBySteps}
 use Rattle.block_machine.proofs.EventLemmas.{after-append}
 use Rattle.refinement.specs.Slots.{SlotStates}
 use Rattle.refinement.specs.Relation.{StateRelation}
-use Rattle.refinement.specs.Driver.{MayStore, LeavesUses, DriverState, DriverRelation, IsBacked, ByDevice}
-use Rattle.refinement.specs.Follows.{SimulatesSteps}
+use Rattle.refinement.specs.Driver.{MayStore, LeavesUses, DriverState, DriverRelation, IsBacked, IsBackedByDeviceAlone}
+use Rattle.refinement.specs.Simulation.{SimulatesSteps}
 use Rattle.refinement.specs.Tape.{TellsEntry, TapeTells, TellsDeviceSteps, NoneByDevice}
 use Rattle.refinement.proofs.steps.AdapterCalls.{read_follows, load_follows, store_follows}
 use Rattle.refinement.proofs.steps.FollowedSteps.{steps_follow, told_append, puts_append}
@@ -66,10 +66,10 @@ among_append m (entry ∷ entries) then early late a b = (
 pub backed_then : (old mid new : Device) (m : Machine) (early late : List Step) → IsBacked old mid m early → IsBacked mid new (left.after m early) late → IsBacked old new m (late ++ early)
 backed_then old mid new m early late a b = record {
   telling = b.telling ∙ a.telling;
-  gained = a.gained ++ b.gained;
-  tape = b.tape ∙ (ap (λ t. t ++ b.gained) a.tape ∙ append_assoc old.tape a.gained b.gained);
-  tells = among_append m a.gained b.gained early late a.tells b.tells;
-  told = λ t. told_append m late early (a.told t) (b.told (a.telling ∙ t));
+  new_entries = a.new_entries ++ b.new_entries;
+  tape_is = b.tape_is ∙ (ap (λ t. t ++ b.new_entries) a.tape_is ∙ append_assoc old.tape a.new_entries b.new_entries);
+  tells_device_steps = among_append m a.new_entries b.new_entries early late a.tells_device_steps b.tells_device_steps;
+  steps_are_faithful = λ t. told_append m late early (a.steps_are_faithful t) (b.steps_are_faithful (a.telling ∙ t));
   plugged = λ q.
       let x = a.plugged q in
       let y = b.plugged q in
@@ -77,49 +77,49 @@ backed_then old mid new m early late a b = record {
 }
 
 pub backed : (uses : SlotStates) (m : Machine) (old new : Device) → (f : SimulatesSteps uses m old new) → IsBacked old new m f.steps
-backed uses m old new f = record { telling = f.telling; gained = f.gained; tape = f.tape; tells = tells_among m f.gained f.steps f.tells; told = f.told; plugged = f.plugged }
+backed uses m old new f = record { telling = f.telling; new_entries = f.new_entries; tape_is = f.tape_is; tells_device_steps = tells_among m f.new_entries f.steps f.tape_tells_steps; steps_are_faithful = f.steps_are_faithful; plugged = f.plugged }
 
-pub told_then : (old mid new : Device) (m : Machine) (early late : List Step) → ByDevice old mid m early → ByDevice mid new (left.after m early) late → ByDevice old new m (late ++ early)
-told_then old mid new m early late a b = record { backed = backed_then old mid new m early late a.backed b.backed; only = device_append late early b.only a.only }
+pub told_then : (old mid new : Device) (m : Machine) (early late : List Step) → IsBackedByDeviceAlone old mid m early → IsBackedByDeviceAlone mid new (left.after m early) late → IsBackedByDeviceAlone old new m (late ++ early)
+told_then old mid new m early late a b = record { is_backed = backed_then old mid new m early late a.is_backed b.is_backed; only = device_append late early b.only a.only }
 
 pub nothing_backed : (d : Device) (m : Machine) → IsBacked d d m []
 nothing_backed d m = record {
   telling = refl;
-  gained = [];
-  tape = sym (append-nil d.tape);
-  tells = tt;
-  told = λ _. tt;
+  new_entries = [];
+  tape_is = sym (append-nil d.tape);
+  tells_device_steps = tt;
+  steps_are_faithful = λ _. tt;
   plugged = λ q. ([], sym (append-nil (d.port q).plugged), refl);
 }
 
 -- what is followed is known
 pub knowing_goes_on : (k : DriverState) (m : Machine) (new : Device) → DriverRelation m k → (f : SimulatesSteps k.uses m k.device new) →
-    DriverRelation (left.after m f.steps) (record k { device = new }) × ByDevice k.device new m f.steps
+    DriverRelation (left.after m f.steps) (record k { device = new }) × IsBackedByDeviceAlone k.device new m f.steps
 knowing_goes_on k m new x f = (
-  record { agrees = f.agrees; have = λ port. follows_have k.uses m k.device new f port (k.parked port) (x.have port) },
-  record { backed = backed k.uses m k.device new f; only = tells_device m f.gained f.steps f.tells },
+  record { state_relation = f.agrees; have_slots = λ port. follows_have k.uses m k.device new f port (k.parked port) (x.have_slots port) },
+  record { is_backed = backed k.uses m k.device new f; only = tells_device m f.new_entries f.steps f.tape_tells_steps },
 )
 
 -- what is followed, with the slots as they were used
 pub follows_adds : (k : DriverState) (new : Device) → ((m : Machine) → IsReachable m → StateRelation k.uses m k.device → SimulatesSteps k.uses m k.device new) →
-    IsSimulatedBySteps DriverRelation k (record k { device = new }) (ByDevice k.device new)
+    IsSimulatedBySteps DriverRelation k (record k { device = new }) (IsBackedByDeviceAlone k.device new)
 follows_adds k new f = record {
-  adds = λ m r x.
-      let y = f m r x.agrees in
-      (y.steps, y.may, record { agrees = y.agrees; have = λ port. follows_have k.uses m k.device new y port (k.parked port) (x.have port) }, record { backed = backed k.uses m k.device new y; only = tells_device m y.gained y.steps y.tells });
+  simulates = λ m r x.
+      let y = f m r x.state_relation in
+      (y.steps, y.may, record { state_relation = y.agrees; have_slots = λ port. follows_have k.uses m k.device new y port (k.parked port) (x.have_slots port) }, record { is_backed = backed k.uses m k.device new y; only = tells_device m y.new_entries y.steps y.tape_tells_steps });
 }
 
-pub device_adds : (k : DriverState) (new : Device) → Steps k.device new → IsSimulatedBySteps DriverRelation k (record k { device = new }) (ByDevice k.device new)
+pub device_adds : (k : DriverState) (new : Device) → Steps k.device new → IsSimulatedBySteps DriverRelation k (record k { device = new }) (IsBackedByDeviceAlone k.device new)
 device_adds k new s = follows_adds k new (λ m r a. steps_follow k.uses m k.device new r a s)
 
-pub read_adds : (k : DriverState) (r : Reg) (v : ℕ) (new : Device) → Reads r v k.device new → IsSimulatedBySteps DriverRelation k (record k { device = new }) (ByDevice k.device new)
+pub read_adds : (k : DriverState) (r : Reg) (v : ℕ) (new : Device) → Reads r v k.device new → IsSimulatedBySteps DriverRelation k (record k { device = new }) (IsBackedByDeviceAlone k.device new)
 read_adds k r v new call = follows_adds k new (λ m reached a. read_follows k.uses m r v k.device new reached a call)
 
-pub load_adds : (k : DriverState) (at : ℕ) (bytes : List ℕ) (new : Device) → Loads at bytes k.device new → IsSimulatedBySteps DriverRelation k (record k { device = new }) (ByDevice k.device new)
+pub load_adds : (k : DriverState) (at : ℕ) (bytes : List ℕ) (new : Device) → Loads at bytes k.device new → IsSimulatedBySteps DriverRelation k (record k { device = new }) (IsBackedByDeviceAlone k.device new)
 load_adds k at bytes new call = follows_adds k new (λ m reached a. load_follows k.uses m at bytes k.device new reached a call)
 
-pub store_adds : (k : DriverState) (at : ℕ) (bytes : List ℕ) (new : Device) → MayStore k.uses at (length bytes) → Stores at bytes k.device new → IsSimulatedBySteps DriverRelation k (record k { device = new }) (ByDevice k.device new)
+pub store_adds : (k : DriverState) (at : ℕ) (bytes : List ℕ) (new : Device) → MayStore k.uses at (length bytes) → Stores at bytes k.device new → IsSimulatedBySteps DriverRelation k (record k { device = new }) (IsBackedByDeviceAlone k.device new)
 store_adds k at bytes new may call = follows_adds k new (λ m reached a. store_follows k.uses m at bytes k.device new reached a may call)
 
-pub write_adds : (k : DriverState) (r : Reg) (v : ℕ) (new : Device) → IsStable (MayWrite r v) k.device → LeavesUses k.uses r v k.device → Writes r v k.device new → IsSimulatedBySteps DriverRelation k (record k { device = new }) (ByDevice k.device new)
+pub write_adds : (k : DriverState) (r : Reg) (v : ℕ) (new : Device) → IsStable (MayWrite r v) k.device → LeavesUses k.uses r v k.device → Writes r v k.device new → IsSimulatedBySteps DriverRelation k (record k { device = new }) (IsBackedByDeviceAlone k.device new)
 write_adds k r v new may x call = follows_adds k new (λ m reached a. write_follows k.uses m r v k.device new reached a may x call)

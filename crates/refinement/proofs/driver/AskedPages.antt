@@ -8,7 +8,7 @@ use Rattle.std.proofs.lemmas.Option.{none-some, same_Some}
 use Rattle.adapter.specs.Access.{Access, Does}
 use Rattle.adapter.specs.Commands.{Meaning, is_queued}
 use Rattle.adapter.specs.Device.{FetchedCommand, DevicePort, Device}
-use Rattle.adapter.specs.Kept.{Keeps, KeepsPort}
+use Rattle.adapter.specs.KeptBySteps.{Keeps, KeepsPort}
 use Rattle.adapter.specs.Memory.{changed}
 use Rattle.adapter.specs.Steps.{Can, device_after, TransitionsLead, Steps, MayMove, block_after, move_of}
 use Rattle.adapter.specs.Steps as steps
@@ -20,11 +20,11 @@ use Rattle.adapter.proofs.Changed.{changed_same, changed_other}
 use Rattle.block_machine.specs.Histories.{IsReachable}
 use Rattle.block_machine.specs.Expected as left
 use Rattle.block_machine.specs.State.{Machine}
-use Rattle.refinement.specs.Below.{StepLaws}
+use Rattle.refinement.specs.StepLaws.{StepLaws}
 use Rattle.refinement.specs.Relation.{StateRelation}
-use Rattle.refinement.specs.Follows.{SimulatesSteps}
-use Rattle.refinement.specs.Places.{scratch_of}
-use Rattle.refinement.specs.Slots.{SlotState, Free, Own, Serves, SlotStates, IsMove, OwnWaits, OwnTaken, OwnOver, ServesOwn, IsOver, RelatesSlot, op_of, Armed}
+use Rattle.refinement.specs.Simulation.{SimulatesSteps}
+use Rattle.refinement.specs.MemoryLayout.{scratch_of}
+use Rattle.refinement.specs.Slots.{SlotState, Free, Own, Serves, SlotStates, IsMove, OwnAwaitsFetch, OwnIsTaken, OwnIsOver, ServesOwn, IsOver, RelatesSlot, op_of, Armed}
 use Rattle.refinement.specs.Tape.{OneAtMost}
 use Rattle.refinement.proofs.device.FactsOverAccesses.{access_steps}
 use Rattle.refinement.proofs.steps.EndedCommand.{own_clear}
@@ -44,44 +44,44 @@ module _ (laws : StepLaws) (uses : SlotStates) (m : Machine) (d : Device) (a : S
   -- a page that comes is of the command in slot 0
   page_asked : (p slot : ℕ) (t : FetchedCommand) (bytes : List ℕ) → MayMove d p slot t bytes → IsMove port o (entry.Move (move_of p slot t bytes)) →
       (uses port 0 ≡ Own o) × (p ≡ port) × (slot ≡ 0)
-  page_asked p slot t bytes can x = by (uses p slot) refl (a.slot p slot)
+  page_asked p slot t bytes can x = by (uses p slot) refl (a.relates_slots p slot)
     where
       by : (u : SlotState) → uses p slot ≡ u → RelatesSlot m d.memory d.tape (d.port p) p slot u → (uses port 0 ≡ Own o) × (p ≡ port) × (slot ≡ 0)
       by Free u h = absurd (none-some _ (sym h.free ∙ can.works.taken))
       by Armed u h = absurd (none-some _ (sym h.free ∙ can.works.taken))
       by (Serves id) u h =
           let known : TakenAs d.memory (d.port p) p slot h.pending h.command h.places t = taken_as d.memory (d.port p) p slot h.pending h.command h.places t can.works.taken h.stage in
-          none_op (sym own ∙ ap op_of (sym x.1) ∙ ap (λ (c : Meaning). op_of c.operation) known.meaning ∙ h.means.op)
+          none_op (sym own ∙ ap op_of (sym x.1) ∙ ap (λ (c : Meaning). op_of c.operation) known.meaning ∙ h.means.op_is)
       by (Own w) u h = of h.stage
         where
-          of : OwnWaits (d.port p) slot ⊎ (OwnTaken d.memory d.tape (d.port p) p slot h.command ⊎ OwnOver d.memory d.tape (d.port p) p slot h.command) → (uses port 0 ≡ Own o) × (p ≡ port) × (slot ≡ 0)
+          of : OwnAwaitsFetch (d.port p) slot ⊎ (OwnIsTaken d.memory d.tape (d.port p) p slot h.command ⊎ OwnIsOver d.memory d.tape (d.port p) p slot h.command) → (uses port 0 ≡ Own o) × (p ≡ port) × (slot ≡ 0)
           of (inl y) = absurd (none-some _ (sym y.free ∙ can.works.taken))
           of (inr (inr y)) = absurd (none-some _ (sym y.over.free ∙ can.works.taken))
           of (inr (inl y)) =
               let same : y.command ≡ t = same_Some _ _ (sym y.taken ∙ can.works.taken) in
               let is : w ≡ o = sym h.operation_is ∙ ap (λ (c : Meaning). c.operation) (sym y.meaning) ∙ ap (λ (z : FetchedCommand). z.meaning.operation) same ∙ x.1 in
-              (ap (λ (q : ℕ). uses q 0) (sym x.0) ∙ ap (uses p) (sym h.head) ∙ u ∙ ap Own is, x.0, h.head)
+              (ap (λ (q : ℕ). uses q 0) (sym x.0) ∙ ap (uses p) (sym h.slot_is_0) ∙ u ∙ ap Own is, x.0, h.slot_is_0)
 
   -- a page that comes has slot 0 bring it, which had it to bring and has none then
-  pub record Brings (new : Device) : Type 0 where
+  pub record MayBring (new : Device) : Type 0 where
     pub asked : uses port 0 ≡ Own o
     pub unspent : IsSpent (d.port port) → ⊥
     pub spent : IsSpent (new.port port)
 
-  move_brings : (p slot : ℕ) (t : FetchedCommand) (bytes : List ℕ) → MayMove d p slot t bytes → IsMove port o (entry.Move (move_of p slot t bytes)) → Brings (device_after (Move p slot t bytes) d)
+  move_brings : (p slot : ℕ) (t : FetchedCommand) (bytes : List ℕ) → MayMove d p slot t bytes → IsMove port o (entry.Move (move_of p slot t bytes)) → MayBring (device_after (Move p slot t bytes) d)
   move_brings p slot t bytes can x = record { asked = asked.0; unspent = unspent; spent = of served.stage }
     where
       asked : (uses port 0 ≡ Own o) × (p ≡ port) × (slot ≡ 0)
       asked = page_asked p slot t bytes can x
 
       served : ServesOwn d.memory d.tape (d.port port) port 0 o
-      served = subst (λ (u : SlotState). RelatesSlot m d.memory d.tape (d.port port) port 0 u) asked.0 (a.slot port 0)
+      served = subst (λ (u : SlotState). RelatesSlot m d.memory d.tape (d.port port) port 0 u) asked.0 (a.relates_slots port 0)
 
       taken : (d.port port).taken 0 ≡ Some t
       taken = ap (λ (s : ℕ). (d.port port).taken s) (sym asked.2) ∙ ap (λ (q : ℕ). (d.port q).taken slot) (sym asked.1) ∙ can.works.taken
 
       left : t.moved < length t.places
-      left = can.left
+      left = can.piece_is_left
 
       unspent : IsSpent (d.port port) → ⊥
       unspent (inl over) = absurd (none-some _ (sym over.free ∙ taken))
@@ -90,7 +90,7 @@ module _ (laws : StepLaws) (uses : SlotStates) (m : Machine) (d : Device) (a : S
           let l = left in
           omega (arith, full, l)
 
-      of : OwnWaits (d.port port) 0 ⊎ (OwnTaken d.memory d.tape (d.port port) port 0 served.command ⊎ OwnOver d.memory d.tape (d.port port) port 0 served.command) → IsSpent ((device_after (Move p slot t bytes) d).port port)
+      of : OwnAwaitsFetch (d.port port) 0 ⊎ (OwnIsTaken d.memory d.tape (d.port port) port 0 served.command ⊎ OwnIsOver d.memory d.tape (d.port port) port 0 served.command) → IsSpent ((device_after (Move p slot t bytes) d).port port)
       of (inl y) = absurd (none-some _ (sym y.free ∙ taken))
       of (inr (inr y)) = absurd (none-some _ (sym y.over.free ∙ taken))
       of (inr (inl y)) =
@@ -104,7 +104,7 @@ module _ (laws : StepLaws) (uses : SlotStates) (m : Machine) (d : Device) (a : S
 
   -- a step gains no entry, or one
   abbrev Gains : Device → List Entry → Type 0
-  Gains new gained = (gained ≡ []) ⊎ ((e : Entry) × (gained ≡ e ∷ []) × (IsMove port o e → Brings new))
+  Gains new gained = (gained ≡ []) ⊎ ((e : Entry) × (gained ≡ e ∷ []) × (IsMove port o e → MayBring new))
 
   step_gains : (step : steps.DeviceTransition) → Can step d → (gained : List Entry) → (device_after step d).tape ≡ d.tape ++ gained → Gains (device_after step d) gained
   step_gains step can gained is = by step can is
@@ -112,7 +112,7 @@ module _ (laws : StepLaws) (uses : SlotStates) (m : Machine) (d : Device) (a : S
       nothing : {new : Device} → d.tape ≡ d.tape ++ gained → Gains new gained
       nothing is = inl (sym (append_cancel_left d.tape [] gained (append-nil d.tape ∙ is)))
 
-      one : {new : Device} (e : Entry) → (IsMove port o e → Brings new) → d.tape ++ e ∷ [] ≡ d.tape ++ gained → Gains new gained
+      one : {new : Device} (e : Entry) → (IsMove port o e → MayBring new) → d.tape ++ e ∷ [] ≡ d.tape ++ gained → Gains new gained
       one e brings is = inr (e, sym (append_cancel_left d.tape (e ∷ []) gained is), brings)
 
       by : (step : steps.DeviceTransition) → Can step d → (device_after step d).tape ≡ d.tape ++ gained → Gains (device_after step d) gained
@@ -134,17 +134,17 @@ module _ (laws : StepLaws) (uses : SlotStates) (m : Machine) (d : Device) (a : S
   -- and it goes on having none
   step_spent : (uses port 0 ≡ Own o) → (step : steps.DeviceTransition) → Can step d → IsSpent (d.port port) → IsSpent ((device_after step d).port port)
   step_spent u step can (inl over) =
-      let k : KeepsPort (d.port port) ((device_after step d).port port) = (laws.step step _ can).port port in
-      inl (record { issued = k.ci 0 over.issued; free = k.free 0 over.issued over.free })
+      let k : KeepsPort (d.port port) ((device_after step d).port port) = (laws.step step _ can).ports_are_kept port in
+      inl (record { issued = k.ci 0 over.issued; free = k.slots_stay_free 0 over.issued over.free })
   step_spent u step can (inr (t, is, all)) = by step can
     where
       served : ServesOwn d.memory d.tape (d.port port) port 0 o
-      served = subst (λ (x : SlotState). RelatesSlot m d.memory d.tape (d.port port) port 0 x) u (a.slot port 0)
+      served = subst (λ (x : SlotState). RelatesSlot m d.memory d.tape (d.port port) port 0 x) u (a.relates_slots port 0)
 
-      taken : OwnTaken d.memory d.tape (d.port port) port 0 served.command
+      taken : OwnIsTaken d.memory d.tape (d.port port) port 0 served.command
       taken = of served.stage
         where
-          of : OwnWaits (d.port port) 0 ⊎ (OwnTaken d.memory d.tape (d.port port) port 0 served.command ⊎ OwnOver d.memory d.tape (d.port port) port 0 served.command) → OwnTaken d.memory d.tape (d.port port) port 0 served.command
+          of : OwnAwaitsFetch (d.port port) 0 ⊎ (OwnIsTaken d.memory d.tape (d.port port) port 0 served.command ⊎ OwnIsOver d.memory d.tape (d.port port) port 0 served.command) → OwnIsTaken d.memory d.tape (d.port port) port 0 served.command
           of (inl y) = absurd (none-some _ (sym y.free ∙ is))
           of (inr (inl y)) = y
           of (inr (inr y)) = absurd (none-some _ (sym y.over.free ∙ is))
@@ -168,7 +168,7 @@ module _ (laws : StepLaws) (uses : SlotStates) (m : Machine) (d : Device) (a : S
       by (Fetch p slot c places) can = slot_still p slot _ _ (λ e f. absurd (none-some _ (sym (ap (λ (q : ℕ). (d.port q).taken 0) (sym e) ∙ ap (λ (s : ℕ). (d.port p).taken s) (sym f) ∙ can.fetchable.free) ∙ is))) refl
       by (Move p slot z bytes) can = slot_still p slot _ _
           (λ e f. let full : z.moved ≡ length z.places = subst (λ (y : FetchedCommand). y.moved ≡ length y.places) (at_slot p slot z e f can.works.taken) all in
-          let left : z.moved < length z.places = can.left in
+          let left : z.moved < length z.places = can.piece_is_left in
           omega (arith, full, left))
           refl
       by (Clear p slot z first count) can = ⊎_elim
@@ -179,7 +179,7 @@ module _ (laws : StepLaws) (uses : SlotStates) (m : Machine) (d : Device) (a : S
           (cases_eq slot 0)
       by (Done p slot flag z) can = ⊎_elim
           (λ (f : slot ≡ 0). at_port (λ x. x.taken 0 ≡ Some t) IsSpent d p port _ is
-          (λ e x. inl (subst (λ (s : ℕ). IsOver (steps.with_flush (steps.with_done (d.port p) s flag z.meaning.operation) z.meaning.operation (length d.tape)) 0) (sym f) (record {
+          (λ e x. inl (subst (λ (s : ℕ). IsOver (steps.port_after_flush (steps.port_after_done (d.port p) s flag z.meaning.operation) z.meaning.operation (length d.tape)) 0) (sym f) (record {
             issued = own_clear (is_queued z.meaning.operation) (d.port p).ci 0 (subst (λ (y : FetchedCommand). is_queued y.meaning.operation ≡ false) (at_slot p slot z e f can.works.taken) plain);
             free = changed_same (d.port p).taken 0 None;
           })))
@@ -214,10 +214,10 @@ module _ (laws : StepLaws) (uses : SlotStates) (port : ℕ) (o : Operation) (own
   leads_none m (step ∷ steps) old new r a (can, lead) spent gained is =
       let f : SimulatesSteps uses m old (device_after step old) = step_follows uses m old step r a can in
       let later = laws.keeps _ _ (record { steps = steps; lead = lead }) in
-      subst (NoneOf (IsMove port o)) (sym (gained_parts old.tape (device_after step old).tape new.tape f.gained later.gained gained f.tape later.tape is))
-      (All-append (λ e. IsMove port o e → ⊥) f.gained later.gained
-      (first f.gained (step_gains laws uses m old a port o own step can f.gained f.tape))
-      (leads_none (left.after m f.steps) steps (device_after step old) new (laws.reached m f.steps r f.may) f.agrees lead (λ u. step_spent laws uses m old a port o own u step can (spent u)) later.gained later.tape))
+      subst (NoneOf (IsMove port o)) (sym (gained_parts old.tape (device_after step old).tape new.tape f.new_entries later.new_entries gained f.tape_is later.tape_grows is))
+      (All-append (λ e. IsMove port o e → ⊥) f.new_entries later.new_entries
+      (first f.new_entries (step_gains laws uses m old a port o own step can f.new_entries f.tape_is))
+      (leads_none (left.after m f.steps) steps (device_after step old) new (laws.reached m f.steps r f.may) f.agrees lead (λ u. step_spent laws uses m old a port o own u step can (spent u)) later.new_entries later.tape_grows))
     where
       first : (entries : List Entry) → (Gains laws) uses m old a port o own (device_after step old) entries → NoneOf (IsMove port o) entries
       first entries (inl e) = subst (NoneOf (IsMove port o)) (sym e) no_pages
@@ -228,10 +228,10 @@ module _ (laws : StepLaws) (uses : SlotStates) (port : ℕ) (o : Operation) (own
   leads_once m (step ∷ steps) old new r a (can, lead) gained is =
       let f : SimulatesSteps uses m old (device_after step old) = step_follows uses m old step r a can in
       let later = laws.keeps _ _ (record { steps = steps; lead = lead }) in
-      subst (OneAtMost (IsMove port o)) (sym (gained_parts old.tape (device_after step old).tape new.tape f.gained later.gained gained f.tape later.tape is))
-      (first f.gained later.gained (step_gains laws uses m old a port o own step can f.gained f.tape)
-      (λ spent. leads_none (left.after m f.steps) steps (device_after step old) new (laws.reached m f.steps r f.may) f.agrees lead (λ u. spent) later.gained later.tape)
-      (leads_once (left.after m f.steps) steps (device_after step old) new (laws.reached m f.steps r f.may) f.agrees lead later.gained later.tape))
+      subst (OneAtMost (IsMove port o)) (sym (gained_parts old.tape (device_after step old).tape new.tape f.new_entries later.new_entries gained f.tape_is later.tape_grows is))
+      (first f.new_entries later.new_entries (step_gains laws uses m old a port o own step can f.new_entries f.tape_is)
+      (λ spent. leads_none (left.after m f.steps) steps (device_after step old) new (laws.reached m f.steps r f.may) f.agrees lead (λ u. spent) later.new_entries later.tape_grows)
+      (leads_once (left.after m f.steps) steps (device_after step old) new (laws.reached m f.steps r f.may) f.agrees lead later.new_entries later.tape_grows))
     where
       first : (entries later : List Entry) → (Gains laws) uses m old a port o own (device_after step old) entries → (IsSpent ((device_after step old).port port) → NoneOf (IsMove port o) later) → OneAtMost (IsMove port o) later → OneAtMost (IsMove port o) (entries ++ later)
       first entries later (inl e) none once = subst (λ (l : List Entry). OneAtMost (IsMove port o) (l ++ later)) (sym e) once
@@ -259,8 +259,8 @@ pub access_sends_none : StepLaws → (uses : SlotStates) (m : Machine) (access :
 access_sends_none laws uses m access old new port o r a x own none =
     let s = access_steps access old new x in
     let k : Keeps old s.0 = laws.keeps _ _ s.1 in
-    let is : new.tape ≡ old.tape ++ k.gained = s.2 ∙ k.tape in
-    (k.gained, is, access_pages_asked laws uses m access old new port o k.gained r a x is own (λ u. absurd (none u)))
+    let is : new.tape ≡ old.tape ++ k.new_entries = s.2 ∙ k.tape_grows in
+    (k.new_entries, is, access_pages_asked laws uses m access old new port o k.new_entries r a x is own (λ u. absurd (none u)))
 
 pub access_pages_once : StepLaws → (uses : SlotStates) (m : Machine) (access : Access) (old new : Device) (port : ℕ) (o : Operation) (gained : List Entry) → IsReachable m → StateRelation uses m old → Does access old new → new.tape ≡ old.tape ++ gained → op_of o ≡ None →
     OneAtMost (IsMove port o) gained

@@ -9,11 +9,11 @@ use Rattle.hba_regs.specs.Bits.{bit}
 use Rattle.hba_regs.specs.declared.reg.Reg.TheVariants.{Px}
 use Rattle.hba_regs.specs.declared.reg.PortReg.{PortReg}
 use Rattle.hba_regs.specs.declared.reg.PortReg.TheVariants.{Cmd, Ci}
-use Rattle.adapter.specs.Access.{Access, Does, Reads, Writes, Loads, port_written, with_st, with_fre}
+use Rattle.adapter.specs.Access.{Access, Does, Reads, Writes, Loads, port_after_write, port_after_st_write, port_after_fre_write}
 use Rattle.adapter.specs.Access.Access.{Writing}
 use Rattle.adapter.specs.Commands.{Meaning, is_queued}
 use Rattle.adapter.specs.Device.{FetchedCommand, DevicePort, Device}
-use Rattle.adapter.specs.Kept.{Keeps, KeepsOutsideReset}
+use Rattle.adapter.specs.KeptBySteps.{Keeps, KeepsOutsideReset}
 use Rattle.adapter.specs.Memory.{changed}
 use Rattle.adapter.specs.Decoding.{DecodesTo}
 use Rattle.adapter.specs.Steps.{DeviceTransition, Can, device_after, TransitionsLead, Steps, begun, move_of}
@@ -27,15 +27,15 @@ use Rattle.adapter.proofs.SaysLemmas.{says_meaning}
 use Rattle.block_machine.specs.Histories.{IsReachable}
 use Rattle.block_machine.specs.Expected as left
 use Rattle.block_machine.specs.State.{Machine}
-use Rattle.refinement.specs.Below.{StepLaws}
+use Rattle.refinement.specs.StepLaws.{StepLaws}
 use Rattle.refinement.specs.Relation.{StateRelation}
-use Rattle.refinement.specs.Awaits.{HasMovedNothing, PageHasCome, AwaitsPage}
+use Rattle.refinement.specs.AwaitedPage.{HasMovedNothing, PageHasCome, AwaitsPage}
 use Rattle.refinement.specs.Driver.{IsOwnPrepared}
 use Rattle.refinement.specs.PortFacts.{FindsOwnPage}
-use Rattle.refinement.specs.Follows.{SimulatesSteps}
-use Rattle.refinement.specs.Places.{scratch_of}
-use Rattle.refinement.specs.Slots.{SlotState, Own, SlotStates, put, IsMove, IsOver, PageStandsInScratch, OwnWaits, OwnTaken, OwnOver, ServesOwn, RelatesSlot, op_of}
-use Rattle.refinement.specs.Started.{ClearsNoStart}
+use Rattle.refinement.specs.Simulation.{SimulatesSteps}
+use Rattle.refinement.specs.MemoryLayout.{scratch_of}
+use Rattle.refinement.specs.Slots.{SlotState, Own, SlotStates, set_slot_state, IsMove, IsOver, PageStandsInScratch, OwnAwaitsFetch, OwnIsTaken, OwnIsOver, ServesOwn, RelatesSlot, op_of}
+use Rattle.refinement.specs.StartedPort.{ClearsNoStart}
 use Rattle.refinement.proofs.driver.IssueWrite.{own_prepared_stays}
 use Rattle.refinement.proofs.device.FactsOverAccesses.{access_steps, effect_keeps}
 use Rattle.refinement.proofs.driver.EndedRequests.{page_is_read, page_is_loaded}
@@ -52,8 +52,8 @@ come_more tape gained port o since h = record {
   before = h.before;
   move = h.move;
   later = h.later ++ gained;
-  here = ap (λ (l : List Entry). l ++ gained) h.here ∙ append_assoc h.before (h.move ∷ h.later) gained;
-  after = h.after;
+  tape_is_split = ap (λ (l : List Entry). l ++ gained) h.tape_is_split ∙ append_assoc h.before (h.move ∷ h.later) gained;
+  came_since = h.came_since;
   is_move = h.is_move;
 }
 
@@ -62,8 +62,8 @@ come_since tape port o since n le h = record {
   before = h.before;
   move = h.move;
   later = h.later;
-  here = h.here;
-  after = (let a = h.after in omega (arith, le, a));
+  tape_is_split = h.tape_is_split;
+  came_since = (let a = h.came_since in omega (arith, le, a));
   is_move = h.is_move;
 }
 
@@ -90,10 +90,10 @@ brought_since : (memory : ℕ → ℕ) (tape : List Entry) (port : ℕ) (o : Ope
 brought_since memory tape port o since n h b = (
   record {
     before = b.before;
-    after = (let a = h.after in let l = not_later (IsMove port o) b.before (entry.Move b.move) b.later h.before h.move h.later (sym b.here ∙ h.here) b.last h.is_move in omega (arith, a, l));
+    came_since = (let a = h.came_since in let l = not_later (IsMove port o) b.before (entry.Move b.move) b.later h.before h.move h.later (sym b.tape_is_split ∙ h.tape_is_split) b.last h.is_move in omega (arith, a, l));
     move = b.move;
     later = b.later;
-    here = b.here;
+    tape_is_split = b.tape_is_split;
     is_move = b.is_move;
     last = b.last;
     bytes = b.bytes;
@@ -121,13 +121,13 @@ plain_left true f g plain = absurd (true≢false plain)
 
 module _ (uses : SlotStates) (m : Machine) (d : Device) (a : StateRelation uses m d) (port : ℕ) (o : Operation) (u : uses port 0 ≡ Own o) (off : d.hr ≡ false) (st : (d.port port).st ≡ true) (h : Un (d.port port)) where
   served : ServesOwn d.memory d.tape (d.port port) port 0 o
-  served = subst (λ (v : SlotState). RelatesSlot m d.memory d.tape (d.port port) port 0 v) u (a.slot port 0)
+  served = subst (λ (v : SlotState). RelatesSlot m d.memory d.tape (d.port port) port 0 v) u (a.relates_slots port 0)
 
   -- what slot 0 has taken is the driver's command
   taken_of : (t : FetchedCommand) → (d.port port).taken 0 ≡ Some t → (t.meaning ≡ served.command) × (t.places ≡ scratch_of port ∷ [])
   taken_of t is = of served.stage
     where
-      of : OwnWaits (d.port port) 0 ⊎ (OwnTaken d.memory d.tape (d.port port) port 0 served.command ⊎ OwnOver d.memory d.tape (d.port port) port 0 served.command) → (t.meaning ≡ served.command) × (t.places ≡ scratch_of port ∷ [])
+      of : OwnAwaitsFetch (d.port port) 0 ⊎ (OwnIsTaken d.memory d.tape (d.port port) port 0 served.command ⊎ OwnIsOver d.memory d.tape (d.port port) port 0 served.command) → (t.meaning ≡ served.command) × (t.places ≡ scratch_of port ∷ [])
       of (inl y) = absurd (none-some _ (sym y.free ∙ is))
       of (inr (inl y)) =
           let same : y.command ≡ t = same_Some _ _ (sym y.taken ∙ is) in
@@ -170,7 +170,7 @@ module _ (uses : SlotStates) (m : Machine) (d : Device) (a : StateRelation uses 
       (λ x. inl (now p slot _ (begun c places) x
       (plain_left (is_queued c.operation) (d.port p).ci _
       (plain c (says_meaning d.memory (d.port port).bases.clb 0 c served.command places (scratch_of port ∷ [])
-      (subst (λ (q : ℕ). DecodesTo d.memory (d.port q).bases.clb 0 c places) x.0 (subst (λ (s : ℕ). DecodesTo d.memory (d.port p).bases.clb s c places) x.1 can.says)) served.told.says)))
+      (subst (λ (q : ℕ). DecodesTo d.memory (d.port q).bases.clb 0 c places) x.0 (subst (λ (s : ℕ). DecodesTo d.memory (d.port p).bases.clb s c places) x.1 can.says)) served.slot_decodes_to.decodes_to)))
       refl refl))
       (λ ne. inl (still p _ (λ e. other_left (is_queued c.operation) (d.port p).ci slot (ne e)) (taken_beside p slot _ ne)))
       (which p slot)
@@ -179,8 +179,8 @@ module _ (uses : SlotStates) (m : Machine) (d : Device) (a : StateRelation uses 
         before = d.tape;
         move = entry.Move (move_of p slot t bytes);
         later = [];
-        here = refl;
-        after = le_refl (length d.tape);
+        tape_is_split = refl;
+        came_since = le_refl (length d.tape);
         is_move = (x.0, ap (λ (c : Meaning). c.operation) (taken_of t (taken_here p slot t x can.works.taken)).0 ∙ served.operation_is);
       }))
       (λ ne. inl (still p _ (λ e. refl) (taken_beside p slot _ ne)))
@@ -194,7 +194,7 @@ module _ (uses : SlotStates) (m : Machine) (d : Device) (a : StateRelation uses 
       let is = taken_here p slot t x can.works.taken in
       let none : t.moved ≡ 0 = h.1 t is in
       let one : length t.places ≡ 1 = ap length (taken_of t is).1 in
-      let full : t.moved ≡ length t.places = can.finished.moved in
+      let full : t.moved ≡ length t.places = can.finished.all_is_moved in
       absurd (omega (arith, none, one, full)))
       (λ ne. inl (still p _ (λ e. other_right (is_queued t.meaning.operation) (d.port p).ci slot (ne e)) (taken_beside p slot _ ne)))
       (which p slot)
@@ -217,19 +217,19 @@ longer tape gained new n is le = let l = length-append tape gained in let same :
 step_waits : StepLaws → (uses : SlotStates) (m : Machine) (port : ℕ) (o : Operation) (since : ℕ) (step : DeviceTransition) (d : Device) → StateRelation uses m d → Can step d → AwaitsPage uses port o since d → AwaitsPage uses port o since (device_after step d)
 step_waits laws uses m port o since step d a can w =
     let k : Keeps d (device_after step d) = laws.step step _ can in
-    let on : KeepsOutsideReset d (device_after step d) = k.on w.off in
+    let on : KeepsOutsideReset d (device_after step d) = k.keeps_outside_reset w.hr_is_clear in
     record {
-      off = on.no_reset;
+      hr_is_clear = on.no_reset;
       st = (on.controls port).st ∙ w.st;
       own = w.own;
-      known = longer d.tape k.gained (device_after step d).tape since k.tape w.known;
-      page = ⊎_elim
+      since_is_on_tape = longer d.tape k.new_entries (device_after step d).tape since k.tape_grows w.since_is_on_tape;
+      page_is_awaited_or_came = ⊎_elim
           (λ (x : HasMovedNothing (d.port port)). ⊎_elim
           (λ (y : Un ((device_after step d).port port)). inl (record { issued = y.0; unmoved = y.1 }))
-          (λ (y : PageHasCome (device_after step d).tape port o (length d.tape)). inr (come_since (device_after step d).tape port o since (length d.tape) w.known y))
-          (step_awaits uses m d a port o w.own w.off w.st (x.issued, x.unmoved) step can))
-          (λ (x : PageHasCome d.tape port o since). inr (subst (λ (t : List Entry). PageHasCome t port o since) (sym k.tape) (come_more d.tape k.gained port o since x)))
-          w.page;
+          (λ (y : PageHasCome (device_after step d).tape port o (length d.tape)). inr (come_since (device_after step d).tape port o since (length d.tape) w.since_is_on_tape y))
+          (step_awaits uses m d a port o w.own w.hr_is_clear w.st (x.issued, x.unmoved) step can))
+          (λ (x : PageHasCome d.tape port o since). inr (subst (λ (t : List Entry). PageHasCome t port o since) (sym k.tape_grows) (come_more d.tape k.new_entries port o since x)))
+          w.page_is_awaited_or_came;
     }
 
 leads_wait : StepLaws → (uses : SlotStates) (m : Machine) (port : ℕ) (o : Operation) (since : ℕ) (steps : List DeviceTransition) (old new : Device) → IsReachable m → StateRelation uses m old → TransitionsLead steps old new → AwaitsPage uses port o since old → AwaitsPage uses port o since new
@@ -247,19 +247,19 @@ steps_wait laws uses m port o since old new r a s w = leads_wait laws uses m por
 abbrev Runs : DevicePort → Type 0
 Runs p = p.st ≡ true
 
-command_same : (v tape : ℕ) (p : DevicePort) → ((port_written Cmd v tape p).taken ≡ p.taken) × (bit v 0 ≡ true → p.st ≡ true → (port_written Cmd v tape p).st ≡ true) × (bit v 0 ≡ true → (port_written Cmd v tape p).ci ≡ p.ci)
+command_same : (v tape : ℕ) (p : DevicePort) → ((port_after_write Cmd v tape p).taken ≡ p.taken) × (bit v 0 ≡ true → p.st ≡ true → (port_after_write Cmd v tape p).st ≡ true) × (bit v 0 ≡ true → (port_after_write Cmd v tape p).ci ≡ p.ci)
 command_same v tape p = by (bit v 0) p.st refl
   where
-    by : (b s : Bool) → p.st ≡ s → ((with_fre (bit v 4) (with_st b tape p)).taken ≡ p.taken) × (b ≡ true → p.st ≡ true → (with_fre (bit v 4) (with_st b tape p)).st ≡ true) × (b ≡ true → (with_fre (bit v 4) (with_st b tape p)).ci ≡ p.ci)
+    by : (b s : Bool) → p.st ≡ s → ((port_after_fre_write (bit v 4) (port_after_st_write b tape p)).taken ≡ p.taken) × (b ≡ true → p.st ≡ true → (port_after_fre_write (bit v 4) (port_after_st_write b tape p)).st ≡ true) × (b ≡ true → (port_after_fre_write (bit v 4) (port_after_st_write b tape p)).ci ≡ p.ci)
     by false s is = (refl, λ on _. absurd (false≢true on), λ on. absurd (false≢true on))
     by true true is = subst (λ (x : DevicePort). (x.taken ≡ p.taken) × (true ≡ true → p.st ≡ true → x.st ≡ true) × (true ≡ true → x.ci ≡ p.ci)) (sym (cond-true p.st p _ is)) (refl, λ _ st. st, λ _. refl)
     by true false is = subst (λ (x : DevicePort). (x.taken ≡ p.taken) × (true ≡ true → p.st ≡ true → x.st ≡ true) × (true ≡ true → x.ci ≡ p.ci)) (sym (cond-false p.st p _ is)) (refl, λ _ st. refl, λ _. refl)
 
-written_runs : (r : PortReg) (v tape : ℕ) (p : DevicePort) → (r ≡ Cmd → bit v 0 ≡ true) → Runs p → Runs (port_written r v tape p)
+written_runs : (r : PortReg) (v tape : ℕ) (p : DevicePort) → (r ≡ Cmd → bit v 0 ≡ true) → Runs p → Runs (port_after_write r v tape p)
 written_runs Cmd v tape p on h = (command_same v tape p).1 (on refl) h
 written_runs _ v tape p on h = h
 
-written_un : (r : PortReg) (v tape : ℕ) (p : DevicePort) → (r ≡ Cmd → bit v 0 ≡ true) → Un p → Un (port_written r v tape p)
+written_un : (r : PortReg) (v tape : ℕ) (p : DevicePort) → (r ≡ Cmd → bit v 0 ≡ true) → Un p → Un (port_after_write r v tape p)
 written_un Cmd v tape p on h =
     let same = command_same v tape p in
     (ap (λ (f : ℕ → Bool). f 0) (same.2 (on refl)) ∙ h.0, λ t is. h.1 t (sym (ap (λ (f : ℕ → _). f 0) same.0) ∙ is))
@@ -272,58 +272,58 @@ access_waits laws uses m port o since access old new r a keeps off x w =
     let s = access_steps access old new x in
     let y : AwaitsPage uses port.0 o since s.0 = steps_wait laws uses m port.0 o since old s.0 r a s.1 w in
     record {
-      off = off;
+      hr_is_clear = off;
       st = effect_keeps Runs port (λ p q v h. h) (λ p h. h) access old new x
           (λ q v mid is steps h. written_runs q v (length mid.tape) (mid.port port.0) (λ e. keeps v (is ∙ ap (λ (z : PortReg). Writing (Px port z) v) e)) h) y.st;
       own = w.own;
-      known = subst (λ (t : List Entry). since ≤ length t) (sym s.2) y.known;
-      page = ⊎_elim
+      since_is_on_tape = subst (λ (t : List Entry). since ≤ length t) (sym s.2) y.since_is_on_tape;
+      page_is_awaited_or_came = ⊎_elim
           (λ (z : HasMovedNothing (s.0.port port.0)).
           let n : Un (new.port port.0) = effect_keeps Un port (λ p q v h. h) (λ p h. h) access old new x
           (λ q v mid is steps h. written_un q v (length mid.tape) (mid.port port.0) (λ e. keeps v (is ∙ ap (λ (z : PortReg). Writing (Px port z) v) e)) h) (z.issued, z.unmoved) in
           inl (record { issued = n.0; unmoved = n.1 }))
           (λ (z : PageHasCome s.0.tape port.0 o since). inr (subst (λ (t : List Entry). PageHasCome t port.0 o since) (sym s.2) z))
-          y.page;
+          y.page_is_awaited_or_came;
     }
 
 -- ---- it is issued, found and loaded
 
 pub page_is_issued : StepLaws → (uses : SlotStates) (m : Machine) (port : Port) (o : Operation) (v : ℕ) (old new : Device) → IsReachable m → StateRelation uses m old → old.hr ≡ false → IsOwnPrepared uses old port.0 o v → Writes (Px port Ci) v old new →
-    AwaitsPage (put uses port.0 0 (Own o)) port.0 o (length new.tape) new
+    AwaitsPage (set_slot_state uses port.0 0 (Own o)) port.0 o (length new.tape) new
 page_is_issued laws uses m port o v old new r a off x call =
     let f : SimulatesSteps uses m old call.mid = steps_follow uses m old call.mid r a call.steps in
     let y : IsOwnPrepared uses call.mid port.0 o v = own_prepared_stays uses m old call.mid port.0 o v r a off call.steps x in
     let over : IsOver (call.mid.port port.0) 0 = own_over uses (left.after m f.steps) call.mid f.agrees port.0 o v y in
     let is : new.port port.0 ≡ issued_port (call.mid.port port.0) v = ap (λ (d : Device). d.port port.0) call.effect ∙ changed_same call.mid.port port.0 _ in
     record {
-      off = ap (λ (d : Device). d.hr) call.effect ∙ ((laws.keeps _ _ call.steps).on off).no_reset;
-      st = ap (λ (p : DevicePort). p.st) is ∙ y.started;
+      hr_is_clear = ap (λ (d : Device). d.hr) call.effect ∙ ((laws.keeps _ _ call.steps).keeps_outside_reset off).no_reset;
+      st = ap (λ (p : DevicePort). p.st) is ∙ y.st_is_set;
       own = put_same uses port.0 0 (Own o);
-      known = le_refl (length new.tape);
-      page = inl (record {
-        issued = ap (λ (p : DevicePort). p.ci 0) is ∙ or_right ((call.mid.port port.0).ci 0) (bit v 0) y.here;
+      since_is_on_tape = le_refl (length new.tape);
+      page_is_awaited_or_came = inl (record {
+        issued = ap (λ (p : DevicePort). p.ci 0) is ∙ or_right ((call.mid.port port.0).ci 0) (bit v 0) y.bit_is_set;
         unmoved = λ t taken. absurd (none-some _ (sym over.free ∙ (sym (ap (λ (p : DevicePort). p.taken 0) is) ∙ taken)));
       });
     }
 
 -- the command isn't issued any more
 come_of : (uses : SlotStates) (port : ℕ) (o : Operation) (since : ℕ) (d : Device) → AwaitsPage uses port o since d → (d.port port).ci 0 ≡ false → PageHasCome d.tape port o since
-come_of uses port o since d w clear = ⊎_elim (λ (x : HasMovedNothing (d.port port)). absurd (both_ways _ clear x.issued)) (λ (x : PageHasCome d.tape port o since). x) w.page
+come_of uses port o since d w clear = ⊎_elim (λ (x : HasMovedNothing (d.port port)). absurd (both_ways _ clear x.issued)) (λ (x : PageHasCome d.tape port o since). x) w.page_is_awaited_or_came
 
 pub law_page_is_awaited : StepLaws → (uses : SlotStates) (m : Machine) (port : Port) (o : Operation) (since v : ℕ) (old new : Device) → IsReachable m → StateRelation uses m old → AwaitsPage uses port.0 o since old → Reads (Px port Ci) v old new → bit v 0 ≡ false →
     FindsOwnPage uses m port.0 o old new × PageStandsInScratch new.memory new.tape port.0 o since
 law_page_is_awaited laws uses m port o since v old new r a w call clear =
-    let page : FindsOwnPage uses m port.0 o old new = page_is_read laws uses m port o v old new r a w.off w.st w.own call clear in
+    let page : FindsOwnPage uses m port.0 o old new = page_is_read laws uses m port o v old new r a w.hr_is_clear w.st w.own call clear in
     let y : AwaitsPage uses port.0 o since call.mid = steps_wait laws uses m port.0 o since old call.mid r a call.steps w in
     let come : PageHasCome call.mid.tape port.0 o since = come_of uses port.0 o since call.mid y (sym (call.shows 0 (omega arith)) ∙ clear) in
     let there : PageHasCome new.tape port.0 o since = subst (λ (t : List Entry). PageHasCome t port.0 o since) (sym (ap (λ (d : Device). d.tape) call.effect)) come in
-    (page, (brought_since new.memory new.tape port.0 o since (new.port port.0).notes.st_set_at there page.brought).0)
+    (page, (brought_since new.memory new.tape port.0 o since (new.port port.0).notes.st_set_at there page.page_is_in_scratch).0)
 
 pub awaited_is_loaded : StepLaws → (uses : SlotStates) (m : Machine) (port : ℕ) (o : Operation) (since : ℕ) (bytes : List ℕ) (old new : Device) → IsReachable m → StateRelation uses m old → AwaitsPage uses port o since old → IsOver (old.port port) 0 →
     Loads (scratch_of port) bytes old new → length bytes ≡ 512 → (b : PageStandsInScratch new.memory new.tape port o since) × (bytes ≡ b.move.bytes.value)
 awaited_is_loaded laws uses m port o since bytes old new r a w over call size =
-    let page = page_is_loaded laws uses m port o bytes old new r a w.off w.st w.own over call size in
+    let page = page_is_loaded laws uses m port o bytes old new r a w.hr_is_clear w.st w.own over call size in
     let y : AwaitsPage uses port o since new = steps_wait laws uses m port o since old new r a call.steps w in
-    let come : PageHasCome new.tape port o since = come_of uses port o since new y (((laws.keeps _ _ call.steps).port port).ci 0 over.issued) in
-    let b = brought_since new.memory new.tape port o since (new.port port).notes.st_set_at come page.0.brought in
+    let come : PageHasCome new.tape port o since = come_of uses port o since new y (((laws.keeps _ _ call.steps).ports_are_kept port).ci 0 over.issued) in
+    let b = brought_since new.memory new.tape port o since (new.port port).notes.st_set_at come page.0.page_is_in_scratch in
     (b.0, page.1 ∙ ap (λ (x : tape_move.Move). x.bytes.value) (sym b.1))

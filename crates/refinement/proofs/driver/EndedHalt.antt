@@ -7,7 +7,7 @@ use Rattle.hba_regs.specs.Bits.{bit}
 use Rattle.hba_regs.specs.declared.reg.Reg.TheVariants.{Px}
 use Rattle.hba_regs.specs.declared.reg.PortReg.{PortReg}
 use Rattle.hba_regs.specs.declared.reg.PortReg.TheVariants.{Is, Cmd, Sact, Ci}
-use Rattle.adapter.specs.Access.{Access, Does, Reads, Writes, port_written, with_st, with_fre}
+use Rattle.adapter.specs.Access.{Access, Does, Reads, Writes, port_after_write, port_after_st_write, port_after_fre_write}
 use Rattle.adapter.specs.Access.Access.{Reading, Writing}
 use Rattle.adapter.specs.Commands.{is_queued}
 use Rattle.adapter.specs.Device.{FetchedCommand, DevicePort, Device}
@@ -20,15 +20,15 @@ use Rattle.adapter.proofs.Changed.{changed_same}
 use Rattle.block_machine.specs.Histories.{IsReachable}
 use Rattle.block_machine.specs.Expected as left
 use Rattle.block_machine.specs.State.{Machine}
-use Rattle.refinement.specs.Below.{StepLaws}
+use Rattle.refinement.specs.StepLaws.{StepLaws}
 use Rattle.refinement.specs.Relation.{StateRelation}
 use Rattle.refinement.specs.Driver.{IsOwnPrepared}
 use Rattle.refinement.specs.PortFacts.{RunsWell, TellsNoTrouble}
-use Rattle.refinement.specs.Follows.{SimulatesSteps}
+use Rattle.refinement.specs.Simulation.{SimulatesSteps}
 use Rattle.refinement.specs.Links.{DoesNotWrite}
 use Rattle.refinement.proofs.device.ClearSactBits.{free_unarmed, steps_clear}
-use Rattle.refinement.specs.Slots.{SlotState, Free, Armed, Own, Serves, SlotStates, put, Stage, OwnWaits, OwnTaken, OwnOver, IsEmptySlot, IsOver, RelatesSlot}
-use Rattle.refinement.specs.Started.{ClearsNoStart}
+use Rattle.refinement.specs.Slots.{SlotState, Free, Armed, Own, Serves, SlotStates, set_slot_state, IsInSomeStage, OwnAwaitsFetch, OwnIsTaken, OwnIsOver, IsEmptySlot, IsOver, RelatesSlot}
+use Rattle.refinement.specs.StartedPort.{ClearsNoStart}
 use Rattle.refinement.proofs.relation.OneSlot.{changed_at}
 use Rattle.refinement.proofs.device.BootedPort.{well_is_told}
 use Rattle.refinement.proofs.driver.IssueWrite.{own_prepared_stays}
@@ -41,7 +41,7 @@ use Rattle.refinement.proofs.driver.PutSlot.{put_other}
 use Rattle.refinement.proofs.device.RunningPort.{reading_clears}
 use Rattle.refinement.proofs.device.TroubleBits.{told_calm, reads_show}
 use Rattle.refinement.proofs.steps.TakenCommand.{never_refused}
-use Rattle.refinement.specs.Recovering.{RunsLinked, EndsHalt}
+use Rattle.refinement.specs.HaltRecovery.{RunsLinked, EndsHalt}
 use Rattle.refinement.proofs.device.LinkOverFaults.{access_runs, running_started}
 use Rattle.refinement.proofs.device.PlainPort.{fetched_plain}
 
@@ -51,20 +51,20 @@ Ends p = (p.st ≡ true) × (p.sact 0 ≡ false) × ((p.ci 0 ≡ true) ⊎ (p.ha
 
 -- a plain command that is taken is issued still, while ST is 1
 pub taken_issued : (uses : SlotStates) (m : Machine) (d : Device) (port slot : ℕ) (t : FetchedCommand) → StateRelation uses m d → (d.port port).st ≡ true → (d.port port).sact slot ≡ false → (d.port port).taken slot ≡ Some t → (d.port port).ci slot ≡ true
-taken_issued uses m d port slot t a st clear is = by (uses port slot) (a.slot port slot)
+taken_issued uses m d port slot t a st clear is = by (uses port slot) (a.relates_slots port slot)
   where
     by : (u : SlotState) → RelatesSlot m d.memory d.tape (d.port port) port slot u → (d.port port).ci slot ≡ true
     by Free h = absurd (none-some _ (sym h.free ∙ is))
     by Armed h = absurd (none-some _ (sym h.free ∙ is))
     by (Own o) h = of h.stage
       where
-        of : OwnWaits (d.port port) slot ⊎ (OwnTaken d.memory d.tape (d.port port) port slot h.command ⊎ OwnOver d.memory d.tape (d.port port) port slot h.command) → (d.port port).ci slot ≡ true
+        of : OwnAwaitsFetch (d.port port) slot ⊎ (OwnIsTaken d.memory d.tape (d.port port) port slot h.command ⊎ OwnIsOver d.memory d.tape (d.port port) port slot h.command) → (d.port port).ci slot ≡ true
         of (inl w) = w.issued
         of (inr (inl x)) = x.issued ∙ st
         of (inr (inr x)) = absurd (none-some _ (sym x.over.free ∙ is))
     by (Serves id) h = of h.stage
       where
-        of : Stage d.memory (d.port port) port slot h.pending h.command h.places → (d.port port).ci slot ≡ true
+        of : IsInSomeStage d.memory (d.port port) port slot h.pending h.command h.places → (d.port port).ci slot ≡ true
         of (inl w) = w.issued
         of (inr (inl x)) =
             let plain : is_queued h.command.operation ≡ false = ap (λ (b : Bool). b && is_queued h.command.operation) (sym st) ∙ (sym x.sact ∙ clear) in
@@ -81,7 +81,7 @@ module _ (uses : SlotStates) (m : Machine) (d : Device) (a : StateRelation uses 
   -- slot 0 alone has a command
   beside_over : (p slot : ℕ) → p ≡ port → slot ≢ 0 → IsOver (d.port p) slot
   beside_over p slot e ne =
-      let h : IsEmptySlot (d.port p) slot = subst (λ (u : SlotState). RelatesSlot m d.memory d.tape (d.port p) p slot u) (ap (λ (q : ℕ). uses q slot) e ∙ alone slot ne) (a.slot p slot) in
+      let h : IsEmptySlot (d.port p) slot = subst (λ (u : SlotState). RelatesSlot m d.memory d.tape (d.port p) p slot u) (ap (λ (q : ℕ). uses q slot) e ∙ alone slot ne) (a.relates_slots p slot) in
       record { issued = h.issued; free = h.free }
 
   issued_first : (p slot : ℕ) → p ≡ port → (d.port p).ci slot ≡ true → slot ≡ 0
@@ -129,23 +129,23 @@ leads_end : StepLaws → (uses : SlotStates) (m : Machine) (port : ℕ) → ((sl
 leads_end laws uses m port alone [] old new r a off e h = subst (λ (d : Device). (d.hr ≡ false) × Ends (d.port port)) (sym e) (off, h)
 leads_end laws uses m port alone (step ∷ steps) old new r a off (can, lead) h =
     let f : SimulatesSteps uses m old (device_after step old) = step_follows uses m old step r a can in
-    leads_end laws uses (left.after m f.steps) port alone steps (device_after step old) new (laws.reached m f.steps r f.may) f.agrees ((laws.step step _ can).on off).no_reset lead
+    leads_end laws uses (left.after m f.steps) port alone steps (device_after step old) new (laws.reached m f.steps r f.may) f.agrees ((laws.step step _ can).keeps_outside_reset off).no_reset lead
     (step_ends uses m old a port alone off h step can)
 
 pub steps_end : StepLaws → (uses : SlotStates) (m : Machine) (port : ℕ) (old new : Device) → IsReachable m → StateRelation uses m old → Steps old new → EndsHalt uses port old → EndsHalt uses port new
 steps_end laws uses m port old new r a s h =
-    let x = leads_end laws uses m port h.alone s.steps old new r a h.off s.lead (h.st, h.plain, h.ends) in
-    record { off = x.0; st = x.1.0; plain = x.1.1; alone = h.alone; ends = x.1.2 }
+    let x = leads_end laws uses m port h.no_other_slot_is_used s.steps old new r a h.hr_is_clear s.lead (h.st, h.slot_0_is_plain, h.ends) in
+    record { hr_is_clear = x.0; st = x.1.0; slot_0_is_plain = x.1.1; no_other_slot_is_used = h.no_other_slot_is_used; ends = x.1.2 }
 
 -- ---- an access
 
 -- ST stays 1
-command_ends : (v tape : ℕ) (p : DevicePort) → bit v 0 ≡ true → Ends p → Ends (port_written Cmd v tape p)
+command_ends : (v tape : ℕ) (p : DevicePort) → bit v 0 ≡ true → Ends p → Ends (port_after_write Cmd v tape p)
 command_ends v tape p on h =
-    subst (λ (b : Bool). Ends (with_fre (bit v 4) (with_st b tape p))) (sym on)
-    (subst (λ (x : DevicePort). Ends (with_fre (bit v 4) x)) (sym (cond-true p.st p _ h.0)) h)
+    subst (λ (b : Bool). Ends (port_after_fre_write (bit v 4) (port_after_st_write b tape p))) (sym on)
+    (subst (λ (x : DevicePort). Ends (port_after_fre_write (bit v 4) x)) (sym (cond-true p.st p _ h.0)) h)
 
-written_ends : (r : PortReg) (v tape : ℕ) (p : DevicePort) → (r ≡ Cmd → bit v 0 ≡ true) → r ≢ Sact → Ends p → Ends (port_written r v tape p)
+written_ends : (r : PortReg) (v tape : ℕ) (p : DevicePort) → (r ≡ Cmd → bit v 0 ≡ true) → r ≢ Sact → Ends p → Ends (port_after_write r v tape p)
 written_ends Cmd v tape p on other h = command_ends v tape p (on refl) h
 written_ends Sact v tape p on other h = absurd (other refl)
 written_ends Ci v tape p on other h = (h.0, h.1, ⊎_elim (λ (i : p.ci 0 ≡ true). inl (or_left (p.ci 0) (bit v 0) i)) (λ (r : p.halt ≡ NotHalted). inr r) h.2)
@@ -155,12 +155,12 @@ pub access_ends : StepLaws → (uses : SlotStates) (m : Machine) (port : Port) (
     EndsHalt uses port.0 old → EndsHalt uses port.0 new
 access_ends laws uses m port access old new r a keeps spares off x h =
     let s = access_steps access old new x in
-    let c = leads_end laws uses m port.0 h.alone s.1.steps old s.0 r a h.off s.1.lead (h.st, h.plain, h.ends) in
+    let c = leads_end laws uses m port.0 h.no_other_slot_is_used s.1.steps old s.0 r a h.hr_is_clear s.1.lead (h.st, h.slot_0_is_plain, h.ends) in
     let e : Ends (new.port port.0) =
     effect_keeps Ends port (λ p q v y. y) (λ p y. y) access old new x
     (λ q v mid is steps y. written_ends q v (length mid.tape) (mid.port port.0)
     (λ z. keeps v (is ∙ ap (λ (w : PortReg). Writing (Px port w) v) z)) (spared port q Sact access v spares is) y) c.1 in
-    record { off = off; st = e.0; plain = e.1; alone = h.alone; ends = e.2 }
+    record { hr_is_clear = off; st = e.0; slot_0_is_plain = e.1; no_other_slot_is_used = h.no_other_slot_is_used; ends = e.2 }
 
 -- ---- where it begins
 
@@ -169,16 +169,16 @@ or_set true c e = refl
 or_set false c e = e
 
 pub issued_ends : StepLaws → (uses : SlotStates) (m : Machine) (port : Port) (o : Operation) (v : ℕ) (old new : Device) → IsReachable m → StateRelation uses m old → old.hr ≡ false → ((slot : ℕ) → slot ≢ 0 → uses port.0 slot ≡ Free) →
-    IsOwnPrepared uses old port.0 o v → Writes (Px port Ci) v old new → EndsHalt (put uses port.0 0 (Own o)) port.0 new
+    IsOwnPrepared uses old port.0 o v → Writes (Px port Ci) v old new → EndsHalt (set_slot_state uses port.0 0 (Own o)) port.0 new
 issued_ends laws uses m port o v old new r a off alone x call =
     let y : IsOwnPrepared uses call.mid port.0 o v = own_prepared_stays uses m old call.mid port.0 o v r a off call.steps x in
-    let is : new.port port.0 ≡ port_written Ci v (length call.mid.tape) (call.mid.port port.0) = ap (λ (d : Device). d.port port.0) call.effect ∙ changed_same call.mid.port port.0 _ in
+    let is : new.port port.0 ≡ port_after_write Ci v (length call.mid.tape) (call.mid.port port.0) = ap (λ (d : Device). d.port port.0) call.effect ∙ changed_same call.mid.port port.0 _ in
     record {
-      off = ap (λ (d : Device). d.hr) call.effect ∙ ((laws.keeps _ _ call.steps).on off).no_reset;
-      st = ap (λ (p : DevicePort). p.st) is ∙ y.started;
-      plain = ap (λ (p : DevicePort). p.sact 0) is ∙ steps_clear laws port.0 0 old call.mid call.steps (free_unarmed uses m old a port.0 0 x.free);
-      alone = λ slot ne. put_other uses port.0 0 (Own o) port.0 slot (λ _ z. ne z) ∙ alone slot ne;
-      ends = inl (ap (λ (p : DevicePort). p.ci 0) is ∙ or_set ((call.mid.port port.0).ci 0) (bit v 0) y.here);
+      hr_is_clear = ap (λ (d : Device). d.hr) call.effect ∙ ((laws.keeps _ _ call.steps).keeps_outside_reset off).no_reset;
+      st = ap (λ (p : DevicePort). p.st) is ∙ y.st_is_set;
+      slot_0_is_plain = ap (λ (p : DevicePort). p.sact 0) is ∙ steps_clear laws port.0 0 old call.mid call.steps (free_unarmed uses m old a port.0 0 x.free);
+      no_other_slot_is_used = λ slot ne. put_other uses port.0 0 (Own o) port.0 slot (λ _ z. ne z) ∙ alone slot ne;
+      ends = inl (ap (λ (p : DevicePort). p.ci 0) is ∙ or_set ((call.mid.port port.0).ci 0) (bit v 0) y.bit_is_set);
     }
 
 -- ---- PxCI is read
@@ -186,7 +186,7 @@ issued_ends laws uses m port o v old new r a off alone x call =
 reads_end : StepLaws → (uses : SlotStates) (m : Machine) (port : Port) (v : ℕ) (old new : Device) → IsReachable m → StateRelation uses m old → EndsHalt uses port.0 old → Reads (Px port Ci) v old new → EndsHalt uses port.0 new
 reads_end laws uses m port v old new r a h call =
     let mid : EndsHalt uses port.0 call.mid = steps_end laws uses m port.0 old call.mid r a call.steps h in
-    (access_ends laws) uses m port (Reading (Px port Ci) v) old new r a (reading_clears port (Px port Ci) v) tt (ap (λ (d : Device). d.hr) call.effect ∙ mid.off) call h
+    (access_ends laws) uses m port (Reading (Px port Ci) v) old new r a (reading_clears port (Px port Ci) v) tt (ap (λ (d : Device). d.hr) call.effect ∙ mid.hr_is_clear) call h
 
 pub halt_ended : StepLaws → (uses : SlotStates) (m : Machine) (port : Port) (v : ℕ) (old new : Device) → IsReachable m → StateRelation uses m old → EndsHalt uses port.0 old → Reads (Px port Ci) v old new → bit v 0 ≡ false → (new.port port.0).halt ≡ NotHalted
 halt_ended laws uses m port v old new r a h call clear =
@@ -196,9 +196,9 @@ halt_ended laws uses m port v old new r a h call clear =
 pub ended_well : StepLaws → (uses : SlotStates) (m : Machine) (port : Port) (v causes : ℕ) (old mid new : Device) → IsReachable m → StateRelation uses m old → EndsHalt uses port.0 old → RunsLinked (old.port port.0) → Reads (Px port Ci) v old mid → bit v 0 ≡ false →
     Reads (Px port Is) causes mid new → TellsNoTrouble causes → RunsWell (new.port port.0)
 ended_well laws uses m port v causes old mid new r a h runs read clear call calm =
-    let off : mid.hr ≡ false = (reads_end laws uses m port v old mid r a h read).off in
+    let off : mid.hr ≡ false = (reads_end laws uses m port v old mid r a h read).hr_is_clear in
     let late = reads_show laws port.0 (Px port Is) causes mid new off call (told_calm laws port causes mid new off call calm) in
-    let early = (reads_show laws port.0 (Px port Ci) v old mid h.off read late.0).1 in
+    let early = (reads_show laws port.0 (Px port Ci) v old mid h.hr_is_clear read late.0).1 in
     let goes : RunsLinked (mid.port port.0) =
-    (access_runs laws) port (Reading (Px port Ci) v) old mid h.off (reading_clears port (Px port Ci) v) tt (undisturbed_plugs port.0 old mid early) (undisturbed_fatal port.0 old mid early) read runs in
+    (access_runs laws) port (Reading (Px port Ci) v) old mid h.hr_is_clear (reading_clears port (Px port Ci) v) tt (undisturbed_plugs port.0 old mid early) (undisturbed_fatal port.0 old mid early) read runs in
     (well_is_told laws) port causes mid new off call calm (running_started (mid.port port.0) goes (halt_ended laws uses m port v old mid r a h read clear))

@@ -10,7 +10,7 @@ use Rattle.hba_regs.specs.declared.reg.PortReg.TheVariants.{Ci}
 use Rattle.adapter.specs.Access.{Reads, Loads}
 use Rattle.adapter.specs.Commands.{is_queued}
 use Rattle.adapter.specs.Device.{Device}
-use Rattle.adapter.specs.Kept.{Keeps, KeepsOutsideReset}
+use Rattle.adapter.specs.KeptBySteps.{Keeps, KeepsOutsideReset}
 use Rattle.adapter.specs.Memory.{bytes_at}
 use Rattle.adapter.specs.declared.command.Operation.{Operation}
 use Rattle.adapter.specs.RegisterEffects.{PortRegisterRead}
@@ -20,12 +20,12 @@ use Rattle.block_machine.specs.State.{Pending, Machine}
 use Rattle.block_machine.specs.Steps.{MayStillMove}
 use Rattle.block_machine.proofs.Standing.{standing}
 use Rattle.block_machine.proofs.Trace.{living_one, runs_lives}
-use Rattle.refinement.specs.Below.{StepLaws}
+use Rattle.refinement.specs.StepLaws.{StepLaws}
 use Rattle.refinement.specs.Relation.{StateRelation, port_at}
 use Rattle.refinement.specs.PortFacts.{EndedIn, IsSlotClear, FindsOwnPage}
-use Rattle.refinement.specs.Follows.{SimulatesSteps}
-use Rattle.refinement.specs.Places.{scratch_of}
-use Rattle.refinement.specs.Slots.{SlotState, Own, Serves, SlotStates, IsEnded, Stage, ServesRequest, PageStandsInScratch, OwnWaits, OwnTaken, OwnOver, ServesOwn, IsOver, RelatesSlot}
+use Rattle.refinement.specs.Simulation.{SimulatesSteps}
+use Rattle.refinement.specs.MemoryLayout.{scratch_of}
+use Rattle.refinement.specs.Slots.{SlotState, Own, Serves, SlotStates, IsEnded, IsInSomeStage, ServesRequest, PageStandsInScratch, OwnAwaitsFetch, OwnIsTaken, OwnIsOver, ServesOwn, IsOver, RelatesSlot}
 use Rattle.refinement.proofs.steps.AdapterCalls.{read_follows, load_follows}
 
 both_clear : {A : Type 0} (q : Bool) {i c : Bool} → i ≡ true && not q → c ≡ true && q → i ≡ false → c ≡ false → A
@@ -39,30 +39,30 @@ is_ended m d port slot id h x = (
   record { over = record { issued = x.issued; free = x.free }; sact = x.sact },
   record {
     pending = h.pending;
-    moves = h.moves;
+    may_still_move = h.may_still_move;
     id_is = h.id_is;
     port_is = ap port_at h.port_is;
     ended = x.ended;
-    touched = x.touched;
-    booked = λ none. ⊎_elim
+    all_are_touched = x.touched;
+    stands_in_book = λ none. ⊎_elim
         (λ (z : Contains m.book h.pending × (h.pending.issued ≡ true)). z.0)
         (λ (k : Contains m.kept h.pending). absurd (none h.pending k (ap port_at h.port_is)))
-        h.moves;
+        h.may_still_move;
   },
 )
 
 -- so it is where the request has ended
 pub law_ended_is_clear : (uses : SlotStates) (m : Machine) (d : Device) (port : Port) (slot : ℕ) (e : Pending) → IsReachable m → StateRelation uses m d → MayStillMove m e → e.ended ≡ true → uses port.0 slot ≡ Serves e.request.id →
     IsSlotClear (d.port port.0) slot × EndedIn m port e.request.id
-law_ended_is_clear uses m d port slot e reached a moves ended u = by (subst (λ (v : SlotState). RelatesSlot m d.memory d.tape (d.port port.0) port.0 slot v) u (a.slot port.0 slot))
+law_ended_is_clear uses m d port slot e reached a moves ended u = by (subst (λ (v : SlotState). RelatesSlot m d.memory d.tape (d.port port.0) port.0 slot v) u (a.relates_slots port.0 slot))
   where
     by : ServesRequest m d.memory (d.port port.0) port.0 slot e.request.id → IsSlotClear (d.port port.0) slot × EndedIn m port e.request.id
     by h = of h.stage
       where
         its : h.pending.ended ≡ true
-        its = ap (λ (y : Pending). y.ended) (living_one m (standing m reached).sound h.pending e (runs_lives m h.pending h.moves) (runs_lives m e moves) (ap (λ (i : RequestId). i.0) h.id_is)) ∙ ended
+        its = ap (λ (y : Pending). y.ended) (living_one m (standing m reached).sound h.pending e (runs_lives m h.pending h.may_still_move) (runs_lives m e moves) (ap (λ (i : RequestId). i.0) h.id_is)) ∙ ended
 
-        of : Stage d.memory (d.port port.0) port.0 slot h.pending h.command h.places → IsSlotClear (d.port port.0) slot × EndedIn m port e.request.id
+        of : IsInSomeStage d.memory (d.port port.0) port.0 slot h.pending h.command h.places → IsSlotClear (d.port port.0) slot × EndedIn m port e.request.id
         of (inl w) = absurd (both_ways _ w.unended its)
         of (inr (inl t)) = absurd (both_ways _ t.unended its)
         of (inr (inr (inl x))) = is_ended m d port slot e.request.id h x
@@ -71,12 +71,12 @@ law_ended_is_clear uses m d port slot e reached a moves ended u = by (subst (λ 
 -- on a running port a slot whose two bits are clear has ended its request
 pub clear_is_ended : (uses : SlotStates) (m : Machine) (d : Device) (port : Port) (slot : ℕ) (id : RequestId) → StateRelation uses m d → uses port.0 slot ≡ Serves id → (d.port port.0).st ≡ true →
     (d.port port.0).ci slot ≡ false → (d.port port.0).sact slot ≡ false → IsSlotClear (d.port port.0) slot × EndedIn m port id
-clear_is_ended uses m d port slot id a u st issued sact = by (subst (λ (v : SlotState). RelatesSlot m d.memory d.tape (d.port port.0) port.0 slot v) u (a.slot port.0 slot))
+clear_is_ended uses m d port slot id a u st issued sact = by (subst (λ (v : SlotState). RelatesSlot m d.memory d.tape (d.port port.0) port.0 slot v) u (a.relates_slots port.0 slot))
   where
     by : ServesRequest m d.memory (d.port port.0) port.0 slot id → IsSlotClear (d.port port.0) slot × EndedIn m port id
     by h = of h.stage
       where
-        of : Stage d.memory (d.port port.0) port.0 slot h.pending h.command h.places → IsSlotClear (d.port port.0) slot × EndedIn m port id
+        of : IsInSomeStage d.memory (d.port port.0) port.0 slot h.pending h.command h.places → IsSlotClear (d.port port.0) slot × EndedIn m port id
         of (inl w) = absurd (both_ways _ issued w.issued)
         of (inr (inl t)) = both_clear (is_queued h.command.operation)
             (t.issued ∙ ap (λ (b : Bool). b && not (is_queued h.command.operation)) st)
@@ -88,12 +88,12 @@ clear_is_ended uses m d port slot id a u st issued sact = by (subst (λ (v : Slo
 
 module _ (uses : SlotStates) (m : Machine) (d : Device) (port : ℕ) (o : Operation) (a : StateRelation uses m d) (u : uses port 0 ≡ Own o) (st : (d.port port).st ≡ true) (issued : (d.port port).ci 0 ≡ false) where
   own : ServesOwn d.memory d.tape (d.port port) port 0 o
-  own = subst (λ (v : SlotState). RelatesSlot m d.memory d.tape (d.port port) port 0 v) u (a.slot port 0)
+  own = subst (λ (v : SlotState). RelatesSlot m d.memory d.tape (d.port port) port 0 v) u (a.relates_slots port 0)
 
-  own_over : OwnOver d.memory d.tape (d.port port) port 0 own.command
+  own_over : OwnIsOver d.memory d.tape (d.port port) port 0 own.command
   own_over = of own.stage
     where
-      of : OwnWaits (d.port port) 0 ⊎ (OwnTaken d.memory d.tape (d.port port) port 0 own.command ⊎ OwnOver d.memory d.tape (d.port port) port 0 own.command) → OwnOver d.memory d.tape (d.port port) port 0 own.command
+      of : OwnAwaitsFetch (d.port port) 0 ⊎ (OwnIsTaken d.memory d.tape (d.port port) port 0 own.command ⊎ OwnIsOver d.memory d.tape (d.port port) port 0 own.command) → OwnIsOver d.memory d.tape (d.port port) port 0 own.command
       of (inl w) = absurd (both_ways _ issued w.issued)
       of (inr (inl t)) = absurd (both_ways _ issued (t.issued ∙ st))
       of (inr (inr x)) = x
@@ -102,7 +102,7 @@ module _ (uses : SlotStates) (m : Machine) (d : Device) (port : ℕ) (o : Operat
   own_brought = ⊎_elim
       (λ (z : (d.port port).st ≡ false). absurd (both_ways _ z st))
       (λ (b : PageStandsInScratch d.memory d.tape port own.command.operation (d.port port).notes.st_set_at). subst (λ (x : Operation). PageStandsInScratch d.memory d.tape port x (d.port port).notes.st_set_at) own.operation_is b)
-      own_over.brought
+      own_over.page_is_brought
 
   own_clear : IsSlotClear (d.port port) 0
   own_clear = record { over = own_over.over; sact = own.unqueued }
@@ -112,24 +112,24 @@ pub page_is_read : StepLaws → (uses : SlotStates) (m : Machine) (port : Port) 
 page_is_read laws uses m port o v old new reached a h st u call clear =
     let f : SimulatesSteps uses m old new = read_follows uses m (Px port Ci) v old new reached a call in
     let s : PortRegisterRead port.0 Ci v old new = laws.seen port Ci v old new call h in
-    let now : (new.port port.0).st ≡ true = (s.keeps.on.controls port.0).st ∙ st in
+    let now : (new.port port.0).st ≡ true = (s.keeps.keeps_outside_reset.controls port.0).st ∙ st in
     let none : (new.port port.0).ci 0 ≡ false = sym (s.shows 0 (omega arith)) ∙ clear in
     record {
-      follows = f;
-      clear = own_clear uses (after m f.steps) new port.0 o f.agrees u now none;
-      brought = own_brought uses (after m f.steps) new port.0 o f.agrees u now none;
+      simulates_steps = f;
+      slot_is_clear = own_clear uses (after m f.steps) new port.0 o f.agrees u now none;
+      page_is_in_scratch = own_brought uses (after m f.steps) new port.0 o f.agrees u now none;
     }
 
 pub page_is_loaded : StepLaws → (uses : SlotStates) (m : Machine) (port : ℕ) (o : Operation) (bytes : List ℕ) (old new : Device) → IsReachable m → StateRelation uses m old → old.hr ≡ false → (old.port port).st ≡ true →
     uses port 0 ≡ Own o → IsOver (old.port port) 0 → Loads (scratch_of port) bytes old new → length bytes ≡ 512 →
-    (page : FindsOwnPage uses m port o old new) × (bytes ≡ page.brought.move.bytes.value)
+    (page : FindsOwnPage uses m port o old new) × (bytes ≡ page.page_is_in_scratch.move.bytes.value)
 page_is_loaded laws uses m port o bytes old new reached a h st u over call size =
     let f : SimulatesSteps uses m old new = load_follows uses m (scratch_of port) bytes old new reached a call in
     let k : Keeps old new = laws.keeps _ _ call.steps in
-    let on : KeepsOutsideReset old new = k.on h in
+    let on : KeepsOutsideReset old new = k.keeps_outside_reset h in
     let now : (new.port port).st ≡ true = (on.controls port).st ∙ st in
-    let none : (new.port port).ci 0 ≡ false = (k.port port).ci 0 over.issued in
+    let none : (new.port port).ci 0 ≡ false = (k.ports_are_kept port).ci 0 over.issued in
     let b : PageStandsInScratch new.memory new.tape port o (new.port port).notes.st_set_at = own_brought uses (after m f.steps) new port o f.agrees u now none in (
-      record { follows = f; clear = own_clear uses (after m f.steps) new port o f.agrees u now none; brought = b },
+      record { simulates_steps = f; slot_is_clear = own_clear uses (after m f.steps) new port o f.agrees u now none; page_is_in_scratch = b },
       call.shows ∙ ap (bytes_at new.memory (scratch_of port)) size ∙ b.bytes,
     )

@@ -8,19 +8,19 @@ use Rattle.hba_regs.specs.Bits.{bit}
 use Rattle.hba_regs.specs.declared.reg.Reg.TheVariants.{Px}
 use Rattle.hba_regs.specs.declared.reg.PortReg.{PortReg}
 use Rattle.hba_regs.specs.declared.reg.PortReg.TheVariants.{Clb, Clbu, Fb, Fbu, Is, Cmd, Sctl, Serr, Sact, Ci}
-use Rattle.adapter.specs.Access.{Access, Does, port_written, with_st, with_fre}
+use Rattle.adapter.specs.Access.{Access, Does, port_after_write, port_after_st_write, port_after_fre_write}
 use Rattle.adapter.specs.Access.Access.{Writing}
 use Rattle.adapter.specs.Device.{DevicePort, Device}
-use Rattle.adapter.specs.Kept.{KeepsPort}
+use Rattle.adapter.specs.KeptBySteps.{KeepsPort}
 use Rattle.adapter.specs.Steps.{Steps}
 use Rattle.block_machine.specs.Events.{AllByDevice}
 use Rattle.block_machine.specs.Expected.{after}
 use Rattle.block_machine.specs.State.{Accepted, Pending, Machine}
 use Rattle.block_machine.specs.Steps.{Step, MayStillMove, NoneQuarantined}
-use Rattle.refinement.specs.Below.{StepLaws}
+use Rattle.refinement.specs.StepLaws.{StepLaws}
 use Rattle.refinement.specs.PortFacts.{EndedIn, IsSlotClear}
 use Rattle.refinement.specs.Slots.{IsOver}
-use Rattle.refinement.specs.Spares.{IsFurther, SparesBook}
+use Rattle.refinement.specs.SparedBook.{IsFurther, SparesBook}
 use Rattle.refinement.proofs.device.FactsOverAccesses.{access_steps, effect_keeps}
 use Rattle.refinement.proofs.steps.SparedBook.{steps_spare, found_later}
 use Rattle.refinement.proofs.device.ClearSactBits.{if_false}
@@ -30,28 +30,28 @@ use Rattle.refinement.proofs.steps.RegisterWrites.{or_false}
 
 pub steps_over : StepLaws → (port slot : ℕ) (old new : Device) → Steps old new → IsOver (old.port port) slot → IsOver (new.port port) slot
 steps_over laws port slot old new s h =
-    let k : KeepsPort (old.port port) (new.port port) = (laws.keeps _ _ s).port port in
-    record { issued = k.ci slot h.issued; free = k.free slot h.issued h.free }
+    let k : KeepsPort (old.port port) (new.port port) = (laws.keeps _ _ s).ports_are_kept port in
+    record { issued = k.ci slot h.issued; free = k.slots_stay_free slot h.issued h.free }
 
 pub steps_clear : StepLaws → (port slot : ℕ) (old new : Device) → Steps old new → IsSlotClear (old.port port) slot → IsSlotClear (new.port port) slot
-steps_clear laws port slot old new s h = record { over = steps_over laws port slot old new s h.over; sact = ((laws.keeps _ _ s).port port).sact slot h.sact }
+steps_clear laws port slot old new s h = record { over = steps_over laws port slot old new s h.over; sact = ((laws.keeps _ _ s).ports_are_kept port).sact slot h.sact }
 
 -- the slot's bits are clear
 abbrev IsUnset : Bool → DevicePort → ℕ → Type 0
 IsUnset armed p slot = (p.ci slot ≡ false) × (p.taken slot ≡ None) × (armed ≡ true → p.sact slot ≡ false)
 
-command_unset : (armed : Bool) (slot v tape : ℕ) (p : DevicePort) → IsUnset armed p slot → IsUnset armed (port_written Cmd v tape p) slot
+command_unset : (armed : Bool) (slot v tape : ℕ) (p : DevicePort) → IsUnset armed p slot → IsUnset armed (port_after_write Cmd v tape p) slot
 command_unset armed slot v tape p h = by (bit v 0) p.st refl
   where
-    by : (b s : Bool) → p.st ≡ s → IsUnset armed (with_fre (bit v 4) (with_st b tape p)) slot
+    by : (b s : Bool) → p.st ≡ s → IsUnset armed (port_after_fre_write (bit v 4) (port_after_st_write b tape p)) slot
     by false s is = (if_false p.st p.ci slot h.0, h.1, λ a. if_false p.st p.sact slot (h.2 a))
-    by true true is = subst (λ (x : DevicePort). IsUnset armed (with_fre (bit v 4) x) slot) (sym (cond-true p.st p _ is)) h
-    by true false is = subst (λ (x : DevicePort). IsUnset armed (with_fre (bit v 4) x) slot) (sym (cond-false p.st p _ is)) h
+    by true true is = subst (λ (x : DevicePort). IsUnset armed (port_after_fre_write (bit v 4) x) slot) (sym (cond-true p.st p _ is)) h
+    by true false is = subst (λ (x : DevicePort). IsUnset armed (port_after_fre_write (bit v 4) x) slot) (sym (cond-false p.st p _ is)) h
 
 set_unset : (f : ℕ → Bool) (v slot : ℕ) → bit v slot ≡ false → f slot ≡ false → (f slot || bit v slot) ≡ false
 set_unset f v slot clear h = ap (λ (b : Bool). f slot || b) clear ∙ or_false (f slot) ∙ h
 
-written_unset : (armed : Bool) (slot : ℕ) (r : PortReg) (v tape : ℕ) (p : DevicePort) → (r ≡ Ci → bit v slot ≡ false) → (armed ≡ true → r ≡ Sact → bit v slot ≡ false) → IsUnset armed p slot → IsUnset armed (port_written r v tape p) slot
+written_unset : (armed : Bool) (slot : ℕ) (r : PortReg) (v tape : ℕ) (p : DevicePort) → (r ≡ Ci → bit v slot ≡ false) → (armed ≡ true → r ≡ Sact → bit v slot ≡ false) → IsUnset armed p slot → IsUnset armed (port_after_write r v tape p) slot
 written_unset armed slot Ci v tape p ci sact h = (set_unset p.ci v slot (ci refl) h.0, h.1, h.2)
 written_unset armed slot Sact v tape p ci sact h = (h.0, h.1, λ a. set_unset p.sact v slot (sact a refl) (h.2 a))
 written_unset armed slot Cmd v tape p ci sact h = command_unset armed slot v tape p h
@@ -95,7 +95,7 @@ access_clear laws port slot access old new ci sact x h =
 -- ---- its request
 
 pub ended_stays : (m : Machine) (steps : List Step) (port : Port) (id : RequestId) → AllByDevice steps → EndedIn m port id → EndedIn (after m steps) port id
-ended_stays m steps port id is h = ⊎_elim booked kept h.moves
+ended_stays m steps port id is h = ⊎_elim booked kept h.may_still_move
   where
     spares : SparesBook m (after m steps)
     spares = steps_spare m steps is
@@ -103,12 +103,12 @@ ended_stays m steps port id is h = ⊎_elim booked kept h.moves
     ended : (x : Pending) → IsFurther h.pending x → MayStillMove (after m steps) x → (NoneQuarantined (after m steps) port → Contains (after m steps).book x) → EndedIn (after m steps) port id
     ended x f moves booked = record {
       pending = x;
-      moves = moves;
+      may_still_move = moves;
       id_is = ap (λ (r : Accepted). r.id) f.request ∙ h.id_is;
       port_is = ap (λ (r : Accepted). r.port) f.request ∙ h.port_is;
       ended = f.ended h.ended;
-      touched = λ i lt. f.touched i (h.touched i (subst (λ (r : Accepted). i < r.asked.count) f.request lt));
-      booked = booked;
+      all_are_touched = λ i lt. f.touched i (h.all_are_touched i (subst (λ (r : Accepted). i < r.asked.count) f.request lt));
+      stands_in_book = booked;
     }
 
     booked : Contains m.book h.pending × (h.pending.issued ≡ true) → EndedIn (after m steps) port id

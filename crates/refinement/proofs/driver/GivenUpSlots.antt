@@ -15,24 +15,24 @@ use Rattle.refinement.specs.Slots.{SlotState, Free, Armed, Own, Serves, SlotStat
 use Rattle.refinement.proofs.relation.OneSlot.{changed_at}
 use Rattle.refinement.proofs.driver.PutSlot.{serves_not_free, serves_same}
 use Rattle.refinement.proofs.device.ClearSactBits.{over_unarmed}
-use Rattle.refinement.specs.GivingUp.{AreSlotsOver, with_request_of_slot, ids_in_slots, with_all_parked}
+use Rattle.refinement.specs.GivingUp.{AreSlotsOver, prepend_slot_request, ids_in_slots, with_all_parked}
 
 -- ---- the requests that are served
 
 -- a slot's request is among them, and so are those that were
-with_here : (u : SlotState) (ids : List RequestId) (id : RequestId) → u ≡ Serves id → Contains (with_request_of_slot u ids) id
+with_here : (u : SlotState) (ids : List RequestId) (id : RequestId) → u ≡ Serves id → Contains (prepend_slot_request u ids) id
 with_here Free ids id e = serves_not_free e refl
 with_here Armed ids id e = absurd (let z : Armed ≡ Serves id = e in cc)
 with_here (Own o) ids id e = absurd (let z : Own o ≡ Serves id = e in cc)
 with_here (Serves other) ids id e = contains_here other ids id (sym (serves_same e))
 
-with_there : (u : SlotState) (ids : List RequestId) (id : RequestId) → Contains ids id → Contains (with_request_of_slot u ids) id
+with_there : (u : SlotState) (ids : List RequestId) (id : RequestId) → Contains ids id → Contains (prepend_slot_request u ids) id
 with_there Free ids id c = c
 with_there Armed ids id c = c
 with_there (Own o) ids id c = c
 with_there (Serves other) ids id c = contains_there other ids id c
 
-with_cases : (u : SlotState) (ids : List RequestId) (id : RequestId) → Contains (with_request_of_slot u ids) id → (u ≡ Serves id) ⊎ Contains ids id
+with_cases : (u : SlotState) (ids : List RequestId) (id : RequestId) → Contains (prepend_slot_request u ids) id → (u ≡ Serves id) ⊎ Contains ids id
 with_cases Free ids id c = inr c
 with_cases Armed ids id c = inr c
 with_cases (Own o) ids id c = inr c
@@ -63,8 +63,8 @@ ids_served uses port (suc n) id c = ⊎_elim
 -- a slot that serves a request is one of 32
 served_below : (uses : SlotStates) (m : Machine) (k : DriverState) (port slot : ℕ) (id : RequestId) → StateRelation uses m k.device → uses port slot ≡ Serves id → slot < 32
 served_below uses m k port slot id a u =
-    let s : ServesRequest m k.device.memory (k.device.port port) port slot id = subst (λ (w : SlotState). RelatesSlot m k.device.memory k.device.tape (k.device.port port) port slot w) u (a.slot port slot) in
-    s.placed.slot_below
+    let s : ServesRequest m k.device.memory (k.device.port port) port slot id = subst (λ (w : SlotState). RelatesSlot m k.device.memory k.device.tape (k.device.port port) port slot w) u (a.relates_slots port slot) in
+    s.list_is_in_place.slot_below
 
 module _ (k : DriverState) (port : ℕ) where
   abbrev now : SlotStates
@@ -102,7 +102,7 @@ module _ (k : DriverState) (port : ℕ) where
 
   module _ (m : Machine) (over : AreSlotsOver k.uses (k.device.port port) port) where
     is_free : StateRelation k.uses m k.device → (slot : ℕ) → IsEmptySlot (k.device.port port) slot
-    is_free a slot = record { issued = (over slot).0.issued; free = (over slot).0.free; unarmed = by (k.uses port slot) refl (a.slot port slot) }
+    is_free a slot = record { issued = (over slot).0.issued; free = (over slot).0.free; unarmed = by (k.uses port slot) refl (a.relates_slots port slot) }
       where
         by : (u : SlotState) → k.uses port slot ≡ u → RelatesSlot m k.device.memory k.device.tape (k.device.port port) port slot u → (k.device.port port).sact slot ≡ false
         by Free e h = h.unarmed
@@ -112,22 +112,22 @@ module _ (k : DriverState) (port : ℕ) where
 
     all_agrees : StateRelation k.uses m k.device → StateRelation now m k.device
     all_agrees a = record {
-      slot = changed_at k.uses port (λ slot. Free) (λ q f. (s : ℕ) → RelatesSlot m k.device.memory k.device.tape (k.device.port q) q s (f s)) (is_free a) (λ q ne. a.slot q);
-      apart = λ p s p' s' id u v. a.apart p s p' s' id (still p s id u).1 (still p' s' id v).1;
-      received = a.received;
-      disk = a.disk;
-      memory = a.memory;
-      sectors = a.sectors;
-      lasting = a.lasting;
+      relates_slots = changed_at k.uses port (λ slot. Free) (λ q f. (s : ℕ) → RelatesSlot m k.device.memory k.device.tape (k.device.port q) q s (f s)) (is_free a) (λ q ne. a.relates_slots q);
+      serve_apart = λ p s p' s' id u v. a.serve_apart p s p' s' id (still p s id u).1 (still p' s' id v).1;
+      received_areas_are_placed = a.received_areas_are_placed;
+      disks_are_same = a.disks_are_same;
+      memory_is_same = a.memory_is_same;
+      sectors_are_same = a.sectors_are_same;
+      has_lasting = a.has_lasting;
     }
 
     pub all_given_up : DriverRelation m k → DriverRelation m (with_all_parked k port)
     all_given_up x = record {
-      agrees = all_agrees x.agrees;
-      have = λ q y may here. ⊎_elim
+      state_relation = all_agrees x.state_relation;
+      have_slots = λ q y may here. ⊎_elim
           (λ (c : Contains (k.parked q) y.request.id). inl (more q y.request.id c))
           (λ (w : (slot : ℕ) × (k.uses q slot ≡ Serves y.request.id)). moved q y.request.id w.0 w.1)
-          (x.have q y may here);
+          (x.have_slots q y may here);
     }
       where
         more : (q : ℕ) (i : RequestId) → Contains (k.parked q) i → Contains ((with_all_parked k port).parked q) i
@@ -136,7 +136,7 @@ module _ (k : DriverState) (port : ℕ) where
 
         moved : (q : ℕ) (i : RequestId) (slot : ℕ) → k.uses q slot ≡ Serves i → Contains ((with_all_parked k port).parked q) i ⊎ ((s : ℕ) × (now q s ≡ Serves i))
         moved q i slot u = ⊎_elim
-            (λ (e : q ≡ port). inl (subst (λ (n : ℕ). Contains ((with_all_parked k port).parked n) i) (sym e) (parks_all m slot i x.agrees (ap (λ (n : ℕ). k.uses n slot) (sym e) ∙ u))))
+            (λ (e : q ≡ port). inl (subst (λ (n : ℕ). Contains ((with_all_parked k port).parked n) i) (sym e) (parks_all m slot i x.state_relation (ap (λ (n : ℕ). k.uses n slot) (sym e) ∙ u))))
             (λ (ne : q ≡ port → ⊥). inr (slot, ap (λ (f : ℕ → SlotState). f slot) (changed_other k.uses port (λ s. Free) q ne) ∙ u))
             (cases_eq q port)
 

@@ -6,7 +6,7 @@ use Rattle.ata_types.specs.declared.Port.{Port}
 use Rattle.hba_regs.specs.declared.reg.PortReg.{PortReg}
 use Rattle.hba_regs.specs.declared.reg.PortReg.TheVariants.{Cmd}
 use Rattle.hba_regs.specs.declared.reg.Reg.TheVariants.{Px}
-use Rattle.adapter.specs.Access.{Access, Does, port_written}
+use Rattle.adapter.specs.Access.{Access, Does, port_after_write}
 use Rattle.adapter.specs.Commands.{is_queued}
 use Rattle.adapter.specs.Device.{Halt, FetchedCommand, DevicePort, Device}
 use Rattle.adapter.specs.Device.Halt.{NotHalted, HaltedPlain, HaltedQueued, LogOnly}
@@ -17,15 +17,15 @@ use Rattle.adapter.specs.declared.command.Operation.TheVariants.{Trim}
 use Rattle.block_machine.specs.Histories.{IsReachable}
 use Rattle.block_machine.specs.Expected as left
 use Rattle.block_machine.specs.State.{Machine}
-use Rattle.refinement.specs.Below.{StepLaws}
+use Rattle.refinement.specs.StepLaws.{StepLaws}
 use Rattle.refinement.specs.Acts.{Act, AreActsDone, accesses_of}
 use Rattle.refinement.specs.Acts.{AccessLeads}
 use Rattle.refinement.specs.Relation.{StateRelation}
 use Rattle.refinement.specs.Driver.{DriverState, DriverRelation}
-use Rattle.refinement.specs.Follows.{SimulatesSteps}
+use Rattle.refinement.specs.Simulation.{SimulatesSteps}
 use Rattle.refinement.specs.Halting.{HaltIsOfTaken, HaltOfTakenIfSt}
 use Rattle.refinement.specs.Links.{DoesNotWrite}
-use Rattle.refinement.specs.Recovering.{WorksPlainly}
+use Rattle.refinement.specs.HaltRecovery.{WorksPlainly}
 use Rattle.refinement.specs.Slots.{SlotStates}
 use Rattle.refinement.proofs.device.FactsOverAccesses.{access_steps, effect_keeps}
 use Rattle.refinement.proofs.steps.FollowedSteps.{step_follows}
@@ -61,41 +61,41 @@ faulted_plain LogOnly other is = absurd (other refl)
 -- without a halt
 pub calm_halts : (p : DevicePort) → p.halt ≡ NotHalted → HaltIsOfTaken p
 calm_halts p is = record {
-  unlogged = λ log. let z : NotHalted ≡ LogOnly = sym is ∙ log in cc;
-  queued = λ queued. absurd (let z : NotHalted ≡ HaltedQueued = sym is ∙ queued in cc);
+  is_not_log_only = λ log. let z : NotHalted ≡ LogOnly = sym is ∙ log in cc;
+  queued_is_taken = λ queued. absurd (let z : NotHalted ≡ HaltedQueued = sym is ∙ queued in cc);
 }
 
 -- working on plain commands alone
 pub plain_halts : (p : DevicePort) → WorksPlainly p → HaltIsOfTaken p
 plain_halts p w = record {
-  unlogged = λ log. let z : LogOnly ≡ NotHalted = sym (ap halt_after_start log) ∙ w.restarts in cc;
-  queued = λ queued. absurd (let z : LogOnly ≡ NotHalted = sym (ap halt_after_start queued) ∙ w.restarts in cc);
+  is_not_log_only = λ log. let z : LogOnly ≡ NotHalted = sym (ap halt_after_start log) ∙ w.start_ends_halt in cc;
+  queued_is_taken = λ queued. absurd (let z : LogOnly ≡ NotHalted = sym (ap halt_after_start queued) ∙ w.start_ends_halt in cc);
 }
 
 -- where nothing is changed that it speaks of
 same_halts : (p new : DevicePort) → new.halt ≡ p.halt → new.taken ≡ p.taken → HaltIsOfTaken p → HaltIsOfTaken new
 same_halts p new halt taken h = record {
-  unlogged = λ log. h.unlogged (sym halt ∙ log);
-  queued = λ queued. let w = h.queued (sym halt ∙ queued) in (w.0, w.1, ap (λ (f : ℕ → Option FetchedCommand). f w.0) taken ∙ w.2, w.3);
+  is_not_log_only = λ log. h.is_not_log_only (sym halt ∙ log);
+  queued_is_taken = λ queued. let w = h.queued_is_taken (sym halt ∙ queued) in (w.0, w.1, ap (λ (f : ℕ → Option FetchedCommand). f w.0) taken ∙ w.2, w.3);
 }
 
 -- where a command works
 working_halts : (p new : DevicePort) (o : Operation) → new.halt ≡ p.halt → admits p.halt o ≡ true → HaltIsOfTaken p → HaltIsOfTaken new
 working_halts p new o halt admitted h = record {
-  unlogged = λ log. h.unlogged (sym halt ∙ log);
-  queued = λ queued. absurd (not_halted p.halt o admitted (sym halt ∙ queued));
+  is_not_log_only = λ log. h.is_not_log_only (sym halt ∙ log);
+  queued_is_taken = λ queued. absurd (not_halted p.halt o admitted (sym halt ∙ queued));
 }
 
 fault_halts : (p new : DevicePort) (slot : ℕ) (t : FetchedCommand) → new.halt ≡ halted p.halt (is_queued t.meaning.operation) → new.taken ≡ p.taken → p.taken slot ≡ Some t → HaltIsOfTaken p → HaltIsOfTaken new
 fault_halts p new slot t halt taken here h = record {
-  unlogged = λ log. faulted_unlogged p.halt (is_queued t.meaning.operation) (sym halt ∙ log);
-  queued = λ queued. by (is_queued t.meaning.operation) refl (sym halt ∙ queued);
+  is_not_log_only = λ log. faulted_unlogged p.halt (is_queued t.meaning.operation) (sym halt ∙ log);
+  queued_is_taken = λ queued. by (is_queued t.meaning.operation) refl (sym halt ∙ queued);
 }
   where
     by : (b : Bool) → is_queued t.meaning.operation ≡ b → halted p.halt (is_queued t.meaning.operation) ≡ HaltedQueued → (slot : ℕ) × (t : FetchedCommand) × (new.taken slot ≡ Some t) × (is_queued t.meaning.operation ≡ true)
     by true kind is = (slot, t, ap (λ (f : ℕ → Option FetchedCommand). f slot) taken ∙ here, kind)
     by false kind is =
-        let w = h.queued (faulted_plain p.halt h.unlogged (ap (halted p.halt) (sym kind) ∙ is)) in
+        let w = h.queued_is_taken (faulted_plain p.halt h.is_not_log_only (ap (halted p.halt) (sym kind) ∙ is)) in
         (w.0, w.1, ap (λ (f : ℕ → Option FetchedCommand). f w.0) taken ∙ w.2, w.3)
 
 -- ---- a step
@@ -131,7 +131,7 @@ steps_halts laws uses m port old new r a s h = leads_halts laws uses m port s.st
 
 -- ---- an access
 
-written_halts : (r : PortReg) (v tape : ℕ) (p : DevicePort) → (r ≡ Cmd → ⊥) → HaltOfTakenIfSt p → HaltOfTakenIfSt (port_written r v tape p)
+written_halts : (r : PortReg) (v tape : ℕ) (p : DevicePort) → (r ≡ Cmd → ⊥) → HaltOfTakenIfSt p → HaltOfTakenIfSt (port_after_write r v tape p)
 written_halts Cmd v tape p other h = absurd (other refl)
 written_halts _ v tape p other h = λ st. same_halts p _ refl refl (h st)
 
@@ -152,9 +152,9 @@ module _ (laws : StepLaws) (port : Port) where
   pub acts_halts : (acts : List Act) (k later : DriverState) (m : Machine) → IsReachable m → DriverRelation m k → AreActsDone acts k m later → All (DoesNotWrite (Px port Cmd)) (accesses_of acts) → HaltOfTakenIfSt (k.device.port port.0)
       → HaltOfTakenIfSt (later.device.port port.0)
   acts_halts acts k later m reached x done all h = done_keeps Holds (λ act. IsOfKind (DoesNotWrite (Px port Cmd)) act.access)
-      (λ z n act r knows is spares. over z n act r knows act.access is.leads spares) acts k later m reached x (acts_of_kind (DoesNotWrite (Px port Cmd)) acts all) done h
+      (λ z n act r knows is spares. over z n act r knows act.access is.access_leads spares) acts k later m reached x (acts_of_kind (DoesNotWrite (Px port Cmd)) acts all) done h
     where
       over : (z : DriverState) (n : Machine) (act : Act) → IsReachable n → DriverRelation n z → (access : Option Access) → AccessLeads access z.device act.later.device → IsOfKind (DoesNotWrite (Px port Cmd)) access
           → Holds z → Holds act.later
       over z n act r knows None same spares here = subst (λ (d : Device). HaltOfTakenIfSt (d.port port.0)) (sym same) here
-      over z n act r knows (Some access) does spares here = access_halts laws z.uses n port access z.device act.later.device r knows.agrees spares does here
+      over z n act r knows (Some access) does spares here = access_halts laws z.uses n port access z.device act.later.device r knows.state_relation spares does here

@@ -7,25 +7,25 @@ use Rattle.hba_regs.specs.declared.reg.PortReg.TheVariants as px
 use Rattle.adapter.specs.Access.{Writes, written}
 use Rattle.adapter.specs.Device as device
 use Rattle.adapter.specs.Device.{Device}
-use Rattle.adapter.specs.Kept.{Keeps, KeepsOutsideReset}
+use Rattle.adapter.specs.KeptBySteps.{Keeps, KeepsOutsideReset}
 use Rattle.adapter.specs.Steps.{Steps, with_port}
 use Rattle.adapter.specs.declared.command.Operation.{Operation}
 use Rattle.adapter.specs.declared.tape.Entry.{Entry}
 use Rattle.adapter.proofs.KeptLemmas.{law_step_lists_keep_what_steps_keep}
 use Rattle.block_machine.specs.declared.due.QueueMode.{QueueMode}
 use Rattle.block_machine.specs.State.{Pending, Machine}
-use Rattle.block_machine.specs.Steps.{Step, Accept, Issue, Touch, End, Age, Again, Answer, Revoke, Release, Unplug, Replace, Store, Load}
+use Rattle.block_machine.specs.Steps.{Step, Accept, Issue, Touch, End, Age, WaitAgain, Answer, Revoke, Release, Unplug, Replace, Store, Load}
 use Rattle.block_machine.specs.Events.{IsByDevice}
 use Rattle.block_machine.specs.Expected as left
 use Rattle.block_machine.specs.Expected.{StepIsFaithful}
 use Rattle.refinement.specs.Tape.{PutsInDisks}
 use Rattle.block_machine.specs.Histories.{IsReachable, IsSimulatedBySteps}
-use Rattle.refinement.specs.Places.{scratch_of}
-use Rattle.refinement.specs.Slots.{SlotState, Free, Own, Serves, SlotStates, put, Armed}
+use Rattle.refinement.specs.MemoryLayout.{scratch_of}
+use Rattle.refinement.specs.Slots.{SlotState, Free, Own, Serves, SlotStates, set_slot_state, Armed}
 use Rattle.refinement.specs.Relation.{StateRelation}
-use Rattle.refinement.specs.Driven.{IsSoleBit}
-use Rattle.refinement.specs.Driver.{DriverState, DriverRelation, IsBacked, ByDevice, DriverAdvances, IsPrepared, IsOwnPrepared, serving, KeepsTables}
-use Rattle.refinement.specs.Follows.{SimulatesSteps}
+use Rattle.refinement.specs.Fragments.{IsSoleBit}
+use Rattle.refinement.specs.Driver.{DriverState, DriverRelation, IsBacked, IsBackedByDeviceAlone, DriverAdvances, IsPrepared, IsOwnPrepared, with_slot_serving, KeepsTables}
+use Rattle.refinement.specs.Simulation.{SimulatesSteps}
 use Rattle.refinement.proofs.driver.AddedSteps.{backed, nothing_backed}
 use Rattle.refinement.proofs.steps.FollowedSteps.{steps_follow}
 use Rattle.refinement.proofs.steps.UnusedSlots.{steps_leave}
@@ -39,31 +39,31 @@ pub own_prepared_stays : (uses : SlotStates) (m : Machine) (old mid : Device) (p
     Steps old mid → IsOwnPrepared uses old port o v → IsOwnPrepared uses mid port o v
 own_prepared_stays uses m old mid port o v r a calm s x =
     let k : Keeps old mid = law_step_lists_keep_what_steps_keep s in
-    let c : KeepsOutsideReset old mid = k.on calm in
-    let list : (mid.port port).bases.clb ≡ (old.port port).bases.clb = ap (λ (b : device.Bases). b.clb) (k.port port).bases in
+    let c : KeepsOutsideReset old mid = k.keeps_outside_reset calm in
+    let list : (mid.port port).bases.clb ≡ (old.port port).bases.clb = ap (λ (b : device.Bases). b.clb) (k.ports_are_kept port).bases in
     let l : KeepsTables uses old mid = steps_leave uses m old mid r a calm s in
     record {
       own = x.own;
       free = x.free;
-      started = (c.controls port).st ∙ x.started;
-      placed = placed_on (old.port port) (mid.port port) port 0 list x.placed;
+      st_is_set = (c.controls port).st ∙ x.st_is_set;
+      list_is_in_place = placed_on (old.port port) (mid.port port) port 0 list x.list_is_in_place;
       command = x.command;
       operation_is = x.operation_is;
-      told = told_on old.memory mid.memory (old.port port).bases.clb (mid.port port).bases.clb port 0 x.command (scratch_of port ∷ []) x.placed.list list (λ at t. l.tables port 0 at x.placed.port_below x.placed.slot_below t) x.told;
-      known = subst (λ (t : List Entry). (mid.port port).notes.st_set_at ≤ length t) (sym k.tape)
-          (known_on old.tape k.gained (mid.port port).notes.st_set_at (let s : (mid.port port).notes.st_set_at ≡ (old.port port).notes.st_set_at = ap (λ (w : device.Notes). w.st_set_at) (k.notes port) in let h = x.known in omega (arith, s, h)));
-      here = x.here;
-      alone = x.alone;
+      slot_decodes_to = told_on old.memory mid.memory (old.port port).bases.clb (mid.port port).bases.clb port 0 x.command (scratch_of port ∷ []) x.list_is_in_place.list list (λ at t. l.tables port 0 at x.list_is_in_place.port_below x.list_is_in_place.slot_below t) x.slot_decodes_to;
+      st_set_is_on_tape = subst (λ (t : List Entry). (mid.port port).notes.st_set_at ≤ length t) (sym k.tape_grows)
+          (known_on old.tape k.new_entries (mid.port port).notes.st_set_at (let s : (mid.port port).notes.st_set_at ≡ (old.port port).notes.st_set_at = ap (λ (w : device.Notes). w.st_set_at) (k.notes_are_kept port) in let h = x.st_set_is_on_tape in omega (arith, s, h)));
+      bit_is_set = x.bit_is_set;
+      no_other_bit_is_set = x.no_other_bit_is_set;
     }
 
 -- a step of the driver's own, with no access
 pub own_backed : (d : Device) (m : Machine) (step : Step) → (IsByDevice step → ⊥) → IsBacked d d m (step ∷ [])
 own_backed d m step own = record {
   telling = refl;
-  gained = [];
-  tape = sym (append-nil d.tape);
-  tells = (tt, own);
-  told = λ _. (tt, told step own);
+  new_entries = [];
+  tape_is = sym (append-nil d.tape);
+  tells_device_steps = (tt, own);
+  steps_are_faithful = λ _. (tt, told step own);
   plugged = λ q. ([], sym (append-nil (d.port q).plugged), puts step own q);
 }
   where
@@ -75,7 +75,7 @@ own_backed d m step own = record {
     told (Accept r) o = tt
     told (Issue mode e) o = tt
     told (Age ready) o = tt
-    told (Again e) o = tt
+    told (WaitAgain e) o = tt
     told (Answer e outcome) o = tt
     told (Revoke client number) o = tt
     told Release o = tt
@@ -90,7 +90,7 @@ own_backed d m step own = record {
     puts (Accept r) o q = refl
     puts (Issue mode e) o q = refl
     puts (Age ready) o q = refl
-    puts (Again e) o q = refl
+    puts (WaitAgain e) o q = refl
     puts (Answer e outcome) o q = refl
     puts (Revoke client number) o q = refl
     puts Release o q = refl
@@ -103,34 +103,34 @@ own_backed d m step own = record {
 backed_on : (old mid : Device) (m : Machine) (steps : List Step) (port : ℕ) (p : device.DevicePort) → p.plugged ≡ (mid.port port).plugged → IsBacked old mid m steps → IsBacked old (with_port mid port p) m steps
 backed_on old mid m steps port p same b = record {
   telling = b.telling;
-  gained = b.gained;
-  tape = b.tape;
-  tells = b.tells;
-  told = b.told;
+  new_entries = b.new_entries;
+  tape_is = b.tape_is;
+  tells_device_steps = b.tells_device_steps;
+  steps_are_faithful = b.steps_are_faithful;
   plugged = λ q. let z = b.plugged q in (z.0, same_plugged mid port p same q ∙ z.1, z.2);
 }
 
 -- a slot is armed: no step of the machine
 pub bit_arms : (k : DriverState) (m : Machine) (port : Port) (slot v : ℕ) → DriverRelation m k → k.uses port.0 slot ≡ Free → (k.device.port port.0).st ≡ true → IsSoleBit slot v →
-    DriverAdvances k m [] (record k { uses = put k.uses port.0 slot Armed; device = written (Px port px.Sact) v k.device })
+    DriverAdvances k m [] (record k { uses = set_slot_state k.uses port.0 slot Armed; device = written (Px port px.Sact) v k.device })
 bit_arms k m port slot v knows free st sole = record {
-  may = tt;
-  backed = backed_on k.device k.device m [] port.0 _ refl (nothing_backed k.device m);
-  knows = record {
-    agrees = arming_agrees k.uses m k.device knows.agrees port.0 slot v free st sole.here sole.alone;
-    have = λ q. put_have k.uses m port.0 slot Armed q (k.parked q) (λ id u. absurd (let z : Free ≡ Serves id = sym free ∙ u in cc)) (knows.have q);
+  steps_are_enabled = tt;
+  is_backed = backed_on k.device k.device m [] port.0 _ refl (nothing_backed k.device m);
+  driver_relation = record {
+    state_relation = arming_agrees k.uses m k.device knows.state_relation port.0 slot v free st sole.bit_is_set sole.no_other_bit_is_set;
+    have_slots = λ q. put_have k.uses m port.0 slot Armed q (k.parked q) (λ id u. absurd (let z : Free ≡ Serves id = sym free ∙ u in cc)) (knows.have_slots q);
   };
 }
 
 -- a request is issued
 pub bit_issues : (k : DriverState) (m : Machine) (port : Port) (slot : ℕ) (mode : QueueMode) (e : Pending) (v : ℕ) → IsReachable m → DriverRelation m k → IsPrepared k.uses m k.device port.0 slot mode e v →
-    DriverAdvances k m (Issue mode e ∷ []) (serving k port.0 slot e.request.id (written (Px port px.Ci) v k.device))
+    DriverAdvances k m (Issue mode e ∷ []) (with_slot_serving k port.0 slot e.request.id (written (Px port px.Ci) v k.device))
 bit_issues k m port slot mode e v reached knows x = record {
-  may = (tt, x.may);
-  backed = backed_on k.device k.device m (Issue mode e ∷ []) port.0 _ refl (own_backed k.device m (Issue mode e) (λ z. z));
-  knows = record {
-    agrees = issue_agrees k.uses m k.device reached knows.agrees port.0 slot mode e v x;
-    have = λ q. issue_have k.uses m k.device reached knows.agrees port.0 slot mode e v x q (k.parked q) (knows.have q);
+  steps_are_enabled = (tt, x.may);
+  is_backed = backed_on k.device k.device m (Issue mode e ∷ []) port.0 _ refl (own_backed k.device m (Issue mode e) (λ z. z));
+  driver_relation = record {
+    state_relation = issue_agrees k.uses m k.device reached knows.state_relation port.0 slot mode e v x;
+    have_slots = λ q. issue_have k.uses m k.device reached knows.state_relation port.0 slot mode e v x q (k.parked q) (knows.have_slots q);
   };
 }
 
@@ -138,19 +138,19 @@ bit_issues k m port slot mode e v reached knows x = record {
 
 -- a command of the driver's own is issued: no step of the machine
 pub own_adds : (k : DriverState) (port : Port) (o : Operation) (v : ℕ) (new : Device) → k.device.hr ≡ false → IsOwnPrepared k.uses k.device port.0 o v → Writes (Px port px.Ci) v k.device new →
-    IsSimulatedBySteps DriverRelation k (record k { uses = put k.uses port.0 0 (Own o); device = new }) (ByDevice k.device new)
+    IsSimulatedBySteps DriverRelation k (record k { uses = set_slot_state k.uses port.0 0 (Own o); device = new }) (IsBackedByDeviceAlone k.device new)
 own_adds k port o v new calm x call = record {
-  adds = λ m r knows.
-      let f : SimulatesSteps k.uses m k.device call.mid = steps_follow k.uses m k.device call.mid r knows.agrees call.steps in
-      let y : IsOwnPrepared k.uses call.mid port.0 o v = own_prepared_stays k.uses m k.device call.mid port.0 o v r knows.agrees calm call.steps x in
-      let g : SimulatesSteps (put k.uses port.0 0 (Own o)) m k.device new = write_effect k.uses (put k.uses port.0 0 (Own o)) m (Px port px.Ci) v k.device new call f (own_agrees k.uses (left.after m f.steps) call.mid f.agrees port.0 o v y) in (
+  simulates = λ m r knows.
+      let f : SimulatesSteps k.uses m k.device call.mid = steps_follow k.uses m k.device call.mid r knows.state_relation call.steps in
+      let y : IsOwnPrepared k.uses call.mid port.0 o v = own_prepared_stays k.uses m k.device call.mid port.0 o v r knows.state_relation calm call.steps x in
+      let g : SimulatesSteps (set_slot_state k.uses port.0 0 (Own o)) m k.device new = write_effect k.uses (set_slot_state k.uses port.0 0 (Own o)) m (Px port px.Ci) v k.device new call f (own_agrees k.uses (left.after m f.steps) call.mid f.agrees port.0 o v y) in (
         g.steps,
         g.may,
         record {
-          agrees = g.agrees;
-          have = λ q. follows_have (put k.uses port.0 0 (Own o)) m k.device new g q (k.parked q) (put_have k.uses m port.0 0 (Own o) q (k.parked q) (λ id u. free_serves x.free u) (knows.have q));
+          state_relation = g.agrees;
+          have_slots = λ q. follows_have (set_slot_state k.uses port.0 0 (Own o)) m k.device new g q (k.parked q) (put_have k.uses m port.0 0 (Own o) q (k.parked q) (λ id u. free_serves x.free u) (knows.have_slots q));
         },
-        record { backed = backed (put k.uses port.0 0 (Own o)) m k.device new g; only = tells_device m g.gained g.steps g.tells },
+        record { is_backed = backed (set_slot_state k.uses port.0 0 (Own o)) m k.device new g; only = tells_device m g.new_entries g.steps g.tape_tells_steps },
       );
 }
   where

@@ -5,10 +5,10 @@ use Rattle.std.proofs.lemmas.List.Elements.{Contains-append_left}
 use Rattle.ata_types.specs.declared.Port.{Port}
 use Rattle.ata_types.specs.declared.request.RequestId.{RequestId}
 use Rattle.block_machine.specs.State.{Pending, Machine}
-use Rattle.block_machine.specs.Steps.{Step, Accept, Issue, Touch, End, Age, Again, Answer, Release, NoneQuarantined, after_step, newly_accepted, newly_issued, touch, mark_ended, older, requeued, stays}
+use Rattle.block_machine.specs.Steps.{Step, Accept, Issue, Touch, End, Age, WaitAgain, Answer, Release, NoneQuarantined, after_step, newly_accepted, newly_issued, touch, mark_ended, aged_pending, requeued, is_kept_at_answer}
 use Rattle.block_machine.proofs.Members.{into_map, contains_there}
 use Rattle.refinement.specs.PortFacts.{EndedIn}
-use Rattle.refinement.specs.Spares.{IsOfAnother}
+use Rattle.refinement.specs.SparedBook.{IsOfAnother}
 use Rattle.refinement.proofs.driver.OwnSteps.{older_is, without_into}
 use Rattle.refinement.proofs.relation.TouchesAndEnds.{into_other}
 
@@ -20,18 +20,18 @@ stays_booked m (Issue mode x) e other tick here = into_other newly_issued x.requ
 stays_booked m (Touch x i block) e other tick here = into_other (touch i) x.request.id m.book e (λ same. other (sym same)) here
 stays_booked m (End x) e other tick here = into_other mark_ended x.request.id m.book e (λ same. other (sym same)) here
 stays_booked m (Age ready) e other tick here = absurd (tick ready refl)
-stays_booked m (Again x) e other tick here = into_other requeued x.request.id m.book e (λ same. other (sym same)) here
+stays_booked m (WaitAgain x) e other tick here = into_other requeued x.request.id m.book e (λ same. other (sym same)) here
 stays_booked m (Answer x outcome) e other tick here = without_into x.request.id m.book e (λ same. other (sym same)) here
 stays_booked m _ e other tick here = here
 
-pub ages : (m : Machine) (ready : Port → Bool) (e : Pending) → Contains m.book e → Contains (after_step m (Age ready)).book (older ready e)
-ages m ready e here = into_map (older ready) m.book e here
+pub ages : (m : Machine) (ready : Port → Bool) (e : Pending) → Contains m.book e → Contains (after_step m (Age ready)).book (aged_pending ready e)
+ages m ready e here = into_map (aged_pending ready) m.book e here
 
 pub stays_kept : (m : Machine) (step : Step) (e : Pending) → IsOfAnother e.request.id step → step ≢ Release → Contains m.kept e → Contains (after_step m step).kept e
 stays_kept m (Touch x i block) e other more here = into_other (touch i) x.request.id m.kept e (λ same. other (sym same)) here
 stays_kept m (End x) e other more here = into_other mark_ended x.request.id m.kept e (λ same. other (sym same)) here
 stays_kept m Release e other more here = absurd (more refl)
-stays_kept m (Answer x outcome) e other more here = by (stays x outcome)
+stays_kept m (Answer x outcome) e other more here = by (is_kept_at_answer x outcome)
   where
     by : (b : Bool) → Contains (if b then x ∷ m.kept else m.kept) e
     by true = contains_there x m.kept e here
@@ -42,7 +42,7 @@ stays_kept m _ e other more here = here
 
 -- perhaps a tick older
 stays_aged : (m : Machine) (step : Step) (e : Pending) → IsOfAnother e.request.id step → Contains m.book e → (age : ℕ) × Contains (after_step m step).book (record e { age = age })
-stays_aged m (Age ready) e other here = ((older ready e).age, subst (λ (y : Pending). Contains (map (older ready) m.book) y) (older_is ready e) (ages m ready e here))
+stays_aged m (Age ready) e other here = ((aged_pending ready e).age, subst (λ (y : Pending). Contains (map (aged_pending ready) m.book) y) (older_is ready e) (ages m ready e here))
 stays_aged m step e other here = (e.age, stays_booked m step e other (λ ready same. absurd cc) here)
 
 pub stays_ended : (m : Machine) (step : Step) (port : Port) (id : RequestId) → IsOfAnother id step → step ≢ Release → EndedIn m port id → EndedIn (after_step m step) port id
@@ -51,25 +51,25 @@ stays_ended m step port id other more h = ⊎_elim
     let q = stays_aged m step h.pending its z.0 in
     record {
       pending = record h.pending { age = q.0 };
-      moves = inl (q.1, z.1);
+      may_still_move = inl (q.1, z.1);
       id_is = h.id_is;
       port_is = h.port_is;
       ended = h.ended;
-      touched = h.touched;
-      booked = λ none. q.1;
+      all_are_touched = h.all_are_touched;
+      stands_in_book = λ none. q.1;
     })
     (λ (z : Contains m.kept h.pending).
     let k = stays_kept m step h.pending its more z in
     record {
       pending = h.pending;
-      moves = inr k;
+      may_still_move = inr k;
       id_is = h.id_is;
       port_is = h.port_is;
       ended = h.ended;
-      touched = h.touched;
-      booked = λ none. absurd (none h.pending k h.port_is);
+      all_are_touched = h.all_are_touched;
+      stands_in_book = λ none. absurd (none h.pending k h.port_is);
     })
-    h.moves
+    h.may_still_move
   where
     its : IsOfAnother h.pending.request.id step
     its = subst (λ (i : RequestId). IsOfAnother i step) (sym h.id_is) other
@@ -77,13 +77,13 @@ stays_ended m step port id other more h = ⊎_elim
 pub ended_released : (m : Machine) (port : Port) (id : RequestId) → NoneQuarantined m port → EndedIn m port id → EndedIn (after_step m Release) port id
 ended_released m port id none h = record {
   pending = h.pending;
-  moves = ⊎_elim
+  may_still_move = ⊎_elim
       (λ (z : Contains m.book h.pending × (h.pending.issued ≡ true)). inl z)
       (λ (k : Contains m.kept h.pending). absurd (none h.pending k h.port_is))
-      h.moves;
+      h.may_still_move;
   id_is = h.id_is;
   port_is = h.port_is;
   ended = h.ended;
-  touched = h.touched;
-  booked = λ _. h.booked none;
+  all_are_touched = h.all_are_touched;
+  stands_in_book = λ _. h.stands_in_book none;
 }

@@ -11,7 +11,7 @@ use Rattle.block_machine.specs.State.{Pending, Machine}
 use Rattle.block_machine.specs.Steps.{MayStillMove}
 use Rattle.refinement.specs.Relation.{StateRelation}
 use Rattle.refinement.specs.PortFacts.{ShowsFault}
-use Rattle.refinement.specs.Slots.{SlotState, Free, Armed, Own, Serves, SlotStates, Stage, OwnWaits, OwnTaken, OwnOver, IsOver, ServesRequest, RelatesSlot}
+use Rattle.refinement.specs.Slots.{SlotState, Free, Armed, Own, Serves, SlotStates, IsInSomeStage, OwnAwaitsFetch, OwnIsTaken, OwnIsOver, IsOver, ServesRequest, RelatesSlot}
 use Rattle.refinement.proofs.device.FaultedPort.{fault_has_a_use}
 use Rattle.refinement.proofs.steps.StillFrames.{over_unused}
 use Rattle.refinement.specs.GivingUp.{IsOutstanding}
@@ -26,41 +26,41 @@ module _ (uses : SlotStates) (m : Machine) (d : Device) (port slot : ℕ) (a : S
   unused issued free = absurd (over_unused (d.port port) slot (record { issued = issued; free = free }) used)
 
   pub used_outstanding : IsOutstanding uses m (d.port port) port slot
-  used_outstanding = by (uses port slot) refl (a.slot port slot)
+  used_outstanding = by (uses port slot) refl (a.relates_slots port slot)
     where
       by : (u : SlotState) → uses port slot ≡ u → RelatesSlot m d.memory d.tape (d.port port) port slot u → IsOutstanding uses m (d.port port) port slot
       by Free e h = unused h.issued h.free
       by Armed e h = unused h.issued h.free
       by (Own o) e h = record {
-        below = h.placed.slot_below;
-        whose = inl (o, e, h.head);
-        shown = λ st. inl (of st h.stage);
+        below = h.list_is_in_place.slot_below;
+        is_own_or_unended = inl (o, e, h.slot_is_0);
+        bit_is_set_while_st = λ st. inl (of st h.stage);
       }
         where
-          of : (d.port port).st ≡ true → OwnWaits (d.port port) slot ⊎ (OwnTaken d.memory d.tape (d.port port) port slot h.command ⊎ OwnOver d.memory d.tape (d.port port) port slot h.command) → (d.port port).ci slot ≡ true
+          of : (d.port port).st ≡ true → OwnAwaitsFetch (d.port port) slot ⊎ (OwnIsTaken d.memory d.tape (d.port port) port slot h.command ⊎ OwnIsOver d.memory d.tape (d.port port) port slot h.command) → (d.port port).ci slot ≡ true
           of st (inl w) = w.issued
           of st (inr (inl x)) = x.issued ∙ st
           of st (inr (inr x)) = unused x.over.issued x.over.free
       by (Serves id) e h = record {
-        below = h.placed.slot_below;
-        whose = inr (id, e, record { pending = h.pending; moves = h.moves; id_is = h.id_is; port_is = h.port_is; unended = of h.stage });
-        shown = λ st. bits st h.stage;
+        below = h.list_is_in_place.slot_below;
+        is_own_or_unended = inr (id, e, record { pending = h.pending; may_still_move = h.may_still_move; id_is = h.id_is; port_is = h.port_is; unended = of h.stage });
+        bit_is_set_while_st = λ st. bits st h.stage;
       }
         where
-          of : Stage d.memory (d.port port) port slot h.pending h.command h.places → h.pending.ended ≡ false
+          of : IsInSomeStage d.memory (d.port port) port slot h.pending h.command h.places → h.pending.ended ≡ false
           of (inl w) = w.unended
           of (inr (inl x)) = x.unended
           of (inr (inr (inl x))) = unused x.issued x.free
           of (inr (inr (inr x))) = x.unended
 
-          bits : (d.port port).st ≡ true → Stage d.memory (d.port port) port slot h.pending h.command h.places → ((d.port port).ci slot ≡ true) ⊎ ((d.port port).sact slot ≡ true)
+          bits : (d.port port).st ≡ true → IsInSomeStage d.memory (d.port port) port slot h.pending h.command h.places → ((d.port port).ci slot ≡ true) ⊎ ((d.port port).sact slot ≡ true)
           bits st (inl w) = inl w.issued
           bits st (inr (inl x)) = one_bit (is_queued h.command.operation) ((d.port port).ci slot) ((d.port port).sact slot) (d.port port).st x.issued x.sact st
           bits st (inr (inr (inl x))) = unused x.issued x.free
           bits st (inr (inr (inr x))) = unused x.issued x.free
 
 pub shown_outstanding : (uses : SlotStates) (m : Machine) (d : Device) (port : ℕ) (entries : List Entry) → StateRelation uses m d → (s : ShowsFault entries (d.port port) port) → IsOutstanding uses m (d.port port) port s.fault.slot.0
-shown_outstanding uses m d port entries a s = used_outstanding uses m d port s.fault.slot.0 a s.used
+shown_outstanding uses m d port entries a s = used_outstanding uses m d port s.fault.slot.0 a s.slot_is_in_use
 
 pub sole_fault : (uses : SlotStates) (m : Machine) (d : Device) (port slot : ℕ) (entries : List Entry) → StateRelation uses m d → (s : ShowsFault entries (d.port port) port) → ((other : ℕ) → other ≢ slot → uses port other ≡ Free) → s.fault.slot.0 ≡ slot
 sole_fault uses m d port slot entries a s alone = ⊎_elim
@@ -71,7 +71,7 @@ sole_fault uses m d port slot entries a s alone = ⊎_elim
 -- ---- a port with ST 0
 
 pub stopped_clear : (uses : SlotStates) (m : Machine) (d : Device) (port slot : ℕ) → StateRelation uses m d → (d.port port).st ≡ false → ((d.port port).ci slot ≡ false) × ((d.port port).sact slot ≡ false)
-stopped_clear uses m d port slot a st = by (uses port slot) (a.slot port slot)
+stopped_clear uses m d port slot a st = by (uses port slot) (a.relates_slots port slot)
   where
     masked : (b c : Bool) → b ≡ (d.port port).st && c → b ≡ false
     masked b c is = is ∙ ap (λ (x : Bool). x && c) st
@@ -81,13 +81,13 @@ stopped_clear uses m d port slot a st = by (uses port slot) (a.slot port slot)
     by Armed h = (h.issued, h.armed ∙ st)
     by (Own o) h = (of h.stage, h.unqueued)
       where
-        of : OwnWaits (d.port port) slot ⊎ (OwnTaken d.memory d.tape (d.port port) port slot h.command ⊎ OwnOver d.memory d.tape (d.port port) port slot h.command) → (d.port port).ci slot ≡ false
+        of : OwnAwaitsFetch (d.port port) slot ⊎ (OwnIsTaken d.memory d.tape (d.port port) port slot h.command ⊎ OwnIsOver d.memory d.tape (d.port port) port slot h.command) → (d.port port).ci slot ≡ false
         of (inl w) = absurd (both_ways _ st w.started)
         of (inr (inl t)) = t.issued ∙ st
         of (inr (inr x)) = x.over.issued
     by (Serves id) h = of h.stage
       where
-        of : Stage d.memory (d.port port) port slot h.pending h.command h.places → ((d.port port).ci slot ≡ false) × ((d.port port).sact slot ≡ false)
+        of : IsInSomeStage d.memory (d.port port) port slot h.pending h.command h.places → ((d.port port).ci slot ≡ false) × ((d.port port).sact slot ≡ false)
         of (inl w) = absurd (both_ways _ st w.started)
         of (inr (inl t)) = (masked ((d.port port).ci slot) (not (is_queued h.command.operation)) t.issued, masked ((d.port port).sact slot) (is_queued h.command.operation) t.sact)
         of (inr (inr (inl x))) = (x.issued, x.sact)
@@ -96,10 +96,10 @@ stopped_clear uses m d port slot a st = by (uses port slot) (a.slot port slot)
 pub over_decided : (uses : SlotStates) (m : Machine) (d : Device) (port slot : ℕ) (id : RequestId) → StateRelation uses m d → uses port slot ≡ Serves id → IsOver (d.port port) slot →
     (e : Pending) × MayStillMove m e × (e.request.id ≡ id) × ((e.ended ≡ true) ⊎ (((d.port port).st ≡ false) × (e.ended ≡ false)))
 over_decided uses m d port slot id a u over =
-    let h : ServesRequest m d.memory (d.port port) port slot id = subst (λ (w : SlotState). RelatesSlot m d.memory d.tape (d.port port) port slot w) u (a.slot port slot) in
-    (h.pending, h.moves, h.id_is, of h h.stage)
+    let h : ServesRequest m d.memory (d.port port) port slot id = subst (λ (w : SlotState). RelatesSlot m d.memory d.tape (d.port port) port slot w) u (a.relates_slots port slot) in
+    (h.pending, h.may_still_move, h.id_is, of h h.stage)
   where
-    of : (h : ServesRequest m d.memory (d.port port) port slot id) → Stage d.memory (d.port port) port slot h.pending h.command h.places → (h.pending.ended ≡ true) ⊎ (((d.port port).st ≡ false) × (h.pending.ended ≡ false))
+    of : (h : ServesRequest m d.memory (d.port port) port slot id) → IsInSomeStage d.memory (d.port port) port slot h.pending h.command h.places → (h.pending.ended ≡ true) ⊎ (((d.port port).st ≡ false) × (h.pending.ended ≡ false))
     of h (inl w) = absurd (both_ways _ over.issued w.issued)
     of h (inr (inl t)) = absurd (none-some _ (sym over.free ∙ t.taken))
     of h (inr (inr (inl x))) = inl x.ended

@@ -16,13 +16,13 @@ use Rattle.adapter.specs.Memory.{changed}
 use Rattle.adapter.proofs.Changed.{changed_same}
 use Rattle.block_machine.specs.State.{Accepted, Pending, Machine, DiskBytes, Memory}
 use Rattle.block_machine.specs.Histories.{IsReachable}
-use Rattle.block_machine.specs.Steps.{Accept, Answer, Again, Age, Release, MayStillMove, after_step, at, without, newly_accepted, older, requeued, stays, Revoke}
+use Rattle.block_machine.specs.Steps.{Accept, Answer, WaitAgain, Age, Release, MayStillMove, after_step, update_pending, without_pending, newly_accepted, aged_pending, requeued, is_kept_at_answer, Revoke}
 use Rattle.block_machine.proofs.Members.{map_in, into_map, at_cases, without_in, contains_here, contains_there, contains_cases, contains_none, append_in}
 use Rattle.block_machine.proofs.Sound.{Sound}
 use Rattle.block_machine.proofs.Standing.{standing}
-use Rattle.refinement.specs.Slots.{SlotState, Free, Own, Serves, SlotStates, put, Progress, Stage, IsOver, RelatesSlot, Armed, IsArmed}
+use Rattle.refinement.specs.Slots.{SlotState, Free, Own, Serves, SlotStates, set_slot_state, TouchedAsMoved, IsInSomeStage, IsOver, RelatesSlot, Armed, IsArmed}
 use Rattle.refinement.specs.Relation.{StateRelation, port_at}
-use Rattle.refinement.specs.Driver.{DriverState, DriverRelation, HasNoSlot, ForgetsAtMost, ForgetsAtMostKept, parking, freeing}
+use Rattle.refinement.specs.Driver.{DriverState, DriverRelation, HasNoSlot, ForgetsAtMost, ForgetsAtMostKept, with_slot_parked, with_slot_freed}
 use Rattle.refinement.proofs.relation.LastingSectors.{gains_none, keeps_same, lasting_on}
 use Rattle.refinement.proofs.relation.OneSlot.{sectors_on, changed_at}
 use Rattle.refinement.proofs.device.ClearSactBits.{over_unarmed}
@@ -36,13 +36,13 @@ use Rattle.ata_types.specs.declared.request.ClientId.{ClientId}
 
 -- another form of a request that asks the same and is as far
 module _ (memory : ℕ → ℕ) (p : DevicePort) (port slot : ℕ) (e : Pending) (c : Meaning) (places : List ℕ) (issues age : ℕ) (issued : Bool) where
-  progress_of : (op : Op) (t : FetchedCommand) → Progress op memory port e t → Progress op memory port (record e { issues = issues; age = age; issued = issued }) t
+  progress_of : (op : Op) (t : FetchedCommand) → TouchedAsMoved op memory port e t → TouchedAsMoved op memory port (record e { issues = issues; age = age; issued = issued }) t
   progress_of Read t h = h
   progress_of Write t h = h
   progress_of Trim t h = h
   progress_of Flush t h = h
 
-  stage_of : Stage memory p port slot e c places → Stage memory p port slot (record e { issues = issues; age = age; issued = issued }) c places
+  stage_of : IsInSomeStage memory p port slot e c places → IsInSomeStage memory p port slot (record e { issues = issues; age = age; issued = issued }) c places
   stage_of (inl w) = inl (record { started = w.started; issued = w.issued; free = w.free; sact = w.sact; block = w.block; untouched = w.untouched; unended = w.unended })
   stage_of (inr (inl t)) = inr (inl (record { command = t.command; taken = t.taken; meaning = t.meaning; places_are = t.places_are; running = t.running; issued = t.issued; sact = t.sact; progress = progress_of e.request.asked.op t.command t.progress; unended = t.unended }))
   stage_of (inr (inr (inl x))) = inr (inr (inl (record { issued = x.issued; sact = x.sact; free = x.free; ended = x.ended; touched = x.touched })))
@@ -64,16 +64,16 @@ served_goes m m' d p port slot Free goes h = h
 served_goes m m' d p port slot Armed goes h = h
 served_goes m m' d p port slot (Own o) goes h = h
 served_goes m m' d p port slot (Serves id) goes h =
-    let g = goes id refl h.pending h.id_is h.moves in
+    let g = goes id refl h.pending h.id_is h.may_still_move in
     record {
       pending = record h.pending { issues = g.issues; age = g.age; issued = g.issued };
-      moves = g.moves;
+      may_still_move = g.moves;
       id_is = h.id_is;
       port_is = h.port_is;
-      placed = h.placed;
+      list_is_in_place = h.list_is_in_place;
       command = h.command;
       places = h.places;
-      told = h.told;
+      slot_decodes_to = h.slot_decodes_to;
       means = h.means;
       stage = stage_of d.memory p port slot h.pending h.command h.places g.issues g.age g.issued h.stage;
     }
@@ -82,28 +82,28 @@ served_goes m m' d p port slot (Serves id) goes h =
 pub agrees_on : (uses : SlotStates) (m m' : Machine) (d : Device) → StateRelation uses m d → SameWorld m m' →
     ((q k : ℕ) (id : RequestId) → uses q k ≡ Serves id → (e : Pending) → e.request.id ≡ id → MayStillMove m e → GoesOn m m' e) → StateRelation uses m' d
 agrees_on uses m m' d a world goes = record {
-  slot = λ q k. served_goes m m' d (d.port q) q k (uses q k) (goes q k) (a.slot q k);
-  apart = a.apart;
-  received = a.received;
-  disk = λ q. record {
-    present = ap (λ (f : Port → Bool). f (port_at q)) world.present ∙ (a.disk q).present;
-    id = ap (λ (f : Port → ℕ). f (port_at q)) world.ids ∙ (a.disk q).id;
-    size = ap (λ (f : Port → ℕ). f (port_at q)) world.sizes ∙ (a.disk q).size;
+  relates_slots = λ q k. served_goes m m' d (d.port q) q k (uses q k) (goes q k) (a.relates_slots q k);
+  serve_apart = a.serve_apart;
+  received_areas_are_placed = a.received_areas_are_placed;
+  disks_are_same = λ q. record {
+    present = ap (λ (f : Port → Bool). f (port_at q)) world.present ∙ (a.disks_are_same q).present;
+    id = ap (λ (f : Port → ℕ). f (port_at q)) world.ids ∙ (a.disks_are_same q).id;
+    size = ap (λ (f : Port → ℕ). f (port_at q)) world.sizes ∙ (a.disks_are_same q).size;
   };
-  memory = λ f b from small. a.memory f b from small ∙ ap (λ (g : Memory). g f b) (sym world.memory);
-  sectors = λ t q. sectors_on m m' (d.port q).disk q (λ k b lb. ap (λ (g : Port → DiskBytes). g (port_at q) k b) world.disks) (a.sectors t q);
-  lasting = λ t q. lasting_on m m' d.tape d.tape (d.port q) (d.port q) q refl refl (keeps_same m m' q world.disks world.aside) (gains_none d.tape m' q) (a.lasting t q);
+  memory_is_same = λ f b from small. a.memory_is_same f b from small ∙ ap (λ (g : Memory). g f b) (sym world.memory);
+  sectors_are_same = λ t q. sectors_on m m' (d.port q).disk q (λ k b lb. ap (λ (g : Port → DiskBytes). g (port_at q) k b) world.disks) (a.sectors_are_same t q);
+  has_lasting = λ t q. lasting_on m m' d.tape d.tape (d.port q) (d.port q) q refl refl (keeps_same m m' q world.disks world.aside) (gains_none d.tape m' q) (a.has_lasting t q);
 }
 
 -- ---- accept
 
 pub accept_knows : (k : DriverState) (m : Machine) (r : Accepted) → DriverRelation m k → DriverRelation (after_step m (Accept r)) k
 accept_knows k m r x = record {
-  agrees = agrees_on k.uses m (after_step m (Accept r)) k.device x.agrees (record { present = refl; ids = refl; sizes = refl; disks = refl; aside = refl; memory = refl })
+  state_relation = agrees_on k.uses m (after_step m (Accept r)) k.device x.state_relation (record { present = refl; ids = refl; sizes = refl; disks = refl; aside = refl; memory = refl })
       (λ q s id u e is may. goes_on_same m (after_step m (Accept r)) e (⊎_elim
       (λ (z : Contains m.book e × (e.issued ≡ true)). inl (Contains-append_left m.book (newly_accepted r ∷ []) e z.0, z.1))
       (λ (z : Contains m.kept e). inr z) may));
-  have = λ q y may at_port. x.have q y (⊎_elim
+  have_slots = λ q y may at_port. x.have_slots q y (⊎_elim
       (λ (z : Contains (m.book ++ newly_accepted r ∷ []) y × (y.issued ≡ true)). ⊎_elim
       (λ (w : Contains m.book y). inl (w, z.1))
       (λ (w : y ≡ newly_accepted r). true_false (ap (λ (e : Pending). e.issued) (sym w) ∙ z.1) refl)
@@ -114,63 +114,63 @@ accept_knows k m r x = record {
 -- ---- a tick
 
 -- a tick changes a request's age alone
-pub older_is : (ready : Port → Bool) (e : Pending) → older ready e ≡ record e { age = (older ready e).age }
+pub older_is : (ready : Port → Bool) (e : Pending) → aged_pending ready e ≡ record e { age = (aged_pending ready e).age }
 older_is ready e = by (e.issued && ready e.request.port) refl
   where
-    aged : (age : ℕ) → older ready e ≡ record e { age = age } → older ready e ≡ record e { age = (older ready e).age }
+    aged : (age : ℕ) → aged_pending ready e ≡ record e { age = age } → aged_pending ready e ≡ record e { age = (aged_pending ready e).age }
     aged age is = is ∙ ap (λ (n : ℕ). record e { age = n }) (ap (λ (x : Pending). x.age) (sym is))
 
-    by : (b : Bool) → (e.issued && ready e.request.port) ≡ b → older ready e ≡ record e { age = (older ready e).age }
+    by : (b : Bool) → (e.issued && ready e.request.port) ≡ b → aged_pending ready e ≡ record e { age = (aged_pending ready e).age }
     by true h = aged (suc e.age) (cond-true (e.issued && ready e.request.port) (record e { age = suc e.age }) e h)
     by false h = aged e.age (cond-false (e.issued && ready e.request.port) (record e { age = suc e.age }) e h)
 
 pub tick_knows : (k : DriverState) (m : Machine) (ready : Port → Bool) → DriverRelation m k → DriverRelation (after_step m (Age ready)) k
 tick_knows k m ready x = record {
-  agrees = agrees_on k.uses m (after_step m (Age ready)) k.device x.agrees (record { present = refl; ids = refl; sizes = refl; disks = refl; aside = refl; memory = refl })
+  state_relation = agrees_on k.uses m (after_step m (Age ready)) k.device x.state_relation (record { present = refl; ids = refl; sizes = refl; disks = refl; aside = refl; memory = refl })
       (λ q s id u e is may. goes e may);
-  have = λ q y may at_port. ⊎_elim
-      (λ (z : Contains (map (older ready) m.book) y × (y.issued ≡ true)).
-      let w = map_in (older ready) m.book y z.0 in
-      let same : y ≡ record w.0 { age = (older ready w.0).age } = w.2 ∙ older_is ready w.0 in
+  have_slots = λ q y may at_port. ⊎_elim
+      (λ (z : Contains (map (aged_pending ready) m.book) y × (y.issued ≡ true)).
+      let w = map_in (aged_pending ready) m.book y z.0 in
+      let same : y ≡ record w.0 { age = (aged_pending ready w.0).age } = w.2 ∙ older_is ready w.0 in
       subst (λ (r : Accepted). Contains (k.parked q) r.id ⊎ ((slot : ℕ) × (k.uses q slot ≡ Serves r.id))) (sym (ap (λ (e : Pending). e.request) same))
-      (x.have q w.0 (inl (w.1, ap (λ (e : Pending). e.issued) (sym same) ∙ z.1)) (ap (λ (e : Pending). e.request.port.0) (sym same) ∙ at_port)))
-      (λ (z : Contains m.kept y). x.have q y (inr z) at_port) may;
+      (x.have_slots q w.0 (inl (w.1, ap (λ (e : Pending). e.issued) (sym same) ∙ z.1)) (ap (λ (e : Pending). e.request.port.0) (sym same) ∙ at_port)))
+      (λ (z : Contains m.kept y). x.have_slots q y (inr z) at_port) may;
 }
   where
     goes : (e : Pending) → MayStillMove m e → GoesOn m (after_step m (Age ready)) e
     goes e may = ⊎_elim
         (λ (z : Contains m.book e × (e.issued ≡ true)). record {
           issues = e.issues;
-          age = (older ready e).age;
+          age = (aged_pending ready e).age;
           issued = e.issued;
-          moves = inl (subst (λ (y : Pending). Contains (map (older ready) m.book) y) (older_is ready e) (into_map (older ready) m.book e z.0), z.1);
+          moves = inl (subst (λ (y : Pending). Contains (map (aged_pending ready) m.book) y) (older_is ready e) (into_map (aged_pending ready) m.book e z.0), z.1);
         })
         (λ (z : Contains m.kept e). goes_on_same m (after_step m (Age ready)) e (inr z)) may
 
 -- the row of a grant goes, of which the relation says nothing
 pub revoke_knows : (k : DriverState) (m : Machine) (client : ClientId) (number : ℕ) → DriverRelation m k → DriverRelation (after_step m (Revoke client number)) k
 revoke_knows k m client number x = record {
-  agrees = agrees_on k.uses m (after_step m (Revoke client number)) k.device x.agrees (record { present = refl; ids = refl; sizes = refl; disks = refl; aside = refl; memory = refl })
+  state_relation = agrees_on k.uses m (after_step m (Revoke client number)) k.device x.state_relation (record { present = refl; ids = refl; sizes = refl; disks = refl; aside = refl; memory = refl })
       (λ q s id u e is may. goes_on_same m (after_step m (Revoke client number)) e may);
-  have = x.have;
+  have_slots = x.have_slots;
 }
 
 -- ---- a request is decided
 
-pub without_into : (id : RequestId) (es : List Pending) (e : Pending) → e.request.id ≢ id → Contains es e → Contains (without id es) e
+pub without_into : (id : RequestId) (es : List Pending) (e : Pending) → e.request.id ≢ id → Contains es e → Contains (without_pending id es) e
 without_into id [] e ne c = absurd (contains_none e c)
 without_into id (y ∷ ys) e ne c = go (y.request.id.0 == id.0) refl (λ w. without_into id ys e ne w)
   where
     rest : e ≡ y ⊎ Contains ys e
     rest = contains_cases y ys e c
 
-    go : (b : Bool) → (y.request.id.0 == id.0) ≡ b → (Contains ys e → Contains (without id ys) e) → Contains (cond (not b) (y ∷ without id ys) (without id ys)) e
+    go : (b : Bool) → (y.request.id.0 == id.0) ≡ b → (Contains ys e → Contains (without_pending id ys) e) → Contains (cond (not b) (y ∷ without_pending id ys) (without_pending id ys)) e
     go true p on = ⊎_elim
         (λ (w : e ≡ y). absurd (ne (ap (λ (x : Pending). x.request.id) w ∙ ap (λ (n : ℕ). record { 0 = n }) (eqb-true y.request.id.0 id.0 p))))
         (λ (w : Contains ys e). on w) rest
     go false p on = ⊎_elim
-        (λ (w : e ≡ y). contains_here y (without id ys) e w)
-        (λ (w : Contains ys e). contains_there y (without id ys) e (on w)) rest
+        (λ (w : e ≡ y). contains_here y (without_pending id ys) e w)
+        (λ (w : Contains ys e). contains_there y (without_pending id ys) e (on w)) rest
 
 -- What an answer that keeps nothing, or an Again, leaves: the others, and nothing of the request itself that may move.
 record Leaves (m m' : Machine) (id : RequestId) : Type 0 where
@@ -180,67 +180,67 @@ record Leaves (m m' : Machine) (id : RequestId) : Type 0 where
 
 leaves_knows : (k : DriverState) (m m' : Machine) (id : RequestId) (later : ℕ → List RequestId) → DriverRelation m k → HasNoSlot k.uses id → ForgetsAtMost id k.parked later → Leaves m m' id → DriverRelation m' (record k { parked = later })
 leaves_knows k m m' id later x none forgets l = record {
-  agrees = agrees_on k.uses m m' k.device x.agrees l.world
+  state_relation = agrees_on k.uses m m' k.device x.state_relation l.world
       (λ q s other u e is may. goes_on_same m m' e (l.moves e (λ same. none q s (u ∙ ap Serves (sym is ∙ same))) may));
-  have = λ q y may at_port.
+  have_slots = λ q y may at_port.
       let b = l.back y may in
       ⊎_elim
       (λ (p : Contains (k.parked q) y.request.id). inl (forgets q y.request.id p b.1))
       (λ (w : (slot : ℕ) × (k.uses q slot ≡ Serves y.request.id)). inr w)
-      (x.have q y b.0 at_port);
+      (x.have_slots q y b.0 at_port);
 }
 
-answer_leaves : (m : Machine) (e : Pending) (outcome : Outcome) → Sound m → Contains m.book e → stays e outcome ≡ false → Leaves m (after_step m (Answer e outcome)) e.request.id
+answer_leaves : (m : Machine) (e : Pending) (outcome : Outcome) → Sound m → Contains m.book e → is_kept_at_answer e outcome ≡ false → Leaves m (after_step m (Answer e outcome)) e.request.id
 answer_leaves m e outcome s here gives = record {
   world = record { present = refl; ids = refl; sizes = refl; disks = refl; aside = refl; memory = refl };
   moves = λ y ne r. ⊎_elim
       (λ (z : Contains m.book y × (y.issued ≡ true)). inl (without_into e.request.id m.book y ne z.0, z.1))
       (λ (z : Contains m.kept y). inr (subst (λ (es : List Pending). Contains es y) (sym kept) z)) r;
   back = λ y r. ⊎_elim
-      (λ (z : Contains (without e.request.id m.book) y × (y.issued ≡ true)). let q = without_in e.request.id m.book y z.0 in (inl (q.0, z.1), λ same. q.1 (ap (λ (i : RequestId). i.0) same)))
+      (λ (z : Contains (without_pending e.request.id m.book) y × (y.issued ≡ true)). let q = without_in e.request.id m.book y z.0 in (inl (q.0, z.1), λ same. q.1 (ap (λ (i : RequestId). i.0) same)))
       (λ (z : Contains (after_step m (Answer e outcome)).kept y).
       let old : Contains m.kept y = subst (λ (es : List Pending). Contains es y) kept z in
       (inr old, λ same. s.apart e y here old (ap (λ (i : RequestId). i.0) (sym same)))) r;
 }
   where
     kept : (after_step m (Answer e outcome)).kept ≡ m.kept
-    kept = cond-false (stays e outcome) (e ∷ m.kept) m.kept gives
+    kept = cond-false (is_kept_at_answer e outcome) (e ∷ m.kept) m.kept gives
 
-again_leaves : (m : Machine) (e : Pending) → Sound m → Contains m.book e → Leaves m (after_step m (Again e)) e.request.id
+again_leaves : (m : Machine) (e : Pending) → Sound m → Contains m.book e → Leaves m (after_step m (WaitAgain e)) e.request.id
 again_leaves m e s here = record {
   world = record { present = refl; ids = refl; sizes = refl; disks = refl; aside = refl; memory = refl };
   moves = λ y ne r. ⊎_elim
       (λ (z : Contains m.book y × (y.issued ≡ true)). inl (into_other requeued e.request.id m.book y ne z.0, z.1))
       (λ (z : Contains m.kept y). inr z) r;
   back = λ y r. ⊎_elim
-      (λ (z : Contains (map (at e.request.id requeued) m.book) y × (y.issued ≡ true)).
-      let q = map_in (at e.request.id requeued) m.book y z.0 in
+      (λ (z : Contains (map (update_pending e.request.id requeued) m.book) y × (y.issued ≡ true)).
+      let q = map_in (update_pending e.request.id requeued) m.book y z.0 in
       ⊎_elim
-      (λ (p : (q.0.request.id.0 ≡ e.request.id.0) × (at e.request.id requeued q.0 ≡ requeued q.0)). true_false z.1 (ap (λ (x : Pending). x.issued) (q.2 ∙ p.1)))
-      (λ (p : (q.0.request.id.0 ≢ e.request.id.0) × (at e.request.id requeued q.0 ≡ q.0)).
+      (λ (p : (q.0.request.id.0 ≡ e.request.id.0) × (update_pending e.request.id requeued q.0 ≡ requeued q.0)). true_false z.1 (ap (λ (x : Pending). x.issued) (q.2 ∙ p.1)))
+      (λ (p : (q.0.request.id.0 ≢ e.request.id.0) × (update_pending e.request.id requeued q.0 ≡ q.0)).
       let is : y ≡ q.0 = q.2 ∙ p.1 in
       (inl (subst (λ (x : Pending). Contains m.book x) (sym is) q.1, z.1), λ same. p.0 (ap (λ (x : Pending). x.request.id.0) (sym is) ∙ ap (λ (i : RequestId). i.0) same)))
       (at_cases e.request.id requeued q.0))
       (λ (z : Contains m.kept y). (inr z, λ same. s.apart e y here z (ap (λ (i : RequestId). i.0) (sym same)))) r;
 }
 
-pub answer_knows : (k : DriverState) (m : Machine) (e : Pending) (outcome : Outcome) (later : ℕ → List RequestId) → IsReachable m → DriverRelation m k → Contains m.book e → stays e outcome ≡ false →
+pub answer_knows : (k : DriverState) (m : Machine) (e : Pending) (outcome : Outcome) (later : ℕ → List RequestId) → IsReachable m → DriverRelation m k → Contains m.book e → is_kept_at_answer e outcome ≡ false →
     HasNoSlot k.uses e.request.id → ForgetsAtMost e.request.id k.parked later → DriverRelation (after_step m (Answer e outcome)) (record k { parked = later })
 answer_knows k m e outcome later r x here gives none forgets =
     leaves_knows k m (after_step m (Answer e outcome)) e.request.id later x none forgets (answer_leaves m e outcome (standing m r).sound here gives)
 
 pub again_knows : (k : DriverState) (m : Machine) (e : Pending) (later : ℕ → List RequestId) → IsReachable m → DriverRelation m k → Contains m.book e →
-    HasNoSlot k.uses e.request.id → ForgetsAtMost e.request.id k.parked later → DriverRelation (after_step m (Again e)) (record k { parked = later })
+    HasNoSlot k.uses e.request.id → ForgetsAtMost e.request.id k.parked later → DriverRelation (after_step m (WaitAgain e)) (record k { parked = later })
 again_knows k m e later r x here none forgets =
-    leaves_knows k m (after_step m (Again e)) e.request.id later x none forgets (again_leaves m e (standing m r).sound here)
+    leaves_knows k m (after_step m (WaitAgain e)) e.request.id later x none forgets (again_leaves m e (standing m r).sound here)
 
 -- an answer that keeps the frames: the request stays in its slot
-pub keeping_knows : (k : DriverState) (m : Machine) (e : Pending) (outcome : Outcome) → IsReachable m → DriverRelation m k → Contains m.book e → stays e outcome ≡ true → DriverRelation (after_step m (Answer e outcome)) k
+pub keeping_knows : (k : DriverState) (m : Machine) (e : Pending) (outcome : Outcome) → IsReachable m → DriverRelation m k → Contains m.book e → is_kept_at_answer e outcome ≡ true → DriverRelation (after_step m (Answer e outcome)) k
 keeping_knows k m e outcome r x here stay = record {
-  agrees = agrees_on k.uses m (after_step m (Answer e outcome)) k.device x.agrees (record { present = refl; ids = refl; sizes = refl; disks = refl; aside = refl; memory = refl })
+  state_relation = agrees_on k.uses m (after_step m (Answer e outcome)) k.device x.state_relation (record { present = refl; ids = refl; sizes = refl; disks = refl; aside = refl; memory = refl })
       (λ q s id u y is may. goes_on_same m (after_step m (Answer e outcome)) y (goes y may));
-  have = λ q y may at_port. x.have q y (⊎_elim
-      (λ (z : Contains (without e.request.id m.book) y × (y.issued ≡ true)). inl ((without_in e.request.id m.book y z.0).0, z.1))
+  have_slots = λ q y may at_port. x.have_slots q y (⊎_elim
+      (λ (z : Contains (without_pending e.request.id m.book) y × (y.issued ≡ true)). inl ((without_in e.request.id m.book y z.0).0, z.1))
       (λ (z : Contains (after_step m (Answer e outcome)).kept y). ⊎_elim
       (λ (w : y ≡ e). inl (subst (λ (o : Pending). Contains m.book o) (sym w) here, ap (λ (o : Pending). o.issued) w ∙ was_issued outcome stay))
       (λ (w : Contains m.kept y). inr w)
@@ -251,10 +251,10 @@ keeping_knows k m e outcome r x here stay = record {
     sound = (standing m r).sound
 
     kept : (after_step m (Answer e outcome)).kept ≡ e ∷ m.kept
-    kept = cond-true (stays e outcome) (e ∷ m.kept) m.kept stay
+    kept = cond-true (is_kept_at_answer e outcome) (e ∷ m.kept) m.kept stay
 
     -- only what was issued is kept
-    was_issued : (o : Outcome) → stays e o ≡ true → e.issued ≡ true
+    was_issued : (o : Outcome) → is_kept_at_answer e o ≡ true → e.issued ≡ true
     was_issued told.PortDead h = h
     was_issued told.Ok h = true_false h refl
     was_issued (told.DeviceError status error) h = true_false h refl
@@ -275,15 +275,15 @@ pub release_knows : (k : DriverState) (m : Machine) (later : ℕ → List Reques
     ForgetsAtMostKept m k.parked later →
     DriverRelation (after_step m Release) (record k { parked = later })
 release_knows k m later r x none forgets = record {
-  agrees = agrees_on k.uses m (after_step m Release) k.device x.agrees (record { present = refl; ids = refl; sizes = refl; disks = refl; aside = refl; memory = refl })
+  state_relation = agrees_on k.uses m (after_step m Release) k.device x.state_relation (record { present = refl; ids = refl; sizes = refl; disks = refl; aside = refl; memory = refl })
       (λ q s id u e is may. goes_on_same m (after_step m Release) e (⊎_elim
       (λ (z : Contains m.book e × (e.issued ≡ true)). inl z)
       (λ (z : Contains m.kept e). absurd (none e z q s (u ∙ ap Serves (sym is)))) may));
-  have = λ q y may at_port. ⊎_elim
+  have_slots = λ q y may at_port. ⊎_elim
       (λ (z : Contains m.book y × (y.issued ≡ true)). ⊎_elim
       (λ (p : Contains (k.parked q) y.request.id). inl (forgets q y.request.id p (λ e kept same. (standing m r).sound.apart y e z.0 kept (ap (λ (i : RequestId). i.0) (sym same)))))
       (λ (w : (slot : ℕ) × (k.uses q slot ≡ Serves y.request.id)). inr w)
-      (x.have q y (inl z) at_port))
+      (x.have_slots q y (inl z) at_port))
       (λ (z : Contains [] y). absurd (contains_none y z)) may;
 }
 
@@ -291,12 +291,12 @@ release_knows k m later r x none forgets = record {
 
 -- a slot whose command is over
 module _ (k : DriverState) (m : Machine) (x : DriverRelation m k) (port slot : ℕ) (over : IsOver (k.device.port port) slot) where
-  free_agrees : (k.uses port slot ≡ Armed → ⊥) → StateRelation (put k.uses port slot Free) m k.device
-  free_agrees unarmed = put_agrees k.uses m m k.device x.agrees k.device.port port slot Free (record {
+  free_agrees : (k.uses port slot ≡ Armed → ⊥) → StateRelation (set_slot_state k.uses port slot Free) m k.device
+  free_agrees unarmed = put_agrees k.uses m m k.device x.state_relation k.device.port port slot Free (record {
     world = record { present = refl; ids = refl; sizes = refl; disks = refl; aside = refl; memory = refl };
     moves = λ q s id u ne e is r. r;
     others = λ q s ne. SameSlot-refl (k.device.port q) s;
-    here = record { issued = over.issued; free = over.free; unarmed = over_unarmed k.uses m k.device port slot x.agrees unarmed over };
+    here = record { issued = over.issued; free = over.free; unarmed = over_unarmed k.uses m k.device port slot x.state_relation unarmed over };
     apart = λ q s id f u. absurd (let z : Free ≡ Serves id = f in cc);
     fre = λ q. refl;
     received_at = λ q. refl;
@@ -304,43 +304,43 @@ module _ (k : DriverState) (m : Machine) (x : DriverRelation m k) (port slot : �
     disk = λ q. refl;
   })
 
-  pub park_knows : (id : RequestId) → k.uses port slot ≡ Serves id → DriverRelation m (parking k port slot id)
+  pub park_knows : (id : RequestId) → k.uses port slot ≡ Serves id → DriverRelation m (with_slot_parked k port slot id)
   park_knows id u = record {
-    agrees = free_agrees (λ e. let z : Serves id ≡ Armed = sym u ∙ e in cc);
-    have = λ q y may at_port. ⊎_elim
+    state_relation = free_agrees (λ e. let z : Serves id ≡ Armed = sym u ∙ e in cc);
+    have_slots = λ q y may at_port. ⊎_elim
         (λ (p : Contains (k.parked q) y.request.id). inl (more q y.request.id p))
         (λ (w : (s : ℕ) × (k.uses q s ≡ Serves y.request.id)). ⊎_elim
         (λ (here : (q ≡ port) × (w.0 ≡ slot)).
         let same : y.request.id ≡ id = serves_same (sym w.1 ∙ ap (λ (n : ℕ). k.uses n w.0) here.0 ∙ ap (λ (n : ℕ). k.uses port n) here.1 ∙ u) in
         inl (subst (λ (n : ℕ). Contains (changed k.parked port (id ∷ k.parked port) n) y.request.id) (sym here.0)
         (subst (λ (l : List RequestId). Contains l y.request.id) (sym (changed_same k.parked port (id ∷ k.parked port))) (contains_here id (k.parked port) y.request.id same))))
-        (λ (there : (q ≡ port → w.0 ≡ slot → ⊥) × (put k.uses port slot Free q w.0 ≡ k.uses q w.0)). inr (w.0, there.1 ∙ w.1))
+        (λ (there : (q ≡ port → w.0 ≡ slot → ⊥) × (set_slot_state k.uses port slot Free q w.0 ≡ k.uses q w.0)). inr (w.0, there.1 ∙ w.1))
         (put_cases k.uses port slot Free q w.0))
-        (x.have q y may at_port);
+        (x.have_slots q y may at_port);
   }
     where
       more : (q : ℕ) (i : RequestId) → Contains (k.parked q) i → Contains (changed k.parked port (id ∷ k.parked port) q) i
       more q i = changed_at k.parked port (id ∷ k.parked port) (λ n l. Contains (k.parked n) i → Contains l i) (λ c. contains_there id (k.parked port) i c) (λ n _ c. c) q
 
-  pub own_release_knows : (o : Operation) → k.uses port slot ≡ Own o → DriverRelation m (freeing k port slot)
+  pub own_release_knows : (o : Operation) → k.uses port slot ≡ Own o → DriverRelation m (with_slot_freed k port slot)
   own_release_knows o u = record {
-    agrees = free_agrees (λ e. let z : Own o ≡ Armed = sym u ∙ e in cc);
-    have = λ q. put_have k.uses m port slot Free q (k.parked q) (λ id v. absurd (let z : Own o ≡ Serves id = sym u ∙ v in cc)) (x.have q);
+    state_relation = free_agrees (λ e. let z : Own o ≡ Armed = sym u ∙ e in cc);
+    have_slots = λ q. put_have k.uses m port slot Free q (k.parked q) (λ id v. absurd (let z : Own o ≡ Serves id = sym u ∙ v in cc)) (x.have_slots q);
   }
 
 -- an armed slot of a port whose ST is 0, which has cleared the bit
-pub disarm_knows : (k : DriverState) (m : Machine) → DriverRelation m k → (port slot : ℕ) → (k.device.port port).st ≡ false → k.uses port slot ≡ Armed → DriverRelation m (freeing k port slot)
+pub disarm_knows : (k : DriverState) (m : Machine) → DriverRelation m k → (port slot : ℕ) → (k.device.port port).st ≡ false → k.uses port slot ≡ Armed → DriverRelation m (with_slot_freed k port slot)
 disarm_knows k m x port slot st u = record {
-  agrees = put_agrees k.uses m m k.device x.agrees k.device.port port slot Free (record {
+  state_relation = put_agrees k.uses m m k.device x.state_relation k.device.port port slot Free (record {
     world = record { present = refl; ids = refl; sizes = refl; disks = refl; aside = refl; memory = refl };
     moves = λ q s id u ne e is r. r;
     others = λ q s ne. SameSlot-refl (k.device.port q) s;
-    here = (let h : IsArmed (k.device.port port) slot = subst (λ (w : SlotState). RelatesSlot m k.device.memory k.device.tape (k.device.port port) port slot w) u (x.agrees.slot port slot) in record { issued = h.issued; free = h.free; unarmed = h.armed ∙ st });
+    here = (let h : IsArmed (k.device.port port) slot = subst (λ (w : SlotState). RelatesSlot m k.device.memory k.device.tape (k.device.port port) port slot w) u (x.state_relation.relates_slots port slot) in record { issued = h.issued; free = h.free; unarmed = h.armed ∙ st });
     apart = λ q s id f u. absurd (let z : Free ≡ Serves id = f in cc);
     fre = λ q. refl;
     received_at = λ q. refl;
     present = λ q. refl;
     disk = λ q. refl;
   });
-  have = λ q. put_have k.uses m port slot Free q (k.parked q) (λ id v. absurd (let z : Armed ≡ Serves id = sym u ∙ v in cc)) (x.have q);
+  have_slots = λ q. put_have k.uses m port slot Free q (k.parked q) (λ id v. absurd (let z : Armed ≡ Serves id = sym u ∙ v in cc)) (x.have_slots q);
 }

@@ -9,7 +9,7 @@ use Rattle.hba_regs.specs.declared.reg.Reg.TheVariants.{Px}
 use Rattle.hba_regs.specs.declared.reg.PortReg.TheVariants as px
 use Rattle.adapter.specs.Commands.{Meaning, is_queued}
 use Rattle.adapter.specs.Device.{Device}
-use Rattle.adapter.specs.Kept.{Keeps, KeepsOutsideReset}
+use Rattle.adapter.specs.KeptBySteps.{Keeps, KeepsOutsideReset}
 use Rattle.adapter.specs.Rules.{InUse, IsUnowned, IsOn, HasPort, MayWrite, IsStable}
 use Rattle.adapter.specs.Decoding.{DecodesTo}
 use Rattle.adapter.specs.declared.command.Operation.{Operation}
@@ -19,16 +19,16 @@ use Rattle.block_machine.specs.Histories.{IsReachable}
 use Rattle.block_machine.specs.Expected as left
 use Rattle.block_machine.specs.Refusals.{MayAccessFrame}
 use Rattle.block_machine.specs.State.{Pending, Machine}
-use Rattle.refinement.specs.Below.{StepLaws}
-use Rattle.refinement.specs.Places.{scratch_of}
+use Rattle.refinement.specs.StepLaws.{StepLaws}
+use Rattle.refinement.specs.MemoryLayout.{scratch_of}
 use Rattle.refinement.specs.Slots.{SlotStates, IsOver, op_of}
 use Rattle.refinement.specs.Relation.{StateRelation}
 use Rattle.refinement.specs.Driver.{MayStore, IsPrepared, IsOwnPrepared}
-use Rattle.refinement.specs.Follows.{SimulatesSteps}
+use Rattle.refinement.specs.Simulation.{SimulatesSteps}
 use Rattle.refinement.proofs.relation.WrittenBytes.{same_port}
 use Rattle.refinement.proofs.driver.IssueWrite.{own_prepared_stays}
 use Rattle.refinement.proofs.driver.ReadySlot.{prepared_readied, readied_permitted}
-use Rattle.refinement.specs.Readying.{IsReadyToIssue}
+use Rattle.refinement.specs.ReadySlots.{IsReadyToIssue}
 use Rattle.refinement.proofs.driver.ClientBytes.{open_in}
 use Rattle.refinement.proofs.steps.StillFrames.{unlent_is_still, still_is_free}
 use Rattle.block_machine.proofs.Reading.{open_unlent}
@@ -49,7 +49,7 @@ module _ (laws : StepLaws) (uses : SlotStates) (m : Machine) (old : Device) (rea
       let size : mid.size ≡ old.size = (laws.keeps _ _ s).size in
       record {
         inside = omega (arith, inside, size);
-        unused = λ port slot byte low high used. stores_unused uses (left.after m f.steps) mid at n byte may low high (λ e moves i lt. client_frame (left.after m f.steps) r e moves (i / 8) lt) (is_used uses (left.after m f.steps) mid r f.agrees port slot byte used);
+        is_not_owned = λ port slot byte low high used. stores_unused uses (left.after m f.steps) mid at n byte may low high (λ e moves i lt. client_frame (left.after m f.steps) r e moves (i / 8) lt) (is_used uses (left.after m f.steps) mid r f.agrees port slot byte used);
       }
 
   -- the page of a command of the driver's own that is over
@@ -58,10 +58,10 @@ module _ (laws : StepLaws) (uses : SlotStates) (m : Machine) (old : Device) (rea
       let f : SimulatesSteps uses m old mid = steps_follow uses m old mid reached a s in
       let r : IsReachable (left.after m f.steps) = laws.reached m f.steps reached f.may in
       let k : Keeps old mid = laws.keeps _ _ s in
-      let still : IsOver (mid.port port) 0 = record { issued = (k.port port).ci 0 over.issued; free = (k.port port).free 0 over.issued over.free } in
+      let still : IsOver (mid.port port) 0 = record { issued = (k.ports_are_kept port).ci 0 over.issued; free = (k.ports_are_kept port).slots_stay_free 0 over.issued over.free } in
       record {
         inside = (let size = k.size in omega (arith, inside, size));
-        unused = λ q slot byte low high used. by still byte low high (left.after m f.steps) r (is_used uses (left.after m f.steps) mid r f.agrees q slot byte used);
+        is_not_owned = λ q slot byte low high used. by still byte low high (left.after m f.steps) r (is_used uses (left.after m f.steps) mid r f.agrees q slot byte used);
       }
     where
       by : IsOver (mid.port port) 0 → (byte : ℕ) → scratch_of port ≤ byte → byte < scratch_of port + 512 → (n : Machine) → IsReachable n → IsUsed uses n mid byte → ⊥
@@ -95,7 +95,7 @@ module _ (laws : StepLaws) (uses : SlotStates) (m : Machine) (old : Device) (rea
 
   pub issue_is_permitted : (port : Port) (slot : ℕ) (mode : QueueMode) (e : Pending) (v : ℕ) → IsOn old → HasPort old port.0 → slot ≤ old.cap / 256 % 32 → IsPrepared uses m old port.0 slot mode e v → IsStable (MayWrite (Px port px.Ci) v) old
   issue_is_permitted port slot mode e v on there usable x =
-      readied_permitted laws uses m old port v reached a on there x.started (λ j b. subst (IsReadyToIssue uses old port.0) (sym (only_bit v slot j x.alone b)) (record {
+      readied_permitted laws uses m old port v reached a on there x.st_is_set (λ j b. subst (IsReadyToIssue uses old port.0) (sym (only_bit v slot j x.no_other_bit_is_set b)) (record {
         usable = usable;
         command = x.command;
         places = x.places;
@@ -107,18 +107,18 @@ module _ (laws : StepLaws) (uses : SlotStates) (m : Machine) (old : Device) (rea
       let f : SimulatesSteps uses m old mid = steps_follow uses m old mid reached a s in
       let y : IsOwnPrepared uses mid port.0 o v = own_prepared_stays uses m old mid port.0 o v reached a on.no_reset s x in
       let k : Keeps old mid = laws.keeps _ _ s in
-      let c : KeepsOutsideReset old mid = k.on on.no_reset in
+      let c : KeepsOutsideReset old mid = k.keeps_outside_reset on.no_reset in
       let over : IsOver (mid.port port.0) 0 = own_over uses (left.after m f.steps) mid f.agrees port.0 o v y in (
         record { ae = c.ae ∙ on.ae; no_reset = c.no_reset },
         (there.0, ap (λ (n : ℕ). bit n port.0) k.pi ∙ there.1),
         record {
-          running = y.started;
-          usable = λ j b. subst (λ (n : ℕ). n ≤ mid.cap / 256 % 32) (sym (only_bit v 0 j y.alone b)) (omega arith);
-          free = λ j b. subst (λ (n : ℕ). ((mid.port port.0).ci n ≡ false) × ((mid.port port.0).taken n ≡ None)) (sym (only_bit v 0 j y.alone b)) (over.issued, over.free);
-          says = λ j b. subst (λ (n : ℕ). (meaning : Meaning) × (places : List ℕ) × DecodesTo mid.memory (mid.port port.0).bases.clb n meaning places) (sym (only_bit v 0 j y.alone b)) (y.command, scratch_of port.0 ∷ [], y.told.says);
-          queued = λ j meaning places b says q.
-              let z : DecodesTo mid.memory (mid.port port.0).bases.clb 0 meaning places = subst (λ (n : ℕ). DecodesTo mid.memory (mid.port port.0).bases.clb n meaning places) (only_bit v 0 j y.alone b) says in
-              true_false (ap (λ (w : Meaning). is_queued w.operation) (sym (says_meaning mid.memory (mid.port port.0).bases.clb 0 meaning y.command places (scratch_of port.0 ∷ []) z y.told.says)) ∙ q)
+          running = y.st_is_set;
+          slots_are_usable = λ j b. subst (λ (n : ℕ). n ≤ mid.cap / 256 % 32) (sym (only_bit v 0 j y.no_other_bit_is_set b)) (omega arith);
+          slots_are_free = λ j b. subst (λ (n : ℕ). ((mid.port port.0).ci n ≡ false) × ((mid.port port.0).taken n ≡ None)) (sym (only_bit v 0 j y.no_other_bit_is_set b)) (over.issued, over.free);
+          slots_say_commands = λ j b. subst (λ (n : ℕ). (meaning : Meaning) × (places : List ℕ) × DecodesTo mid.memory (mid.port port.0).bases.clb n meaning places) (sym (only_bit v 0 j y.no_other_bit_is_set b)) (y.command, scratch_of port.0 ∷ [], y.slot_decodes_to.decodes_to);
+          sact_is_set = λ j meaning places b says q.
+              let z : DecodesTo mid.memory (mid.port port.0).bases.clb 0 meaning places = subst (λ (n : ℕ). DecodesTo mid.memory (mid.port port.0).bases.clb n meaning places) (only_bit v 0 j y.no_other_bit_is_set b) says in
+              true_false (ap (λ (w : Meaning). is_queued w.operation) (sym (says_meaning mid.memory (mid.port port.0).bases.clb 0 meaning y.command places (scratch_of port.0 ∷ []) z y.slot_decodes_to.decodes_to)) ∙ q)
               (own_plain y.command.operation (ap op_of y.operation_is ∙ y.own));
         },
       )

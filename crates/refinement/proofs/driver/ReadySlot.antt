@@ -6,44 +6,44 @@ use Rattle.hba_regs.specs.Bits.{bit}
 use Rattle.hba_regs.specs.declared.reg.Reg.TheVariants.{Px}
 use Rattle.hba_regs.specs.declared.reg.PortReg.{PortReg}
 use Rattle.hba_regs.specs.declared.reg.PortReg.TheVariants.{Cmd, Clb, Ci}
-use Rattle.adapter.specs.Access.{Access, Does, port_written, with_st, with_fre}
+use Rattle.adapter.specs.Access.{Access, Does, port_after_write, port_after_st_write, port_after_fre_write}
 use Rattle.adapter.specs.Access.Access.{Reading, Writing, Loading, Storing}
 use Rattle.adapter.specs.Commands.{Meaning, is_queued}
 use Rattle.adapter.specs.Device.{Bases, DevicePort, Device}
-use Rattle.adapter.specs.Kept.{Keeps, KeepsOutsideReset}
+use Rattle.adapter.specs.KeptBySteps.{Keeps, KeepsOutsideReset}
 use Rattle.adapter.specs.Rules.{IsOn, HasPort, MayWrite, IsStable}
 use Rattle.adapter.specs.Steps.{Steps}
 use Rattle.adapter.proofs.MemoryLemmas.{patched_apart}
 use Rattle.adapter.proofs.SaysLemmas.{says_meaning}
-use Rattle.block_machine.specs.Due.{is_plain}
+use Rattle.block_machine.specs.DueRequests.{is_plain}
 use Rattle.block_machine.specs.Histories.{IsReachable}
 use Rattle.block_machine.specs.Expected as left
 use Rattle.block_machine.specs.State.{Pending, Machine}
-use Rattle.block_machine.specs.Steps.{Issue, May}
+use Rattle.block_machine.specs.Steps.{Issue, IsEnabled}
 use Rattle.block_machine.specs.declared.due.QueueMode.{QueueMode}
-use Rattle.refinement.specs.Below.{StepLaws}
+use Rattle.refinement.specs.StepLaws.{StepLaws}
 use Rattle.refinement.specs.Relation.{StateRelation}
 use Rattle.refinement.specs.Driver.{IsPrepared, KeepsTables, MissesTable}
-use Rattle.refinement.specs.Follows.{SimulatesSteps}
+use Rattle.refinement.specs.Simulation.{SimulatesSteps}
 use Rattle.refinement.specs.Links.{DoesNotWrite}
-use Rattle.refinement.specs.Places.{IsTableByte}
+use Rattle.refinement.specs.MemoryLayout.{IsTableByte}
 use Rattle.refinement.specs.Slots.{SlotState, Free, Armed, SlotStates, MeansRequest, HasTrimBlock, IsArmed, IsEmptySlot, IsOver, RelatesSlot}
-use Rattle.refinement.specs.Started.{ClearsNoStart}
+use Rattle.refinement.specs.StartedPort.{ClearsNoStart}
 use Rattle.refinement.proofs.device.FactsOverAccesses.{access_steps, effect_keeps}
 use Rattle.refinement.proofs.steps.FollowedSteps.{steps_follow}
 use Rattle.refinement.proofs.steps.UnusedSlots.{steps_leave}
 use Rattle.refinement.proofs.driver.UnusedOverCalls.{noted_memory, written_memory}
 use Rattle.refinement.proofs.device.PortControls.{spared}
 use Rattle.refinement.proofs.relation.SlotRelation.{told_on, placed_on}
-use Rattle.refinement.specs.Readying.{IsStored, IsReadied, IsReadyToIssue}
+use Rattle.refinement.specs.ReadySlots.{IsStored, IsReadied, IsReadyToIssue}
 
 -- the same port, as far as the slot's bytes and ST go, and the same table
 stored_on : (old new : Device) (port slot : ℕ) (c : Meaning) (places : List ℕ) → (new.port port).st ≡ true → (new.port port).bases.clb ≡ (old.port port).bases.clb →
     (port < 4 → slot < 32 → (at : ℕ) → IsTableByte port slot at → new.memory at ≡ old.memory at) → IsStored old port slot c places → IsStored new port slot c places
 stored_on old new port slot c places st list same x = record {
-  started = st;
-  placed = placed_on (old.port port) (new.port port) port slot list x.placed;
-  told = told_on old.memory new.memory (old.port port).bases.clb (new.port port).bases.clb port slot c places x.placed.list list (same x.placed.port_below x.placed.slot_below) x.told;
+  st_is_set = st;
+  list_is_in_place = placed_on (old.port port) (new.port port) port slot list x.list_is_in_place;
+  slot_decodes_to = told_on old.memory new.memory (old.port port).bases.clb (new.port port).bases.clb port slot c places x.list_is_in_place.list list (same x.list_is_in_place.port_below x.list_is_in_place.slot_below) x.slot_decodes_to;
 }
 
 -- ---- the device's steps
@@ -55,7 +55,7 @@ module _ (laws : StepLaws) (uses : SlotStates) (m : Machine) (port slot : ℕ) (
   pub steps_stored : IsStored old port slot c places → IsStored new port slot c places
   steps_stored x =
       let k : Keeps old new = laws.keeps _ _ s in
-      stored_on old new port slot c places (((k.on off).controls port).st ∙ x.started) (ap (λ (b : Bases). b.clb) (k.port port).bases)
+      stored_on old new port slot c places (((k.keeps_outside_reset off).controls port).st ∙ x.st_is_set) (ap (λ (b : Bases). b.clb) (k.ports_are_kept port).bases)
       (λ low small at t. leaves.tables port slot at low small t) x
 
 -- ---- an access
@@ -76,10 +76,10 @@ module _ (uses : SlotStates) (m : Machine) (port slot : ℕ) (old new : Device) 
 abbrev On : ℕ → DevicePort → Type 0
 On list p = (p.st ≡ true) × (p.bases.clb ≡ list)
 
-written_on_still : (list : ℕ) (r : PortReg) (v tape : ℕ) (p : DevicePort) → (r ≡ Cmd → bit v 0 ≡ true) → r ≢ Clb → On list p → On list (port_written r v tape p)
+written_on_still : (list : ℕ) (r : PortReg) (v tape : ℕ) (p : DevicePort) → (r ≡ Cmd → bit v 0 ≡ true) → r ≢ Clb → On list p → On list (port_after_write r v tape p)
 written_on_still list Cmd v tape p on other h =
-    subst (λ (b : Bool). On list (with_fre (bit v 4) (with_st b tape p))) (sym (on refl))
-    (subst (λ (x : DevicePort). On list (with_fre (bit v 4) x)) (sym (cond-true p.st p _ h.0)) h)
+    subst (λ (b : Bool). On list (port_after_fre_write (bit v 4) (port_after_st_write b tape p))) (sym (on refl))
+    (subst (λ (x : DevicePort). On list (port_after_fre_write (bit v 4) x)) (sym (cond-true p.st p _ h.0)) h)
 written_on_still list Clb v tape p on other h = absurd (other refl)
 written_on_still list _ v tape p on other h = h
 
@@ -96,7 +96,7 @@ module _ (laws : StepLaws) (uses : SlotStates) (m : Machine) (port : Port) (slot
       let on : On (old.port port.0).bases.clb (new.port port.0) =
       effect_keeps (On (old.port port.0).bases.clb) port (λ p q v z. z) (λ p z. z) access old new x
       (λ q v mid is steps z. written_on_still (old.port port.0).bases.clb q v (length mid.tape) (mid.port port.0) (started_by q v is) (spared port q Clb access v spares is) z)
-      (y.started, ap (λ (b : Bases). b.clb) (k.port port.0).bases) in
+      (y.st_is_set, ap (λ (b : Bases). b.clb) (k.ports_are_kept port.0).bases) in
       stored_on old new port.0 slot c places on.0 on.1 (λ low small at t. access_tables uses m port.0 slot old new reached a off low small access misses x at t) h
 
 -- ---- the write of PxCI
@@ -124,17 +124,17 @@ pub readied_permitted : StepLaws → (uses : SlotStates) (m : Machine) (d : Devi
     ((slot : ℕ) → bit v slot ≡ true → IsReadyToIssue uses d port.0 slot) → IsStable (MayWrite (Px port Ci) v) d
 readied_permitted laws uses m d port v reached a on there st ready mid s =
     let k : Keeps d mid = laws.keeps _ _ s in
-    let w : KeepsOutsideReset d mid = k.on on.no_reset in (
+    let w : KeepsOutsideReset d mid = k.keeps_outside_reset on.no_reset in (
       record { ae = w.ae ∙ on.ae; no_reset = w.no_reset },
       (there.0, ap (λ (n : ℕ). bit n port.0) k.pi ∙ there.1),
       record {
         running = (w.controls port.0).st ∙ st;
-        usable = λ j b. subst (λ (n : ℕ). j ≤ n / 256 % 32) (sym k.cap) (ready j b).usable;
-        free = λ j b. let h = slot_ready j b in (h.over.issued, h.over.free);
-        says = λ j b. ((ready j b).command, (ready j b).places, (stays j b).told.says);
-        queued = λ j meaning list b says q.
+        slots_are_usable = λ j b. subst (λ (n : ℕ). j ≤ n / 256 % 32) (sym k.cap) (ready j b).usable;
+        slots_are_free = λ j b. let h = slot_ready j b in (h.over.issued, h.over.free);
+        slots_say_commands = λ j b. ((ready j b).command, (ready j b).places, (stays j b).slot_decodes_to.decodes_to);
+        sact_is_set = λ j meaning list b says q.
             (slot_ready j b).armed
-            ∙ ap (λ (e : Meaning). is_queued e.operation) (sym (says_meaning mid.memory (mid.port port.0).bases.clb j meaning (ready j b).command list (ready j b).places says (stays j b).told.says)) ∙ q;
+            ∙ ap (λ (e : Meaning). is_queued e.operation) (sym (says_meaning mid.memory (mid.port port.0).bases.clb j meaning (ready j b).command list (ready j b).places says (stays j b).slot_decodes_to.decodes_to)) ∙ q;
       },
     )
   where
@@ -144,31 +144,31 @@ readied_permitted laws uses m d port v reached a on there st ready mid s =
     slot_ready : (j : ℕ) (b : bit v j ≡ true) → ReadyTo (is_queued (ready j b).command.operation) (mid.port port.0) j
     slot_ready j b =
         let f : SimulatesSteps uses m d mid = steps_follow uses m d mid reached a s in
-        served_ready (left.after m f.steps) mid port.0 j (is_queued (ready j b).command.operation) (uses port.0 j) (ready j b).readied.used (stays j b).started (f.agrees.slot port.0 j)
+        served_ready (left.after m f.steps) mid port.0 j (is_queued (ready j b).command.operation) (uses port.0 j) (ready j b).readied.slot_state_is (stays j b).st_is_set (f.agrees.relates_slots port.0 j)
 
-pub readied_prepared : (uses : SlotStates) (m : Machine) (d : Device) (port slot : ℕ) (c : Meaning) (places : List ℕ) (mode : QueueMode) (e : Pending) (v : ℕ) → IsReadied uses d port slot c places → May m (Issue mode e) → e.request.port.0 ≡ port →
+pub readied_prepared : (uses : SlotStates) (m : Machine) (d : Device) (port slot : ℕ) (c : Meaning) (places : List ℕ) (mode : QueueMode) (e : Pending) (v : ℕ) → IsReadied uses d port slot c places → IsEnabled m (Issue mode e) → e.request.port.0 ≡ port →
     slot < mode.usable → (is_plain mode e.request.asked.op ≡ true → slot ≡ 0) → MeansRequest port slot e.request c places → is_queued c.operation ≡ not (is_plain mode e.request.asked.op) →
     HasTrimBlock e.request.asked.op d.memory port e.request → bit v slot ≡ true → ((k : ℕ) → k ≢ slot → bit v k ≡ false) → IsPrepared uses m d port slot mode e v
 readied_prepared uses m d port slot c places mode e v x may at_port usable head means kind block here alone = record {
   may = may;
   port_is = at_port;
-  free = x.used ∙ used_so (is_plain mode e.request.asked.op) (is_queued c.operation) kind;
+  free = x.slot_state_is ∙ used_so (is_plain mode e.request.asked.op) (is_queued c.operation) kind;
   usable = usable;
-  head = head;
-  started = x.stored.started;
-  placed = x.stored.placed;
+  plain_is_in_slot_0 = head;
+  st_is_set = x.stored.st_is_set;
+  list_is_in_place = x.stored.list_is_in_place;
   command = c;
   places = places;
-  told = x.stored.told;
+  slot_decodes_to = x.stored.slot_decodes_to;
   means = means;
   kind = kind;
   block = block;
-  here = here;
-  alone = alone;
+  bit_is_set = here;
+  no_other_bit_is_set = alone;
 }
 
 pub prepared_readied : (uses : SlotStates) (m : Machine) (d : Device) (port slot : ℕ) (mode : QueueMode) (e : Pending) (v : ℕ) → (x : IsPrepared uses m d port slot mode e v) → IsReadied uses d port slot x.command x.places
 prepared_readied uses m d port slot mode e v x = record {
-  used = x.free ∙ sym (used_so (is_plain mode e.request.asked.op) (is_queued x.command.operation) x.kind);
-  stored = record { started = x.started; placed = x.placed; told = x.told };
+  slot_state_is = x.free ∙ sym (used_so (is_plain mode e.request.asked.op) (is_queued x.command.operation) x.kind);
+  stored = record { st_is_set = x.st_is_set; list_is_in_place = x.list_is_in_place; slot_decodes_to = x.slot_decodes_to };
 }

@@ -10,43 +10,43 @@ use Rattle.adapter.specs.Access.Access.{Writing}
 use Rattle.adapter.specs.Device.{Device}
 use Rattle.adapter.specs.declared.command.Operation.{Operation}
 use Rattle.block_machine.specs.State.{Machine}
-use Rattle.refinement.specs.Driven.{known, IsRelated, IsSimulatedTo, IsSimulatedAlong}
+use Rattle.refinement.specs.Fragments.{driver_state_of, IsRelated, IsSimulatedChangingUses, IsSimulatedAlong}
 use Rattle.refinement.specs.Driver.{DriverRelation}
-use Rattle.refinement.specs.Slots.{Free, Own, SlotStates, put, IsOver}
+use Rattle.refinement.specs.Slots.{Free, Own, SlotStates, set_slot_state, IsOver}
 use Rattle.refinement.proofs.driver.OwnSteps.{own_release_knows}
 use Rattle.refinement.proofs.driver.Stretches.{told_known}
 use Rattle.refinement.proofs.driver.PutSlot.{put_same, put_cases}
 
 -- once it is given up, the slots are used as they were
-given_up : (uses : SlotStates) (port : ℕ) (o : Operation) → uses port 0 ≡ Free → put (put uses port 0 (Own o)) port 0 Free ≡ uses
+given_up : (uses : SlotStates) (port : ℕ) (o : Operation) → uses port 0 ≡ Free → set_slot_state (set_slot_state uses port 0 (Own o)) port 0 Free ≡ uses
 given_up uses port o free = fun_ext (λ q. fun_ext (λ slot. ⊎_elim
     (λ (here : (q ≡ port) × (slot ≡ 0)).
-    ap (λ (n : ℕ). put (put uses port 0 (Own o)) port 0 Free n slot) here.0 ∙ ap (λ (k : ℕ). put (put uses port 0 (Own o)) port 0 Free port k) here.1
-    ∙ put_same (put uses port 0 (Own o)) port 0 Free ∙ sym free ∙ ap (λ (n : ℕ). uses n 0) (sym here.0) ∙ ap (λ (k : ℕ). uses q k) (sym here.1))
-    (λ (there : (q ≡ port → slot ≡ 0 → ⊥) × (put (put uses port 0 (Own o)) port 0 Free q slot ≡ put uses port 0 (Own o) q slot)). there.1 ∙ ⊎_elim
+    ap (λ (n : ℕ). set_slot_state (set_slot_state uses port 0 (Own o)) port 0 Free n slot) here.0 ∙ ap (λ (k : ℕ). set_slot_state (set_slot_state uses port 0 (Own o)) port 0 Free port k) here.1
+    ∙ put_same (set_slot_state uses port 0 (Own o)) port 0 Free ∙ sym free ∙ ap (λ (n : ℕ). uses n 0) (sym here.0) ∙ ap (λ (k : ℕ). uses q k) (sym here.1))
+    (λ (there : (q ≡ port → slot ≡ 0 → ⊥) × (set_slot_state (set_slot_state uses port 0 (Own o)) port 0 Free q slot ≡ set_slot_state uses port 0 (Own o) q slot)). there.1 ∙ ⊎_elim
     (λ (here : (q ≡ port) × (slot ≡ 0)). absurd (there.0 here.0 here.1))
-    (λ (other : (q ≡ port → slot ≡ 0 → ⊥) × (put uses port 0 (Own o) q slot ≡ uses q slot)). other.1)
+    (λ (other : (q ≡ port → slot ≡ 0 → ⊥) × (set_slot_state uses port 0 (Own o) q slot ≡ uses q slot)). other.1)
     (put_cases uses port 0 (Own o) q slot))
-    (put_cases (put uses port 0 (Own o)) port 0 Free q slot)))
+    (put_cases (set_slot_state uses port 0 (Own o)) port 0 Free q slot)))
 
 released : (uses : SlotStates) (parked : ℕ → List RequestId) (port : ℕ) (o : Operation) (m : Machine) (d : Device) → uses port 0 ≡ Free → IsOver (d.port port) 0 →
-    DriverRelation m (known (put uses port 0 (Own o)) parked d) → DriverRelation m (known uses parked d)
+    DriverRelation m (driver_state_of (set_slot_state uses port 0 (Own o)) parked d) → DriverRelation m (driver_state_of uses parked d)
 released uses parked port o m d free over knows =
-    subst (λ (u : SlotStates). DriverRelation m (known u parked d)) (given_up uses port o free)
-    (own_release_knows (known (put uses port 0 (Own o)) parked d) m knows port 0 over o (put_same uses port 0 (Own o)))
+    subst (λ (u : SlotStates). DriverRelation m (driver_state_of u parked d)) (given_up uses port o free)
+    (own_release_knows (driver_state_of (set_slot_state uses port 0 (Own o)) parked d) m knows port 0 over o (put_same uses port 0 (Own o)))
 
 -- some machine agrees with the slots used as they were
-pub agrees_released : (uses : SlotStates) (port : ℕ) (o : Operation) (d : Device) → uses port 0 ≡ Free → IsOver (d.port port) 0 → IsRelated (put uses port 0 (Own o)) d → IsRelated uses d
+pub agrees_released : (uses : SlotStates) (port : ℕ) (o : Operation) (d : Device) → uses port 0 ≡ Free → IsOver (d.port port) 0 → IsRelated (set_slot_state uses port 0 (Own o)) d → IsRelated uses d
 agrees_released uses port o d free over a = record {
   machine = a.machine;
   parked = a.parked;
   reached = a.reached;
-  knows = released uses a.parked port o a.machine d free over a.knows;
+  driver_relation = released uses a.parked port o a.machine d free over a.driver_relation;
 }
 
 -- where it was issued meanwhile
 pub told_released : (May : Access → Type 0) (Fits : SlotStates → Type 0) (port : Port) (o : Operation) (v : ℕ) (old new : Device) → May (Writing (Px port Ci) v) →
-    ((uses : SlotStates) → Fits uses → uses port.0 0 ≡ Free) → IsOver (new.port port.0) 0 → (a : IsSimulatedTo May Fits (λ uses. put uses port.0 0 (Own o)) old new) →
-    IsSimulatedAlong (λ made. made ≡ a.driven.accesses) May Fits old new
-told_released May Fits port o v old new issues free over a = told_known May Fits (λ uses. put uses port.0 0 (Own o)) (λ uses. uses) old new (λ made. made ≡ a.driven.accesses)
+    ((uses : SlotStates) → Fits uses → uses port.0 0 ≡ Free) → IsOver (new.port port.0) 0 → (a : IsSimulatedChangingUses May Fits (λ uses. set_slot_state uses port.0 0 (Own o)) old new) →
+    IsSimulatedAlong (λ made. made ≡ a.is_driven.accesses) May Fits old new
+told_released May Fits port o v old new issues free over a = told_known May Fits (λ uses. set_slot_state uses port.0 0 (Own o)) (λ uses. uses) old new (λ made. made ≡ a.is_driven.accesses)
     (λ uses parked m fits knows. released uses parked port.0 o m new (free uses fits) over knows) (λ uses q none arms. refl) (record { followed = a; tells = refl })

@@ -7,7 +7,7 @@ use Rattle.hba_regs.specs.Bits.{bit}
 use Rattle.hba_regs.specs.declared.reg.Reg.TheVariants.{Px}
 use Rattle.hba_regs.specs.declared.reg.PortReg.{PortReg}
 use Rattle.hba_regs.specs.declared.reg.PortReg.TheVariants.{Is, Cmd, Sctl, Sact, Ci}
-use Rattle.adapter.specs.Access.{Access, Does, Reads, Writes, port_written, with_st, with_fre}
+use Rattle.adapter.specs.Access.{Access, Does, Reads, Writes, port_after_write, port_after_st_write, port_after_fre_write}
 use Rattle.adapter.specs.Access.Access.{Writing}
 use Rattle.adapter.specs.Commands.{is_queued}
 use Rattle.adapter.specs.Device.{Halt, FetchedCommand, DevicePort, Device}
@@ -20,13 +20,13 @@ use Rattle.adapter.proofs.Changed.{changed_same, changed_other}
 use Rattle.block_machine.specs.Histories.{IsReachable}
 use Rattle.block_machine.specs.Expected as left
 use Rattle.block_machine.specs.State.{Machine}
-use Rattle.refinement.specs.Below.{StepLaws}
+use Rattle.refinement.specs.StepLaws.{StepLaws}
 use Rattle.refinement.specs.Relation.{StateRelation}
 use Rattle.refinement.specs.PortFacts.{RunsWell, IsFaulted, IsCleanToStart}
-use Rattle.refinement.specs.Follows.{SimulatesSteps}
+use Rattle.refinement.specs.Simulation.{SimulatesSteps}
 use Rattle.refinement.specs.Links.{DoesNotWrite}
-use Rattle.refinement.specs.Slots.{SlotState, Free, SlotStates, put, IsEmptySlot, IsOver, RelatesSlot}
-use Rattle.refinement.specs.Started.{ClearsNoStart}
+use Rattle.refinement.specs.Slots.{SlotState, Free, SlotStates, set_slot_state, IsEmptySlot, IsOver, RelatesSlot}
+use Rattle.refinement.specs.StartedPort.{ClearsNoStart}
 use Rattle.refinement.proofs.device.FactsOverAccesses.{access_steps, effect_keeps}
 use Rattle.refinement.proofs.steps.FollowedSteps.{step_follows}
 use Rattle.refinement.proofs.device.HealthyPort.{at_port}
@@ -35,7 +35,7 @@ use Rattle.refinement.proofs.driver.PutSlot.{put_other}
 use Rattle.refinement.proofs.device.RunningPort.{well_of}
 use Rattle.refinement.proofs.device.StartConditions.{steps_quiet}
 use Rattle.refinement.proofs.steps.TakenCommand.{never_refused}
-use Rattle.refinement.specs.Recovering.{RunsLinked, FaultLeavesIssued}
+use Rattle.refinement.specs.HaltRecovery.{RunsLinked, FaultLeavesIssued}
 use Rattle.refinement.proofs.device.LinkOverFaults.{running_started}
 use Rattle.refinement.proofs.driver.EndedHalt.{taken_issued, fallen_zero}
 use Rattle.refinement.proofs.device.PlainPort.{fetched_plain}
@@ -68,7 +68,7 @@ beside_set f place other h = changed_other f place true 30 (λ e. other (sym e))
 module _ (uses : SlotStates) (m : Machine) (d : Device) (a : StateRelation uses m d) (port : ℕ) (alone : (slot : ℕ) → slot ≢ 0 → uses port slot ≡ Free) (off : d.hr ≡ false) (h : Open (d.port port)) where
   beside_over : (p slot : ℕ) → p ≡ port → slot ≢ 0 → IsOver (d.port p) slot
   beside_over p slot e ne =
-      let h : IsEmptySlot (d.port p) slot = subst (λ (u : SlotState). RelatesSlot m d.memory d.tape (d.port p) p slot u) (ap (λ (q : ℕ). uses q slot) e ∙ alone slot ne) (a.slot p slot) in
+      let h : IsEmptySlot (d.port p) slot = subst (λ (u : SlotState). RelatesSlot m d.memory d.tape (d.port p) p slot u) (ap (λ (q : ℕ). uses q slot) e ∙ alone slot ne) (a.relates_slots p slot) in
       record { issued = h.issued; free = h.free }
 
   issued_first : (p slot : ℕ) → p ≡ port → (d.port p).ci slot ≡ true → slot ≡ 0
@@ -101,7 +101,7 @@ module _ (uses : SlotStates) (m : Machine) (d : Device) (a : StateRelation uses 
         x.0,
         fallen_zero (is_queued t.meaning.operation) (d.port p).sact slot x.1,
         x.2,
-        inl (beside_set (d.port p).is flag (small can.shown) (⊎_elim
+        inl (beside_set (d.port p).is flag (small can.cause_is_allowed) (⊎_elim
             (λ (n : (d.port p).is 30 ≡ false). n)
             (λ (y : ((d.port p).ci 0 ≡ true) × IsFaulted (d.port p).halt). unworked (d.port p).halt t.meaning.operation y.1 can.works.working.admitted)
             x.3)),
@@ -134,7 +134,7 @@ module _ (uses : SlotStates) (m : Machine) (d : Device) (a : StateRelation uses 
       small (inr z) e = omega (arith, z, e)
   step_opens (Fall p) can = at_port Open Open d p port _ h (λ e x. absurd (both_ways _ can.0 x.0)) (λ ne x. x)
   step_opens (FrFall p) can = at_port Open Open d p port _ h (λ e x. x) (λ ne x. x)
-  step_opens (LinkUp p sig n) can = at_port Open Open d p port _ h (λ e x. absurd (both_ways _ x.2 can.due)) (λ ne x. x)
+  step_opens (LinkUp p sig n) can = at_port Open Open d p port _ h (λ e x. absurd (both_ways _ x.2 can.link_is_due)) (λ ne x. x)
   step_opens (Unplug p) can = at_port Open Open d p port _ h (λ e x. x) (λ ne x. x)
   step_opens (Plug p disk) can = at_port Open Open d p port _ h (λ e x. x) (λ ne x. x)
   step_opens ResetEnds can = absurd (both_ways _ off can)
@@ -145,23 +145,23 @@ leads_open : StepLaws → (uses : SlotStates) (m : Machine) (port : ℕ) → ((s
 leads_open laws uses m port alone [] old new r a off e h = subst (λ (d : Device). (d.hr ≡ false) × Open (d.port port)) (sym e) (off, h)
 leads_open laws uses m port alone (step ∷ steps) old new r a off (can, lead) h =
     let f : SimulatesSteps uses m old (device_after step old) = step_follows uses m old step r a can in
-    leads_open laws uses (left.after m f.steps) port alone steps (device_after step old) new (laws.reached m f.steps r f.may) f.agrees ((laws.step step _ can).on off).no_reset lead
+    leads_open laws uses (left.after m f.steps) port alone steps (device_after step old) new (laws.reached m f.steps r f.may) f.agrees ((laws.step step _ can).keeps_outside_reset off).no_reset lead
     (step_opens uses m old a port alone off h step can)
 
 pub steps_open : StepLaws → (uses : SlotStates) (m : Machine) (port : ℕ) (old new : Device) → IsReachable m → StateRelation uses m old → Steps old new → FaultLeavesIssued uses port old → FaultLeavesIssued uses port new
 steps_open laws uses m port old new r a s h =
-    let x = leads_open laws uses m port h.alone s.steps old new r a h.off s.lead (h.st, h.plain, h.undue, h.told) in
-    record { off = x.0; st = x.1.0; plain = x.1.1; undue = x.1.2; alone = h.alone; told = x.1.3 }
+    let x = leads_open laws uses m port h.no_other_slot_is_used s.steps old new r a h.hr_is_clear s.lead (h.st, h.slot_0_is_plain, h.link_is_not_due, h.tfes_is_clear_or_issued) in
+    record { hr_is_clear = x.0; st = x.1.0; slot_0_is_plain = x.1.1; link_is_not_due = x.1.2; no_other_slot_is_used = h.no_other_slot_is_used; tfes_is_clear_or_issued = x.1.3 }
 
 -- ---- an access
 
 -- ST stays 1
-command_opens : (v tape : ℕ) (p : DevicePort) → bit v 0 ≡ true → Open p → Open (port_written Cmd v tape p)
+command_opens : (v tape : ℕ) (p : DevicePort) → bit v 0 ≡ true → Open p → Open (port_after_write Cmd v tape p)
 command_opens v tape p on h =
-    subst (λ (b : Bool). Open (with_fre (bit v 4) (with_st b tape p))) (sym on)
-    (subst (λ (x : DevicePort). Open (with_fre (bit v 4) x)) (sym (cond-true p.st p _ h.0)) h)
+    subst (λ (b : Bool). Open (port_after_fre_write (bit v 4) (port_after_st_write b tape p))) (sym on)
+    (subst (λ (x : DevicePort). Open (port_after_fre_write (bit v 4) x)) (sym (cond-true p.st p _ h.0)) h)
 
-written_opens : (r : PortReg) (v tape : ℕ) (p : DevicePort) → (r ≡ Cmd → bit v 0 ≡ true) → r ≢ Sact → r ≢ Sctl → Open p → Open (port_written r v tape p)
+written_opens : (r : PortReg) (v tape : ℕ) (p : DevicePort) → (r ≡ Cmd → bit v 0 ≡ true) → r ≢ Sact → r ≢ Sctl → Open p → Open (port_after_write r v tape p)
 written_opens Cmd v tape p on other control h = command_opens v tape p (on refl) h
 written_opens Sact v tape p on other control h = absurd (other refl)
 written_opens Sctl v tape p on other control h = absurd (control refl)
@@ -183,12 +183,12 @@ pub access_opens : StepLaws → (uses : SlotStates) (m : Machine) (port : Port) 
     new.hr ≡ false → Does access old new → FaultLeavesIssued uses port.0 old → FaultLeavesIssued uses port.0 new
 access_opens laws uses m port access old new r a keeps spares controls off x h =
     let s = access_steps access old new x in
-    let c = leads_open laws uses m port.0 h.alone s.1.steps old s.0 r a h.off s.1.lead (h.st, h.plain, h.undue, h.told) in
+    let c = leads_open laws uses m port.0 h.no_other_slot_is_used s.1.steps old s.0 r a h.hr_is_clear s.1.lead (h.st, h.slot_0_is_plain, h.link_is_not_due, h.tfes_is_clear_or_issued) in
     let e : Open (new.port port.0) =
     effect_keeps Open port (λ p q v y. y) (λ p y. y) access old new x
     (λ q v mid is steps y. written_opens q v (length mid.tape) (mid.port port.0)
     (λ z. keeps v (is ∙ ap (λ (w : PortReg). Writing (Px port w) v) z)) (spared port q Sact access v spares is) (spared port q Sctl access v controls is) y) c.1 in
-    record { off = off; st = e.0; plain = e.1; undue = e.2; alone = h.alone; told = e.3 }
+    record { hr_is_clear = off; st = e.0; slot_0_is_plain = e.1; link_is_not_due = e.2; no_other_slot_is_used = h.no_other_slot_is_used; tfes_is_clear_or_issued = e.3 }
 
 -- ---- where it begins
 
@@ -197,28 +197,28 @@ pub start_opens : StepLaws → (uses : SlotStates) (port : Port) (v : ℕ) (old 
 start_opens laws uses port v old new off on free clear quiet stopped call =
     let k = laws.keeps _ _ call.steps in
     let q : IsCleanToStart (call.mid.port port.0) = steps_quiet port.0 old call.mid call.steps quiet in
-    let w : Open (with_fre (bit v 4) (with_st (bit v 0) (length call.mid.tape) (call.mid.port port.0))) =
-    subst (λ (b : Bool). Open (with_fre (bit v 4) (with_st b (length call.mid.tape) (call.mid.port port.0)))) (sym on)
-    (subst (λ (x : DevicePort). Open (with_fre (bit v 4) x)) (sym (cond-false (call.mid.port port.0).st (call.mid.port port.0) _ ((k.port port.0).st stopped)))
-    (refl, (k.port port.0).sact 0 clear, q.linked, inl q.unflagged.1)) in
+    let w : Open (port_after_fre_write (bit v 4) (port_after_st_write (bit v 0) (length call.mid.tape) (call.mid.port port.0))) =
+    subst (λ (b : Bool). Open (port_after_fre_write (bit v 4) (port_after_st_write b (length call.mid.tape) (call.mid.port port.0)))) (sym on)
+    (subst (λ (x : DevicePort). Open (port_after_fre_write (bit v 4) x)) (sym (cond-false (call.mid.port port.0).st (call.mid.port port.0) _ ((k.ports_are_kept port.0).st stopped)))
+    (refl, (k.ports_are_kept port.0).sact 0 clear, q.no_link_is_due, inl q.tfes_is_clear.1)) in
     let e : Open (new.port port.0) = subst Open (sym (ap (λ (d : Device). d.port port.0) call.effect ∙ changed_same call.mid.port port.0 _)) w in
     record {
-      off = ap (λ (d : Device). d.hr) call.effect ∙ (k.on off).no_reset;
+      hr_is_clear = ap (λ (d : Device). d.hr) call.effect ∙ (k.keeps_outside_reset off).no_reset;
       st = e.0;
-      plain = e.1;
-      undue = e.2;
-      alone = λ slot _. free slot;
-      told = e.3;
+      slot_0_is_plain = e.1;
+      link_is_not_due = e.2;
+      no_other_slot_is_used = λ slot _. free slot;
+      tfes_is_clear_or_issued = e.3;
     }
 
-pub used_opens : (uses : SlotStates) (port : ℕ) (u : SlotState) (d : Device) → FaultLeavesIssued uses port d → FaultLeavesIssued (put uses port 0 u) port d
+pub used_opens : (uses : SlotStates) (port : ℕ) (u : SlotState) (d : Device) → FaultLeavesIssued uses port d → FaultLeavesIssued (set_slot_state uses port 0 u) port d
 used_opens uses port u d h = record {
-  off = h.off;
+  hr_is_clear = h.hr_is_clear;
   st = h.st;
-  plain = h.plain;
-  undue = h.undue;
-  alone = λ slot ne. put_other uses port 0 u port slot (λ _ z. ne z) ∙ h.alone slot ne;
-  told = h.told;
+  slot_0_is_plain = h.slot_0_is_plain;
+  link_is_not_due = h.link_is_not_due;
+  no_other_slot_is_used = λ slot ne. put_other uses port 0 u port slot (λ _ z. ne z) ∙ h.no_other_slot_is_used slot ne;
+  tfes_is_clear_or_issued = h.tfes_is_clear_or_issued;
 }
 
 -- ---- PxCI is read
@@ -230,11 +230,11 @@ unfailed laws uses m port v old new r a h call clear =
     ap (λ (d : Device). (d.port port.0).is 30) call.effect ∙ (ap (λ (p : DevicePort). p.is 30) (changed_same call.mid.port port.0 _) ∙ ⊎_elim
     (λ (n : (call.mid.port port.0).is 30 ≡ false). n)
     (λ (y : ((call.mid.port port.0).ci 0 ≡ true) × IsFaulted (call.mid.port port.0).halt). absurd (both_ways _ shown y.0))
-    mid.told)
+    mid.tfes_is_clear_or_issued)
 
 pub open_well : (p : DevicePort) → RunsLinked p → p.halt ≡ NotHalted → p.is 30 ≡ false → p.serr_n ≡ false → p.serr_x ≡ false → ((place : ℕ) → 27 ≤ place → place ≤ 29 → p.is place ≡ false) → RunsWell p
 open_well p h ends clear n x quiet = well_of p (running_started p h ends) (record {
   serr_n = n;
   serr_x = x;
-  quiet = λ place low up. ⊎_elim (λ (e : place ≡ 30). ap p.is e ∙ clear) (λ (ne : place ≡ 30 → ⊥). quiet place low (omega (arith, up, ne))) (cases_eq place 30);
+  no_error_bit_is_set = λ place low up. ⊎_elim (λ (e : place ≡ 30). ap p.is e ∙ clear) (λ (ne : place ≡ 30 → ⊥). quiet place low (omega (arith, up, ne))) (cases_eq place 30);
 })

@@ -19,14 +19,14 @@ use Rattle.block_machine.specs.Events.{AllByDevice}
 use Rattle.block_machine.specs.Histories.{IsReachable, IsSimulatedBySteps}
 use Rattle.block_machine.specs.Expected.{after}
 use Rattle.block_machine.specs.State.{Machine}
-use Rattle.refinement.specs.Below.{StepLaws}
+use Rattle.refinement.specs.StepLaws.{StepLaws}
 use Rattle.refinement.specs.Acts.{Act, DriverSlots, IsActDone, driver_state, accesses_of, act_steps}
-use Rattle.refinement.specs.Driver.{DriverRelation, ByDevice, LeavesUses, MayStore, IsOwnPrepared}
-use Rattle.refinement.specs.Driven.{known, AnyUse, IsDrivenBy, IsSimulated, IsSimulatedTo, IsSimulatedAlong, IsSimulatedAlongTo, NoneWrites, GainsNoMove}
+use Rattle.refinement.specs.Driver.{DriverRelation, IsBackedByDeviceAlone, LeavesUses, MayStore, IsOwnPrepared}
+use Rattle.refinement.specs.Fragments.{driver_state_of, AnyUse, IsDrivenBy, IsSimulated, IsSimulatedChangingUses, IsSimulatedAlong, IsSimulatedAlongChangingUses, NoneWrites, GainsNoMove}
 use Rattle.refinement.specs.Links.{DoesNotWrite}
-use Rattle.refinement.specs.Recovering.{WorksPlainly}
+use Rattle.refinement.specs.HaltRecovery.{WorksPlainly}
 use Rattle.refinement.specs.Relation.{port_at}
-use Rattle.refinement.specs.Slots.{SlotState, Own, SlotStates, put, op_of}
+use Rattle.refinement.specs.Slots.{SlotState, Own, SlotStates, set_slot_state, op_of}
 use Rattle.refinement.proofs.driver.ActParts.{accesses_append, steps_append, all_acts, done_more, done_goes, done_plain, done_silent, done_uses}
 use Rattle.refinement.proofs.driver.AddedSteps.{read_adds, load_adds, store_adds, write_adds}
 use Rattle.refinement.proofs.driver.IssueWrite.{own_adds}
@@ -37,16 +37,16 @@ use Rattle.refinement.proofs.steps.WaitingRequests.{device_append}
 -- ---- accesses of one kind
 
 pub by_none : (May : Access → Type 0) (d : Device) → IsDrivenBy May d d
-by_none May d = record { accesses = []; all = refl; only = All-nil May }
+by_none May d = record { accesses = []; all_are_done = refl; accesses_are_of_kind = All-nil May }
 
 pub by_one : (May : Access → Type 0) (access : Access) (old new : Device) → May access → Does access old new → IsDrivenBy May old new
-by_one May access old new may does = record { accesses = access ∷ []; all = (new, does, refl); only = All-cons May access [] may (All-nil May) }
+by_one May access old new may does = record { accesses = access ∷ []; all_are_done = (new, does, refl); accesses_are_of_kind = All-cons May access [] may (All-nil May) }
 
 pub by_then : {May : Access → Type 0} {old mid new : Device} → IsDrivenBy May old mid → IsDrivenBy May mid new → IsDrivenBy May old new
 by_then {May} {old} {mid} {new} a b = record {
   accesses = a.accesses ++ b.accesses;
-  all = does_append a.accesses b.accesses old mid new a.all b.all;
-  only = All-append May a.accesses b.accesses a.only b.only;
+  all_are_done = does_append a.accesses b.accesses old mid new a.all_are_done b.all_are_done;
+  accesses_are_of_kind = All-append May a.accesses b.accesses a.accesses_are_of_kind b.accesses_are_of_kind;
 }
 
 -- ---- what they leave
@@ -74,7 +74,7 @@ over Keeps none more May spares each accesses old new on all does =
 -- ---- accesses of another kind
 
 pub driven_as : (May More : Access → Type 0) (old new : Device) → ((access : Access) → May access → More access) → IsDrivenBy May old new → IsDrivenBy More old new
-driven_as May More old new kind a = record { accesses = a.accesses; all = a.all; only = all_as a.accesses a.only }
+driven_as May More old new kind a = record { accesses = a.accesses; all_are_done = a.all_are_done; accesses_are_of_kind = all_as a.accesses a.accesses_are_of_kind }
   where
     all_as : (accesses : List Access) → All May accesses → All More accesses
     all_as [] all = All-nil More
@@ -90,23 +90,23 @@ abbrev then : (SlotStates → SlotStates) → DriverSlots → DriverSlots
 then next s = record s { uses = next s.uses }
 
 module _ (May : Access → Type 0) (Fits Less : SlotStates → Type 0) (first second : SlotStates → SlotStates) (on : (uses : SlotStates) → Fits uses → Less (first uses)) where
-  pub followed_both : (old mid new : Device) → IsSimulatedTo May Fits first old mid → IsSimulatedTo May Less second mid new → IsSimulatedTo May Fits (λ uses. second (first uses)) old new
+  pub followed_both : (old mid new : Device) → IsSimulatedChangingUses May Fits first old mid → IsSimulatedChangingUses May Less second mid new → IsSimulatedChangingUses May Fits (λ uses. second (first uses)) old new
   unfolding by_then
   followed_both old mid new a b = record {
-    driven = by_then a.driven b.driven;
-    comes = λ s m reached x fits.
-        let c = a.comes s m reached x fits in
-        let g = done_goes c.acts (driver_state s old) (driver_state (then first s) mid) m x c.done in
-        let e = b.comes (then first s) (after m (act_steps c.acts)) (going_reaches (driver_state s old) (driver_state (then first s) mid) m (act_steps c.acts) reached g) g.knows (on s.uses fits) in
+    is_driven = by_then a.is_driven b.is_driven;
+    acts_reach = λ s m reached x fits.
+        let c = a.acts_reach s m reached x fits in
+        let g = done_goes c.acts (driver_state s old) (driver_state (then first s) mid) m x c.acts_are_done in
+        let e = b.acts_reach (then first s) (after m (act_steps c.acts)) (going_reaches (driver_state s old) (driver_state (then first s) mid) m (act_steps c.acts) reached g) g.driver_relation (on s.uses fits) in
         record {
           acts = c.acts ++ e.acts;
-          done = done_more c.acts e.acts (driver_state s old) (driver_state (then first s) mid) (driver_state (then second (then first s)) new) m c.done e.done;
-          accesses_are = accesses_append c.acts e.acts ∙ (ap (λ (early : List Access). early ++ accesses_of e.acts) c.accesses_are ∙ ap (λ (late : List Access). a.driven.accesses ++ late) e.accesses_are);
+          acts_are_done = done_more c.acts e.acts (driver_state s old) (driver_state (then first s) mid) (driver_state (then second (then first s)) new) m c.acts_are_done e.acts_are_done;
+          accesses_are = accesses_append c.acts e.acts ∙ (ap (λ (early : List Access). early ++ accesses_of e.acts) c.accesses_are ∙ ap (λ (late : List Access). a.is_driven.accesses ++ late) e.accesses_are);
           tells = record {
             only = subst AllByDevice (sym (steps_append c.acts e.acts)) (device_append (act_steps e.acts) (act_steps c.acts) e.tells.only c.tells.only);
             kept = λ port issues arms.
                 let early = c.tells.kept port issues arms in
-                let mids : first s.uses port.0 ≡ s.uses port.0 = done_uses port.0 (s.uses port.0) c.acts (driver_state s old) (driver_state (then first s) mid) m refl early c.done in
+                let mids : first s.uses port.0 ≡ s.uses port.0 = done_uses port.0 (s.uses port.0) c.acts (driver_state s old) (driver_state (then first s) mid) m refl early c.acts_are_done in
                 All-append (λ (act : Act). act.later.uses port.0 ≡ s.uses port.0) c.acts e.acts early
                 (all_acts (λ act. act.later.uses port.0 ≡ first s.uses port.0) (λ act. act.later.uses port.0 ≡ s.uses port.0) e.acts (λ act y. y ∙ mids) (e.tells.kept port issues arms));
           };
@@ -117,10 +117,10 @@ module _ (May : Access → Type 0) (Fits : SlotStates → Type 0) where
   pub followed_none : (d : Device) → IsSimulated May Fits d d
   unfolding by_none
   followed_none d = record {
-    driven = by_none May d;
-    comes = λ s m reached x fits. record {
+    is_driven = by_none May d;
+    acts_reach = λ s m reached x fits. record {
       acts = [];
-      done = refl;
+      acts_are_done = refl;
       accesses_are = refl;
       tells = record { only = tt; kept = λ port issues arms. All-nil (λ (act : Act). act.later.uses port.0 ≡ s.uses port.0) };
     };
@@ -136,15 +136,15 @@ module _ (May : Access → Type 0) (Fits : SlotStates → Type 0) where
 -- of another kind, and with uses that fit less
 module _ (May More : Access → Type 0) (Fits Less : SlotStates → Type 0) where
   pub followed_to_as : (next : SlotStates → SlotStates) (old new : Device) → ((access : Access) → May access → More access) → ((uses : SlotStates) → Less uses → Fits uses) →
-      IsSimulatedTo May Fits next old new → IsSimulatedTo More Less next old new
+      IsSimulatedChangingUses May Fits next old new → IsSimulatedChangingUses More Less next old new
   unfolding driven_as
   followed_to_as next old new kind fits a = record {
-    driven = driven_as May More old new kind a.driven;
-    comes = λ s m reached x less.
-        let c = a.comes s m reached x (fits s.uses less) in
+    is_driven = driven_as May More old new kind a.is_driven;
+    acts_reach = λ s m reached x less.
+        let c = a.acts_reach s m reached x (fits s.uses less) in
         record {
           acts = c.acts;
-          done = c.done;
+          acts_are_done = c.acts_are_done;
           accesses_are = c.accesses_are;
           tells = record { only = c.tells.only; kept = λ port issues arms. c.tells.kept port (none_writes May More (Px port Ci) kind issues) (none_writes May More (Px port Sact) kind arms) };
         };
@@ -159,47 +159,47 @@ module _ (May More : Access → Type 0) (Fits Less : SlotStates → Type 0) wher
 -- of one stretch after another
 module _ (First Second Tells : List Access → Type 0) (join : (early late : List Access) → First early → Second late → Tells (early ++ late)) (May : Access → Type 0) where
   pub told_both : (Fits Less : SlotStates → Type 0) (first second : SlotStates → SlotStates) → ((uses : SlotStates) → Fits uses → Less (first uses)) → (old mid new : Device) →
-      IsSimulatedAlongTo First May Fits first old mid → IsSimulatedAlongTo Second May Less second mid new → IsSimulatedAlongTo Tells May Fits (λ uses. second (first uses)) old new
+      IsSimulatedAlongChangingUses First May Fits first old mid → IsSimulatedAlongChangingUses Second May Less second mid new → IsSimulatedAlongChangingUses Tells May Fits (λ uses. second (first uses)) old new
   unfolding followed_both by_then
   told_both Fits Less first second on old mid new a b = record {
     followed = followed_both May Fits Less first second on old mid new a.followed b.followed;
-    tells = join a.followed.driven.accesses b.followed.driven.accesses a.tells b.tells;
+    tells = join a.followed.is_driven.accesses b.followed.is_driven.accesses a.tells b.tells;
   }
 
 -- of accesses that are of another kind, too, where the uses fit less
 module _ (Tells : List Access → Type 0) (May More : Access → Type 0) (Fits Less : SlotStates → Type 0) where
   pub told_as : (next : SlotStates → SlotStates) (old new : Device) → ((access : Access) → May access → More access) → ((uses : SlotStates) → Less uses → Fits uses) →
-      IsSimulatedAlongTo Tells May Fits next old new → IsSimulatedAlongTo Tells More Less next old new
+      IsSimulatedAlongChangingUses Tells May Fits next old new → IsSimulatedAlongChangingUses Tells More Less next old new
   unfolding followed_to_as driven_as
   told_as next old new kind fits a = record { followed = followed_to_as May More Fits Less next old new kind fits a.followed; tells = a.tells }
 
 -- which accesses they are: those of the one, and then those of the other
 module _ (May More : Access → Type 0) (Fits Less : SlotStates → Type 0) (first second : SlotStates → SlotStates) where
   pub told_joined : ((access : Access) → More access → May access) → ((uses : SlotStates) → Fits uses → Less (first uses)) → (old mid new : Device) →
-      (a : IsSimulatedTo May Fits first old mid) → (b : IsSimulatedTo More Less second mid new) →
-      IsSimulatedAlongTo (λ made. made ≡ a.driven.accesses ++ b.driven.accesses) May Fits (λ uses. second (first uses)) old new
+      (a : IsSimulatedChangingUses May Fits first old mid) → (b : IsSimulatedChangingUses More Less second mid new) →
+      IsSimulatedAlongChangingUses (λ made. made ≡ a.is_driven.accesses ++ b.is_driven.accesses) May Fits (λ uses. second (first uses)) old new
   told_joined kind on old mid new a b =
-      told_both (λ made. made ≡ a.driven.accesses) (λ made. made ≡ b.driven.accesses) (λ made. made ≡ a.driven.accesses ++ b.driven.accesses)
-      (λ early late e f. ap (λ (x : List Access). x ++ late) e ∙ ap (λ (x : List Access). a.driven.accesses ++ x) f) May Fits Less first second on old mid new
+      told_both (λ made. made ≡ a.is_driven.accesses) (λ made. made ≡ b.is_driven.accesses) (λ made. made ≡ a.is_driven.accesses ++ b.is_driven.accesses)
+      (λ early late e f. ap (λ (x : List Access). x ++ late) e ∙ ap (λ (x : List Access). a.is_driven.accesses ++ x) f) May Fits Less first second on old mid new
       (record { followed = a; tells = refl })
-      (told_as (λ made. made ≡ b.driven.accesses) More May Less Less second mid new kind (λ uses is. is) (record { followed = b; tells = refl }))
+      (told_as (λ made. made ≡ b.is_driven.accesses) More May Less Less second mid new kind (λ uses is. is) (record { followed = b; tells = refl }))
 
 -- the driver knows then of the same device that its slots are used so
 module _ (May : Access → Type 0) (Fits : SlotStates → Type 0) (next later : SlotStates → SlotStates) (old new : Device) where
-  pub followed_known : ((uses : SlotStates) (parked : ℕ → List RequestId) (m : Machine) → Fits uses → DriverRelation m (known (next uses) parked new) → DriverRelation m (known (later uses) parked new)) →
-      ((uses : SlotStates) (port : Port) → NoneWrites May (Px port Ci) → NoneWrites May (Px port Sact) → later uses port.0 ≡ uses port.0) → IsSimulatedTo May Fits next old new → IsSimulatedTo May Fits later old new
+  pub followed_known : ((uses : SlotStates) (parked : ℕ → List RequestId) (m : Machine) → Fits uses → DriverRelation m (driver_state_of (next uses) parked new) → DriverRelation m (driver_state_of (later uses) parked new)) →
+      ((uses : SlotStates) (port : Port) → NoneWrites May (Px port Ci) → NoneWrites May (Px port Sact) → later uses port.0 ≡ uses port.0) → IsSimulatedChangingUses May Fits next old new → IsSimulatedChangingUses May Fits later old new
   followed_known knows stays a = record {
-    driven = a.driven;
-    comes = λ s m reached x fits.
-        let c = a.comes s m reached x fits in
+    is_driven = a.is_driven;
+    acts_reach = λ s m reached x fits.
+        let c = a.acts_reach s m reached x fits in
         let mid : Machine = after m (act_steps c.acts) in
-        let goes = done_goes c.acts (driver_state s old) (driver_state (then next s) new) m x c.done in
-        let is : DriverRelation mid (driver_state (then later s) new) = knows s.uses s.parked mid fits goes.knows in
+        let goes = done_goes c.acts (driver_state s old) (driver_state (then next s) new) m x c.acts_are_done in
+        let is : DriverRelation mid (driver_state (then later s) new) = knows s.uses s.parked mid fits goes.driver_relation in
         let act : Act = record { access = None; steps = []; later = driver_state (then later s) new } in
-        let last : IsActDone (driver_state (then next s) new) mid act = record { leads = refl; one = inl refl; goes = goes_still (driver_state (then next s) new) (driver_state (then later s) new) mid refl is } in
+        let last : IsActDone (driver_state (then next s) new) mid act = record { access_leads = refl; is_one_act = inl refl; driver_advances = goes_still (driver_state (then next s) new) (driver_state (then later s) new) mid refl is } in
         record {
           acts = c.acts ++ act ∷ [];
-          done = done_more c.acts (act ∷ []) (driver_state s old) (driver_state (then next s) new) (driver_state (then later s) new) m c.done (last, refl);
+          acts_are_done = done_more c.acts (act ∷ []) (driver_state s old) (driver_state (then next s) new) (driver_state (then later s) new) m c.acts_are_done (last, refl);
           accesses_are = accesses_append c.acts (act ∷ []) ∙ (append-nil (accesses_of c.acts) ∙ c.accesses_are);
           tells = record {
             only = subst AllByDevice (sym (steps_append c.acts (act ∷ []))) c.tells.only;
@@ -212,58 +212,58 @@ module _ (May : Access → Type 0) (Fits : SlotStates → Type 0) (next later : 
 
   -- and as much is told of the list
   pub told_known : (Tells : List Access → Type 0) →
-      ((uses : SlotStates) (parked : ℕ → List RequestId) (m : Machine) → Fits uses → DriverRelation m (known (next uses) parked new) → DriverRelation m (known (later uses) parked new)) →
-      ((uses : SlotStates) (port : Port) → NoneWrites May (Px port Ci) → NoneWrites May (Px port Sact) → later uses port.0 ≡ uses port.0) → IsSimulatedAlongTo Tells May Fits next old new →
-      IsSimulatedAlongTo Tells May Fits later old new
+      ((uses : SlotStates) (parked : ℕ → List RequestId) (m : Machine) → Fits uses → DriverRelation m (driver_state_of (next uses) parked new) → DriverRelation m (driver_state_of (later uses) parked new)) →
+      ((uses : SlotStates) (port : Port) → NoneWrites May (Px port Ci) → NoneWrites May (Px port Sact) → later uses port.0 ≡ uses port.0) → IsSimulatedAlongChangingUses Tells May Fits next old new →
+      IsSimulatedAlongChangingUses Tells May Fits later old new
   unfolding followed_known
   told_known Tells knows stays a = record { followed = followed_known knows stays a.followed; tells = a.tells }
 
 -- ---- what it gives
 
 -- steps of the machine, all of them the device's
-pub followed_adds : {May : Access → Type 0} {Fits : SlotStates → Type 0} {next : SlotStates → SlotStates} {old new : Device} → IsSimulatedTo May Fits next old new →
-    (uses : SlotStates) (parked : ℕ → List RequestId) → Fits uses → IsSimulatedBySteps DriverRelation (known uses parked old) (known (next uses) parked new) (ByDevice old new)
+pub followed_adds : {May : Access → Type 0} {Fits : SlotStates → Type 0} {next : SlotStates → SlotStates} {old new : Device} → IsSimulatedChangingUses May Fits next old new →
+    (uses : SlotStates) (parked : ℕ → List RequestId) → Fits uses → IsSimulatedBySteps DriverRelation (driver_state_of uses parked old) (driver_state_of (next uses) parked new) (IsBackedByDeviceAlone old new)
 followed_adds {May} {Fits} {next} {old} {new} a uses parked fits = record {
-  adds = λ m reached x.
-      let c = a.comes (record { uses = uses; parked = parked }) m reached x fits in
-      let g = done_goes c.acts (known uses parked old) (known (next uses) parked new) m x c.done in
-      (act_steps c.acts, g.may, g.knows, record { backed = g.backed; only = c.tells.only });
+  simulates = λ m reached x.
+      let c = a.acts_reach (record { uses = uses; parked = parked }) m reached x fits in
+      let g = done_goes c.acts (driver_state_of uses parked old) (driver_state_of (next uses) parked new) m x c.acts_are_done in
+      (act_steps c.acts, g.steps_are_enabled, g.driver_relation, record { is_backed = g.is_backed; only = c.tells.only });
 }
 
 -- no page of a port that issues nothing and whose slot 0 has no such command
-pub followed_silent : StepLaws → {May : Access → Type 0} {Fits : SlotStates → Type 0} {next : SlotStates → SlotStates} {old new : Device} → IsSimulatedTo May Fits next old new →
-    (uses : SlotStates) (parked : ℕ → List RequestId) (m : Machine) → Fits uses → IsReachable m → DriverRelation m (known uses parked old) → (port : Port) (o : Operation) → op_of o ≡ None →
+pub followed_silent : StepLaws → {May : Access → Type 0} {Fits : SlotStates → Type 0} {next : SlotStates → SlotStates} {old new : Device} → IsSimulatedChangingUses May Fits next old new →
+    (uses : SlotStates) (parked : ℕ → List RequestId) (m : Machine) → Fits uses → IsReachable m → DriverRelation m (driver_state_of uses parked old) → (port : Port) (o : Operation) → op_of o ≡ None →
     NoneWrites May (Px port Ci) → NoneWrites May (Px port Sact) → (uses port.0 0 ≡ Own o → ⊥) → GainsNoMove port.0 o old new
 followed_silent laws {May} {Fits} {next} {old} {new} a uses parked m fits reached x port o own issues arms none =
-    let c = a.comes (record { uses = uses; parked = parked }) m reached x fits in
-    (done_silent laws) port.0 o own c.acts (known uses parked old) (known (next uses) parked new) m reached x none
+    let c = a.acts_reach (record { uses = uses; parked = parked }) m reached x fits in
+    (done_silent laws) port.0 o own c.acts (driver_state_of uses parked old) (driver_state_of (next uses) parked new) m reached x none
     (all_acts (λ act. act.later.uses port.0 ≡ uses port.0) (λ act. act.later.uses port.0 0 ≡ Own o → ⊥) c.acts
-    (λ act e is. none (ap (λ (f : ℕ → SlotState). f 0) (sym e) ∙ is)) (c.tells.kept port issues arms)) c.done
+    (λ act e is. none (ap (λ (f : ℕ → SlotState). f 0) (sym e) ∙ is)) (c.tells.kept port issues arms)) c.acts_are_done
 
 -- a port that works on plain commands alone, and whose PxSACT isn't written
-pub followed_plain : StepLaws → {May : Access → Type 0} {Fits : SlotStates → Type 0} {next : SlotStates → SlotStates} {old new : Device} → IsSimulatedTo May Fits next old new →
-    (uses : SlotStates) (parked : ℕ → List RequestId) (m : Machine) → Fits uses → IsReachable m → DriverRelation m (known uses parked old) → (port : Port) → NoneWrites May (Px port Sact) →
+pub followed_plain : StepLaws → {May : Access → Type 0} {Fits : SlotStates → Type 0} {next : SlotStates → SlotStates} {old new : Device} → IsSimulatedChangingUses May Fits next old new →
+    (uses : SlotStates) (parked : ℕ → List RequestId) (m : Machine) → Fits uses → IsReachable m → DriverRelation m (driver_state_of uses parked old) → (port : Port) → NoneWrites May (Px port Sact) →
     WorksPlainly (old.port port.0) → WorksPlainly (new.port port.0)
 followed_plain laws {May} {Fits} {next} {old} {new} a uses parked m fits reached x port arms =
-    let c = a.comes (record { uses = uses; parked = parked }) m reached x fits in
-    let spares = All-weaker May (DoesNotWrite (Px port Sact)) arms a.driven.accesses a.driven.only in
-    (done_plain laws) c.acts (known uses parked old) (known (next uses) parked new) m port reached x (subst (All (DoesNotWrite (Px port Sact))) (sym c.accesses_are) spares) c.done
+    let c = a.acts_reach (record { uses = uses; parked = parked }) m reached x fits in
+    let spares = All-weaker May (DoesNotWrite (Px port Sact)) arms a.is_driven.accesses a.is_driven.accesses_are_of_kind in
+    (done_plain laws) c.acts (driver_state_of uses parked old) (driver_state_of (next uses) parked new) m port reached x (subst (All (DoesNotWrite (Px port Sact))) (sym c.accesses_are) spares) c.acts_are_done
 
 -- ---- one access
 
 module _ (May : Access → Type 0) (Fits : SlotStates → Type 0) (next : SlotStates → SlotStates) (access : Access) (old new : Device) (kind : May access) (does : Does access old new) where
-  pub followed_by : ((uses : SlotStates) (parked : ℕ → List RequestId) → Fits uses → IsSimulatedBySteps DriverRelation (known uses parked old) (known (next uses) parked new) (ByDevice old new)) →
-      ((uses : SlotStates) (port : Port) → NoneWrites May (Px port Ci) → NoneWrites May (Px port Sact) → next uses port.0 ≡ uses port.0) → IsSimulatedTo May Fits next old new
+  pub followed_by : ((uses : SlotStates) (parked : ℕ → List RequestId) → Fits uses → IsSimulatedBySteps DriverRelation (driver_state_of uses parked old) (driver_state_of (next uses) parked new) (IsBackedByDeviceAlone old new)) →
+      ((uses : SlotStates) (port : Port) → NoneWrites May (Px port Ci) → NoneWrites May (Px port Sact) → next uses port.0 ≡ uses port.0) → IsSimulatedChangingUses May Fits next old new
   unfolding by_one
   followed_by adds stays = record {
-    driven = by_one May access old new kind does;
-    comes = λ s m reached x fits.
-        let later = known (next s.uses) s.parked new in
+    is_driven = by_one May access old new kind does;
+    acts_reach = λ s m reached x fits.
+        let later = driver_state_of (next s.uses) s.parked new in
         let y = goes_access (driver_state s old) later m (adds s.uses s.parked fits) reached x in
         let act : Act = record { access = Some access; steps = y.0; later = later } in
         record {
           acts = act ∷ [];
-          done = (record { leads = does; one = inl y.1; goes = y.2 }, refl);
+          acts_are_done = (record { access_leads = does; is_one_act = inl y.1; driver_advances = y.2 }, refl);
           accesses_are = refl;
           tells = record {
             only = y.1;
@@ -275,21 +275,21 @@ module _ (May : Access → Type 0) (Fits : SlotStates → Type 0) (next : SlotSt
 
 pub followed_read : (May : Access → Type 0) (r : Reg) (v : ℕ) (old new : Device) → May (Reading r v) → Reads r v old new → IsSimulated May AnyUse old new
 followed_read May r v old new kind call =
-    followed_by May AnyUse (λ uses. uses) (Reading r v) old new kind call (λ uses parked is. read_adds (known uses parked old) r v new call) (λ uses q issues arms. refl)
+    followed_by May AnyUse (λ uses. uses) (Reading r v) old new kind call (λ uses parked is. read_adds (driver_state_of uses parked old) r v new call) (λ uses q issues arms. refl)
 
 pub followed_load : (May : Access → Type 0) (driver_state : ℕ) (bytes : List ℕ) (old new : Device) → May (Loading driver_state bytes) → Loads driver_state bytes old new → IsSimulated May AnyUse old new
 followed_load May driver_state bytes old new kind call =
-    followed_by May AnyUse (λ uses. uses) (Loading driver_state bytes) old new kind call (λ uses parked is. load_adds (known uses parked old) driver_state bytes new call) (λ uses q issues arms. refl)
+    followed_by May AnyUse (λ uses. uses) (Loading driver_state bytes) old new kind call (λ uses parked is. load_adds (driver_state_of uses parked old) driver_state bytes new call) (λ uses q issues arms. refl)
 
 pub followed_store : (May : Access → Type 0) (Fits : SlotStates → Type 0) (driver_state : ℕ) (bytes : List ℕ) (old new : Device) → May (Storing driver_state bytes) →
     ((uses : SlotStates) → Fits uses → MayStore uses driver_state (length bytes)) → Stores driver_state bytes old new → IsSimulated May Fits old new
 followed_store May Fits driver_state bytes old new kind may call =
-    followed_by May Fits (λ uses. uses) (Storing driver_state bytes) old new kind call (λ uses parked is. store_adds (known uses parked old) driver_state bytes new (may uses is) call) (λ uses q issues arms. refl)
+    followed_by May Fits (λ uses. uses) (Storing driver_state bytes) old new kind call (λ uses parked is. store_adds (driver_state_of uses parked old) driver_state bytes new (may uses is) call) (λ uses q issues arms. refl)
 
 pub followed_write : (May : Access → Type 0) (Fits : SlotStates → Type 0) (r : Reg) (v : ℕ) (old new : Device) → May (Writing r v) → IsStable (MayWrite r v) old →
     ((uses : SlotStates) → Fits uses → LeavesUses uses r v old) → Writes r v old new → IsSimulated May Fits old new
 followed_write May Fits r v old new kind may leaves call =
-    followed_by May Fits (λ uses. uses) (Writing r v) old new kind call (λ uses parked is. write_adds (known uses parked old) r v new may (leaves uses is) call) (λ uses q issues arms. refl)
+    followed_by May Fits (λ uses. uses) (Writing r v) old new kind call (λ uses parked is. write_adds (driver_state_of uses parked old) r v new may (leaves uses is) call) (λ uses q issues arms. refl)
 
 -- the list of one reading, of one write, or of one load
 module _ (May : Access → Type 0) (driver_state : ℕ) (bytes : List ℕ) (old new : Device) where
@@ -309,10 +309,10 @@ module _ (May : Access → Type 0) (Fits : SlotStates → Type 0) (r : Reg) (v :
 
 -- a command of the driver's own is issued
 pub followed_asking : (May : Access → Type 0) (Fits : SlotStates → Type 0) (port : Port) (o : Operation) (v : ℕ) (old new : Device) → May (Writing (Px port Ci) v) → old.hr ≡ false →
-    ((uses : SlotStates) → Fits uses → IsOwnPrepared uses old port.0 o v) → Writes (Px port Ci) v old new → IsSimulatedTo May Fits (λ uses. put uses port.0 0 (Own o)) old new
+    ((uses : SlotStates) → Fits uses → IsOwnPrepared uses old port.0 o v) → Writes (Px port Ci) v old new → IsSimulatedChangingUses May Fits (λ uses. set_slot_state uses port.0 0 (Own o)) old new
 followed_asking May Fits port o v old new kind off prepared call =
-    followed_by May Fits (λ uses. put uses port.0 0 (Own o)) (Writing (Px port Ci) v) old new kind call
-    (λ uses parked is. own_adds (known uses parked old) port o v new off (prepared uses is) call) (λ uses q issues arms. changed_other uses port.0 _ q.0 (elsewhere q issues))
+    followed_by May Fits (λ uses. set_slot_state uses port.0 0 (Own o)) (Writing (Px port Ci) v) old new kind call
+    (λ uses parked is. own_adds (driver_state_of uses parked old) port o v new off (prepared uses is) call) (λ uses q issues arms. changed_other uses port.0 _ q.0 (elsewhere q issues))
   where
     elsewhere : (q : Port) → NoneWrites May (Px q Ci) → q.0 ≢ port.0
     elsewhere q issues e = issues (Writing (Px port Ci) v) kind (ap (λ (driver_state : Port). Px driver_state Ci) (sym (ap port_at e)))

@@ -9,14 +9,14 @@ use Rattle.hba_regs.specs.declared.reg.PortReg.TheVariants.{Ci}
 use Rattle.adapter.specs.Access.{Access, Does}
 use Rattle.adapter.specs.Access.Access.{Writing}
 use Rattle.adapter.specs.Device.{Device}
-use Rattle.adapter.specs.Kept.{Keeps}
+use Rattle.adapter.specs.KeptBySteps.{Keeps}
 use Rattle.adapter.specs.Steps.{DeviceTransition, Can, device_after, TransitionsLead, Steps}
 use Rattle.adapter.specs.Steps.DeviceTransition.{Fetch, FetchFault, Move, Clear, Done, Fault, Fatal, Fall, FrFall, LinkUp, Unplug, Plug, ResetEnds, Scribble}
 use Rattle.adapter.specs.declared.command.Operation.{Operation}
 use Rattle.adapter.specs.declared.tape.Entry.{Entry}
 use Rattle.adapter.proofs.Absurd.{some-none}
-use Rattle.refinement.specs.Below.{StepLaws}
-use Rattle.refinement.specs.Driven.{HasNoCommand, OnPortWriting, IsDrivenBy}
+use Rattle.refinement.specs.StepLaws.{StepLaws}
+use Rattle.refinement.specs.Fragments.{HasNoCommand, IsPortAccessWriting, IsDrivenBy}
 use Rattle.refinement.specs.Slots.{IsMove}
 use Rattle.refinement.proofs.device.FactsOverAccesses.{access_steps}
 use Rattle.refinement.proofs.driver.Stretches.{along}
@@ -55,7 +55,7 @@ module _ (laws : StepLaws) (port : ℕ) (o : Operation) where
   leads_unmoving (step ∷ steps) old new none (can, lead) =
       let k : Keeps old (device_after step old) = laws.step step _ can in
       gains_more (IsMove port o) old (device_after step old) new (step_unmoving old none step can)
-      (leads_unmoving steps (device_after step old) new (λ slot. record { issued = (k.port port).ci slot (none slot).issued; free = (k.port port).free slot (none slot).issued (none slot).free }) lead)
+      (leads_unmoving steps (device_after step old) new (λ slot. record { issued = (k.ports_are_kept port).ci slot (none slot).issued; free = (k.ports_are_kept port).slots_stay_free slot (none slot).issued (none slot).free }) lead)
 
   pub steps_unmoving : (old new : Device) → HasNoCommand (old.port port) → Steps old new → GainsNone (IsMove port o) old new
   steps_unmoving old new none s = leads_unmoving s.steps old new none s.lead
@@ -71,13 +71,13 @@ abbrev Unmoving : ℕ → Operation → Device → Device → Type 0
 Unmoving port o old new = HasNoCommand (old.port port) → GainsNone (IsMove port o) old new × HasNoCommand (new.port port)
 
 module _ (laws : StepLaws) (Written : PortReg → Type 0) (quiet : Written Ci → ⊥) (port : Port) (o : Operation) where
-  issues_none : (access : Access) → OnPortWriting Written port access → (slot v : ℕ) → access ≡ Writing (Px port Ci) v → bit v slot ≡ false
-  issues_none access may slot v is = absurd (quiet (subst (OnPortWriting Written port) is may).1)
+  issues_none : (access : Access) → IsPortAccessWriting Written port access → (slot v : ℕ) → access ≡ Writing (Px port Ci) v → bit v slot ≡ false
+  issues_none access may slot v is = absurd (quiet (subst (IsPortAccessWriting Written port) is may).1)
 
-  pub controls_unmoving : (old new : Device) → IsDrivenBy (OnPortWriting Written port) old new → HasNoCommand (old.port port.0) → GainsNone (IsMove port.0 o) old new × HasNoCommand (new.port port.0)
+  pub controls_unmoving : (old new : Device) → IsDrivenBy (IsPortAccessWriting Written port) old new → HasNoCommand (old.port port.0) → GainsNone (IsMove port.0 o) old new × HasNoCommand (new.port port.0)
   controls_unmoving old new a none =
       along (Unmoving port.0 o) (λ d h. (nothing laws port.0 o d, h))
       (λ x y z p q h. let u = p h in let w = q u.1 in (gains_more (IsMove port.0 o) x y z u.0 w.0, w.1))
-      (OnPortWriting Written port)
+      (IsPortAccessWriting Written port)
       (λ access x y may does h. (access_unmoving laws port.0 o access x y h does, λ slot. access_over laws port slot access x y (issues_none access may slot) does (h slot)))
-      a.accesses old new a.only a.all none
+      a.accesses old new a.accesses_are_of_kind a.all_are_done none

@@ -11,7 +11,7 @@ use Rattle.adapter.specs.declared.command.Operation.{Operation}
 use Rattle.adapter.proofs.MemoryLemmas.{patched_apart}
 use Rattle.block_machine.specs.Histories.{IsReachable}
 use Rattle.block_machine.specs.State.{Accepted, Machine}
-use Rattle.refinement.specs.Places.{list_of}
+use Rattle.refinement.specs.MemoryLayout.{list_of}
 use Rattle.refinement.specs.Slots.{SlotDecodesTo, HasTrimBlock, Free, Own, SlotStates}
 use Rattle.refinement.specs.Relation.{StateRelation}
 use Rattle.refinement.specs.Driver.{KeepsTables, MissesTable, MissesScratch, MayStore}

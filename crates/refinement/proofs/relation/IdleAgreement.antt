@@ -14,9 +14,9 @@ use Rattle.block_machine.specs.State.{Block, DiskBytes, Machine}
 use Rattle.block_machine.specs.Expected.{IsInitial}
 use Rattle.refinement.specs.Slots.{Free, Serves}
 use Rattle.refinement.specs.Relation.{IsDiskOf, SameMemory, SameSectors, port_at}
-use Rattle.refinement.specs.Returning.{optional_block, blocks_put, replug_candidates}
-use Rattle.refinement.specs.Driven.{IsRelated}
-use Rattle.refinement.specs.Driver.{DriverRelation, idle}
+use Rattle.refinement.specs.Replug.{optional_block, blocks_put, replug_candidates}
+use Rattle.refinement.specs.Fragments.{IsRelated}
+use Rattle.refinement.specs.Driver.{DriverRelation, idle_driver_state}
 use Rattle.refinement.proofs.relation.OtherSlots.{true_false}
 
 -- the list has all that may come back
@@ -32,24 +32,24 @@ in_blocks port k (e ∷ es) entry bytes here is = by (λ (c : Contains es entry)
     by rest (suc i) lt at = Contains-append_right (optional_block (bytes_put_into port k e)) (blocks_put port k es) (slice_index bytes) (rest (i, omega (arith, lt), at))
 
 returns : (tape : List Entry) (lasting : Lasting) (port k : ℕ) (bytes : List ℕ) → WereHeld tape lasting port k bytes → Contains (replug_candidates tape lasting port k) (slice_index bytes)
-returns tape lasting port k bytes (inl is) = Contains-append_left (optional_block (option_map (λ (sectors : ℕ → List ℕ). sectors k) lasting.sectors)) (blocks_put port k (drop lasting.since tape)) (slice_index bytes)
+returns tape lasting port k bytes (inl is) = Contains-append_left (optional_block (option_map (λ (sectors : ℕ → List ℕ). sectors k) lasting.sectors)) (blocks_put port k (drop lasting.tape_length tape)) (slice_index bytes)
     (in_block (option_map (λ (sectors : ℕ → List ℕ). sectors k) lasting.sectors) bytes is)
-returns tape lasting port k bytes (inr (entry, here, is)) = Contains-append_right (optional_block (option_map (λ (sectors : ℕ → List ℕ). sectors k) lasting.sectors)) (blocks_put port k (drop lasting.since tape)) (slice_index bytes)
-    (in_blocks port k (drop lasting.since tape) entry bytes here is)
+returns tape lasting port k bytes (inr (entry, here, is)) = Contains-append_right (optional_block (option_map (λ (sectors : ℕ → List ℕ). sectors k) lasting.sectors)) (blocks_put port k (drop lasting.tape_length tape)) (slice_index bytes)
+    (in_blocks port k (drop lasting.tape_length tape) entry bytes here is)
 
 pub idle_knows : (m : Machine) (d : Device) → IsInitial m → IsIdle d → ((port : ℕ) → IsDiskOf m (d.port port) port) → SameMemory m d.memory →
-    (d.telling ≡ true → (port : ℕ) → SameSectors m (d.port port).disk port) → (d.telling ≡ true → (port k : ℕ) → m.aside (port_at port) k ≡ replug_candidates d.tape (d.port port).lasting port k) → DriverRelation m (idle d)
+    (d.telling ≡ true → (port : ℕ) → SameSectors m (d.port port).disk port) → (d.telling ≡ true → (port k : ℕ) → m.blocks_since_flush (port_at port) k ≡ replug_candidates d.tape (d.port port).lasting port k) → DriverRelation m (idle_driver_state d)
 idle_knows m d s i disk memory sectors aside = record {
-  agrees = record {
-    slot = λ q k. record { issued = (i.port q).ci k; free = (i.port q).taken k; unarmed = (i.port q).sact k };
-    apart = λ q k q' k' id u v. absurd (let z : Free ≡ Serves id = u in cc);
-    received = λ q f. true_false f (i.port q).fre;
-    disk = disk;
-    memory = memory;
-    sectors = sectors;
-    lasting = λ t port k inside bytes w. inr (slice_index bytes, subst (λ (l : List Block). Contains l (slice_index bytes)) (sym (aside t port k)) (returns d.tape (d.port port).lasting port k bytes w), λ b lb. refl);
+  state_relation = record {
+    relates_slots = λ q k. record { issued = (i.ports_are_idle q).ci k; free = (i.ports_are_idle q).taken k; unarmed = (i.ports_are_idle q).sact k };
+    serve_apart = λ q k q' k' id u v. absurd (let z : Free ≡ Serves id = u in cc);
+    received_areas_are_placed = λ q f. true_false f (i.ports_are_idle q).fre;
+    disks_are_same = disk;
+    memory_is_same = memory;
+    sectors_are_same = sectors;
+    has_lasting = λ t port k inside bytes w. inr (slice_index bytes, subst (λ (l : List Block). Contains l (slice_index bytes)) (sym (aside t port k)) (returns d.tape (d.port port).lasting port k bytes w), λ b lb. refl);
   };
-  have = λ q e may at_port. ⊎_elim
+  have_slots = λ q e may at_port. ⊎_elim
       (λ z. absurd (All-contains (λ _. ⊥) [] e (All-nil (λ _. ⊥)) (subst (λ es. Contains es e) s.book z.0)))
       (λ z. absurd (All-contains (λ _. ⊥) [] e (All-nil (λ _. ⊥)) (subst (λ es. Contains es e) s.kept z)))
       may;
@@ -69,25 +69,25 @@ machine_of d rows owner = record {
   disk_ids = λ port. (d.port port.0).disk.name;
   sizes = λ port. (d.port port.0).disk.size;
   disks = λ port. told_bytes (d.port port.0).disk.sectors;
-  aside = λ port k. replug_candidates d.tape (d.port port.0).lasting port.0 k;
+  blocks_since_flush = λ port k. replug_candidates d.tape (d.port port.0).lasting port.0 k;
   book = [];
   kept = [];
   lent = λ frame. None;
   memory = λ frame b. d.memory (4096 * frame.0 + b);
   rows = rows;
   owner = owner;
-  next = 1;
+  next_id = 1;
 }
 
 pub machine_knows : (d : Device) (rows : List GrantRow) (owner : Frame → Option ClientId) → IsInitial (machine_of d rows owner) → IsIdle d
-    → TellsDisks d → DriverRelation (machine_of d rows owner) (idle d)
+    → TellsDisks d → DriverRelation (machine_of d rows owner) (idle_driver_state d)
 machine_knows d rows owner start is told =
     idle_knows (machine_of d rows owner) d start is (λ q. record { present = refl; id = refl; size = refl }) (λ f b low small. refl) sectors (λ _ port k. refl)
   where
     sectors : d.telling ≡ true → (port : ℕ) → SameSectors (machine_of d rows owner) (d.port port).disk port
     sectors tells q =
         let t = told tells q in
-        record { told = t.0; tells = t.1; same = λ k b inside small. sym (ap (λ (s : Option (ℕ → List ℕ)). told_bytes s k b) t.1) }
+        record { told_sectors = t.0; disk_tells = t.1; bytes_are_same = λ k b inside small. sym (ap (λ (s : Option (ℕ → List ℕ)). told_bytes s k b) t.1) }
 
 -- with no grants, and frames that are nobody's
 pub unowned_starts : (d : Device) → IsInitial (machine_of d [] (λ frame. None))
@@ -106,6 +106,6 @@ pub idle_agrees : (d : Device) → IsIdle d → TellsDisks d → IsRelated (λ p
 idle_agrees d is told = record {
   machine = machine_of d [] (λ frame. None);
   parked = λ port. [];
-  reached = record { first = machine_of d [] (λ frame. None); past = []; starts = unowned_starts d; legal = tt; is = refl };
-  knows = machine_knows d [] (λ frame. None) (unowned_starts d) is told;
+  reached = record { initial_machine = machine_of d [] (λ frame. None); steps_since = []; is_initial = unowned_starts d; is_legal = tt; leads_to_machine = refl };
+  driver_relation = machine_knows d [] (λ frame. None) (unowned_starts d) is told;
 }

@@ -10,14 +10,14 @@ use Rattle.ata_types.specs.declared.request.Op.{Op}
 use Rattle.ata_types.specs.declared.request.Op.TheVariants.{Read, Write, Trim, Flush}
 use Rattle.adapter.specs.Commands.{is_ranged, reads_memory}
 use Rattle.adapter.specs.Device.{Disk, Lasting, DevicePort, FetchedCommand}
-use Rattle.adapter.specs.Steps.{WereHeld, bytes_put_into, lasting_after, lasting_plugged, with_flush, next_sector, move_of, clear_entry}
+use Rattle.adapter.specs.Steps.{WereHeld, bytes_put_into, lasting_after, lasting_plugged, port_after_flush, next_sector, move_of, clear_entry}
 use Rattle.adapter.specs.declared.command.Operation.{Operation}
 use Rattle.adapter.specs.declared.command.Operation.TheVariants as operation
 use Rattle.adapter.specs.declared.tape.Entry.{Entry}
 use Rattle.adapter.specs.declared.tape.Entry.TheVariants as entry
 use Rattle.block_machine.specs.State as state
 use Rattle.block_machine.specs.State.{Block, Pending, Machine, sector_of, block_written}
-use Rattle.block_machine.specs.Due.{is_flush, changes_sectors}
+use Rattle.block_machine.specs.DueRequests.{is_flush, changes_sectors}
 use Rattle.block_machine.specs.Expected as left
 use Rattle.block_machine.specs.Steps.{Touch, End, Replace, SameBytes, HoldsOrHeldSinceFlush, after_step, put_sector}
 use Rattle.refinement.specs.Slots.{op_of}
@@ -40,14 +40,14 @@ held_touched : (m : Machine) (e : Pending) (i : ℕ) (block : Block) (port : Por
 held_touched m e i block port k b h = by_op (changes_sectors e.request.asked.op)
   where
     written : Block
-    written = block_written e.request.asked.op e.request.held i
+    written = block_written e.request.asked.op e.request.held_blocks i
 
-    by_place : (here : Bool) → Holds (cond here written (m.disks port k)) (cond here (m.disks port k ∷ m.aside port k) (m.aside port k)) b
-    by_place true = put_aside (m.disks port k) written b (m.aside port k) h
+    by_place : (here : Bool) → Holds (cond here written (m.disks port k)) (cond here (m.disks port k ∷ m.blocks_since_flush port k) (m.blocks_since_flush port k)) b
+    by_place true = put_aside (m.disks port k) written b (m.blocks_since_flush port k) h
     by_place false = h
 
     by_op : (w : Bool) → Holds ((cond w (put_sector e.request.port (sector_of e.request i) written m.disks) m.disks) port k)
-        (cond (w && ((port.0 == e.request.port.0) && (k == sector_of e.request i))) (m.disks port k ∷ m.aside port k) (m.aside port k)) b
+        (cond (w && ((port.0 == e.request.port.0) && (k == sector_of e.request i))) (m.disks port k ∷ m.blocks_since_flush port k) (m.blocks_since_flush port k)) b
     by_op true = by_place ((port.0 == e.request.port.0) && (k == sector_of e.request i))
     by_op false = h
 
@@ -60,7 +60,7 @@ held_swept m e from (suc n) port k b h =
 held_ended : (m : Machine) (e : Pending) (port : Port) (k : ℕ) (b : Block) → ((e.request.port.0 == port.0) && is_flush e.request.asked.op) ≡ false
     → HoldsOrHeldSinceFlush m port k b → HoldsOrHeldSinceFlush (after_step m (End e)) port k b
 held_ended m e port k b other h =
-    subst (λ (aside : List Block). Holds (m.disks port k) aside b) (sym (cond-false ((e.request.port.0 == port.0) && is_flush e.request.asked.op) [] (m.aside port k) other)) h
+    subst (λ (aside : List Block). Holds (m.disks port k) aside b) (sym (cond-false ((e.request.port.0 == port.0) && is_flush e.request.asked.op) [] (m.blocks_since_flush port k) other)) h
 
 -- the disk that comes in at a port is the same, or the port is another
 held_replaced : (m : Machine) (p : Port) (id size : ℕ) (disk : state.DiskBytes) (port : Port) (k : ℕ) (b : Block) → ((port.0 == p.0) ≡ true → (id == m.disk_ids port) ≡ true)
@@ -68,8 +68,8 @@ held_replaced : (m : Machine) (p : Port) (id size : ℕ) (disk : state.DiskBytes
 held_replaced m p id size disk port k b same h = go (port.0 == p.0) (id == m.disk_ids port) same
   where
     go : (here known : Bool) → (here ≡ true → known ≡ true)
-        → Holds ((cond here disk (m.disks port)) k) (cond here (cond known (m.disks port k ∷ m.aside port k) []) (m.aside port k)) b
-    go true true is = put_aside (m.disks port k) (disk k) b (m.aside port k) h
+        → Holds ((cond here disk (m.disks port)) k) (cond here (cond known (m.disks port k ∷ m.blocks_since_flush port k) []) (m.blocks_since_flush port k)) b
+    go true true is = put_aside (m.disks port k) (disk k) b (m.blocks_since_flush port k) h
     go true false is = absurd (false≢true (is refl))
     go false known is = h
 
@@ -142,7 +142,7 @@ gains_put tape e m port put l k bytes (inl was) = inl (inl was)
 gains_put tape e m port put l k bytes (inr (x, here, is)) = ⊎_elim
     (λ (last : x ≡ e). inr (put k bytes (ap (bytes_put_into port k) (sym last) ∙ is)))
     (λ before. inl (inr (x, before, is)))
-    (drop_more l.since tape e x here)
+    (drop_more l.tape_length tape e x here)
 
 pub gains_quiet : (tape : List Entry) (e : Entry) (m : Machine) (port : ℕ) → IsQuiet e → Gains tape (tape ++ e ∷ []) m port
 gains_quiet tape e m port quiet = gains_put tape e m port (λ k bytes is. absurd (puts_none (bytes_put_into port k e) bytes (quiet port k) is))
@@ -151,9 +151,9 @@ gains_quiet tape e m port quiet = gains_put tape e m port (λ k bytes is. absurd
 abbrev pub Keeps : Machine → Machine → ℕ → Type 0
 Keeps m m' port = (k : ℕ) (b : Block) → HoldsOrHeldSinceFlush m (port_at port) k b → HoldsOrHeldSinceFlush m' (port_at port) k b
 
-pub keeps_same : (m m' : Machine) (port : ℕ) → m'.disks ≡ m.disks → m'.aside ≡ m.aside → Keeps m m' port
+pub keeps_same : (m m' : Machine) (port : ℕ) → m'.disks ≡ m.disks → m'.blocks_since_flush ≡ m.blocks_since_flush → Keeps m m' port
 keeps_same m m' port disks aside k b h =
-    subst (λ (now : Block). Holds now (m'.aside (port_at port) k) b) (ap (λ (f : Port → state.DiskBytes). f (port_at port) k) (sym disks))
+    subst (λ (now : Block). Holds now (m'.blocks_since_flush (port_at port) k) b) (ap (λ (f : Port → state.DiskBytes). f (port_at port) k) (sym disks))
     (subst (λ (old : List Block). Holds (m.disks (port_at port) k) old b) (ap (λ (f : Port → ℕ → List Block). f (port_at port) k) (sym aside)) h)
 
 pub lasting_on : (m m' : Machine) (earlier later : List Entry) (p new : DevicePort) (port : ℕ) → new.lasting ≡ p.lasting → new.disk.size ≡ p.disk.size
@@ -164,14 +164,14 @@ lasting_on m m' earlier later p new port same size keeps gains h k inside bytes 
     (gains p.lasting k bytes (subst (λ (l : Lasting). WereHeld later l port k bytes) same w))
 
 -- what is lasting is what the disk holds now, and nothing was put since
-lasting_now : (m : Machine) (tape : List Entry) (e : Entry) (disk : Disk) (new : DevicePort) (port : ℕ) → IsQuiet e → new.lasting ≡ record { sectors = disk.sectors; since = length tape }
+lasting_now : (m : Machine) (tape : List Entry) (e : Entry) (disk : Disk) (new : DevicePort) (port : ℕ) → IsQuiet e → new.lasting ≡ record { sectors = disk.sectors; tape_length = length tape }
     → new.disk.size ≡ disk.size → SameSectors m disk port → HasLasting m (tape ++ e ∷ []) new port
 lasting_now m tape e disk new port quiet is size s k inside bytes w = by (subst (λ (l : Lasting). WereHeld (tape ++ e ∷ []) l port k bytes) is w)
   where
-    by : WereHeld (tape ++ e ∷ []) (record { sectors = disk.sectors; since = length tape }) port k bytes → HoldsOrHeldSinceFlush m (port_at port) k (slice_index bytes)
+    by : WereHeld (tape ++ e ∷ []) (record { sectors = disk.sectors; tape_length = length tape }) port k bytes → HoldsOrHeldSinceFlush m (port_at port) k (slice_index bytes)
     by (inl now) =
-        let tells : Some (s.told k) ≡ Some bytes = ap (option_map (λ (sectors : ℕ → List ℕ). sectors k)) (sym s.tells) ∙ now in
-        inl (λ b lb. ap (λ (l : List ℕ). slice_index l b) (sym (same_Some (s.told k) bytes tells)) ∙ s.same k b (subst (λ (n : ℕ). k < n) size inside) lb)
+        let tells : Some (s.told_sectors k) ≡ Some bytes = ap (option_map (λ (sectors : ℕ → List ℕ). sectors k)) (sym s.disk_tells) ∙ now in
+        inl (λ b lb. ap (λ (l : List ℕ). slice_index l b) (sym (same_Some (s.told_sectors k) bytes tells)) ∙ s.bytes_are_same k b (subst (λ (n : ℕ). k < n) size inside) lb)
     by (inr (x, here, put)) = ⊎_elim
         (λ (last : x ≡ e). absurd (puts_none (bytes_put_into port k e) bytes (quiet port k) (ap (bytes_put_into port k) (sym last) ∙ put)))
         (λ before. absurd (drop_all tape x before))
@@ -231,21 +231,21 @@ gains_clear tape m port slot first count q now = gains_put tape (clear_entry por
 -- A command is ended: what the disk holds is lasting if it is a flush, and else what was so before.
 module _ (m : Machine) (e : Pending) (tape : List Entry) (last : Entry) (quiet : IsQuiet last) where
   pub lasting_ended : (p : DevicePort) (port : ℕ) (o : Operation) → op_of o ≡ Some e.request.asked.op → SameSectors m p.disk port → HasLasting m tape p port
-      → HasLasting (after_step m (End e)) (tape ++ last ∷ []) (with_flush p o (length tape)) port
+      → HasLasting (after_step m (End e)) (tape ++ last ∷ []) (port_after_flush p o (length tape)) port
   lasting_ended p port o is s h = by o is
     where
       other : (o : Operation) (op : Op) → is_flush op ≡ false → Some op ≡ Some e.request.asked.op → lasting_after o p.lasting p.disk (length tape) ≡ p.lasting
-          → HasLasting (after_step m (End e)) (tape ++ last ∷ []) (with_flush p o (length tape)) port
+          → HasLasting (after_step m (End e)) (tape ++ last ∷ []) (port_after_flush p o (length tape)) port
       other o op plain is same =
-          lasting_on m (after_step m (End e)) tape (tape ++ last ∷ []) p (with_flush p o (length tape)) port same refl
+          lasting_on m (after_step m (End e)) tape (tape ++ last ∷ []) p (port_after_flush p o (length tape)) port same refl
           (λ k b held. held_ended m e (port_at port) k b (ap (λ (b : Bool). (e.request.port.0 == port) && b) (ap is_flush (sym (same_Some op e.request.asked.op is)) ∙ plain) ∙ and_false (e.request.port.0 == port)) held)
           (gains_quiet tape last (after_step m (End e)) port quiet) h
 
       no_op : {A : Type 0} → None ≡ Some e.request.asked.op → A
       no_op z = absurd cc
 
-      by : (o : Operation) → op_of o ≡ Some e.request.asked.op → HasLasting (after_step m (End e)) (tape ++ last ∷ []) (with_flush p o (length tape)) port
-      by operation.Flush is = lasting_now (after_step m (End e)) tape last p.disk (with_flush p operation.Flush (length tape)) port quiet refl refl (record { told = s.told; tells = s.tells; same = s.same })
+      by : (o : Operation) → op_of o ≡ Some e.request.asked.op → HasLasting (after_step m (End e)) (tape ++ last ∷ []) (port_after_flush p o (length tape)) port
+      by operation.Flush is = lasting_now (after_step m (End e)) tape last p.disk (port_after_flush p operation.Flush (length tape)) port quiet refl refl (record { told_sectors = s.told_sectors; disk_tells = s.disk_tells; bytes_are_same = s.bytes_are_same })
       by operation.Read is = other operation.Read Read refl is refl
       by operation.ReadQueued is = other operation.ReadQueued Read refl is refl
       by operation.Write is = other operation.Write Write refl is refl
@@ -263,9 +263,9 @@ module _ (m : Machine) (e : Pending) (tape : List Entry) (last : Entry) (quiet :
 
 -- a page command is ended: it is no flush
 pub lasting_read : (m : Machine) (tape : List Entry) (last : Entry) (p : DevicePort) (port : ℕ) (o : Operation) → IsQuiet last → op_of o ≡ None → HasLasting m tape p port
-    → HasLasting m (tape ++ last ∷ []) (with_flush p o (length tape)) port
+    → HasLasting m (tape ++ last ∷ []) (port_after_flush p o (length tape)) port
 lasting_read m tape last p port o quiet none h =
-    lasting_on m m tape (tape ++ last ∷ []) p (with_flush p o (length tape)) port (by o none) refl (λ k b held. held) (gains_quiet tape last m port quiet) h
+    lasting_on m m tape (tape ++ last ∷ []) p (port_after_flush p o (length tape)) port (by o none) refl (λ k b held. held) (gains_quiet tape last m port quiet) h
   where
     some_op : {A : Type 0} (op : Op) → Some op ≡ None → A
     some_op op z = absurd cc
@@ -291,11 +291,11 @@ module _ (m : Machine) (port : ℕ) (disk : Disk) (content : state.DiskBytes) (t
       by true e =
           let name : disk.name ≡ p.disk.name = eqb-true disk.name p.disk.name e in
           lasting_on m (after_step m (Replace (port_at port) disk.name disk.size content)) tape (tape ++ last ∷ []) p new port
-          (is ∙ cond-true (nat_eq disk.name p.disk.name) p.lasting (record { sectors = disk.sectors; since = length tape }) e) (size ∙ known name)
+          (is ∙ cond-true (nat_eq disk.name p.disk.name) p.lasting (record { sectors = disk.sectors; tape_length = length tape }) e) (size ∙ known name)
           (λ k b held. held_replaced m (port_at port) disk.name disk.size content (port_at port) k b (λ _. ap (λ (n : ℕ). disk.name == n) id ∙ e) held)
           (gains_quiet tape last (after_step m (Replace (port_at port) disk.name disk.size content)) port quiet) h
       by false e = lasting_now (after_step m (Replace (port_at port) disk.name disk.size content)) tape last disk new port quiet
-          (is ∙ cond-false (nat_eq disk.name p.disk.name) p.lasting (record { sectors = disk.sectors; since = length tape }) e) size s
+          (is ∙ cond-false (nat_eq disk.name p.disk.name) p.lasting (record { sectors = disk.sectors; tape_length = length tape }) e) size s
 
   pub lasting_put_elsewhere : (p : DevicePort) (q : ℕ) → q ≢ port → HasLasting m tape p q → HasLasting (after_step m (Replace (port_at port) disk.name disk.size content)) (tape ++ last ∷ []) p q
   lasting_put_elsewhere p q ne h =

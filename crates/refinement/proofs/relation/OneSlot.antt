@@ -23,7 +23,7 @@ changed_at {A} f place new P here others k = ⊎_elim
     (cases_eq k place)
 
 pub sectors_on : (m m' : Machine) (disk : Disk) (port : ℕ) → ((k b : ℕ) → b < 512 → m'.disks (port_at port) k b ≡ m.disks (port_at port) k b) → SameSectors m disk port → SameSectors m' disk port
-sectors_on m m' disk port same s = record { told = s.told; tells = s.tells; same = λ k b kl bl. s.same k b kl bl ∙ sym (same k b bl) }
+sectors_on m m' disk port same s = record { told_sectors = s.told_sectors; disk_tells = s.disk_tells; bytes_are_same = λ k b kl bl. s.bytes_are_same k b kl bl ∙ sym (same k b bl) }
 
 -- What a step of one slot has to show.
 pub record Acts (Except : ℕ → Type 0) (uses : SlotStates) (m m' : Machine) (d : Device) (memory' : ℕ → ℕ) (later : List Entry) (port slot : ℕ) (new : DevicePort) : Type 0 where
@@ -48,24 +48,24 @@ pub record Acts (Except : ℕ → Type 0) (uses : SlotStates) (m m' : Machine) (
 pub acted : (Except : ℕ → Type 0) (uses : SlotStates) (m m' : Machine) (d : Device) (a : StateRelation uses m d) (memory' : ℕ → ℕ) (later : List Entry) (port slot : ℕ) (new : DevicePort) →
     Acts Except uses m m' d memory' later port slot new → StateRelation uses m' (record d { memory = memory'; port = changed d.port port new; tape = later })
 acted Except uses m m' d a memory' later port slot new x = record {
-  slot = slots_after Except uses m m' d a memory' later x.fixed port slot new x.others x.only x.moves x.here;
-  apart = a.apart;
-  received = changed_at d.port port new (λ q p. p.fre ≡ true → HasReceivedArea p q)
-      (λ f. let r = a.received port (sym x.fre ∙ f) in record { below = r.below; area = x.received_at ∙ r.area }) (λ q _. a.received q);
-  disk = changed_at d.port port new (λ q p. IsDiskOf m' p q)
+  relates_slots = slots_after Except uses m m' d a memory' later x.fixed port slot new x.others x.only x.moves x.here;
+  serve_apart = a.serve_apart;
+  received_areas_are_placed = changed_at d.port port new (λ q p. p.fre ≡ true → HasReceivedArea p q)
+      (λ f. let r = a.received_areas_are_placed port (sym x.fre ∙ f) in record { below = r.below; area = x.received_at ∙ r.area }) (λ q _. a.received_areas_are_placed q);
+  disks_are_same = changed_at d.port port new (λ q p. IsDiskOf m' p q)
       (record {
-        present = x.goes.present (port_at port) ∙ (a.disk port).present ∙ sym x.present;
-        id = x.goes.ids (port_at port) ∙ (a.disk port).id ∙ sym x.name;
-        size = x.goes.sizes (port_at port) ∙ (a.disk port).size ∙ sym x.size;
+        present = x.goes.present (port_at port) ∙ (a.disks_are_same port).present ∙ sym x.present;
+        id = x.goes.ids (port_at port) ∙ (a.disks_are_same port).id ∙ sym x.name;
+        size = x.goes.sizes (port_at port) ∙ (a.disks_are_same port).size ∙ sym x.size;
       })
       (λ q _. record {
-        present = x.goes.present (port_at q) ∙ (a.disk q).present;
-        id = x.goes.ids (port_at q) ∙ (a.disk q).id;
-        size = x.goes.sizes (port_at q) ∙ (a.disk q).size;
+        present = x.goes.present (port_at q) ∙ (a.disks_are_same q).present;
+        id = x.goes.ids (port_at q) ∙ (a.disks_are_same q).id;
+        size = x.goes.sizes (port_at q) ∙ (a.disks_are_same q).size;
       });
-  memory = x.memory;
-  sectors = λ t. changed_at d.port port new (λ q p. SameSectors m' p.disk q) (x.sectors t) (x.other_sectors t);
-  lasting = λ t. changed_at d.port port new (λ q p. HasLasting m' later p q) (x.lasting t) (x.other_lasting t);
+  memory_is_same = x.memory;
+  sectors_are_same = λ t. changed_at d.port port new (λ q p. SameSectors m' p.disk q) (x.sectors t) (x.other_sectors t);
+  has_lasting = λ t. changed_at d.port port new (λ q p. HasLasting m' later p q) (x.lasting t) (x.other_lasting t);
 }
 
 -- another slot's request is another
@@ -77,7 +77,7 @@ other_id uses port slot id port' slot' id' apart u v ne e =
 pub others_move : (uses : SlotStates) (m m' : Machine) (d : Device) (a : StateRelation uses m d) (port slot : ℕ) (id : RequestId) → uses port slot ≡ Serves id → Goes m m' id →
     (port' slot' : ℕ) (id' : RequestId) → uses port' slot' ≡ Serves id' → (port' ≡ port → slot' ≡ slot → ⊥) → (e : Pending) → e.request.id ≡ id' → MayStillMove m e → MayStillMove m' e
 others_move uses m m' d a port slot id u goes port' slot' id' v ne e is r =
-    goes.moves e (λ same. other_id uses port slot id port' slot' id' a.apart u v ne (sym is ∙ same)) r
+    goes.moves e (λ same. other_id uses port slot id port' slot' id' a.serve_apart u v ne (sym is ∙ same)) r
 
 -- bytes below the clients' frames
 pub memory_low : (m : Machine) (memory : ℕ → ℕ) (at : ℕ) (bytes : List ℕ) → at + length bytes ≤ DRIVER_BYTES → SameMemory m memory → SameMemory m (patched memory at bytes)

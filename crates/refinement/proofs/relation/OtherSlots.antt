@@ -7,7 +7,7 @@ use Rattle.adapter.specs.Memory.{patched, changed}
 use Rattle.adapter.specs.Commands.{is_queued}
 use Rattle.adapter.specs.Device as device
 use Rattle.adapter.specs.Device.{HasKnownSectors, Lasting, FetchedCommand, DevicePort, Device}
-use Rattle.adapter.specs.Steps.{device_after, MayScribble, with_reset, IsReplugOf, WereHeld, lasting_plugged}
+use Rattle.adapter.specs.Steps.{device_after, MayScribble, port_after_reset, IsReplugOf, WereHeld, lasting_plugged}
 use Rattle.adapter.specs.Steps.DeviceTransition.{Fault, Fatal, Fall, FrFall, LinkUp, Unplug, Plug, ResetEnds, Scribble}
 use Rattle.adapter.specs.declared.command.Operation.{Operation}
 use Rattle.adapter.specs.declared.tape.Entry.{Entry}
@@ -15,10 +15,10 @@ use Rattle.adapter.specs.declared.tape.Entry.TheVariants as entry
 use Rattle.block_machine.specs.State.{DiskBytes, Machine}
 use Rattle.block_machine.specs.Steps as machine
 use Rattle.block_machine.specs.Steps.{HoldsOrHeldSinceFlush, after_step}
-use Rattle.refinement.specs.Slots.{SlotState, Free, Own, Serves, SlotStates, Stage, IsMove, OwnWaits, OwnTaken, OwnOver, IsOver, HasListInPlace, RelatesSlot, Armed}
+use Rattle.refinement.specs.Slots.{SlotState, Free, Own, Serves, SlotStates, IsInSomeStage, IsMove, OwnAwaitsFetch, OwnIsTaken, OwnIsOver, IsOver, HasListInPlace, RelatesSlot, Armed}
 use Rattle.refinement.specs.Relation.{StateRelation, port_at, IsDiskOf, SameSectors, HasLasting, HasReceivedArea}
 use Rattle.refinement.specs.Tape.{PutsInDisks}
-use Rattle.refinement.specs.Follows.{SimulatesSteps}
+use Rattle.refinement.specs.Simulation.{SimulatesSteps}
 use Rattle.refinement.proofs.relation.SlotRelation.{SameSlot, SameSlot-refl, GainsNone, SameFixed, SameFixed-refl, NoPort, slot_on, slots_quiet, placed_on}
 use Rattle.refinement.proofs.relation.LastingSectors.{Gains, disk_of, gains_none, gains_quiet, lasting_on, lasting_put_in, lasting_put_elsewhere}
 use Rattle.refinement.proofs.relation.OneSlot.{changed_at, sectors_on, memory_low}
@@ -32,7 +32,7 @@ true_false h k = absurd (let e : true ≡ false = sym h ∙ k in cc)
 
 -- one more entry, no move of the port's by such a command
 pub gains_one : (tape : List Entry) (e : Entry) (port : ℕ) (o : Operation) → (IsMove port o e → ⊥) → GainsNone tape (tape ++ e ∷ []) port o
-gains_one tape e port o none = record { gained = e ∷ []; is = refl; none = only }
+gains_one tape e port o none = record { new_entries = e ∷ []; is = refl; none = only }
   where
     only : All (λ x. IsMove port o x → ⊥) (e ∷ [])
     only zero d lt = none
@@ -70,22 +70,22 @@ module _ (uses : SlotStates) (m : Machine) (d : Device) (a : StateRelation uses 
   pub empty_port : (port : ℕ) (new : DevicePort) (later : List Entry) → SameFixed NoPort uses d.memory d.memory d.tape later → ((q : ℕ) → Gains d.tape later m q) → QuietPort (d.port port) new →
       StateRelation uses m (record d { port = changed d.port port new; tape = later })
   empty_port port new later fixed gains q = record {
-    slot = slots_quiet uses m m d a d.memory later fixed port new q.slots (λ id e _ r. r);
-    apart = a.apart;
-    received = changed_at d.port port new (λ k p. p.fre ≡ true → HasReceivedArea p k)
-        (λ f. let r = a.received port (sym q.fre ∙ f) in record { below = r.below; area = q.received_at ∙ r.area }) (λ k _. a.received k);
-    disk = changed_at d.port port new (λ k p. IsDiskOf m p k)
+    relates_slots = slots_quiet uses m m d a d.memory later fixed port new q.slots (λ id e _ r. r);
+    serve_apart = a.serve_apart;
+    received_areas_are_placed = changed_at d.port port new (λ k p. p.fre ≡ true → HasReceivedArea p k)
+        (λ f. let r = a.received_areas_are_placed port (sym q.fre ∙ f) in record { below = r.below; area = q.received_at ∙ r.area }) (λ k _. a.received_areas_are_placed k);
+    disks_are_same = changed_at d.port port new (λ k p. IsDiskOf m p k)
         (record {
-          present = (a.disk port).present ∙ sym q.present;
-          id = (a.disk port).id ∙ ap (λ (x : device.Disk × Lasting). x.0.name) (sym q.disk);
-          size = (a.disk port).size ∙ ap (λ (x : device.Disk × Lasting). x.0.size) (sym q.disk);
+          present = (a.disks_are_same port).present ∙ sym q.present;
+          id = (a.disks_are_same port).id ∙ ap (λ (x : device.Disk × Lasting). x.0.name) (sym q.disk);
+          size = (a.disks_are_same port).size ∙ ap (λ (x : device.Disk × Lasting). x.0.size) (sym q.disk);
         })
-        (λ k _. a.disk k);
-    memory = a.memory;
-    sectors = λ t. changed_at d.port port new (λ k p. SameSectors m p.disk k) (subst (λ (x : device.Disk × Lasting). SameSectors m x.0 port) (sym q.disk) (a.sectors t port)) (λ k _. a.sectors t k);
-    lasting = λ t. changed_at d.port port new (λ k p. HasLasting m later p k)
-        (lasting_on m m d.tape later (d.port port) new port (ap (λ (x : device.Disk × Lasting). x.1) q.disk) (ap (λ (x : device.Disk × Lasting). x.0.size) q.disk) (λ _ _ h. h) (gains port) (a.lasting t port))
-        (λ k _. lasting_on m m d.tape later (d.port k) (d.port k) k refl refl (λ _ _ h. h) (gains k) (a.lasting t k));
+        (λ k _. a.disks_are_same k);
+    memory_is_same = a.memory_is_same;
+    sectors_are_same = λ t. changed_at d.port port new (λ k p. SameSectors m p.disk k) (subst (λ (x : device.Disk × Lasting). SameSectors m x.0 port) (sym q.disk) (a.sectors_are_same t port)) (λ k _. a.sectors_are_same t k);
+    has_lasting = λ t. changed_at d.port port new (λ k p. HasLasting m later p k)
+        (lasting_on m m d.tape later (d.port port) new port (ap (λ (x : device.Disk × Lasting). x.1) q.disk) (ap (λ (x : device.Disk × Lasting). x.0.size) q.disk) (λ _ _ h. h) (gains port) (a.has_lasting t port))
+        (λ k _. lasting_on m m d.tape later (d.port k) (d.port k) k refl refl (λ _ _ h. h) (gains k) (a.has_lasting t k));
   }
 
   -- no entry
@@ -94,10 +94,10 @@ module _ (uses : SlotStates) (m : Machine) (d : Device) (a : StateRelation uses 
     steps = [];
     may = tt;
     telling = telling;
-    told = λ _. tt;
-    gained = [];
-    tape = tape ∙ sym (append-nil d.tape);
-    tells = refl;
+    steps_are_faithful = λ _. tt;
+    new_entries = [];
+    tape_is = tape ∙ sym (append-nil d.tape);
+    tape_tells_steps = refl;
     plugged = none_put d new [] plugged (λ _. refl);
     agrees = agrees;
   }
@@ -107,10 +107,10 @@ module _ (uses : SlotStates) (m : Machine) (d : Device) (a : StateRelation uses 
     steps = [];
     may = tt;
     telling = refl;
-    told = λ _. tt;
-    gained = _;
-    tape = refl;
-    tells = ([], [], refl, refl, refl);
+    steps_are_faithful = λ _. tt;
+    new_entries = _;
+    tape_is = refl;
+    tape_tells_steps = ([], [], refl, refl, refl);
     plugged = plugged_kept d port _ [] refl (λ _. refl);
     agrees = empty_port port _ _ (fixed_more uses d.memory d.tape _ (λ q o u x. x)) (λ q. gains_quiet d.tape _ m q (λ _ _. refl))
         (record { slots = λ k. record { issued = refl; sact = refl; taken = refl; st = refl; cr = refl; since = refl; list = refl }; fre = refl; received_at = refl; present = refl; disk = refl });
@@ -121,10 +121,10 @@ module _ (uses : SlotStates) (m : Machine) (d : Device) (a : StateRelation uses 
     steps = [];
     may = tt;
     telling = refl;
-    told = λ _. tt;
-    gained = _;
-    tape = refl;
-    tells = ([], [], refl, refl, refl);
+    steps_are_faithful = λ _. tt;
+    new_entries = _;
+    tape_is = refl;
+    tape_tells_steps = ([], [], refl, refl, refl);
     plugged = plugged_kept d port _ [] refl (λ _. refl);
     agrees = empty_port port _ _ (fixed_more uses d.memory d.tape _ (λ q o u x. x)) (λ q. gains_quiet d.tape _ m q (λ _ _. refl))
         (record { slots = λ k. record { issued = refl; sact = refl; taken = refl; st = refl; cr = refl; since = refl; list = refl }; fre = refl; received_at = refl; present = refl; disk = refl });
@@ -147,7 +147,7 @@ module _ (uses : SlotStates) (m : Machine) (d : Device) (a : StateRelation uses 
     where
       received : (((d.port port).bases.fb ≤ at) × (at + length bytes ≤ (d.port port).bases.fb + 256)) → MayChange NoPort at (length bytes) × (at + length bytes ≤ DRIVER_BYTES)
       received x =
-          let r = a.received port s.fre in
+          let r = a.received_areas_are_placed port s.fre in
           (inl (record { port = port; below = r.below; from = omega (arith, r.area, x.0); to = omega (arith, r.area, x.1) }), omega (arith, r.area, x.1, r.below))
 
       placed_count : HasListInPlace (d.port port) port slot → at ≡ (d.port port).bases.clb + 32 * slot + 4 → length bytes ≡ 4 → MayChange NoPort at (length bytes) × (at + length bytes ≤ DRIVER_BYTES)
@@ -157,11 +157,11 @@ module _ (uses : SlotStates) (m : Machine) (d : Device) (a : StateRelation uses 
       use_placed : (u : SlotState) → RelatesSlot m d.memory d.tape (d.port port) port slot u → (t : FetchedCommand) → (d.port port).taken slot ≡ Some t → HasListInPlace (d.port port) port slot
       use_placed Free h t e = some_none e h.free
       use_placed Armed h t e = some_none e h.free
-      use_placed (Own o) h t e = h.placed
-      use_placed (Serves id) h t e = h.placed
+      use_placed (Own o) h t e = h.list_is_in_place
+      use_placed (Serves id) h t e = h.list_is_in_place
 
       counted : ((t : FetchedCommand) × ((d.port port).taken slot ≡ Some t) × (at ≡ (d.port port).bases.clb + 32 * slot + 4) × (length bytes ≡ 4)) → MayChange NoPort at (length bytes) × (at + length bytes ≤ DRIVER_BYTES)
-      counted x = placed_count (use_placed (uses port slot) (a.slot port slot) x.0 x.1) x.2 x.3
+      counted x = placed_count (use_placed (uses port slot) (a.relates_slots port slot) x.0 x.1) x.2 x.3
 
   pub scribble_follows : (port slot at : ℕ) (bytes : List ℕ) → MayScribble (d.port port) slot at bytes → SimulatesSteps uses m d (device_after (Scribble port slot at bytes) d)
   scribble_follows port slot at bytes s =
@@ -169,13 +169,13 @@ module _ (uses : SlotStates) (m : Machine) (d : Device) (a : StateRelation uses 
       let fixed : SameFixed NoPort uses d.memory (patched d.memory at bytes) d.tape d.tape =
       fixed_stays NoPort uses d.memory at bytes d.tape d.tape may.0 (λ q o u out. (SameFixed-refl uses d.memory d.tape).gains q o u out) in
       silent _ refl refl (λ q. refl) (record {
-        slot = λ q k. slot_on NoPort uses m m d a (patched d.memory at bytes) d.tape fixed q k (d.port q) (SameSlot-refl (d.port q) k) (λ _ x. x) (λ id u e _ r. r);
-        apart = a.apart;
-        received = a.received;
-        disk = a.disk;
-        memory = memory_low m d.memory at bytes may.1 a.memory;
-        sectors = a.sectors;
-        lasting = a.lasting;
+        relates_slots = λ q k. slot_on NoPort uses m m d a (patched d.memory at bytes) d.tape fixed q k (d.port q) (SameSlot-refl (d.port q) k) (λ _ x. x) (λ id u e _ r. r);
+        serve_apart = a.serve_apart;
+        received_areas_are_placed = a.received_areas_are_placed;
+        disks_are_same = a.disks_are_same;
+        memory_is_same = memory_low m d.memory at bytes may.1 a.memory_is_same;
+        sectors_are_same = a.sectors_are_same;
+        has_lasting = a.has_lasting;
       })
 
   -- ---- the engine stops
@@ -188,34 +188,34 @@ module _ (uses : SlotStates) (m : Machine) (d : Device) (a : StateRelation uses 
   fall_slot port k Armed st h = record { issued = h.issued; free = refl; armed = h.armed }
   fall_slot port k (Own o) st h = record {
     own = h.own;
-    head = h.head;
-    placed = placed_same port k _ refl h.placed;
+    slot_is_0 = h.slot_is_0;
+    list_is_in_place = placed_same port k _ refl h.list_is_in_place;
     command = h.command;
     operation_is = h.operation_is;
-    told = h.told;
+    slot_decodes_to = h.slot_decodes_to;
     unqueued = h.unqueued;
-    known = h.known;
-    stage = inr (inr (record { over = over h.stage; brought = inl st }));
+    st_set_is_on_tape = h.st_set_is_on_tape;
+    stage = inr (inr (record { over = over h.stage; page_is_brought = inl st }));
   }
     where
-      over : OwnWaits (d.port port) k ⊎ (OwnTaken d.memory d.tape (d.port port) port k h.command ⊎ OwnOver d.memory d.tape (d.port port) port k h.command) → IsOver (record (d.port port) { cr = false; taken = λ _. None }) k
+      over : OwnAwaitsFetch (d.port port) k ⊎ (OwnIsTaken d.memory d.tape (d.port port) port k h.command ⊎ OwnIsOver d.memory d.tape (d.port port) port k h.command) → IsOver (record (d.port port) { cr = false; taken = λ _. None }) k
       over (inl w) = true_false w.started st
       over (inr (inl t)) = record { issued = t.issued ∙ st; free = refl }
       over (inr (inr o)) = record { issued = o.over.issued; free = refl }
   fall_slot port k (Serves id) st h = record {
     pending = h.pending;
-    moves = h.moves;
+    may_still_move = h.may_still_move;
     id_is = h.id_is;
     port_is = h.port_is;
-    placed = placed_same port k _ refl h.placed;
+    list_is_in_place = placed_same port k _ refl h.list_is_in_place;
     command = h.command;
     places = h.places;
-    told = h.told;
+    slot_decodes_to = h.slot_decodes_to;
     means = h.means;
     stage = stage h.stage;
   }
     where
-      stage : Stage d.memory (d.port port) port k h.pending h.command h.places → Stage d.memory (record (d.port port) { cr = false; taken = λ _. None }) port k h.pending h.command h.places
+      stage : IsInSomeStage d.memory (d.port port) port k h.pending h.command h.places → IsInSomeStage d.memory (record (d.port port) { cr = false; taken = λ _. None }) port k h.pending h.command h.places
       stage (inl w) = true_false w.started st
       stage (inr (inl t)) = inr (inr (inr (record {
         stopped = st;
@@ -229,47 +229,47 @@ module _ (uses : SlotStates) (m : Machine) (d : Device) (a : StateRelation uses 
 
   pub fall_follows : (port : ℕ) → (d.port port).st ≡ false → SimulatesSteps uses m d (device_after (Fall port) d)
   fall_follows port st = silent _ refl refl (same_plugged d port _ refl) (record {
-    slot = λ q k. changed_at d.port port _ (λ x p. RelatesSlot m d.memory d.tape p x k (uses x k)) (fall_slot port k (uses port k) st (a.slot port k)) (λ x _. a.slot x k) q;
-    apart = a.apart;
-    received = changed_at d.port port _ (λ k p. p.fre ≡ true → HasReceivedArea p k) (λ f. let r = a.received port f in record { below = r.below; area = r.area }) (λ k _. a.received k);
-    disk = changed_at d.port port _ (λ k p. IsDiskOf m p k) (let x = a.disk port in record { present = x.present; id = x.id; size = x.size }) (λ k _. a.disk k);
-    memory = a.memory;
-    sectors = λ t. changed_at d.port port _ (λ k p. SameSectors m p.disk k) (a.sectors t port) (λ k _. a.sectors t k);
-    lasting = λ t. changed_at d.port port _ (λ k p. HasLasting m d.tape p k) (a.lasting t port) (λ k _. a.lasting t k);
+    relates_slots = λ q k. changed_at d.port port _ (λ x p. RelatesSlot m d.memory d.tape p x k (uses x k)) (fall_slot port k (uses port k) st (a.relates_slots port k)) (λ x _. a.relates_slots x k) q;
+    serve_apart = a.serve_apart;
+    received_areas_are_placed = changed_at d.port port _ (λ k p. p.fre ≡ true → HasReceivedArea p k) (λ f. let r = a.received_areas_are_placed port f in record { below = r.below; area = r.area }) (λ k _. a.received_areas_are_placed k);
+    disks_are_same = changed_at d.port port _ (λ k p. IsDiskOf m p k) (let x = a.disks_are_same port in record { present = x.present; id = x.id; size = x.size }) (λ k _. a.disks_are_same k);
+    memory_is_same = a.memory_is_same;
+    sectors_are_same = λ t. changed_at d.port port _ (λ k p. SameSectors m p.disk k) (a.sectors_are_same t port) (λ k _. a.sectors_are_same t k);
+    has_lasting = λ t. changed_at d.port port _ (λ k p. HasLasting m d.tape p k) (a.has_lasting t port) (λ k _. a.has_lasting t k);
   })
 
-  reset_slot : (port k : ℕ) (u : SlotState) → RelatesSlot m d.memory d.tape (d.port port) port k u → RelatesSlot m d.memory d.tape (with_reset (d.port port)) port k u
+  reset_slot : (port k : ℕ) (u : SlotState) → RelatesSlot m d.memory d.tape (d.port port) port k u → RelatesSlot m d.memory d.tape (port_after_reset (d.port port)) port k u
   reset_slot port k Free h = record { issued = refl; free = refl; unarmed = refl }
   reset_slot port k Armed h = record { issued = refl; free = refl; armed = refl }
   reset_slot port k (Own o) h = record {
     own = h.own;
-    head = h.head;
-    placed = placed_same port k _ refl h.placed;
+    slot_is_0 = h.slot_is_0;
+    list_is_in_place = placed_same port k _ refl h.list_is_in_place;
     command = h.command;
     operation_is = h.operation_is;
-    told = h.told;
+    slot_decodes_to = h.slot_decodes_to;
     unqueued = refl;
-    known = h.known;
-    stage = inr (inr (record { over = record { issued = refl; free = refl }; brought = inl refl }));
+    st_set_is_on_tape = h.st_set_is_on_tape;
+    stage = inr (inr (record { over = record { issued = refl; free = refl }; page_is_brought = inl refl }));
   }
   reset_slot port k (Serves id) h = record {
     pending = h.pending;
-    moves = h.moves;
+    may_still_move = h.may_still_move;
     id_is = h.id_is;
     port_is = h.port_is;
-    placed = placed_same port k _ refl h.placed;
+    list_is_in_place = placed_same port k _ refl h.list_is_in_place;
     command = h.command;
     places = h.places;
-    told = h.told;
+    slot_decodes_to = h.slot_decodes_to;
     means = h.means;
     stage = ended h.stage;
   }
     where
-      dropped : h.pending.ended ≡ false → Stage d.memory (with_reset (d.port port)) port k h.pending h.command h.places
+      dropped : h.pending.ended ≡ false → IsInSomeStage d.memory (port_after_reset (d.port port)) port k h.pending h.command h.places
       dropped unended = inr (inr (inr (record { stopped = refl; issued = refl; sact = refl; free = refl; unended = unended })))
 
       -- what had ended has ended still
-      ended : Stage d.memory (d.port port) port k h.pending h.command h.places → Stage d.memory (with_reset (d.port port)) port k h.pending h.command h.places
+      ended : IsInSomeStage d.memory (d.port port) port k h.pending h.command h.places → IsInSomeStage d.memory (port_after_reset (d.port port)) port k h.pending h.command h.places
       ended (inl w) = dropped w.unended
       ended (inr (inl t)) = dropped t.unended
       ended (inr (inr (inl x))) = inr (inr (inl (record { issued = refl; sact = refl; free = refl; ended = x.ended; touched = x.touched })))
@@ -277,13 +277,13 @@ module _ (uses : SlotStates) (m : Machine) (d : Device) (a : StateRelation uses 
 
   pub reset_follows : SimulatesSteps uses m d (device_after ResetEnds d)
   reset_follows = silent _ refl refl (λ q. refl) (record {
-    slot = λ q k. reset_slot q k (uses q k) (a.slot q k);
-    apart = a.apart;
-    received = λ q f. absurd (let e : false ≡ true = f in cc);
-    disk = λ q. let x = a.disk q in record { present = x.present; id = x.id; size = x.size };
-    memory = a.memory;
-    sectors = λ t q. a.sectors t q;
-    lasting = λ t q. a.lasting t q;
+    relates_slots = λ q k. reset_slot q k (uses q k) (a.relates_slots q k);
+    serve_apart = a.serve_apart;
+    received_areas_are_placed = λ q f. absurd (let e : false ≡ true = f in cc);
+    disks_are_same = λ q. let x = a.disks_are_same q in record { present = x.present; id = x.id; size = x.size };
+    memory_is_same = a.memory_is_same;
+    sectors_are_same = λ t q. a.sectors_are_same t q;
+    has_lasting = λ t q. a.has_lasting t q;
   })
 
   -- ---- disks come and go
@@ -293,33 +293,33 @@ module _ (uses : SlotStates) (m : Machine) (d : Device) (a : StateRelation uses 
       let m' : Machine = after_step m (machine.Unplug (port_at port)) in
       record {
         steps = machine.Unplug (port_at port) ∷ [];
-        may = (tt, (a.disk port).present ∙ there);
+        may = (tt, (a.disks_are_same port).present ∙ there);
         telling = refl;
-        told = λ _. (tt, tt);
-        gained = _;
-        tape = refl;
-        tells = (machine.Unplug (port_at port) ∷ [], [], refl, refl, refl);
+        steps_are_faithful = λ _. (tt, tt);
+        new_entries = _;
+        tape_is = refl;
+        tape_tells_steps = (machine.Unplug (port_at port) ∷ [], [], refl, refl, refl);
         plugged = plugged_kept d port _ (machine.Unplug (port_at port) ∷ []) refl (λ _. refl);
         agrees = record {
-          slot = slots_quiet uses m m' d a d.memory _ (fixed_more uses d.memory d.tape _ (λ q o u x. x)) port _ (λ k. record { issued = refl; sact = refl; taken = refl; st = refl; cr = refl; since = refl; list = refl }) (λ id e _ r. r);
-          apart = a.apart;
-          received = changed_at d.port port _ (λ k p. p.fre ≡ true → HasReceivedArea p k) (λ f. let r = a.received port f in record { below = r.below; area = r.area }) (λ k _. a.received k);
-          disk = changed_at d.port port _ (λ k p. IsDiskOf m' p k)
+          relates_slots = slots_quiet uses m m' d a d.memory _ (fixed_more uses d.memory d.tape _ (λ q o u x. x)) port _ (λ k. record { issued = refl; sact = refl; taken = refl; st = refl; cr = refl; since = refl; list = refl }) (λ id e _ r. r);
+          serve_apart = a.serve_apart;
+          received_areas_are_placed = changed_at d.port port _ (λ k p. p.fre ≡ true → HasReceivedArea p k) (λ f. let r = a.received_areas_are_placed port f in record { below = r.below; area = r.area }) (λ k _. a.received_areas_are_placed k);
+          disks_are_same = changed_at d.port port _ (λ k p. IsDiskOf m' p k)
               (record {
                 present = cond-true (port == port) false (m.present (port_at port)) (eq-eqb port port refl);
-                id = (a.disk port).id;
-                size = (a.disk port).size;
+                id = (a.disks_are_same port).id;
+                size = (a.disks_are_same port).size;
               })
               (λ k ne. record {
-                present = cond-false (k == port) false (m.present (port_at k)) (ne_eqb k port ne) ∙ (a.disk k).present;
-                id = (a.disk k).id;
-                size = (a.disk k).size;
+                present = cond-false (k == port) false (m.present (port_at k)) (ne_eqb k port ne) ∙ (a.disks_are_same k).present;
+                id = (a.disks_are_same k).id;
+                size = (a.disks_are_same k).size;
               });
-          memory = a.memory;
-          sectors = λ t. changed_at d.port port _ (λ k p. SameSectors m' p.disk k) (sectors_on m m' (d.port port).disk port (λ k b lb. refl) (a.sectors t port)) (λ k _. sectors_on m m' (d.port k).disk k (λ s b lb. refl) (a.sectors t k));
-          lasting = λ t. changed_at d.port port _ (λ k p. HasLasting m' (d.tape ++ entry.Unplug (port_at port) ∷ []) p k)
-              (lasting_on m m' d.tape _ (d.port port) (d.port port) port refl refl (λ _ _ h. h) (gains_quiet d.tape _ m' port (λ _ _. refl)) (a.lasting t port))
-              (λ k _. lasting_on m m' d.tape _ (d.port k) (d.port k) k refl refl (λ _ _ h. h) (gains_quiet d.tape _ m' k (λ _ _. refl)) (a.lasting t k));
+          memory_is_same = a.memory_is_same;
+          sectors_are_same = λ t. changed_at d.port port _ (λ k p. SameSectors m' p.disk k) (sectors_on m m' (d.port port).disk port (λ k b lb. refl) (a.sectors_are_same t port)) (λ k _. sectors_on m m' (d.port k).disk k (λ s b lb. refl) (a.sectors_are_same t k));
+          has_lasting = λ t. changed_at d.port port _ (λ k p. HasLasting m' (d.tape ++ entry.Unplug (port_at port) ∷ []) p k)
+              (lasting_on m m' d.tape _ (d.port port) (d.port port) port refl refl (λ _ _ h. h) (gains_quiet d.tape _ m' port (λ _ _. refl)) (a.has_lasting t port))
+              (λ k _. lasting_on m m' d.tape _ (d.port k) (d.port k) k refl refl (λ _ _ h. h) (gains_quiet d.tape _ m' k (λ _ _. refl)) (a.has_lasting t k));
         };
       }
 
@@ -334,51 +334,51 @@ module _ (uses : SlotStates) (m : Machine) (d : Device) (a : StateRelation uses 
       let content : DiskBytes = content_of disk.sectors in
       let m' : Machine = after_step m (machine.Replace (port_at port) disk.name disk.size content) in
       let come_in : (d.telling ≡ true → SameSectors m' disk port) = (λ t. record {
-        told = (tells t).0;
-        tells = (tells t).1;
-        same = λ k b kl bl.
+        told_sectors = (tells t).0;
+        disk_tells = (tells t).1;
+        bytes_are_same = λ k b kl bl.
             ap (λ (o : Option (ℕ → List ℕ)). content_of o k b) (sym (tells t).1)
             ∙ ap (λ (f : DiskBytes). f k b) (sym (cond-true (port == port) content (m.disks (port_at port)) (eq-eqb port port refl)));
       }) in
       let comes_back : (d.telling ≡ true → IsReplugOf d port disk → (k : ℕ) → k < disk.size → HoldsOrHeldSinceFlush m (port_at port) k (content k)) = (λ t that k inside.
-      let s = a.sectors t port in
+      let s = a.sectors_are_same t port in
       let told = tells t in
       subst (λ (o : Option (ℕ → List ℕ)). HoldsOrHeldSinceFlush m (port_at port) k (content_of o k)) (sym told.1)
       (⊎_elim
-      (λ (now : told.0 k ≡ s.told k). inl (λ b lb. ap (λ (l : List ℕ). slice_index l b) now ∙ s.same k b (subst (λ (n : ℕ). k < n) that.size inside) lb))
-      (λ (was : WereHeld d.tape (d.port port).lasting port k (told.0 k)). a.lasting t port k (subst (λ (n : ℕ). k < n) that.size inside) (told.0 k) was)
-      (that.holds s.told told.0 s.tells told.1 k inside))) in
+      (λ (now : told.0 k ≡ s.told_sectors k). inl (λ b lb. ap (λ (l : List ℕ). slice_index l b) now ∙ s.bytes_are_same k b (subst (λ (n : ℕ). k < n) that.size inside) lb))
+      (λ (was : WereHeld d.tape (d.port port).lasting port k (told.0 k)). a.has_lasting t port k (subst (λ (n : ℕ). k < n) that.size inside) (told.0 k) was)
+      (that.holds s.told_sectors told.0 s.disk_tells told.1 k inside))) in
       record {
         steps = machine.Replace (port_at port) disk.name disk.size content ∷ [];
-        may = (tt, ((a.disk port).present ∙ gone, λ same. (known (same ∙ (a.disk port).id)).size ∙ sym (a.disk port).size));
+        may = (tt, ((a.disks_are_same port).present ∙ gone, λ same. (known (same ∙ (a.disks_are_same port).id)).size ∙ sym (a.disks_are_same port).size));
         telling = refl;
-        told = λ t. (tt, λ same. comes_back t (known (same ∙ (a.disk port).id)));
-        gained = _;
-        tape = refl;
-        tells = (machine.Replace (port_at port) disk.name disk.size content ∷ [], [], (disk.size, content, refl), refl, refl);
+        steps_are_faithful = λ t. (tt, λ same. comes_back t (known (same ∙ (a.disks_are_same port).id)));
+        new_entries = _;
+        tape_is = refl;
+        tape_tells_steps = (machine.Replace (port_at port) disk.name disk.size content ∷ [], [], (disk.size, content, refl), refl, refl);
         plugged = changed_at d.port port _ (λ q p. (disks : List device.Disk) × (p.plugged ≡ (d.port q).plugged ++ disks) × PutsInDisks q disks (machine.Replace (port_at port) disk.name disk.size content ∷ []))
             (disk ∷ [], refl, inr (refl, ([], disk, refl, record { name_is = refl; size_is = refl; holds = λ told is k b kl bl. ap (λ (o : Option (ℕ → List ℕ)). content_of o k b) (sym is) }, refl)))
             (λ q ne. ([], sym (append-nil (d.port q).plugged), inl (λ e. ne (sym e), refl)));
         agrees = record {
-          slot = slots_quiet uses m m' d a d.memory _ (fixed_more uses d.memory d.tape _ (λ q o u x. x)) port _ (λ k. record { issued = refl; sact = refl; taken = refl; st = refl; cr = refl; since = refl; list = refl }) (λ id e _ r. r);
-          apart = a.apart;
-          received = changed_at d.port port _ (λ k p. p.fre ≡ true → HasReceivedArea p k) (λ f. let r = a.received port f in record { below = r.below; area = r.area }) (λ k _. a.received k);
-          disk = changed_at d.port port _ (λ k p. IsDiskOf m' p k)
+          relates_slots = slots_quiet uses m m' d a d.memory _ (fixed_more uses d.memory d.tape _ (λ q o u x. x)) port _ (λ k. record { issued = refl; sact = refl; taken = refl; st = refl; cr = refl; since = refl; list = refl }) (λ id e _ r. r);
+          serve_apart = a.serve_apart;
+          received_areas_are_placed = changed_at d.port port _ (λ k p. p.fre ≡ true → HasReceivedArea p k) (λ f. let r = a.received_areas_are_placed port f in record { below = r.below; area = r.area }) (λ k _. a.received_areas_are_placed k);
+          disks_are_same = changed_at d.port port _ (λ k p. IsDiskOf m' p k)
               (record {
                 present = cond-true (port == port) true (m.present (port_at port)) (eq-eqb port port refl);
                 id = cond-true (port == port) disk.name (m.disk_ids (port_at port)) (eq-eqb port port refl);
                 size = cond-true (port == port) disk.size (m.sizes (port_at port)) (eq-eqb port port refl);
               })
               (λ k ne. record {
-                present = cond-false (k == port) true (m.present (port_at k)) (ne_eqb k port ne) ∙ (a.disk k).present;
-                id = cond-false (k == port) disk.name (m.disk_ids (port_at k)) (ne_eqb k port ne) ∙ (a.disk k).id;
-                size = cond-false (k == port) disk.size (m.sizes (port_at k)) (ne_eqb k port ne) ∙ (a.disk k).size;
+                present = cond-false (k == port) true (m.present (port_at k)) (ne_eqb k port ne) ∙ (a.disks_are_same k).present;
+                id = cond-false (k == port) disk.name (m.disk_ids (port_at k)) (ne_eqb k port ne) ∙ (a.disks_are_same k).id;
+                size = cond-false (k == port) disk.size (m.sizes (port_at k)) (ne_eqb k port ne) ∙ (a.disks_are_same k).size;
               });
-          memory = a.memory;
-          sectors = λ t. changed_at d.port port _ (λ k p. SameSectors m' p.disk k) (come_in t)
-              (λ k ne. sectors_on m m' (d.port k).disk k (λ s b lb. ap (λ (f : DiskBytes). f s b) (cond-false (k == port) content (m.disks (port_at k)) (ne_eqb k port ne))) (a.sectors t k));
-          lasting = λ t. changed_at d.port port _ (λ k p. HasLasting m' (d.tape ++ entry.Plug (port_at port) disk.name ∷ []) p k)
-              (lasting_put_in m port disk content d.tape _ (λ _ _. refl) (d.port port) (record (d.port port) { disk = disk; lasting = lasting_plugged (d.port port).lasting (d.port port).disk disk (length d.tape) }) (a.disk port).id refl refl (λ same. (known same).size) (come_in t) (a.lasting t port))
-              (λ k ne. lasting_put_elsewhere m port disk content d.tape _ (λ _ _. refl) (d.port k) k ne (a.lasting t k));
+          memory_is_same = a.memory_is_same;
+          sectors_are_same = λ t. changed_at d.port port _ (λ k p. SameSectors m' p.disk k) (come_in t)
+              (λ k ne. sectors_on m m' (d.port k).disk k (λ s b lb. ap (λ (f : DiskBytes). f s b) (cond-false (k == port) content (m.disks (port_at k)) (ne_eqb k port ne))) (a.sectors_are_same t k));
+          has_lasting = λ t. changed_at d.port port _ (λ k p. HasLasting m' (d.tape ++ entry.Plug (port_at port) disk.name ∷ []) p k)
+              (lasting_put_in m port disk content d.tape _ (λ _ _. refl) (d.port port) (record (d.port port) { disk = disk; lasting = lasting_plugged (d.port port).lasting (d.port port).disk disk (length d.tape) }) (a.disks_are_same port).id refl refl (λ same. (known same).size) (come_in t) (a.has_lasting t port))
+              (λ k ne. lasting_put_elsewhere m port disk content d.tape _ (λ _ _. refl) (d.port k) k ne (a.has_lasting t k));
         };
       }

@@ -8,10 +8,10 @@ use Rattle.adapter.specs.Device.{Device}
 use Rattle.adapter.specs.declared.command.Operation.{Operation}
 use Rattle.block_machine.specs.declared.due.QueueMode.{QueueMode}
 use Rattle.block_machine.specs.declared.due.Unanswered.{Unanswered}
-use Rattle.block_machine.specs.Due.{IsInOrder, is_plain, issued_count}
+use Rattle.block_machine.specs.DueRequests.{IsInOrder, is_plain, issued_count}
 use Rattle.block_machine.specs.Histories.{IsReachable}
 use Rattle.block_machine.specs.State.{Pending, Machine, unanswered}
-use Rattle.block_machine.specs.Steps.{Issue, May, NoneQuarantined}
+use Rattle.block_machine.specs.Steps.{Issue, IsEnabled, NoneQuarantined}
 use Rattle.block_machine.proofs.Counting.{count_cons, count_eq, count_none, count_least}
 use Rattle.block_machine.proofs.Limits.{law_book_in_order, finds_slot}
 use Rattle.block_machine.proofs.Members.{map_in, into_map, contains_none}
@@ -93,19 +93,19 @@ unserving uses port (suc n) lt = go (is_serving (uses port n)) refl (unserving u
 pub issued_one : (uses : SlotStates) (m : Machine) (d : Device) → StateRelation uses m d → (port : Port) → NoneQuarantined m port → (slot : ℕ) (id : RequestId) → uses port.0 slot ≡ Serves id →
     (e : Pending) × Contains m.book e × (e.issued ≡ true) × (e.request.id ≡ id) × (e.request.port ≡ port)
 issued_one uses m d a port none slot id u =
-    let h : ServesRequest m d.memory (d.port port.0) port.0 slot id = subst (λ (v : SlotState). RelatesSlot m d.memory d.tape (d.port port.0) port.0 slot v) u (a.slot port.0 slot) in
+    let h : ServesRequest m d.memory (d.port port.0) port.0 slot id = subst (λ (v : SlotState). RelatesSlot m d.memory d.tape (d.port port.0) port.0 slot v) u (a.relates_slots port.0 slot) in
     let here : h.pending.request.port ≡ port = ap port_at h.port_is in
     ⊎_elim
     (λ (r : Contains m.book h.pending × (h.pending.issued ≡ true)). (h.pending, r.0, r.1, h.id_is, here))
     (λ (r : Contains m.kept h.pending). absurd (none h.pending r here))
-    h.moves
+    h.may_still_move
 
 module _ (uses : SlotStates) (m : Machine) (d : Device) (reached : IsReachable m) (a : StateRelation uses m d) (port : Port) (none : NoneQuarantined m port) where
   abbrev book : List Unanswered
   book = map unanswered m.book
 
   order : Ordered book
-  order = ordered_from book (subst (λ (n : Machine). IsInOrder (map unanswered n.book)) (sym reached.is) (law_book_in_order reached.first reached.past reached.starts reached.legal))
+  order = ordered_from book (subst (λ (n : Machine). IsInOrder (map unanswered n.book)) (sym reached.leads_to_machine) (law_book_in_order reached.initial_machine reached.steps_since reached.is_initial reached.is_legal))
 
   -- issued on the port, and with a slot below n
   abbrev is_issued : Unanswered → Bool
@@ -128,7 +128,7 @@ module _ (uses : SlotStates) (m : Machine) (d : Device) (reached : IsReachable m
   not_below : (n : ℕ) (id : RequestId) → uses port.0 n ≡ Serves id → some_serves uses port.0 n id.0 ≡ false
   not_below n id u = false_from_ne_true (some_serves uses port.0 n id.0) (λ t.
       let r = some_found uses port.0 n id.0 t in
-      let same : r.0 ≡ n = (a.apart port.0 r.0 port.0 n id (r.2.1 ∙ ap Serves (ap (λ (n : ℕ). record { 0 = n }) r.2.2)) u).1 in
+      let same : r.0 ≡ n = (a.serve_apart port.0 r.0 port.0 n id (r.2.1 ∙ ap Serves (ap (λ (n : ℕ). record { 0 = n }) r.2.2)) u).1 in
       let lt = r.1 in
       omega (arith, lt, same))
 
@@ -182,7 +182,7 @@ module _ (uses : SlotStates) (m : Machine) (d : Device) (reached : IsReachable m
 
 -- ---- a request that is due
 
-module _ (uses : SlotStates) (m : Machine) (d : Device) (reached : IsReachable m) (a : StateRelation uses m d) (mode : QueueMode) (e : Pending) (may : May m (Issue mode e)) (none : (o : Operation) → uses e.request.port.0 0 ≡ Own o → ⊥) (unarmed : (slot : ℕ) → uses e.request.port.0 slot ≡ Armed → ⊥) where
+module _ (uses : SlotStates) (m : Machine) (d : Device) (reached : IsReachable m) (a : StateRelation uses m d) (mode : QueueMode) (e : Pending) (may : IsEnabled m (Issue mode e)) (none : (o : Operation) → uses e.request.port.0 0 ≡ Own o → ⊥) (unarmed : (slot : ℕ) → uses e.request.port.0 slot ≡ Armed → ⊥) where
   -- a slot that serves nothing is free, since only slot 0 has a command of the driver's own
   idle_free : (slot : ℕ) → is_serving (uses e.request.port.0 slot) ≡ false → uses e.request.port.0 slot ≡ Free
   idle_free slot off = by (uses e.request.port.0 slot) refl
@@ -192,8 +192,8 @@ module _ (uses : SlotStates) (m : Machine) (d : Device) (reached : IsReachable m
       by Armed f = absurd (unarmed slot f)
       by (Serves id) f = true_false (ap is_serving f) off
       by (Own o) f =
-          let h : ServesOwn d.memory d.tape (d.port e.request.port.0) e.request.port.0 slot o = subst (λ (v : SlotState). RelatesSlot m d.memory d.tape (d.port e.request.port.0) e.request.port.0 slot v) f (a.slot e.request.port.0 slot) in
-          absurd (none o (ap (λ (k : ℕ). uses e.request.port.0 k) (sym h.head) ∙ f))
+          let h : ServesOwn d.memory d.tape (d.port e.request.port.0) e.request.port.0 slot o = subst (λ (v : SlotState). RelatesSlot m d.memory d.tape (d.port e.request.port.0) e.request.port.0 slot v) f (a.relates_slots e.request.port.0 slot) in
+          absurd (none o (ap (λ (k : ℕ). uses e.request.port.0 k) (sym h.slot_is_0) ∙ f))
 
   free_below : (n : ℕ) → issued_count (map unanswered m.book) e.request.port < n → (slot : ℕ) × (slot < n) × (uses e.request.port.0 slot ≡ Free)
   free_below n lt =

@@ -18,8 +18,8 @@ use Rattle.adapter.proofs.MemoryLemmas.{bytes_same}
 use Rattle.adapter.proofs.Changed.{changed_same, changed_other}
 use Rattle.block_machine.specs.State.{Accepted, Pending, Machine}
 use Rattle.block_machine.specs.Steps.{MayStillMove}
-use Rattle.refinement.specs.Places.{list_of, scratch_of, IsTableByte, IsScratch}
-use Rattle.refinement.specs.Slots.{SlotState, Free, Own, Serves, SlotStates, SlotDecodesTo, HasListInPlace, MeansRange, HasTrimBlock, Waits, Progress, IsTakenFor, Stage, IsMove, PageStandsInScratch, OwnWaits, OwnTaken, OwnOver, IsOver, RelatesSlot, Armed}
+use Rattle.refinement.specs.MemoryLayout.{list_of, scratch_of, IsTableByte, IsScratch}
+use Rattle.refinement.specs.Slots.{SlotState, Free, Own, Serves, SlotStates, SlotDecodesTo, HasListInPlace, MeansRange, HasTrimBlock, AwaitsFetch, TouchedAsMoved, IsTakenFor, IsInSomeStage, IsMove, PageStandsInScratch, OwnAwaitsFetch, OwnIsTaken, OwnIsOver, IsOver, RelatesSlot, Armed}
 use Rattle.refinement.specs.Relation.{StateRelation}
 
 -- a port as one slot sees it
@@ -44,24 +44,24 @@ SameScratch memory new port = (a : ℕ) → IsScratch port a → new a ≡ memor
 
 -- the tape gained no move of the port by such a command
 pub record GainsNone (tape new : List Entry) (port : ℕ) (o : Operation) : Type 0 where
-  pub gained : List Entry
-  pub is : new ≡ tape ++ gained
-  pub none : All (λ e. IsMove port o e → ⊥) gained
+  pub new_entries : List Entry
+  pub is : new ≡ tape ++ new_entries
+  pub none : All (λ e. IsMove port o e → ⊥) new_entries
 
 pub GainsNone-refl : (tape : List Entry) (port : ℕ) (o : Operation) → GainsNone tape tape port o
-GainsNone-refl tape port o = record { gained = []; is = sym (append-nil tape); none = λ k e small. absurd (omega (arith, small)) }
+GainsNone-refl tape port o = record { new_entries = []; is = sym (append-nil tape); none = λ k e small. absurd (omega (arith, small)) }
 
 pub told_on : (memory new : ℕ → ℕ) (list list' port slot : ℕ) (c : Meaning) (places : List ℕ) → list ≡ list_of port → list' ≡ list → SameTable memory new port slot →
     SlotDecodesTo memory list port slot c places → SlotDecodesTo new list' port slot c places
 unfolding says_same
 told_on memory new list list' port slot c places at same tables t =
     subst (λ (l : ℕ). SlotDecodesTo new l port slot c places) (sym same) (record {
-      says = says_same memory new list slot c places t.says
+      decodes_to = says_same memory new list slot c places t.decodes_to
           (λ a low high. tables a (inl (omega (arith, at, low), omega (arith, at, high))))
           (λ a low high. tables a (inr (inl (omega (arith, at, low), omega (arith, at, high)))))
-          (λ a low high. tables a (inr (inr (omega (arith, t.table_is, low), omega (arith, t.table_is, t.few, high)))));
+          (λ a low high. tables a (inr (inr (omega (arith, t.table_is, low), omega (arith, t.table_is, t.prds_are_few, high)))));
       table_is = t.table_is;
-      few = t.few;
+      prds_are_few = t.prds_are_few;
     })
 
 scratch_same : (memory new : ℕ → ℕ) (port : ℕ) → SameScratch memory new port → bytes_at new (scratch_of port) 512 ≡ bytes_at memory (scratch_of port) 512
@@ -73,7 +73,7 @@ block_on Read memory new port r same h = tt
 block_on Write memory new port r same h = tt
 block_on Flush memory new port r same h = tt
 
-progress_on : (op : Op) (memory new : ℕ → ℕ) (port : ℕ) (e : Pending) (t : FetchedCommand) → (op ≡ Trim → SameScratch memory new port) → Progress op memory port e t → Progress op new port e t
+progress_on : (op : Op) (memory new : ℕ → ℕ) (port : ℕ) (e : Pending) (t : FetchedCommand) → (op ≡ Trim → SameScratch memory new port) → TouchedAsMoved op memory port e t → TouchedAsMoved op new port e t
 progress_on Trim memory new port e t same h = (
   h.0,
   ⊎_elim
@@ -90,12 +90,12 @@ pub brought_on : (memory new : ℕ → ℕ) (tape later : List Entry) (port : �
     PageStandsInScratch memory tape port o since → PageStandsInScratch new later port o then_since
 brought_on memory new tape later port o since then_since same gains is b = record {
   before = b.before;
-  after = (let a = b.after in omega (arith, a, is));
+  came_since = (let a = b.came_since in omega (arith, a, is));
   move = b.move;
-  later = b.later ++ gains.gained;
-  here = gains.is ∙ ap (λ (l : List Entry). l ++ gains.gained) b.here ∙ append_assoc b.before (entry.Move b.move ∷ b.later) gains.gained;
+  later = b.later ++ gains.new_entries;
+  tape_is_split = gains.is ∙ ap (λ (l : List Entry). l ++ gains.new_entries) b.tape_is_split ∙ append_assoc b.before (entry.Move b.move ∷ b.later) gains.new_entries;
   is_move = b.is_move;
-  last = All-append (λ e. IsMove port o e → ⊥) b.later gains.gained b.last gains.none;
+  last = All-append (λ e. IsMove port o e → ⊥) b.later gains.new_entries b.last gains.none;
   bytes = scratch_same memory new port same ∙ b.bytes;
 }
 
@@ -111,7 +111,7 @@ over_on p new slot same h = record { issued = same.issued ∙ h.issued; free = s
 
 -- a request's command stays where it is
 module _ (memory new_memory : ℕ → ℕ) (p new : DevicePort) (port slot : ℕ) (same : SameSlot p new slot) where
-  waits_on : (e : Pending) (c : Meaning) → (e.request.asked.op ≡ Trim → SameScratch memory new_memory port) → Waits memory p port slot e c → Waits new_memory new port slot e c
+  waits_on : (e : Pending) (c : Meaning) → (e.request.asked.op ≡ Trim → SameScratch memory new_memory port) → AwaitsFetch memory p port slot e c → AwaitsFetch new_memory new port slot e c
   waits_on e c scratch w = record {
     started = same.st ∙ w.started;
     issued = same.issued ∙ w.issued;
@@ -135,7 +135,7 @@ module _ (memory new_memory : ℕ → ℕ) (p new : DevicePort) (port slot : ℕ
     unended = w.unended;
   }
 
-  pub stage_on : (e : Pending) (c : Meaning) (places : List ℕ) → (e.request.asked.op ≡ Trim → SameScratch memory new_memory port) → Stage memory p port slot e c places → Stage new_memory new port slot e c places
+  pub stage_on : (e : Pending) (c : Meaning) (places : List ℕ) → (e.request.asked.op ≡ Trim → SameScratch memory new_memory port) → IsInSomeStage memory p port slot e c places → IsInSomeStage new_memory new port slot e c places
   stage_on e c places scratch (inl w) = inl (waits_on e c scratch w)
   stage_on e c places scratch (inr (inl t)) = inr (inl (taken_on e c places scratch t))
   stage_on e c places scratch (inr (inr (inl x))) = inr (inr (inl (record {
@@ -155,8 +155,8 @@ module _ (memory new_memory : ℕ → ℕ) (p new : DevicePort) (port slot : ℕ
 
   -- and so does one of the driver's own
   pub own_on : (tape later : List Entry) (c : Meaning) → SameScratch memory new_memory port → GainsNone tape later port c.operation →
-      OwnWaits p slot ⊎ (OwnTaken memory tape p port slot c ⊎ OwnOver memory tape p port slot c)
-      → OwnWaits new slot ⊎ (OwnTaken new_memory later new port slot c ⊎ OwnOver new_memory later new port slot c)
+      OwnAwaitsFetch p slot ⊎ (OwnIsTaken memory tape p port slot c ⊎ OwnIsOver memory tape p port slot c)
+      → OwnAwaitsFetch new slot ⊎ (OwnIsTaken new_memory later new port slot c ⊎ OwnIsOver new_memory later new port slot c)
   own_on tape later c scratch gains (inl w) = inl (record { started = same.st ∙ w.started; issued = same.issued ∙ w.issued; free = same.taken ∙ w.free })
   own_on tape later c scratch gains (inr (inl t)) = inr (inl (record {
     command = t.command;
@@ -165,17 +165,17 @@ module _ (memory new_memory : ℕ → ℕ) (p new : DevicePort) (port slot : ℕ
     places_are = t.places_are;
     running = same.cr ∙ t.running;
     issued = same.issued ∙ t.issued ∙ sym same.st;
-    brought = ⊎_elim
+    page_is_brought = ⊎_elim
         (λ (z : t.command.moved ≡ 0). inl z)
         (λ (x : (t.command.moved ≡ 1) × PageStandsInScratch memory tape port c.operation p.notes.st_set_at). inr (x.0, brought_on memory new_memory tape later port c.operation p.notes.st_set_at new.notes.st_set_at scratch gains same.since x.1))
-        t.brought;
+        t.page_is_brought;
   }))
   own_on tape later c scratch gains (inr (inr x)) = inr (inr (record {
     over = over_on p new slot same x.over;
-    brought = ⊎_elim
+    page_is_brought = ⊎_elim
         (λ (z : p.st ≡ false). inl (same.st ∙ z))
         (λ (b : PageStandsInScratch memory tape port c.operation p.notes.st_set_at). inr (brought_on memory new_memory tape later port c.operation p.notes.st_set_at new.notes.st_set_at scratch gains same.since b))
-        x.brought;
+        x.page_is_brought;
   }))
 
 pub own_free : {o : Operation} → Own o ≡ Free → ⊥
@@ -194,29 +194,29 @@ served_on m m' memory new_memory tape later p new port slot Free same tables scr
 served_on m m' memory new_memory tape later p new port slot Armed same tables scratch gains moves h = record { issued = same.issued ∙ h.issued; free = same.taken ∙ h.free; armed = same.sact ∙ (h.armed ∙ sym same.st) }
 served_on m m' memory new_memory tape later p new port slot (Own o) same tables scratch gains moves h = record {
   own = h.own;
-  head = h.head;
-  placed = placed_on p new port slot same.list h.placed;
+  slot_is_0 = h.slot_is_0;
+  list_is_in_place = placed_on p new port slot same.list h.list_is_in_place;
   command = h.command;
   operation_is = h.operation_is;
-  told = told_on memory new_memory p.bases.clb new.bases.clb port slot h.command (scratch_of port ∷ []) h.placed.list same.list (tables own_free h.placed.port_below h.placed.slot_below) h.told;
+  slot_decodes_to = told_on memory new_memory p.bases.clb new.bases.clb port slot h.command (scratch_of port ∷ []) h.list_is_in_place.list same.list (tables own_free h.list_is_in_place.port_below h.list_is_in_place.slot_below) h.slot_decodes_to;
   unqueued = same.sact ∙ h.unqueued;
-  known = (let g = gains o refl h.head in
+  st_set_is_on_tape = (let g = gains o refl h.slot_is_0 in
       subst (λ (l : List Entry). new.notes.st_set_at ≤ length l) (sym g.is)
-      (known_on tape g.gained new.notes.st_set_at (let s = same.since in let k = h.known in omega (arith, s, k))));
-  stage = own_on memory new_memory p new port slot same tape later h.command (scratch own_free h.head h.placed.port_below)
-      (subst (λ (x : Operation). GainsNone tape later port x) (sym h.operation_is) (gains o refl h.head)) h.stage;
+      (known_on tape g.new_entries new.notes.st_set_at (let s = same.since in let k = h.st_set_is_on_tape in omega (arith, s, k))));
+  stage = own_on memory new_memory p new port slot same tape later h.command (scratch own_free h.slot_is_0 h.list_is_in_place.port_below)
+      (subst (λ (x : Operation). GainsNone tape later port x) (sym h.operation_is) (gains o refl h.slot_is_0)) h.stage;
 }
 served_on m m' memory new_memory tape later p new port slot (Serves id) same tables scratch gains moves h = record {
   pending = h.pending;
-  moves = moves id refl h.pending h.id_is h.moves;
+  may_still_move = moves id refl h.pending h.id_is h.may_still_move;
   id_is = h.id_is;
   port_is = h.port_is;
-  placed = placed_on p new port slot same.list h.placed;
+  list_is_in_place = placed_on p new port slot same.list h.list_is_in_place;
   command = h.command;
   places = h.places;
-  told = told_on memory new_memory p.bases.clb new.bases.clb port slot h.command h.places h.placed.list same.list (tables serves_free h.placed.port_below h.placed.slot_below) h.told;
+  slot_decodes_to = told_on memory new_memory p.bases.clb new.bases.clb port slot h.command h.places h.list_is_in_place.list same.list (tables serves_free h.list_is_in_place.port_below h.list_is_in_place.slot_below) h.slot_decodes_to;
   means = h.means;
-  stage = stage_on memory new_memory p new port slot same h.pending h.command h.places (λ trim. scratch serves_free (h.means.head trim) h.placed.port_below) h.stage;
+  stage = stage_on memory new_memory p new port slot same h.pending h.command h.places (λ trim. scratch serves_free (h.means.trim_is_in_slot_0 trim) h.list_is_in_place.port_below) h.stage;
 }
 
 -- What the slots in use rest on: their tables, and, but for ports of this set, their scratch frames, and the last pages that came.
@@ -246,7 +246,7 @@ module _ (Except : ℕ → Type 0) (uses : SlotStates) (m m' : Machine) (d : Dev
       served_on m m' d.memory new_memory d.tape later (d.port port) new port slot (uses port slot) same (fixed.tables port slot)
       (λ used head below. fixed.scratch port (λ f. used (ap (λ (k : ℕ). uses port k) head ∙ f)) (out head) below)
       (λ o u head. fixed.gains port o (subst (λ (k : ℕ). uses port k ≡ Own o) head u) (out head))
-      moves (a.slot port slot)
+      moves (a.relates_slots port slot)
 
   -- one slot of one port is another now
   pub slots_after : (port slot : ℕ) (new : DevicePort) → ((k : ℕ) → k ≢ slot → SameSlot (d.port port) new k) →

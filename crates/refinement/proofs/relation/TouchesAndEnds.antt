@@ -5,7 +5,7 @@ use Rattle.std.proofs.lemmas.Bool.{cond-true}
 use Rattle.ata_types.specs.declared.Port.{Port}
 use Rattle.ata_types.specs.declared.request.RequestId.{RequestId}
 use Rattle.block_machine.specs.State.{Block, Pending, Machine}
-use Rattle.block_machine.specs.Steps.{Touch, End, MayStillMove, after_step, at, touch, mark_ended}
+use Rattle.block_machine.specs.Steps.{Touch, End, MayStillMove, after_step, update_pending, touch, mark_ended}
 use Rattle.block_machine.proofs.Members.{map_in, into_map, at_cases}
 use Rattle.block_machine.proofs.Keeps.{at_keeps}
 
@@ -30,19 +30,19 @@ Goes-trans a b c id x y = record {
 }
 
 -- a request is left by a change of another
-pub into_other : (f : Pending → Pending) (id : RequestId) (es : List Pending) (e : Pending) → e.request.id ≢ id → Contains es e → Contains (map (at id f) es) e
+pub into_other : (f : Pending → Pending) (id : RequestId) (es : List Pending) (e : Pending) → e.request.id ≢ id → Contains es e → Contains (map (update_pending id f) es) e
 into_other f id es e ne i =
-    ⊎_elim (λ p. absurd (ne (ap (λ (n : ℕ). record { 0 = n }) p.0))) (λ p. subst (λ (x : Pending). Contains (map (at id f) es) x) p.1 (into_map (at id f) es e i)) (at_cases id f e)
+    ⊎_elim (λ p. absurd (ne (ap (λ (n : ℕ). record { 0 = n }) p.0))) (λ p. subst (λ (x : Pending). Contains (map (update_pending id f) es) x) p.1 (into_map (update_pending id f) es e i)) (at_cases id f e)
 
 -- a change of one request that keeps what it asks, and whether it is issued
 module _ (f : Pending → Pending) (issued : (e : Pending) → (f e).issued ≡ e.issued) (request : (e : Pending) → (f e).request ≡ e.request) where
-  at_own : (e : Pending) → at e.request.id f e ≡ f e
+  at_own : (e : Pending) → update_pending e.request.id f e ≡ f e
   at_own e = cond-true (e.request.id.0 == e.request.id.0) (f e) e (eq-eqb e.request.id.0 e.request.id.0 refl)
 
-  at_issued : (id : RequestId) (e : Pending) → (at id f e).issued ≡ e.issued
+  at_issued : (id : RequestId) (e : Pending) → (update_pending id f e).issued ≡ e.issued
   at_issued id e = ⊎_elim (λ p. ap (λ (x : Pending). x.issued) p.1 ∙ issued e) (λ p. ap (λ (x : Pending). x.issued) p.1) (at_cases id f e)
 
-  goes_at : (m n : Machine) (id : RequestId) → n.book ≡ map (at id f) m.book → n.kept ≡ map (at id f) m.kept →
+  goes_at : (m n : Machine) (id : RequestId) → n.book ≡ map (update_pending id f) m.book → n.kept ≡ map (update_pending id f) m.kept →
       ((port : Port) → n.present port ≡ m.present port) → ((port : Port) → n.disk_ids port ≡ m.disk_ids port) → ((port : Port) → n.sizes port ≡ m.sizes port) → Goes m n id
   goes_at m n id book kept present ids sizes = record {
     present = present;
@@ -53,19 +53,19 @@ module _ (f : Pending → Pending) (issued : (e : Pending) → (f e).issued ≡ 
         (λ (x : Contains m.kept e). inr (subst (λ (es : List Pending). Contains es e) (sym kept) (into_other f id m.kept e ne x))) r;
     back = λ e r. ⊎_elim
         (λ (x : Contains n.book e × (e.issued ≡ true)).
-        let q = map_in (at id f) m.book e (subst (λ (es : List Pending). Contains es e) book x.0) in
+        let q = map_in (update_pending id f) m.book e (subst (λ (es : List Pending). Contains es e) book x.0) in
         (q.0, inl (q.1, sym (at_issued id q.0) ∙ ap (λ (y : Pending). y.issued) (sym q.2) ∙ x.1), ap (λ (y : Pending). y.request) q.2 ∙ at_keeps id f request q.0))
         (λ (x : Contains n.kept e).
-        let q = map_in (at id f) m.kept e (subst (λ (es : List Pending). Contains es e) kept x) in
+        let q = map_in (update_pending id f) m.kept e (subst (λ (es : List Pending). Contains es e) kept x) in
         (q.0, inr q.1, ap (λ (y : Pending). y.request) q.2 ∙ at_keeps id f request q.0)) r;
   }
 
-  own_moves : (m n : Machine) (e : Pending) → n.book ≡ map (at e.request.id f) m.book → n.kept ≡ map (at e.request.id f) m.kept → MayStillMove m e → MayStillMove n (f e)
+  own_moves : (m n : Machine) (e : Pending) → n.book ≡ map (update_pending e.request.id f) m.book → n.kept ≡ map (update_pending e.request.id f) m.kept → MayStillMove m e → MayStillMove n (f e)
   own_moves m n e book kept r = ⊎_elim
       (λ (x : Contains m.book e × (e.issued ≡ true)).
-      inl (subst (λ (es : List Pending). Contains es (f e)) (sym book) (subst (λ (y : Pending). Contains (map (at e.request.id f) m.book) y) (at_own e) (into_map (at e.request.id f) m.book e x.0)), issued e ∙ x.1))
+      inl (subst (λ (es : List Pending). Contains es (f e)) (sym book) (subst (λ (y : Pending). Contains (map (update_pending e.request.id f) m.book) y) (at_own e) (into_map (update_pending e.request.id f) m.book e x.0)), issued e ∙ x.1))
       (λ (x : Contains m.kept e).
-      inr (subst (λ (es : List Pending). Contains es (f e)) (sym kept) (subst (λ (y : Pending). Contains (map (at e.request.id f) m.kept) y) (at_own e) (into_map (at e.request.id f) m.kept e x)))) r
+      inr (subst (λ (es : List Pending). Contains es (f e)) (sym kept) (subst (λ (y : Pending). Contains (map (update_pending e.request.id f) m.kept) y) (at_own e) (into_map (update_pending e.request.id f) m.kept e x)))) r
 
 pub touch_goes : (m : Machine) (e : Pending) (i : ℕ) (block : Block) → Goes m (after_step m (Touch e i block)) e.request.id
 touch_goes m e i block = goes_at (touch i) (λ x. refl) (λ x. refl) m (after_step m (Touch e i block)) e.request.id refl refl (λ p. refl) (λ p. refl) (λ p. refl)

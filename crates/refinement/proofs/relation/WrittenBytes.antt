@@ -6,7 +6,7 @@ use Rattle.adapter.specs.Memory.{patched}
 use Rattle.adapter.specs.declared.tape.Entry.{Entry}
 use Rattle.adapter.specs.declared.command.Operation.{Operation}
 use Rattle.adapter.proofs.MemoryLemmas.{patched_apart}
-use Rattle.refinement.specs.Places.{list_of, received_of, table_of, scratch_of, IsTableByte, IsScratch}
+use Rattle.refinement.specs.MemoryLayout.{list_of, received_of, table_of, scratch_of, IsTableByte, IsScratch}
 use Rattle.refinement.specs.Slots.{Free, Own, SlotStates}
 use Rattle.refinement.specs.Driver.{MayStore}
 use Rattle.refinement.proofs.relation.SlotRelation.{SameFixed, GainsNone, GainsNone-refl, NoPort}

@@ -13,7 +13,7 @@ use Rattle.block_machine.specs.Histories.{IsReachable}
 use Rattle.refinement.specs.Slots.{SlotStates}
 use Rattle.refinement.specs.Relation.{StateRelation}
 use Rattle.refinement.specs.Driver.{MayStore}
-use Rattle.refinement.specs.Follows.{SimulatesSteps}
+use Rattle.refinement.specs.Simulation.{SimulatesSteps}
 use Rattle.refinement.proofs.relation.SlotRelation.{SameSlot-refl, SameFixed-refl, NoPort, slot_on}
 use Rattle.refinement.proofs.relation.OneSlot.{memory_low}
 use Rattle.refinement.proofs.relation.LastingSectors.{gains_none}
@@ -28,10 +28,10 @@ effect_on uses others m old mid new f telling tape plugged agrees = record {
   telling = telling ∙ f.telling;
   steps = f.steps;
   may = f.may;
-  told = f.told;
-  gained = f.gained;
-  tape = tape ∙ f.tape;
-  tells = f.tells;
+  steps_are_faithful = f.steps_are_faithful;
+  new_entries = f.new_entries;
+  tape_is = tape ∙ f.tape_is;
+  tape_tells_steps = f.tape_tells_steps;
   plugged = λ q. let x = f.plugged q in (x.0, plugged q ∙ x.1, x.2);
   agrees = agrees;
 }
@@ -107,13 +107,13 @@ load_follows uses m at bytes old new reached a call = steps_follow uses m old ne
 -- a store by the driver, where no slot in use rests
 stored_agrees : (uses : SlotStates) (m : Machine) (d : Device) (at : ℕ) (bytes : List ℕ) → StateRelation uses m d → MayStore uses at (length bytes) → StateRelation uses m (record d { memory = patched d.memory at bytes })
 stored_agrees uses m d at bytes a may = record {
-  slot = λ q k. slot_on NoPort uses m m d a (patched d.memory at bytes) d.tape (stored_fixed uses d.memory at bytes d.tape may) q k (d.port q) (SameSlot-refl (d.port q) k) (λ _ x. x) (λ id u e _ r. r);
-  apart = a.apart;
-  received = a.received;
-  disk = a.disk;
-  memory = memory_low m d.memory at bytes (stored_low uses at (length bytes) may) a.memory;
-  sectors = a.sectors;
-  lasting = a.lasting;
+  relates_slots = λ q k. slot_on NoPort uses m m d a (patched d.memory at bytes) d.tape (stored_fixed uses d.memory at bytes d.tape may) q k (d.port q) (SameSlot-refl (d.port q) k) (λ _ x. x) (λ id u e _ r. r);
+  serve_apart = a.serve_apart;
+  received_areas_are_placed = a.received_areas_are_placed;
+  disks_are_same = a.disks_are_same;
+  memory_is_same = memory_low m d.memory at bytes (stored_low uses at (length bytes) may) a.memory_is_same;
+  sectors_are_same = a.sectors_are_same;
+  has_lasting = a.has_lasting;
 }
 
 pub store_follows : (uses : SlotStates) (m : Machine) (at : ℕ) (bytes : List ℕ) (old new : Device) → IsReachable m → StateRelation uses m old → MayStore uses at (length bytes) → Stores at bytes old new → SimulatesSteps uses m old new

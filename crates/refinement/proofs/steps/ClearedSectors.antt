@@ -16,16 +16,16 @@ use Rattle.adapter.specs.Steps.DeviceTransition.{Clear}
 use Rattle.adapter.proofs.Changed.{changed_same, changed_other}
 use Rattle.block_machine.specs.State.{Accepted, Block, Memory, Pending, Machine, frame_at, sector_of, is_reader, block_written}
 use Rattle.block_machine.specs.State as state
-use Rattle.block_machine.specs.Due.{changes_sectors}
+use Rattle.block_machine.specs.DueRequests.{changes_sectors}
 use Rattle.block_machine.specs.Steps.{Touch, MayStillMove, after_step, put_sector, put_bytes}
 use Rattle.block_machine.specs.Expected as left
 use Rattle.block_machine.specs.Expected.{AllStepsFaithful}
-use Rattle.block_machine.specs.Events.{AllMay}
-use Rattle.refinement.specs.Places.{scratch_of}
-use Rattle.refinement.specs.Slots.{SlotState, Free, Own, Serves, SlotStates, MeansRequest, MeansRange, ArePlaces, TouchedUpTo, Progress, ServesRequest, OwnWaits, OwnTaken, OwnOver, RelatesSlot, op_of, Armed}
+use Rattle.block_machine.specs.Events.{AllEnabled}
+use Rattle.refinement.specs.MemoryLayout.{scratch_of}
+use Rattle.refinement.specs.Slots.{SlotState, Free, Own, Serves, SlotStates, MeansRequest, MeansRange, AreRequestPlaces, TouchedUpTo, TouchedAsMoved, ServesRequest, OwnAwaitsFetch, OwnIsTaken, OwnIsOver, RelatesSlot, op_of, Armed}
 use Rattle.refinement.specs.Relation.{StateRelation, port_at, SameSectors}
 use Rattle.refinement.specs.Tape.{PutsInDisks, touched_by, touch_steps}
-use Rattle.refinement.specs.Follows.{SimulatesSteps}
+use Rattle.refinement.specs.Simulation.{SimulatesSteps}
 use Rattle.refinement.proofs.relation.SlotRelation.{NoPort, placed_on}
 use Rattle.refinement.proofs.relation.TouchesAndEnds.{Goes, Goes-refl, Goes-trans, touch_goes, touch_moves}
 use Rattle.refinement.proofs.relation.LastingSectors.{gains_clear, lasting_on, lasting_swept}
@@ -108,7 +108,7 @@ touches_put e from (suc n) q = touches_put e from n q
 
 -- what n touches of a trim leave
 record Swept (m : Machine) (e : Pending) (from n : ℕ) : Type 0 where
-  may : AllMay m (touch_steps e from n)
+  may : AllEnabled m (touch_steps e from n)
   told : AllStepsFaithful m (touch_steps e from n)
   goes : Goes m (left.after m (touch_steps e from n)) e.request.id
   moves : MayStillMove (left.after m (touch_steps e from n)) (touched_by e from n)
@@ -149,8 +149,8 @@ swept m e from (suc n) op r there fits inside =
     disks_now : (q : Port) (k b : ℕ) → (after_step (left.after m (touch_steps e from n)) (Touch (touched_by e from n) (from + n) (λ b. 0))).disks q k b
         ≡ put_sector e.request.port (e.request.asked.first.0 + (from + n)) (λ _. 0) (left.after m (touch_steps e from n)).disks q k b
     disks_now q k b =
-        ap (λ (f : Port → state.DiskBytes). f q k b) (cond-true (changes_sectors (touched_by e from n).request.asked.op) (put_sector (touched_by e from n).request.port (sector_of (touched_by e from n).request (from + n)) (block_written (touched_by e from n).request.asked.op (touched_by e from n).request.held (from + n)) (left.after m (touch_steps e from n)).disks) (left.after m (touch_steps e from n)).disks (ap changes_sectors is_trim))
-        ∙ ap (λ (o : Op). put_sector (touched_by e from n).request.port (sector_of (touched_by e from n).request (from + n)) (block_written o (touched_by e from n).request.held (from + n)) (left.after m (touch_steps e from n)).disks q k b) is_trim
+        ap (λ (f : Port → state.DiskBytes). f q k b) (cond-true (changes_sectors (touched_by e from n).request.asked.op) (put_sector (touched_by e from n).request.port (sector_of (touched_by e from n).request (from + n)) (block_written (touched_by e from n).request.asked.op (touched_by e from n).request.held_blocks (from + n)) (left.after m (touch_steps e from n)).disks) (left.after m (touch_steps e from n)).disks (ap changes_sectors is_trim))
+        ∙ ap (λ (o : Op). put_sector (touched_by e from n).request.port (sector_of (touched_by e from n).request (from + n)) (block_written o (touched_by e from n).request.held_blocks (from + n)) (left.after m (touch_steps e from n)).disks q k b) is_trim
         ∙ ap (λ (j : Accepted). put_sector j.port (j.asked.first.0 + (from + n)) (λ _. 0) (left.after m (touch_steps e from n)).disks q k b) request
 
     memory_now : (after_step (left.after m (touch_steps e from n)) (Touch (touched_by e from n) (from + n) (λ b. 0))).memory ≡ (left.after m (touch_steps e from n)).memory
@@ -194,38 +194,38 @@ module _ (uses : SlotStates) (m : Machine) (d : Device) (a : StateRelation uses 
     means = means_taken port slot h.pending.request h.command t.meaning h.places t.places x.meaning x.places_are h.means
 
     op : h.pending.request.asked.op ≡ Trim
-    op = let e : Some Trim ≡ Some h.pending.request.asked.op = ap op_of (sym can.trim) ∙ means.op in cc
+    op = let e : Some Trim ≡ Some h.pending.request.asked.op = ap op_of (sym can.trim) ∙ means.op_is in cc
 
     here_port : h.pending.request.port ≡ port_at port
     here_port = ap port_at h.port_is
 
-    was : Progress Trim d.memory port h.pending t
-    was = subst (λ (o : Op). Progress o d.memory port h.pending t) op x.progress
+    was : TouchedAsMoved Trim d.memory port h.pending t
+    was = subst (λ (o : Op). TouchedAsMoved o d.memory port h.pending t) op x.progress
 
     one_place : length t.places ≡ 1
-    one_place = ap length (subst (λ (o : Op). ArePlaces o port h.pending.request t.places) op means.places_are)
+    one_place = ap length (subst (λ (o : Op). AreRequestPlaces o port h.pending.request t.places) op means.places_are)
 
     range : MeansRange t.block h.pending.request
     range = ⊎_elim
-        (λ (y : (t.moved ≡ 0) × (t.cleared ≡ 0) × MeansRange (bytes_at d.memory (scratch_of port) 512) h.pending.request). absurd (let mv : t.moved ≡ length t.places = can.moved in omega (arith, one_place, mv, y.0)))
+        (λ (y : (t.moved ≡ 0) × (t.cleared ≡ 0) × MeansRange (bytes_at d.memory (scratch_of port) 512) h.pending.request). absurd (let mv : t.moved ≡ length t.places = can.block_is_moved in omega (arith, one_place, mv, y.0)))
         (λ (y : (t.moved ≡ 1) × MeansRange t.block h.pending.request). y.1) was.1
 
     starts : (first ≡ h.pending.request.asked.first.0 + t.cleared) × (t.cleared + 1 ≤ h.pending.request.asked.count)
-    starts = cut_of h.pending.request.asked.first.0 h.pending.request.asked.count t.cleared first 1 (omega arith) (ap (λ (l : List ℕ). take 1 (drop t.cleared l)) (sym range) ∙ can.next)
+    starts = cut_of h.pending.request.asked.first.0 h.pending.request.asked.count t.cleared first 1 (omega arith) (ap (λ (l : List ℕ). take 1 (drop t.cleared l)) (sym range) ∙ can.first_is_next)
 
     fits : t.cleared + count ≤ h.pending.request.asked.count
     fits = ⊎_elim
         (λ (none : count ≡ 0). let s = starts.1 in omega (arith, none, s))
         (λ (some : count ≡ 0 → ⊥). (cut_of h.pending.request.asked.first.0 h.pending.request.asked.count t.cleared first count
         (⊎_elim (λ (l : count < 1). absurd (some (omega (arith, l)))) (λ (g : 1 ≤ count). g) (cases_lt count 1))
-        (ap (λ (l : List ℕ). take count (drop t.cleared l)) (sym range) ∙ can.sectors)).1)
+        (ap (λ (l : List ℕ). take count (drop t.cleared l)) (sym range) ∙ can.sectors_follow)).1)
         (cases_eq count 0)
 
     size_is : m.sizes h.pending.request.port ≡ (d.port port).disk.size
-    size_is = ap m.sizes here_port ∙ (a.disk port).size
+    size_is = ap m.sizes here_port ∙ (a.disks_are_same port).size
 
     done : Swept m h.pending t.cleared count
-    done = swept m h.pending t.cleared count op h.moves (ap m.present here_port ∙ (a.disk port).present ∙ can.works.working.present) fits
+    done = swept m h.pending t.cleared count op h.may_still_move (ap m.present here_port ∙ (a.disks_are_same port).present ∙ can.works.working.present) fits
         (⊎_elim (λ (none : count ≡ 0). inr none) (λ (i : first + count ≤ (d.port port).disk.size). inl (let f = starts.0 in omega (arith, f, i, size_is))) can.inside)
 
     abbrev swept_machine : Machine
@@ -239,22 +239,22 @@ module _ (uses : SlotStates) (m : Machine) (d : Device) (a : StateRelation uses 
 
     cleared : SameSectors m (d.port port).disk port → SameSectors swept_machine (disk_cleared (d.port port).disk first count) port
     cleared s = record {
-      told = λ k. if nat_le first k && nat_lt k (first + count) then replicate 512 0 else s.told k;
-      tells = ap (option_map {U = ℕ → List ℕ} (λ (told : ℕ → List ℕ) (k : ℕ). if nat_le first k && nat_lt k (first + count) then replicate 512 0 else told k)) s.tells;
-      same = λ k b kl bl. by k b kl bl (nat_le first k && nat_lt k (first + count)) refl;
+      told_sectors = λ k. if nat_le first k && nat_lt k (first + count) then replicate 512 0 else s.told_sectors k;
+      disk_tells = ap (option_map {U = ℕ → List ℕ} (λ (told : ℕ → List ℕ) (k : ℕ). if nat_le first k && nat_lt k (first + count) then replicate 512 0 else told k)) s.disk_tells;
+      bytes_are_same = λ k b kl bl. by k b kl bl (nat_le first k && nat_lt k (first + count)) refl;
     }
       where
         by : (k b : ℕ) → k < (d.port port).disk.size → b < 512 → (v : Bool) → (nat_le first k && nat_lt k (first + count)) ≡ v
-            → slice_index (cond (nat_le first k && nat_lt k (first + count)) (replicate 512 0) (s.told k)) b ≡ swept_machine.disks (port_at port) k b
+            → slice_index (cond (nat_le first k && nat_lt k (first + count)) (replicate 512 0) (s.told_sectors k)) b ≡ swept_machine.disks (port_at port) k b
         by k b kl bl true e =
             let q = and_parts (nat_le first k) (nat_lt k (first + count)) e in
             let low : first ≤ k = leb-true first k q.0 in
             let high : k < first + count = ltb-true k (first + count) q.1 in
-            ap (λ (l : List ℕ). slice_index l b) (cond-true (nat_le first k && nat_lt k (first + count)) (replicate 512 0) (s.told k) e)
+            ap (λ (l : List ℕ). slice_index l b) (cond-true (nat_le first k && nat_lt k (first + count)) (replicate 512 0) (s.told_sectors k) e)
             ∙ zeroed k b low high bl
         by k b kl bl false e =
-            ap (λ (l : List ℕ). slice_index l b) (cond-false (nat_le first k && nat_lt k (first + count)) (replicate 512 0) (s.told k) e)
-            ∙ s.same k b kl bl
+            ap (λ (l : List ℕ). slice_index l b) (cond-false (nat_le first k && nat_lt k (first + count)) (replicate 512 0) (s.told_sectors k) e)
+            ∙ s.bytes_are_same k b kl bl
             ∙ sym (done.others (port_at port) k b (λ _ low high.
             let c = starts.0 in
             let t' : (nat_le first k && nat_lt k (first + count)) ≡ true = and_from _ _ (le-leb first k (omega (arith, c, low))) (lt-ltb k (first + count) (omega (arith, c, high))) in
@@ -265,13 +265,13 @@ module _ (uses : SlotStates) (m : Machine) (d : Device) (a : StateRelation uses 
       steps = touch_steps h.pending t.cleared count;
       may = done.may;
       telling = refl;
-      told = λ _. done.told;
-      gained = _;
-      tape = refl;
-      tells = (
+      steps_are_faithful = λ _. done.told;
+      new_entries = _;
+      tape_is = refl;
+      tape_tells_steps = (
         touch_steps h.pending t.cleared count,
         [],
-        record { pending = h.pending; moves = h.moves; port_is = here_port; op_is = op; from = t.cleared; within = fits; first_is = starts.0; step = refl },
+        record { pending = h.pending; may_still_move = h.may_still_move; port_is = here_port; op_is = op; first_number = t.cleared; numbers_are_in_range = fits; first_is = starts.0; step_is = refl },
         refl,
         refl,
       );
@@ -286,13 +286,13 @@ module _ (uses : SlotStates) (m : Machine) (d : Device) (a : StateRelation uses 
         here = subst (λ (v : SlotState). RelatesSlot swept_machine d.memory (d.tape ++ clear_entry port slot first count ∷ []) (record (d.port port) { taken = changed (d.port port).taken slot (Some (record t { cleared = t.cleared + count })); disk = disk_cleared (d.port port).disk first count }) port slot v) (sym u)
             (record {
               pending = touched_by h.pending t.cleared count;
-              moves = done.moves;
+              may_still_move = done.moves;
               id_is = ap (λ (j : Accepted). j.id) (touched_request h.pending t.cleared count) ∙ h.id_is;
               port_is = ap (λ (j : Accepted). j.port.0) (touched_request h.pending t.cleared count) ∙ h.port_is;
-              placed = placed_on (d.port port) _ port slot refl h.placed;
+              list_is_in_place = placed_on (d.port port) _ port slot refl h.list_is_in_place;
               command = h.command;
               places = h.places;
-              told = h.told;
+              slot_decodes_to = h.slot_decodes_to;
               means = subst (λ (j : Accepted). MeansRequest port slot j h.command h.places) (sym (touched_request h.pending t.cleared count)) h.means;
               stage = inr (inl (record {
                 command = record t { cleared = t.cleared + count };
@@ -302,8 +302,8 @@ module _ (uses : SlotStates) (m : Machine) (d : Device) (a : StateRelation uses 
                 running = x.running;
                 issued = x.issued;
                 sact = x.sact;
-                progress = subst (λ (o : Op). Progress o d.memory port (touched_by h.pending t.cleared count) (record t { cleared = t.cleared + count })) (sym (ap (λ (j : Accepted). j.asked.op) (touched_request h.pending t.cleared count) ∙ op))
-                    (touched_upto h.pending t.cleared count was.0, inr ((let mv : t.moved ≡ length t.places = can.moved in let r : t.moved ≡ 1 = omega (arith, mv, one_place) in r), subst (λ (j : Accepted). MeansRange t.block j) (sym (touched_request h.pending t.cleared count)) range));
+                progress = subst (λ (o : Op). TouchedAsMoved o d.memory port (touched_by h.pending t.cleared count) (record t { cleared = t.cleared + count })) (sym (ap (λ (j : Accepted). j.asked.op) (touched_request h.pending t.cleared count) ∙ op))
+                    (touched_upto h.pending t.cleared count was.0, inr ((let mv : t.moved ≡ length t.places = can.block_is_moved in let r : t.moved ≡ 1 = omega (arith, mv, one_place) in r), subst (λ (j : Accepted). MeansRange t.block j) (sym (touched_request h.pending t.cleared count)) range));
                 unended = touched_ended h.pending t.cleared count ∙ x.unended;
               }));
             });
@@ -312,23 +312,23 @@ module _ (uses : SlotStates) (m : Machine) (d : Device) (a : StateRelation uses 
         present = refl;
         name = refl;
         size = refl;
-        sectors = λ t'. cleared (a.sectors t' port);
-        other_sectors = λ t' q ne. sectors_on m swept_machine (d.port q).disk q (λ k b lb. done.others (port_at q) k b (λ e _ _. ne (e ∙ h.port_is))) (a.sectors t' q);
-        lasting = λ t'. lasting_on m swept_machine d.tape _ (d.port port) (d.port port) port refl refl (lasting_swept m h.pending t.cleared count port) (gains_clear d.tape swept_machine port slot first count port zeroed) (a.lasting t' port);
-        other_lasting = λ t' q ne. lasting_on m swept_machine d.tape _ (d.port q) (d.port q) q refl refl (lasting_swept m h.pending t.cleared count q) (gains_clear d.tape swept_machine port slot first count q zeroed) (a.lasting t' q);
-        memory = λ f b from small. a.memory f b from small ∙ ap (λ (g : Memory). g f b) (sym done.memory);
+        sectors = λ t'. cleared (a.sectors_are_same t' port);
+        other_sectors = λ t' q ne. sectors_on m swept_machine (d.port q).disk q (λ k b lb. done.others (port_at q) k b (λ e _ _. ne (e ∙ h.port_is))) (a.sectors_are_same t' q);
+        lasting = λ t'. lasting_on m swept_machine d.tape _ (d.port port) (d.port port) port refl refl (lasting_swept m h.pending t.cleared count port) (gains_clear d.tape swept_machine port slot first count port zeroed) (a.has_lasting t' port);
+        other_lasting = λ t' q ne. lasting_on m swept_machine d.tape _ (d.port q) (d.port q) q refl refl (lasting_swept m h.pending t.cleared count q) (gains_clear d.tape swept_machine port slot first count q zeroed) (a.has_lasting t' q);
+        memory = λ f b from small. a.memory_is_same f b from small ∙ ap (λ (g : Memory). g f b) (sym done.memory);
       });
     }
 
   pub clear_follows : SimulatesSteps uses m d (device_after (Clear port slot t first count) d)
-  clear_follows = by (uses port slot) refl (a.slot port slot)
+  clear_follows = by (uses port slot) refl (a.relates_slots port slot)
     where
       by : (v : SlotState) → uses port slot ≡ v → RelatesSlot m d.memory d.tape (d.port port) port slot v → SimulatesSteps uses m d (device_after (Clear port slot t first count) d)
       by Free u h = some_none can.works.taken h.free
       by Armed u h = some_none can.works.taken h.free
       by (Own o) u h = own h.stage
         where
-          own : OwnWaits (d.port port) slot ⊎ (OwnTaken d.memory d.tape (d.port port) port slot h.command ⊎ OwnOver d.memory d.tape (d.port port) port slot h.command) → SimulatesSteps uses m d (device_after (Clear port slot t first count) d)
+          own : OwnAwaitsFetch (d.port port) slot ⊎ (OwnIsTaken d.memory d.tape (d.port port) port slot h.command ⊎ OwnIsOver d.memory d.tape (d.port port) port slot h.command) → SimulatesSteps uses m d (device_after (Clear port slot t first count) d)
           own (inl x) = some_none can.works.taken x.free
           own (inr (inl x)) =
               let e : x.command ≡ t = some_same (sym x.taken ∙ can.works.taken) in

@@ -52,14 +52,14 @@ module _ (port : Port) where
 
   move_none : (o : Option Op) (m : Machine) (move : tape_move.Move) (steps : List Step) → TellsMove o m move steps → Changes steps ≡ false
   move_none None m move steps t = none_of _ steps t.1 refl
-  move_none (Some Read) m move steps t = none_of _ steps t.step refl
-  move_none (Some Write) m move steps t = none_of _ steps t.step refl
+  move_none (Some Read) m move steps t = none_of _ steps t.step_is refl
+  move_none (Some Write) m move steps t = none_of _ steps t.step_is refl
   move_none (Some Trim) m move steps t = none_of _ steps t.1 refl
   move_none (Some Flush) m move steps t = absurd t
 
   done_none : (o : Option Op) (m : Machine) (done : tape_done.Done) (steps : List Step) → TellsDone o m done steps → Changes steps ≡ false
   done_none None m done steps t = none_of _ steps t refl
-  done_none (Some op) m done steps t = none_of _ steps t.step refl
+  done_none (Some op) m done steps t = none_of _ steps t.step_is refl
 
   -- one step, at this port or at another
   at_one : (at : Port) (step : Step) → changes_disk port step ≡ (at.0 == port.0) → (steps : List Step) → steps ≡ step ∷ [] →
@@ -71,7 +71,7 @@ module _ (port : Port) where
 
   entry_alike : (m : Machine) (e : Entry) (steps : List Step) → TellsEntry m e steps → Alike e steps
   entry_alike m (entry.Move move) steps t = inr (λ x. x, move_none (op_of move.operation) m move steps t)
-  entry_alike m (entry.Clear clear) steps t = inr (λ x. x, none_of _ steps t.step (touches_none t.pending t.from clear.count))
+  entry_alike m (entry.Clear clear) steps t = inr (λ x. x, none_of _ steps t.step_is (touches_none t.pending t.first_number clear.count))
   entry_alike m (entry.Done done) steps t = inr (λ x. x, done_none (op_of done.operation) m done steps t)
   entry_alike m (entry.Fault fault) steps t = inr (λ x. x, none_of _ steps t refl)
   entry_alike m (entry.Fatal at) steps t = inr (λ x. x, none_of _ steps t refl)

@@ -7,7 +7,7 @@ use Rattle.ata_types.specs.declared.request.RequestId.{RequestId}
 use Rattle.adapter.specs.Commands.{Meaning, is_queued}
 use Rattle.adapter.specs.Memory.{bytes_at, changed}
 use Rattle.adapter.specs.Device.{FetchedCommand, Device}
-use Rattle.adapter.specs.Steps.{device_after, MayBeDone, IsFinished, with_done, with_flush, done_entry}
+use Rattle.adapter.specs.Steps.{device_after, MayBeDone, IsFinished, port_after_done, port_after_flush, done_entry}
 use Rattle.adapter.specs.Steps.DeviceTransition.{Done}
 use Rattle.adapter.specs.declared.command.Operation.{Operation}
 use Rattle.adapter.specs.declared.command.Operation.TheVariants as operation
@@ -17,11 +17,11 @@ use Rattle.block_machine.specs.Histories.{IsReachable}
 use Rattle.block_machine.specs.Steps as machine
 use Rattle.block_machine.specs.Steps.{AllTouched, after_step, mark_ended}
 use Rattle.block_machine.proofs.Standing.{standing}
-use Rattle.refinement.specs.Places.{scratch_of}
-use Rattle.refinement.specs.Slots.{SlotState, Free, Own, Serves, SlotStates, MeansRequest, MeansRange, ArePlaces, TouchedUpTo, Progress, ServesRequest, PageStandsInScratch, OwnWaits, OwnTaken, OwnOver, ServesOwn, RelatesSlot, op_of, Armed}
+use Rattle.refinement.specs.MemoryLayout.{scratch_of}
+use Rattle.refinement.specs.Slots.{SlotState, Free, Own, Serves, SlotStates, MeansRequest, MeansRange, AreRequestPlaces, TouchedUpTo, TouchedAsMoved, ServesRequest, PageStandsInScratch, OwnAwaitsFetch, OwnIsTaken, OwnIsOver, ServesOwn, RelatesSlot, op_of, Armed}
 use Rattle.refinement.specs.Relation.{StateRelation, port_at}
 use Rattle.refinement.specs.Tape.{TellsDone}
-use Rattle.refinement.specs.Follows.{SimulatesSteps}
+use Rattle.refinement.specs.Simulation.{SimulatesSteps}
 use Rattle.refinement.proofs.relation.SlotRelation.{SameSlot, NoPort, placed_on, brought_on, known_on}
 use Rattle.refinement.proofs.relation.TouchesAndEnds.{Goes, Goes-refl, end_goes, end_moves}
 use Rattle.refinement.proofs.relation.LastingSectors.{gains_quiet, lasting_ended, lasting_ended_elsewhere, lasting_on, lasting_read}
@@ -73,16 +73,16 @@ upto_all : (f : ℕ → Bool) (n count : ℕ) → TouchedUpTo f n → n ≡ coun
 upto_all f n count h e i lt = h i ∙ lt-ltb i n (omega (arith, e, lt))
 
 -- all sectors of a finished command were touched
-all_touched : (op : Op) (memory : ℕ → ℕ) (port : ℕ) (e : Pending) (t : FetchedCommand) → IsFinished t → op_of t.meaning.operation ≡ Some op → ArePlaces op port e.request t.places →
-    (op ≡ Flush → e.request.asked.count ≡ 0) → Progress op memory port e t → AllTouched e
-all_touched Read memory port e t fin is places flush p = upto_all e.touched t.moved e.request.asked.count p (fin.moved ∙ places.0)
-all_touched Write memory port e t fin is places flush p = upto_all e.touched t.moved e.request.asked.count p (fin.moved ∙ places.0)
+all_touched : (op : Op) (memory : ℕ → ℕ) (port : ℕ) (e : Pending) (t : FetchedCommand) → IsFinished t → op_of t.meaning.operation ≡ Some op → AreRequestPlaces op port e.request t.places →
+    (op ≡ Flush → e.request.asked.count ≡ 0) → TouchedAsMoved op memory port e t → AllTouched e
+all_touched Read memory port e t fin is places flush p = upto_all e.touched t.moved e.request.asked.count p (fin.all_is_moved ∙ places.0)
+all_touched Write memory port e t fin is places flush p = upto_all e.touched t.moved e.request.asked.count p (fin.all_is_moved ∙ places.0)
 all_touched Flush memory port e t fin is places flush p = λ i lt. absurd (let z : e.request.asked.count ≡ 0 = flush refl in omega (arith, z, lt))
 all_touched Trim memory port e t fin is places flush p =
-    upto_all e.touched t.cleared e.request.asked.count p.0 (fin.cleared (is_trim t.meaning.operation is) ∙ ap length range ∙ length_consecutive e.request.asked.first.0 e.request.asked.count)
+    upto_all e.touched t.cleared e.request.asked.count p.0 (fin.all_is_cleared (is_trim t.meaning.operation is) ∙ ap length range ∙ length_consecutive e.request.asked.first.0 e.request.asked.count)
   where
     one : t.moved ≡ 1
-    one = fin.moved ∙ ap length places
+    one = fin.all_is_moved ∙ ap length places
 
     range : MeansRange t.block e.request
     range = ⊎_elim
@@ -90,7 +90,7 @@ all_touched Trim memory port e t fin is places flush p =
         (λ (y : (t.moved ≡ 1) × MeansRange t.block e.request). y.1) p.1
 
 module _ (uses : SlotStates) (m : Machine) (d : Device) (a : StateRelation uses m d) (reached : IsReachable m) (port slot flag : ℕ) (t : FetchedCommand) (can : MayBeDone d port slot flag t) where
-  others_same : (k : ℕ) → k ≢ slot → SameSlot (d.port port) (with_flush (with_done (d.port port) slot flag t.meaning.operation) t.meaning.operation (length d.tape)) k
+  others_same : (k : ℕ) → k ≢ slot → SameSlot (d.port port) (port_after_flush (port_after_done (d.port port) slot flag t.meaning.operation) t.meaning.operation (length d.tape)) k
   others_same k ne = record {
     issued = issued_other (is_queued t.meaning.operation) (d.port port).ci slot k ne;
     sact = sact_other (is_queued t.meaning.operation) (d.port port).sact slot k ne;
@@ -104,37 +104,37 @@ module _ (uses : SlotStates) (m : Machine) (d : Device) (a : StateRelation uses 
   end_serves : (id : RequestId) (u : uses port slot ≡ Serves id) (h : ServesRequest m d.memory (d.port port) port slot id) (x : TakenAs d.memory (d.port port) port slot h.pending h.command h.places t) → SimulatesSteps uses m d (device_after (Done port slot flag t) d)
   end_serves id u h x = record {
     steps = machine.End h.pending ∷ [];
-    may = (tt, (h.moves, touched, ap m.present here_port ∙ (a.disk port).present ∙ can.works.working.present));
+    may = (tt, (h.may_still_move, touched, ap m.present here_port ∙ (a.disks_are_same port).present ∙ can.works.working.present));
     telling = refl;
-    told = λ _. (tt, tt);
-    gained = _;
-    tape = refl;
-    tells = (
+    steps_are_faithful = λ _. (tt, tt);
+    new_entries = _;
+    tape_is = refl;
+    tape_tells_steps = (
       machine.End h.pending ∷ [],
       [],
-      subst (λ (w : Option Op). TellsDone w m (record { port = record { 0 = port }; slot = record { 0 = slot }; operation = t.meaning.operation }) (machine.End h.pending ∷ [])) (sym means.op)
-          (record { pending = h.pending; moves = h.moves; port_is = here_port; op_is = refl; step = refl }),
+      subst (λ (w : Option Op). TellsDone w m (record { port = record { 0 = port }; slot = record { 0 = slot }; operation = t.meaning.operation }) (machine.End h.pending ∷ [])) (sym means.op_is)
+          (record { pending = h.pending; may_still_move = h.may_still_move; port_is = here_port; op_is = refl; step_is = refl }),
       refl,
       refl,
     );
     plugged = plugged_kept d port _ (machine.End h.pending ∷ []) refl (λ _. refl);
-    agrees = acted NoPort uses m (after_step m (machine.End h.pending)) d a d.memory (d.tape ++ done_entry port slot t.meaning.operation ∷ []) port slot (with_flush (with_done (d.port port) slot flag t.meaning.operation) t.meaning.operation (length d.tape)) (record {
+    agrees = acted NoPort uses m (after_step m (machine.End h.pending)) d a d.memory (d.tape ++ done_entry port slot t.meaning.operation ∷ []) port slot (port_after_flush (port_after_done (d.port port) slot flag t.meaning.operation) t.meaning.operation (length d.tape)) (record {
       id = h.pending.request.id;
       goes = end_goes m h.pending;
       moves = others_move uses m (after_step m (machine.End h.pending)) d a port slot id u (subst (λ (n : RequestId). Goes m (after_step m (machine.End h.pending)) n) h.id_is (end_goes m h.pending));
       only = λ q z. absurd z;
       fixed = fixed_more uses d.memory d.tape (done_entry port slot t.meaning.operation) (λ q o v z. z);
       others = others_same;
-      here = subst (λ (v : SlotState). RelatesSlot (after_step m (machine.End h.pending)) d.memory (d.tape ++ done_entry port slot t.meaning.operation ∷ []) (with_flush (with_done (d.port port) slot flag t.meaning.operation) t.meaning.operation (length d.tape)) port slot v) (sym u)
+      here = subst (λ (v : SlotState). RelatesSlot (after_step m (machine.End h.pending)) d.memory (d.tape ++ done_entry port slot t.meaning.operation ∷ []) (port_after_flush (port_after_done (d.port port) slot flag t.meaning.operation) t.meaning.operation (length d.tape)) port slot v) (sym u)
           (record {
             pending = mark_ended h.pending;
-            moves = end_moves m h.pending h.moves;
+            may_still_move = end_moves m h.pending h.may_still_move;
             id_is = h.id_is;
             port_is = h.port_is;
-            placed = placed_on (d.port port) _ port slot refl h.placed;
+            list_is_in_place = placed_on (d.port port) _ port slot refl h.list_is_in_place;
             command = h.command;
             places = h.places;
-            told = h.told;
+            slot_decodes_to = h.slot_decodes_to;
             means = h.means;
             stage = inr (inr (inl (record {
               issued = issued_clear (is_queued t.meaning.operation) (d.port port).st (d.port port).ci slot (x.issued ∙ ap (λ (c : Meaning). (d.port port).st && not (is_queued c.operation)) (sym x.meaning));
@@ -149,11 +149,11 @@ module _ (uses : SlotStates) (m : Machine) (d : Device) (a : StateRelation uses 
       present = refl;
       name = refl;
       size = refl;
-      sectors = λ t'. sectors_on m (after_step m (machine.End h.pending)) (d.port port).disk port (λ k b lb. refl) (a.sectors t' port);
-      other_sectors = λ t' q ne. sectors_on m (after_step m (machine.End h.pending)) (d.port q).disk q (λ k b lb. refl) (a.sectors t' q);
-      lasting = λ t'. lasting_ended m h.pending d.tape (done_entry port slot t.meaning.operation) (λ _ _. refl) (with_done (d.port port) slot flag t.meaning.operation) port t.meaning.operation means.op (a.sectors t' port) (a.lasting t' port);
-      other_lasting = λ t' q ne. lasting_ended_elsewhere m h.pending d.tape (done_entry port slot t.meaning.operation) (λ _ _. refl) (d.port q) port q h.port_is ne (a.lasting t' q);
-      memory = a.memory;
+      sectors = λ t'. sectors_on m (after_step m (machine.End h.pending)) (d.port port).disk port (λ k b lb. refl) (a.sectors_are_same t' port);
+      other_sectors = λ t' q ne. sectors_on m (after_step m (machine.End h.pending)) (d.port q).disk q (λ k b lb. refl) (a.sectors_are_same t' q);
+      lasting = λ t'. lasting_ended m h.pending d.tape (done_entry port slot t.meaning.operation) (λ _ _. refl) (port_after_done (d.port port) slot flag t.meaning.operation) port t.meaning.operation means.op_is (a.sectors_are_same t' port) (a.has_lasting t' port);
+      other_lasting = λ t' q ne. lasting_ended_elsewhere m h.pending d.tape (done_entry port slot t.meaning.operation) (λ _ _. refl) (d.port q) port q h.port_is ne (a.has_lasting t' q);
+      memory = a.memory_is_same;
     });
   }
     where
@@ -164,38 +164,38 @@ module _ (uses : SlotStates) (m : Machine) (d : Device) (a : StateRelation uses 
       here_port = ap port_at h.port_is
 
       touched : AllTouched h.pending
-      touched = all_touched h.pending.request.asked.op d.memory port h.pending t can.finished means.op means.places_are ((standing m reached).flush h.pending h.moves) x.progress
+      touched = all_touched h.pending.request.asked.op d.memory port h.pending t can.finished means.op_is means.places_are ((standing m reached).flush h.pending h.may_still_move) x.progress
 
-  end_own : (o : Operation) (u : uses port slot ≡ Own o) (h : ServesOwn d.memory d.tape (d.port port) port slot o) (x : OwnTaken d.memory d.tape (d.port port) port slot h.command) → x.command ≡ t → SimulatesSteps uses m d (device_after (Done port slot flag t) d)
+  end_own : (o : Operation) (u : uses port slot ≡ Own o) (h : ServesOwn d.memory d.tape (d.port port) port slot o) (x : OwnIsTaken d.memory d.tape (d.port port) port slot h.command) → x.command ≡ t → SimulatesSteps uses m d (device_after (Done port slot flag t) d)
   end_own o u h x is = record {
     steps = [];
     may = tt;
     telling = refl;
-    told = λ _. tt;
-    gained = _;
-    tape = refl;
-    tells = ([], [], subst (λ (w : Option Op). TellsDone w m (record { port = record { 0 = port }; slot = record { 0 = slot }; operation = t.meaning.operation }) []) (sym own) refl, refl, refl);
+    steps_are_faithful = λ _. tt;
+    new_entries = _;
+    tape_is = refl;
+    tape_tells_steps = ([], [], subst (λ (w : Option Op). TellsDone w m (record { port = record { 0 = port }; slot = record { 0 = slot }; operation = t.meaning.operation }) []) (sym own) refl, refl, refl);
     plugged = plugged_kept d port _ [] refl (λ _. refl);
-    agrees = acted NoPort uses m m d a d.memory (d.tape ++ done_entry port slot t.meaning.operation ∷ []) port slot (with_flush (with_done (d.port port) slot flag t.meaning.operation) t.meaning.operation (length d.tape)) (record {
+    agrees = acted NoPort uses m m d a d.memory (d.tape ++ done_entry port slot t.meaning.operation ∷ []) port slot (port_after_flush (port_after_done (d.port port) slot flag t.meaning.operation) t.meaning.operation (length d.tape)) (record {
       id = record { 0 = 0 };
       goes = Goes-refl m (record { 0 = 0 });
       moves = λ port' slot' id' v ne y is r. r;
       only = λ q z. absurd z;
       fixed = fixed_more uses d.memory d.tape (done_entry port slot t.meaning.operation) (λ q o v z. z);
       others = others_same;
-      here = subst (λ (v : SlotState). RelatesSlot m d.memory (d.tape ++ done_entry port slot t.meaning.operation ∷ []) (with_flush (with_done (d.port port) slot flag t.meaning.operation) t.meaning.operation (length d.tape)) port slot v) (sym u)
+      here = subst (λ (v : SlotState). RelatesSlot m d.memory (d.tape ++ done_entry port slot t.meaning.operation ∷ []) (port_after_flush (port_after_done (d.port port) slot flag t.meaning.operation) t.meaning.operation (length d.tape)) port slot v) (sym u)
           (record {
             own = h.own;
-            head = h.head;
-            placed = placed_on (d.port port) _ port slot refl h.placed;
+            slot_is_0 = h.slot_is_0;
+            list_is_in_place = placed_on (d.port port) _ port slot refl h.list_is_in_place;
             command = h.command;
             operation_is = h.operation_is;
-            told = h.told;
+            slot_decodes_to = h.slot_decodes_to;
             unqueued = own_kept (is_queued t.meaning.operation) (d.port port).sact slot (own_plain t.meaning.operation own) h.unqueued;
-            known = known_on d.tape (done_entry port slot t.meaning.operation ∷ []) (d.port port).notes.st_set_at h.known;
+            st_set_is_on_tape = known_on d.tape (done_entry port slot t.meaning.operation ∷ []) (d.port port).notes.st_set_at h.st_set_is_on_tape;
             stage = inr (inr (record {
               over = record { issued = own_clear (is_queued t.meaning.operation) (d.port port).ci slot (own_plain t.meaning.operation own); free = changed_same (d.port port).taken slot _ };
-              brought = inr brought;
+              page_is_brought = inr brought;
             }));
           });
       fre = refl;
@@ -203,11 +203,11 @@ module _ (uses : SlotStates) (m : Machine) (d : Device) (a : StateRelation uses 
       present = refl;
       name = refl;
       size = refl;
-      sectors = λ t'. a.sectors t' port;
-      other_sectors = λ t' q ne. a.sectors t' q;
-      lasting = λ t'. lasting_read m d.tape (done_entry port slot t.meaning.operation) (with_done (d.port port) slot flag t.meaning.operation) port t.meaning.operation (λ _ _. refl) own (a.lasting t' port);
-      other_lasting = λ t' q ne. lasting_on m m d.tape _ (d.port q) (d.port q) q refl refl (λ _ _ held. held) (gains_quiet d.tape (done_entry port slot t.meaning.operation) m q (λ _ _. refl)) (a.lasting t' q);
-      memory = a.memory;
+      sectors = λ t'. a.sectors_are_same t' port;
+      other_sectors = λ t' q ne. a.sectors_are_same t' q;
+      lasting = λ t'. lasting_read m d.tape (done_entry port slot t.meaning.operation) (port_after_done (d.port port) slot flag t.meaning.operation) port t.meaning.operation (λ _ _. refl) own (a.has_lasting t' port);
+      other_lasting = λ t' q ne. lasting_on m m d.tape _ (d.port q) (d.port q) q refl refl (λ _ _ held. held) (gains_quiet d.tape (done_entry port slot t.meaning.operation) m q (λ _ _. refl)) (a.has_lasting t' q);
+      memory = a.memory_is_same;
     });
   }
     where
@@ -216,24 +216,24 @@ module _ (uses : SlotStates) (m : Machine) (d : Device) (a : StateRelation uses 
 
       -- all was moved: its page
       moved : t.moved ≡ 1
-      moved = can.finished.moved ∙ ap (λ (y : FetchedCommand). length y.places) (sym is) ∙ ap length x.places_are
+      moved = can.finished.all_is_moved ∙ ap (λ (y : FetchedCommand). length y.places) (sym is) ∙ ap length x.places_are
 
       brought : PageStandsInScratch d.memory (d.tape ++ done_entry port slot t.meaning.operation ∷ []) port h.command.operation (d.port port).notes.st_set_at
       brought = ⊎_elim
           (λ (z : x.command.moved ≡ 0). absurd (let e : t.moved ≡ x.command.moved = ap (λ (y : FetchedCommand). y.moved) (sym is) in let n = moved in omega (arith, e, z, n)))
           (λ (b : (x.command.moved ≡ 1) × PageStandsInScratch d.memory d.tape port h.command.operation (d.port port).notes.st_set_at).
           brought_on d.memory d.memory d.tape (d.tape ++ done_entry port slot t.meaning.operation ∷ []) port h.command.operation (d.port port).notes.st_set_at (d.port port).notes.st_set_at (λ at here. refl) (gains_one d.tape (done_entry port slot t.meaning.operation) port h.command.operation (λ z. z)) refl b.1)
-          x.brought
+          x.page_is_brought
 
   pub end_follows : SimulatesSteps uses m d (device_after (Done port slot flag t) d)
-  end_follows = by (uses port slot) refl (a.slot port slot)
+  end_follows = by (uses port slot) refl (a.relates_slots port slot)
     where
       by : (v : SlotState) → uses port slot ≡ v → RelatesSlot m d.memory d.tape (d.port port) port slot v → SimulatesSteps uses m d (device_after (Done port slot flag t) d)
       by Free u h = some_none can.works.taken h.free
       by Armed u h = some_none can.works.taken h.free
       by (Own o) u h = own h.stage
         where
-          own : OwnWaits (d.port port) slot ⊎ (OwnTaken d.memory d.tape (d.port port) port slot h.command ⊎ OwnOver d.memory d.tape (d.port port) port slot h.command) → SimulatesSteps uses m d (device_after (Done port slot flag t) d)
+          own : OwnAwaitsFetch (d.port port) slot ⊎ (OwnIsTaken d.memory d.tape (d.port port) port slot h.command ⊎ OwnIsOver d.memory d.tape (d.port port) port slot h.command) → SimulatesSteps uses m d (device_after (Done port slot flag t) d)
           own (inl x) = some_none can.works.taken x.free
           own (inr (inl x)) = end_own o u h x (some_same (sym x.taken ∙ can.works.taken))
           own (inr (inr x)) = some_none can.works.taken x.over.free

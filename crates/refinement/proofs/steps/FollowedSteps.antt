@@ -17,7 +17,7 @@ use Rattle.block_machine.proofs.HistoryLemmas.{may-append, reached_more}
 use Rattle.refinement.specs.Slots.{SlotStates}
 use Rattle.refinement.specs.Relation.{StateRelation}
 use Rattle.refinement.specs.Tape.{TapeTells, PutsInDisks, IsPutIn}
-use Rattle.refinement.specs.Follows.{SimulatesSteps}
+use Rattle.refinement.specs.Simulation.{SimulatesSteps}
 use Rattle.refinement.proofs.relation.OtherSlots.{fault_follows, fatal_follows, fr_fall_follows, link_up_follows, scribble_follows, fall_follows, reset_follows, unplug_follows, plug_follows}
 use Rattle.refinement.proofs.steps.TakenCommand.{never_refused, fetch_follows}
 use Rattle.refinement.proofs.steps.MovesByOperation.{move_follows}
@@ -75,7 +75,7 @@ puts_append q first then early (machine.Issue mode e ∷ late) a b = puts_append
 puts_append q first then early (machine.Touch e i block ∷ late) a b = puts_append q first then early late a b
 puts_append q first then early (machine.End e ∷ late) a b = puts_append q first then early late a b
 puts_append q first then early (machine.Age ready ∷ late) a b = puts_append q first then early late a b
-puts_append q first then early (machine.Again e ∷ late) a b = puts_append q first then early late a b
+puts_append q first then early (machine.WaitAgain e ∷ late) a b = puts_append q first then early late a b
 puts_append q first then early (machine.Answer e outcome ∷ late) a b = puts_append q first then early late a b
 puts_append q first then early (machine.Revoke client number ∷ late) a b = puts_append q first then early late a b
 puts_append q first then early (machine.Release ∷ late) a b = puts_append q first then early late a b
@@ -88,10 +88,10 @@ Follows-refl uses m d a = record {
   steps = [];
   may = tt;
   telling = refl;
-  told = λ _. tt;
-  gained = [];
-  tape = sym (append-nil d.tape);
-  tells = refl;
+  steps_are_faithful = λ _. tt;
+  new_entries = [];
+  tape_is = sym (append-nil d.tape);
+  tape_tells_steps = refl;
   plugged = λ q. ([], sym (append-nil (d.port q).plugged), refl);
   agrees = a;
 }
@@ -101,10 +101,10 @@ Follows-trans uses m old mid new a b = record {
   telling = b.telling ∙ a.telling;
   steps = b.steps ++ a.steps;
   may = may-append m b.steps a.steps a.may b.may;
-  told = λ t. told_append m b.steps a.steps (a.told t) (b.told (a.telling ∙ t));
-  gained = a.gained ++ b.gained;
-  tape = b.tape ∙ (ap (λ t. t ++ b.gained) a.tape ∙ append_assoc old.tape a.gained b.gained);
-  tells = tells_append m a.gained b.gained a.steps b.steps a.tells b.tells;
+  steps_are_faithful = λ t. told_append m b.steps a.steps (a.steps_are_faithful t) (b.steps_are_faithful (a.telling ∙ t));
+  new_entries = a.new_entries ++ b.new_entries;
+  tape_is = b.tape_is ∙ (ap (λ t. t ++ b.new_entries) a.tape_is ∙ append_assoc old.tape a.new_entries b.new_entries);
+  tape_tells_steps = tells_append m a.new_entries b.new_entries a.steps b.steps a.tape_tells_steps b.tape_tells_steps;
   plugged = λ q.
       let x = a.plugged q in
       let y = b.plugged q in
@@ -126,6 +126,6 @@ steps_follow uses m old new r a s = leads_follow uses m s.steps old new r a s.le
 -- where the tape gains nothing the machine makes no step
 pub silent_agrees : (uses : SlotStates) (m : Machine) (old new : Device) → SimulatesSteps uses m old new → new.tape ≡ old.tape → StateRelation uses m new
 silent_agrees uses m old new f same =
-    let none : f.gained ≡ [] = append_cancel_left old.tape f.gained [] (sym f.tape ∙ same ∙ sym (append-nil old.tape)) in
-    let still : f.steps ≡ [] = subst (λ (gained : List Entry). TapeTells m gained f.steps) none f.tells in
+    let none : f.new_entries ≡ [] = append_cancel_left old.tape f.new_entries [] (sym f.tape_is ∙ same ∙ sym (append-nil old.tape)) in
+    let still : f.steps ≡ [] = subst (λ (gained : List Entry). TapeTells m gained f.steps) none f.tape_tells_steps in
     subst (λ (steps : List machine.Step). StateRelation uses (left.after m steps) new) still f.agrees

@@ -12,14 +12,14 @@ use Rattle.adapter.specs.Rules as rules
 use Rattle.adapter.specs.Decoding.{DecodesTo}
 use Rattle.adapter.specs.declared.command.Operation.{Operation}
 use Rattle.adapter.proofs.SaysLemmas.{says_table, says_prds, says_places}
-use Rattle.block_machine.specs.Confined.{MovesBytes}
+use Rattle.block_machine.specs.Confinement.{MovesBytes}
 use Rattle.block_machine.specs.Histories.{IsReachable}
 use Rattle.block_machine.specs.State.{Pending, Machine, frame_at}
 use Rattle.block_machine.specs.Steps.{MayStillMove}
 use Rattle.block_machine.proofs.Standing.{standing}
-use Rattle.refinement.specs.Places.{list_of, received_of, table_of, scratch_of, place_in}
+use Rattle.refinement.specs.MemoryLayout.{list_of, received_of, table_of, scratch_of, place_in}
 use Rattle.refinement.specs.Slots as slots
-use Rattle.refinement.specs.Slots.{SlotState, Free, Own, Serves, SlotDecodesTo, HasListInPlace, MeansRequest, ArePlaces, Stage, ServesRequest, ServesOwn, OwnWaits, OwnTaken, OwnOver, IsOver, RelatesSlot, Armed}
+use Rattle.refinement.specs.Slots.{SlotState, Free, Own, Serves, SlotDecodesTo, HasListInPlace, MeansRequest, AreRequestPlaces, IsInSomeStage, ServesRequest, ServesOwn, OwnAwaitsFetch, OwnIsTaken, OwnIsOver, IsOver, RelatesSlot, Armed}
 use Rattle.refinement.specs.Relation.{StateRelation}
 use Rattle.refinement.specs.Driver.{MayStore}
 use Rattle.refinement.proofs.relation.WrittenBytes.{in_free, narrow, same_port}
@@ -78,17 +78,17 @@ module _ (uses : slots.SlotStates) (m : Machine) (d : Device) (reached : IsReach
   of_table : HasListInPlace (d.port port) port slot → (uses port slot ≡ Free → ⊥) → (c n : Meaning) (places others : List ℕ) → (told : SlotDecodesTo d.memory (d.port port).bases.clb port slot c places) →
       (s : DecodesTo d.memory (d.port port).bases.clb slot n others) → s.table ≤ at → at < s.table + TABLE_HEAD + PRD_BYTES * length s.prds → IsUsed uses m d at
   of_table w used c n places others told s low high =
-      let t : s.table ≡ table_of port slot = says_table d.memory (d.port port).bases.clb slot n c others places s told.says ∙ told.table_is in
-      let l : length s.prds ≡ length told.says.prds = ap length (says_prds d.memory (d.port port).bases.clb slot n c others places s told.says) in
-      inl (record { port = port; slot = slot; below = w.port_below; slot_below = w.slot_below; used = used; here = inr (omega (arith, t, low), omega (arith, t, l, told.few, high)) })
+      let t : s.table ≡ table_of port slot = says_table d.memory (d.port port).bases.clb slot n c others places s told.decodes_to ∙ told.table_is in
+      let l : length s.prds ≡ length told.decodes_to.prds = ap length (says_prds d.memory (d.port port).bases.clb slot n c others places s told.decodes_to) in
+      inl (record { port = port; slot = slot; below = w.port_below; slot_below = w.slot_below; used = used; here = inr (omega (arith, t, low), omega (arith, t, l, told.prds_are_few, high)) })
 
   -- a byte of the page of the driver's own command
   of_page : {o : Operation} (h : ServesOwn d.memory d.tape (d.port port) port slot o) → uses port slot ≡ Own o → InUse (d.port port) slot → InDataBlocks (scratch_of port ∷ []) at → IsUsed uses m d at
   of_page h u in_use x = inr (inr (inl (record {
     port = port;
-    below = h.placed.port_below;
-    used = λ f. own_used u (ap (λ (k : ℕ). uses port k) h.head ∙ f);
-    in_use = subst (λ (k : ℕ). InUse (d.port port) k) h.head in_use;
+    below = h.list_is_in_place.port_below;
+    used = λ f. own_used u (ap (λ (k : ℕ). uses port k) h.slot_is_0 ∙ f);
+    in_use = subst (λ (k : ℕ). InUse (d.port port) k) h.slot_is_0 in_use;
     from = (let z = x.from in let e : slice_index (scratch_of port ∷ []) x.number ≡ scratch_of port = first x.number x.listed in omega (arith, z, e));
     to = (let z = x.to in let e : slice_index (scratch_of port ∷ []) x.number ≡ scratch_of port = first x.number x.listed in omega (arith, z, e));
   })))
@@ -107,9 +107,9 @@ module _ (uses : slots.SlotStates) (m : Machine) (d : Device) (reached : IsReach
           let p : slice_index h.places x.number ≡ place_in h.pending.request.asked.frames.items x.number = places.1 x.number within in
           inr (inr (inr (record {
             pending = h.pending;
-            moves = h.moves;
+            moves = h.may_still_move;
             number = x.number;
-            framed = (standing m reached).framed h.pending h.moves (subst MovesBytes (sym is) b) x.number within;
+            framed = (standing m reached).framed h.pending h.may_still_move (subst MovesBytes (sym is) b) x.number within;
             from = subst (λ (n : ℕ). n ≤ at) p x.from;
             to = subst (λ (n : ℕ). at < n + 512) p x.to;
           })))
@@ -118,20 +118,20 @@ module _ (uses : slots.SlotStates) (m : Machine) (d : Device) (reached : IsReach
       first zero lt = refl
       first (suc n) lt = absurd (omega (arith, lt))
 
-      by : (op : Op) → h.pending.request.asked.op ≡ op → ArePlaces h.pending.request.asked.op port h.pending.request h.places → IsUsed uses m d at
-      by Read is places = moved Read is tt (subst (λ (o : Op). ArePlaces o port h.pending.request h.places) is places)
-      by Write is places = moved Write is tt (subst (λ (o : Op). ArePlaces o port h.pending.request h.places) is places)
+      by : (op : Op) → h.pending.request.asked.op ≡ op → AreRequestPlaces h.pending.request.asked.op port h.pending.request h.places → IsUsed uses m d at
+      by Read is places = moved Read is tt (subst (λ (o : Op). AreRequestPlaces o port h.pending.request h.places) is places)
+      by Write is places = moved Write is tt (subst (λ (o : Op). AreRequestPlaces o port h.pending.request h.places) is places)
       by Flush is places = absurd (
-          let none : h.places ≡ [] = subst (λ (o : Op). ArePlaces o port h.pending.request h.places) is places in
+          let none : h.places ≡ [] = subst (λ (o : Op). AreRequestPlaces o port h.pending.request h.places) is places in
           let n : length h.places ≡ 0 = ap length none in
           let l = x.listed in omega (arith, n, l))
       by Trim is places =
-          let one : h.places ≡ scratch_of port ∷ [] = subst (λ (o : Op). ArePlaces o port h.pending.request h.places) is places in
+          let one : h.places ≡ scratch_of port ∷ [] = subst (λ (o : Op). AreRequestPlaces o port h.pending.request h.places) is places in
           let y : InDataBlocks (scratch_of port ∷ []) at = subst (λ (l : List ℕ). InDataBlocks l at) one x in
-          let head : slot ≡ 0 = h.means.head is in
+          let head : slot ≡ 0 = h.means.trim_is_in_slot_0 is in
           inr (inr (inl (record {
             port = port;
-            below = h.placed.port_below;
+            below = h.list_is_in_place.port_below;
             used = λ f. serves_used u (ap (λ (k : ℕ). uses port k) head ∙ f);
             in_use = subst (λ (k : ℕ). InUse (d.port port) k) head in_use;
             from = (let z = y.from in let e : slice_index (scratch_of port ∷ []) y.number ≡ scratch_of port = first y.number y.listed in omega (arith, z, e));
@@ -144,40 +144,40 @@ module _ (uses : slots.SlotStates) (m : Machine) (d : Device) (reached : IsReach
 
   -- what a command in use stands on
   of_use : InUse (d.port port) slot → ((((d.port port).bases.clb + 32 * slot ≤ at) × (at < (d.port port).bases.clb + 32 * slot + 32)) ⊎ InCommand d (d.port port) slot at) → IsUsed uses m d at
-  of_use in_use x = by (uses port slot) refl (a.slot port slot)
+  of_use in_use x = by (uses port slot) refl (a.relates_slots port slot)
     where
       by : (u : SlotState) → uses port slot ≡ u → RelatesSlot m d.memory d.tape (d.port port) port slot u → IsUsed uses m d at
       by Free u h = over_unused (record { issued = h.issued; free = h.free }) in_use
       by Armed u h = over_unused (record { issued = h.issued; free = h.free }) in_use
       by (Own o) u h = ⊎_elim
-          (λ (y : ((d.port port).bases.clb + 32 * slot ≤ at) × (at < (d.port port).bases.clb + 32 * slot + 32)). of_header h.placed (own_used u) y.0 y.1)
+          (λ (y : ((d.port port).bases.clb + 32 * slot ≤ at) × (at < (d.port port).bases.clb + 32 * slot + 32)). of_header h.list_is_in_place (own_used u) y.0 y.1)
           (λ (y : InCommand d (d.port port) slot at). ⊎_elim
-          (λ (z : (y.2.table ≤ at) × (at < y.2.table + TABLE_HEAD + PRD_BYTES * length y.2.prds)). of_table h.placed (own_used u) h.command y.0 (scratch_of port ∷ []) y.1 h.told y.2 z.0 z.1)
-          (λ (z : InDataBlocks y.1 at). of_page h u in_use (subst (λ (l : List ℕ). InDataBlocks l at) (says_places d.memory (d.port port).bases.clb slot y.0 h.command y.1 (scratch_of port ∷ []) y.2 h.told.says) z))
+          (λ (z : (y.2.table ≤ at) × (at < y.2.table + TABLE_HEAD + PRD_BYTES * length y.2.prds)). of_table h.list_is_in_place (own_used u) h.command y.0 (scratch_of port ∷ []) y.1 h.slot_decodes_to y.2 z.0 z.1)
+          (λ (z : InDataBlocks y.1 at). of_page h u in_use (subst (λ (l : List ℕ). InDataBlocks l at) (says_places d.memory (d.port port).bases.clb slot y.0 h.command y.1 (scratch_of port ∷ []) y.2 h.slot_decodes_to.decodes_to) z))
           y.3) x
       by (Serves id) u h = ⊎_elim
-          (λ (y : ((d.port port).bases.clb + 32 * slot ≤ at) × (at < (d.port port).bases.clb + 32 * slot + 32)). of_header h.placed (serves_used u) y.0 y.1)
+          (λ (y : ((d.port port).bases.clb + 32 * slot ≤ at) × (at < (d.port port).bases.clb + 32 * slot + 32)). of_header h.list_is_in_place (serves_used u) y.0 y.1)
           (λ (y : InCommand d (d.port port) slot at). ⊎_elim
-          (λ (z : (y.2.table ≤ at) × (at < y.2.table + TABLE_HEAD + PRD_BYTES * length y.2.prds)). of_table h.placed (serves_used u) h.command y.0 h.places y.1 h.told y.2 z.0 z.1)
-          (λ (z : InDataBlocks y.1 at). of_places h u in_use (subst (λ (l : List ℕ). InDataBlocks l at) (says_places d.memory (d.port port).bases.clb slot y.0 h.command y.1 h.places y.2 h.told.says) z))
+          (λ (z : (y.2.table ≤ at) × (at < y.2.table + TABLE_HEAD + PRD_BYTES * length y.2.prds)). of_table h.list_is_in_place (serves_used u) h.command y.0 h.places y.1 h.slot_decodes_to y.2 z.0 z.1)
+          (λ (z : InDataBlocks y.1 at). of_places h u in_use (subst (λ (l : List ℕ). InDataBlocks l at) (says_places d.memory (d.port port).bases.clb slot y.0 h.command y.1 h.places y.2 h.slot_decodes_to.decodes_to) z))
           y.3) x
 
   -- the pieces of a taken command
   of_taken : (t : FetchedCommand) → (d.port port).taken slot ≡ Some t → InDataBlocks t.places at → IsUsed uses m d at
-  of_taken t is x = by (uses port slot) refl (a.slot port slot)
+  of_taken t is x = by (uses port slot) refl (a.relates_slots port slot)
     where
       by : (u : SlotState) → uses port slot ≡ u → RelatesSlot m d.memory d.tape (d.port port) port slot u → IsUsed uses m d at
       by Free u h = some_none is h.free
       by Armed u h = some_none is h.free
       by (Own o) u h = own h.stage
         where
-          own : OwnWaits (d.port port) slot ⊎ (OwnTaken d.memory d.tape (d.port port) port slot h.command ⊎ OwnOver d.memory d.tape (d.port port) port slot h.command) → IsUsed uses m d at
+          own : OwnAwaitsFetch (d.port port) slot ⊎ (OwnIsTaken d.memory d.tape (d.port port) port slot h.command ⊎ OwnIsOver d.memory d.tape (d.port port) port slot h.command) → IsUsed uses m d at
           own (inl y) = some_none is y.free
           own (inr (inl y)) = of_page h u (inr (t, is)) (subst (λ (l : List ℕ). InDataBlocks l at) (ap (λ (z : FetchedCommand). z.places) (some_same (sym is ∙ y.taken)) ∙ y.places_are) x)
           own (inr (inr y)) = some_none is y.over.free
       by (Serves id) u h = stage h.stage
         where
-          stage : Stage d.memory (d.port port) port slot h.pending h.command h.places → IsUsed uses m d at
+          stage : IsInSomeStage d.memory (d.port port) port slot h.pending h.command h.places → IsUsed uses m d at
           stage (inl y) = some_none is y.free
           stage (inr (inl y)) = of_places h u (inr (t, is)) (subst (λ (l : List ℕ). InDataBlocks l at) (ap (λ (z : FetchedCommand). z.places) (some_same (sym is ∙ y.taken)) ∙ y.places_are) x)
           stage (inr (inr (inl y))) = some_none is y.free
@@ -187,7 +187,7 @@ module _ (uses : slots.SlotStates) (m : Machine) (d : Device) (reached : IsReach
   is_used (inl x) = of_use x.0 x.1
   is_used (inr (inl x)) = of_taken x.0 x.1 x.2
   is_used (inr (inr x)) =
-      let r = a.received port x.0 in
+      let r = a.received_areas_are_placed port x.0 in
       inr (inl (record { port = port; below = r.below; from = (let y = x.1 in omega (arith, y, r.area)); to = (let y = x.2 in omega (arith, y, r.area)) }))
 
 -- ---- what lies where

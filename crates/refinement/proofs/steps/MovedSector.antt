@@ -10,7 +10,7 @@ use Rattle.ata_types.specs.declared.memory.TheConstants.{DRIVER_FRAMES}
 use Rattle.adapter.specs.Commands.{Meaning, is_queued}
 use Rattle.adapter.specs.Memory.{patched, bytes_at, changed}
 use Rattle.adapter.specs.Device.{Disk, FetchedCommand, DevicePort, Device}
-use Rattle.adapter.specs.Steps.{next_place, next_sector, disk_with, move_of}
+use Rattle.adapter.specs.Steps.{next_place, next_sector, disk_with_sector, move_of}
 use Rattle.adapter.specs.declared.command.Operation.{Operation}
 use Rattle.adapter.specs.declared.tape.Entry.{Entry}
 use Rattle.adapter.specs.declared.tape.Entry.TheVariants as entry
@@ -18,17 +18,17 @@ use Rattle.adapter.proofs.Changed.{changed_same, changed_other}
 use Rattle.adapter.proofs.MemoryLemmas.{bytes_index}
 use Rattle.block_machine.specs.State.{Block, Pending, Machine, is_reader, block_written, block_of, frame_at, sector_of}
 use Rattle.block_machine.specs.State as state
-use Rattle.block_machine.specs.Due.{changes_sectors}
-use Rattle.block_machine.specs.Confined.{MovesBytes}
+use Rattle.block_machine.specs.DueRequests.{changes_sectors}
+use Rattle.block_machine.specs.Confinement.{MovesBytes}
 use Rattle.block_machine.specs.Histories.{IsReachable}
 use Rattle.block_machine.specs.Steps as machine
 use Rattle.block_machine.specs.Steps.{Touch, after_step, touch, put_sector, put_bytes}
 use Rattle.block_machine.proofs.Standing.{Standing, standing}
-use Rattle.refinement.specs.Places.{scratch_of, place_in}
-use Rattle.refinement.specs.Slots.{SlotState, Free, Own, Serves, SlotStates, MeansRequest, MeansRange, ArePlaces, TouchedUpTo, Progress, Stage, ServesRequest, IsMove, ServesOwn, RelatesSlot, op_of}
+use Rattle.refinement.specs.MemoryLayout.{scratch_of, place_in}
+use Rattle.refinement.specs.Slots.{SlotState, Free, Own, Serves, SlotStates, MeansRequest, MeansRange, AreRequestPlaces, TouchedUpTo, TouchedAsMoved, IsInSomeStage, ServesRequest, IsMove, ServesOwn, RelatesSlot, op_of}
 use Rattle.refinement.specs.Relation.{StateRelation, port_at, SameSectors}
 use Rattle.refinement.specs.Tape.{TellsMove, MovesSector}
-use Rattle.refinement.specs.Follows.{SimulatesSteps}
+use Rattle.refinement.specs.Simulation.{SimulatesSteps}
 use Rattle.refinement.proofs.relation.SlotRelation.{SameSlot, SameFixed, SameTable, NoPort, told_on, placed_on}
 use Rattle.refinement.proofs.relation.TouchesAndEnds.{Goes, Goes-refl, touch_goes, touch_moves}
 use Rattle.refinement.proofs.relation.WrittenBytes.{fixed_stays}
@@ -52,10 +52,10 @@ pub record TakenAs (memory : ℕ → ℕ) (p : DevicePort) (port slot : ℕ) (e 
   pub running : p.cr ≡ true
   pub issued : p.ci slot ≡ p.st && not (is_queued c.operation)
   pub sact : p.sact slot ≡ p.st && is_queued c.operation
-  pub progress : Progress e.request.asked.op memory port e t
+  pub progress : TouchedAsMoved e.request.asked.op memory port e t
   pub unended : e.ended ≡ false
 
-pub taken_as : (memory : ℕ → ℕ) (p : DevicePort) (port slot : ℕ) (e : Pending) (c : Meaning) (places : List ℕ) (t : FetchedCommand) → p.taken slot ≡ Some t → Stage memory p port slot e c places → TakenAs memory p port slot e c places t
+pub taken_as : (memory : ℕ → ℕ) (p : DevicePort) (port slot : ℕ) (e : Pending) (c : Meaning) (places : List ℕ) (t : FetchedCommand) → p.taken slot ≡ Some t → IsInSomeStage memory p port slot e c places → TakenAs memory p port slot e c places t
 taken_as memory p port slot e c places t is (inl w) = some_none is w.free
 taken_as memory p port slot e c places t is (inr (inl x)) =
     subst (λ (u : FetchedCommand). TakenAs memory p port slot e c places u) (some_same (sym x.taken ∙ is))
@@ -88,7 +88,7 @@ upto_more f n h k = ⊎_elim
 pub clients_move : (uses : SlotStates) (m : Machine) (d : Device) → StateRelation uses m d → (port slot : ℕ) (t : FetchedCommand) (bytes : List ℕ) (op : Op) → op_of t.meaning.operation ≡ Some op →
     (q : ℕ) (o : Operation) → uses q 0 ≡ Own o → IsMove q o (entry.Move (move_of port slot t bytes)) → ⊥
 clients_move uses m d a port slot t bytes op is q o u same =
-    let h : ServesOwn d.memory d.tape (d.port q) q 0 o = subst (λ (v : SlotState). RelatesSlot m d.memory d.tape (d.port q) q 0 v) u (a.slot q 0) in
+    let h : ServesOwn d.memory d.tape (d.port q) q 0 o = subst (λ (v : SlotState). RelatesSlot m d.memory d.tape (d.port q) q 0 v) u (a.relates_slots q 0) in
     none_op (sym h.own ∙ ap op_of (sym same.1) ∙ is)
 
 module _ (uses : SlotStates) (m : Machine) (d : Device) (a : StateRelation uses m d) (reached : IsReachable m) (port slot : ℕ) (id : RequestId) (u : uses port slot ≡ Serves id)
@@ -112,17 +112,17 @@ module _ (uses : SlotStates) (m : Machine) (d : Device) (a : StateRelation uses 
 
     -- the slot after a sector of a read or write
     moved_slot : (m' : Machine) (memory' : ℕ → ℕ) (later : List Entry) (disk : Disk) (e' : Pending) (t' : FetchedCommand) → SameTable d.memory memory' port slot → machine.MayStillMove m' e' → e'.request ≡ h.pending.request → e'.ended ≡ h.pending.ended →
-        t'.meaning ≡ t.meaning → t'.places ≡ t.places → Progress e'.request.asked.op memory' port e' t' →
+        t'.meaning ≡ t.meaning → t'.places ≡ t.places → TouchedAsMoved e'.request.asked.op memory' port e' t' →
         RelatesSlot m' memory' later (record (d.port port) { taken = changed (d.port port).taken slot (Some t'); disk = disk }) port slot (Serves id)
     moved_slot m' memory' later disk e' t' tables moves request ended meaning places progress = record {
       pending = e';
-      moves = moves;
+      may_still_move = moves;
       id_is = ap (λ (r : state.Accepted). r.id) request ∙ h.id_is;
       port_is = ap (λ (r : state.Accepted). r.port.0) request ∙ h.port_is;
-      placed = placed_on (d.port port) _ port slot refl h.placed;
+      list_is_in_place = placed_on (d.port port) _ port slot refl h.list_is_in_place;
       command = h.command;
       places = h.places;
-      told = told_on d.memory memory' (d.port port).bases.clb (d.port port).bases.clb port slot h.command h.places h.placed.list refl tables h.told;
+      slot_decodes_to = told_on d.memory memory' (d.port port).bases.clb (d.port port).bases.clb port slot h.command h.places h.list_is_in_place.list refl tables h.slot_decodes_to;
       means = subst (λ (r : state.Accepted). MeansRequest port slot r h.command h.places) (sym request) h.means;
       stage = inr (inl (record {
         command = t';
@@ -142,10 +142,10 @@ module _ (uses : SlotStates) (m : Machine) (d : Device) (a : StateRelation uses 
 
     -- ---- a sector of a read or of a write
 
-    module _ (op : Op) (op_is : h.pending.request.asked.op ≡ op) (bytes_move : MovesBytes op) (places : ArePlaces op port h.pending.request t.places ≡ ArePlaces Read port h.pending.request t.places)
+    module _ (op : Op) (op_is : h.pending.request.asked.op ≡ op) (bytes_move : MovesBytes op) (places : AreRequestPlaces op port h.pending.request t.places ≡ AreRequestPlaces Read port h.pending.request t.places)
         (sector : next_sector t ≡ sector_of h.pending.request t.moved) (inside : next_sector t < (d.port port).disk.size) where
-      places_are : ArePlaces Read port h.pending.request t.places
-      places_are = subst (λ (X : Type 0). X) places (subst (λ (o : Op). ArePlaces o port h.pending.request t.places) op_is means.places_are)
+      places_are : AreRequestPlaces Read port h.pending.request t.places
+      places_are = subst (λ (X : Type 0). X) places (subst (λ (o : Op). AreRequestPlaces o port h.pending.request t.places) op_is means.places_are)
 
       within : t.moved < h.pending.request.asked.count
       within = omega (arith, left, places_are.0)
@@ -154,10 +154,10 @@ module _ (uses : SlotStates) (m : Machine) (d : Device) (a : StateRelation uses 
       place = places_are.1 t.moved within
 
       framed : t.moved / 8 < length h.pending.request.asked.frames.items
-      framed = std.framed h.pending h.moves (subst (λ (o : Op). MovesBytes o) (sym op_is) bytes_move) t.moved within
+      framed = std.framed h.pending h.may_still_move (subst (λ (o : Op). MovesBytes o) (sym op_is) bytes_move) t.moved within
 
       client : DRIVER_FRAMES ≤ (frame_at h.pending.request.asked.frames.items (t.moved / 8)).0
-      client = client_frame m reached h.pending h.moves (t.moved / 8) framed
+      client = client_frame m reached h.pending h.may_still_move (t.moved / 8) framed
 
       abbrev touched : Machine
       touched = after_step m (Touch h.pending t.moved (slice_index bytes))
@@ -165,24 +165,24 @@ module _ (uses : SlotStates) (m : Machine) (d : Device) (a : StateRelation uses 
       is_touch : MovesSector m op (move_of port slot t bytes) (Touch h.pending t.moved (slice_index bytes) ∷ [])
       is_touch = record {
         pending = h.pending;
-        moves = h.moves;
+        may_still_move = h.may_still_move;
         port_is = here_port;
         op_is = op_is;
-        number = t.moved;
-        within = within;
+        sector_number = t.moved;
+        number_is_in_range = within;
         sector_is = sector;
         place_is = place;
         direction_is = refl;
-        lent = std.lent h.pending h.moves (t.moved / 8) framed;
-        step = refl;
+        frame_is_lent = std.lent h.pending h.may_still_move (t.moved / 8) framed;
+        step_is = refl;
       }
 
-      may : ((b : ℕ) → h.pending.request.asked.op ≡ Write → b < 512 → slice_index bytes b ≡ h.pending.request.held t.moved b) → machine.May m (Touch h.pending t.moved (slice_index bytes))
+      may : ((b : ℕ) → h.pending.request.asked.op ≡ Write → b < 512 → slice_index bytes b ≡ h.pending.request.held_blocks t.moved b) → machine.IsEnabled m (Touch h.pending t.moved (slice_index bytes))
       may own = (
-        h.moves,
+        h.may_still_move,
         within,
-        ap m.present here_port ∙ (a.disk port).present ∙ present,
-        (let s : m.sizes h.pending.request.port ≡ (d.port port).disk.size = ap m.sizes here_port ∙ (a.disk port).size in omega (arith, s, sector, inside)),
+        ap m.present here_port ∙ (a.disks_are_same port).present ∙ present,
+        (let s : m.sizes h.pending.request.port ≡ (d.port port).disk.size = ap m.sizes here_port ∙ (a.disks_are_same port).size in omega (arith, s, sector, inside)),
         λ w b lt. own b w lt,
       )
 
@@ -195,14 +195,14 @@ module _ (uses : SlotStates) (m : Machine) (d : Device) (a : StateRelation uses 
         (brings : IfSome (d.port port).disk.sectors (λ told. bytes ≡ told (next_sector t))) where
       told : (s : SameSectors m (d.port port).disk port) (b : ℕ) → b < 512 → slice_index bytes b ≡ m.disks h.pending.request.port (sector_of h.pending.request t.moved) b
       told s b lb =
-          let is : bytes ≡ s.told (next_sector t) = subst (λ (x : Option (ℕ → List ℕ)). IfSome x (λ told. bytes ≡ told (next_sector t))) s.tells brings in
+          let is : bytes ≡ s.told_sectors (next_sector t) = subst (λ (x : Option (ℕ → List ℕ)). IfSome x (λ told. bytes ≡ told (next_sector t))) s.disk_tells brings in
           ap (λ (l : List ℕ). slice_index l b) is
-          ∙ s.same (next_sector t) b inside lb
+          ∙ s.bytes_are_same (next_sector t) b inside lb
           ∙ ap (λ (q : Port). m.disks q (next_sector t) b) (sym here_port)
           ∙ ap (λ (k : ℕ). m.disks h.pending.request.port k b) sector
 
       disks_same : (q : Port) (k b : ℕ) → (after_step m (Touch h.pending t.moved (slice_index bytes))).disks q k b ≡ m.disks q k b
-      disks_same q k b = ap (λ (f : Port → state.DiskBytes). f q k b) (cond-false (changes_sectors h.pending.request.asked.op) (put_sector h.pending.request.port (sector_of h.pending.request t.moved) (block_written h.pending.request.asked.op h.pending.request.held t.moved) m.disks) m.disks (ap changes_sectors reads))
+      disks_same q k b = ap (λ (f : Port → state.DiskBytes). f q k b) (cond-false (changes_sectors h.pending.request.asked.op) (put_sector h.pending.request.port (sector_of h.pending.request t.moved) (block_written h.pending.request.asked.op h.pending.request.held_blocks t.moved) m.disks) m.disks (ap changes_sectors reads))
 
       memory_is : (after_step m (Touch h.pending t.moved (slice_index bytes))).memory ≡ put_bytes (frame_at h.pending.request.asked.frames.items (t.moved / 8)) (512 * (t.moved % 8)) 512 (slice_index bytes) m.memory
       memory_is = cond-true (is_reader h.pending.request.asked.op) _ m.memory (ap is_reader reads)
@@ -218,9 +218,9 @@ module _ (uses : SlotStates) (m : Machine) (d : Device) (a : StateRelation uses 
           (inr (inr (inr (let p = place Read reads tt refl sector inside in let c = client Read reads tt refl sector inside in omega (arith, p, c)))))
           (λ q w v out. gains_one d.tape (entry.Move (move_of port slot t bytes)) q w (clients_move uses m d a port slot t bytes Read o q w v))
 
-      progress : Progress h.pending.request.asked.op new_memory port (touch t.moved h.pending) (record t { moved = t.moved + 1 })
-      progress = subst (λ (w : Op). Progress w new_memory port (touch t.moved h.pending) (record t { moved = t.moved + 1 })) (sym reads)
-          (upto_more h.pending.touched t.moved (subst (λ (w : Op). Progress w d.memory port h.pending t) reads x.progress))
+      progress : TouchedAsMoved h.pending.request.asked.op new_memory port (touch t.moved h.pending) (record t { moved = t.moved + 1 })
+      progress = subst (λ (w : Op). TouchedAsMoved w new_memory port (touch t.moved h.pending) (record t { moved = t.moved + 1 })) (sym reads)
+          (upto_more h.pending.touched t.moved (subst (λ (w : Op). TouchedAsMoved w d.memory port h.pending t) reads x.progress))
 
       pub read_follows : SimulatesSteps uses m d (record d {
         memory = patched d.memory (next_place t) bytes;
@@ -231,10 +231,10 @@ module _ (uses : SlotStates) (m : Machine) (d : Device) (a : StateRelation uses 
         steps = Touch h.pending t.moved (slice_index bytes) ∷ [];
         may = (tt, may Read reads tt refl sector inside (λ b w lb. read_is_no_write (sym reads ∙ w)));
         telling = refl;
-        told = λ t'. (tt, λ _ b lb. told (a.sectors t' port) b lb);
-        gained = _;
-        tape = refl;
-        tells = (Touch h.pending t.moved (slice_index bytes) ∷ [], [], subst (λ (w : Option Op). TellsMove w m (move_of port slot t bytes) (Touch h.pending t.moved (slice_index bytes) ∷ [])) (sym o) (is_touch Read reads tt refl sector inside), refl, refl);
+        steps_are_faithful = λ t'. (tt, λ _ b lb. told (a.sectors_are_same t' port) b lb);
+        new_entries = _;
+        tape_is = refl;
+        tape_tells_steps = (Touch h.pending t.moved (slice_index bytes) ∷ [], [], subst (λ (w : Option Op). TellsMove w m (move_of port slot t bytes) (Touch h.pending t.moved (slice_index bytes) ∷ [])) (sym o) (is_touch Read reads tt refl sector inside), refl, refl);
         plugged = plugged_kept d port _ (Touch h.pending t.moved (slice_index bytes) ∷ []) refl (λ _. refl);
         agrees = acted NoPort uses m (after_step m (Touch h.pending t.moved (slice_index bytes))) d a new_memory later port slot _ (record {
           id = h.pending.request.id;
@@ -245,19 +245,19 @@ module _ (uses : SlotStates) (m : Machine) (d : Device) (a : StateRelation uses 
           others = others_same (d.port port).disk _;
           here = subst (λ (v : SlotState). RelatesSlot (after_step m (Touch h.pending t.moved (slice_index bytes))) new_memory later (record (d.port port) { taken = changed (d.port port).taken slot (Some (record t { moved = t.moved + 1 })); disk = (d.port port).disk }) port slot v) (sym u)
               (moved_slot (after_step m (Touch h.pending t.moved (slice_index bytes))) new_memory later (d.port port).disk (touch t.moved h.pending) (record t { moved = t.moved + 1 })
-              (fixed.tables port slot serves_used h.placed.port_below h.placed.slot_below) (touch_moves m h.pending t.moved (slice_index bytes) h.moves) refl refl refl refl progress);
+              (fixed.tables port slot serves_used h.list_is_in_place.port_below h.list_is_in_place.slot_below) (touch_moves m h.pending t.moved (slice_index bytes) h.may_still_move) refl refl refl refl progress);
           fre = refl;
           received_at = refl;
           present = refl;
           name = refl;
           size = refl;
-          sectors = λ t'. sectors_on m (after_step m (Touch h.pending t.moved (slice_index bytes))) (d.port port).disk port (λ k b lb. disks_same (port_at port) k b) (a.sectors t' port);
-          other_sectors = λ t' q ne. sectors_on m (after_step m (Touch h.pending t.moved (slice_index bytes))) (d.port q).disk q (λ k b lb. disks_same (port_at q) k b) (a.sectors t' q);
-          lasting = λ t'. lasting_on m (after_step m (Touch h.pending t.moved (slice_index bytes))) d.tape later (d.port port) (d.port port) port refl refl (lasting_touched m h.pending t.moved (slice_index bytes) port) (gains_quiet d.tape (entry.Move (move_of port slot t bytes)) (after_step m (Touch h.pending t.moved (slice_index bytes))) port (quiet_move port slot t bytes (no_write o))) (a.lasting t' port);
-          other_lasting = λ t' q ne. lasting_on m (after_step m (Touch h.pending t.moved (slice_index bytes))) d.tape later (d.port q) (d.port q) q refl refl (lasting_touched m h.pending t.moved (slice_index bytes) q) (gains_quiet d.tape (entry.Move (move_of port slot t bytes)) (after_step m (Touch h.pending t.moved (slice_index bytes))) q (quiet_move port slot t bytes (no_write o))) (a.lasting t' q);
+          sectors = λ t'. sectors_on m (after_step m (Touch h.pending t.moved (slice_index bytes))) (d.port port).disk port (λ k b lb. disks_same (port_at port) k b) (a.sectors_are_same t' port);
+          other_sectors = λ t' q ne. sectors_on m (after_step m (Touch h.pending t.moved (slice_index bytes))) (d.port q).disk q (λ k b lb. disks_same (port_at q) k b) (a.sectors_are_same t' q);
+          lasting = λ t'. lasting_on m (after_step m (Touch h.pending t.moved (slice_index bytes))) d.tape later (d.port port) (d.port port) port refl refl (lasting_touched m h.pending t.moved (slice_index bytes) port) (gains_quiet d.tape (entry.Move (move_of port slot t bytes)) (after_step m (Touch h.pending t.moved (slice_index bytes))) port (quiet_move port slot t bytes (no_write o))) (a.has_lasting t' port);
+          other_lasting = λ t' q ne. lasting_on m (after_step m (Touch h.pending t.moved (slice_index bytes))) d.tape later (d.port q) (d.port q) q refl refl (lasting_touched m h.pending t.moved (slice_index bytes) q) (gains_quiet d.tape (entry.Move (move_of port slot t bytes)) (after_step m (Touch h.pending t.moved (slice_index bytes))) q (quiet_move port slot t bytes (no_write o))) (a.has_lasting t' q);
           memory = λ f b from small.
               memory_put m d.memory (next_place t) (frame_at h.pending.request.asked.frames.items (t.moved / 8)) (512 * (t.moved % 8)) bytes
-              (place Read reads tt refl sector inside) (omega (arith, size)) a.memory f b from small
+              (place Read reads tt refl sector inside) (omega (arith, size)) a.memory_is_same f b from small
               ∙ ap (λ (n : ℕ). put_bytes (frame_at h.pending.request.asked.frames.items (t.moved / 8)) (512 * (t.moved % 8)) n (slice_index bytes) m.memory f b) size
               ∙ ap (λ (g : state.Memory). g f b) (sym memory_is);
         });
@@ -274,7 +274,7 @@ module _ (uses : SlotStates) (m : Machine) (d : Device) (a : StateRelation uses 
     module _ (writes : h.pending.request.asked.op ≡ Write) (o : op_of t.meaning.operation ≡ Some Write) (sector : next_sector t ≡ sector_of h.pending.request t.moved) (inside : next_sector t < (d.port port).disk.size)
         (brings : bytes ≡ bytes_at d.memory (next_place t) 512) where
       -- the frames hold the write's bytes
-      holds : (b : ℕ) → b < 512 → slice_index bytes b ≡ h.pending.request.held t.moved b
+      holds : (b : ℕ) → b < 512 → slice_index bytes b ≡ h.pending.request.held_blocks t.moved b
       holds b lb =
           let w = place Write writes tt refl sector inside in
           let c = client Write writes tt refl sector inside in
@@ -282,34 +282,34 @@ module _ (uses : SlotStates) (m : Machine) (d : Device) (a : StateRelation uses 
           ap (λ (l : List ℕ). slice_index l b) brings
           ∙ bytes_index d.memory (next_place t) 512 b lb
           ∙ ap d.memory (let r : next_place t + b ≡ 4096 * (frame_at h.pending.request.asked.frames.items (t.moved / 8)).0 + (512 * (t.moved % 8) + b) = omega (arith, w) in r)
-          ∙ a.memory (frame_at h.pending.request.asked.frames.items (t.moved / 8)) (512 * (t.moved % 8) + b) c (omega (arith, lb))
-          ∙ std.held h.pending h.moves t.moved b (λ reads. absurd (let z : true ≡ false = sym reads ∙ ap is_reader writes in cc)) (omega (arith, f)) lb
+          ∙ a.memory_is_same (frame_at h.pending.request.asked.frames.items (t.moved / 8)) (512 * (t.moved % 8) + b) c (omega (arith, lb))
+          ∙ std.held h.pending h.may_still_move t.moved b (λ reads. absurd (let z : true ≡ false = sym reads ∙ ap is_reader writes in cc)) (omega (arith, f)) lb
 
-      now : (q : Port) (k b : ℕ) → (after_step m (Touch h.pending t.moved (slice_index bytes))).disks q k b ≡ put_sector (port_at port) (sector_of h.pending.request t.moved) (h.pending.request.held t.moved) m.disks q k b
+      now : (q : Port) (k b : ℕ) → (after_step m (Touch h.pending t.moved (slice_index bytes))).disks q k b ≡ put_sector (port_at port) (sector_of h.pending.request t.moved) (h.pending.request.held_blocks t.moved) m.disks q k b
       now q k b =
-          ap (λ (f : Port → state.DiskBytes). f q k b) (cond-true (changes_sectors h.pending.request.asked.op) (put_sector h.pending.request.port (sector_of h.pending.request t.moved) (block_written h.pending.request.asked.op h.pending.request.held t.moved) m.disks) m.disks (ap changes_sectors writes))
-          ∙ ap (λ (r : Port). put_sector r (sector_of h.pending.request t.moved) (block_written h.pending.request.asked.op h.pending.request.held t.moved) m.disks q k b) here_port
-          ∙ ap (λ (w : Op). put_sector (port_at port) (sector_of h.pending.request t.moved) (block_written w h.pending.request.held t.moved) m.disks q k b) writes
+          ap (λ (f : Port → state.DiskBytes). f q k b) (cond-true (changes_sectors h.pending.request.asked.op) (put_sector h.pending.request.port (sector_of h.pending.request t.moved) (block_written h.pending.request.asked.op h.pending.request.held_blocks t.moved) m.disks) m.disks (ap changes_sectors writes))
+          ∙ ap (λ (r : Port). put_sector r (sector_of h.pending.request t.moved) (block_written h.pending.request.asked.op h.pending.request.held_blocks t.moved) m.disks q k b) here_port
+          ∙ ap (λ (w : Op). put_sector (port_at port) (sector_of h.pending.request t.moved) (block_written w h.pending.request.held_blocks t.moved) m.disks q k b) writes
 
       memory_kept : (after_step m (Touch h.pending t.moved (slice_index bytes))).memory ≡ m.memory
       memory_kept = cond-false (is_reader h.pending.request.asked.op) (put_bytes (frame_at h.pending.request.asked.frames.items (t.moved / 8)) (512 * (t.moved % 8)) 512 (slice_index bytes) m.memory) m.memory (ap is_reader writes)
 
-      progressed : Progress h.pending.request.asked.op d.memory port (touch t.moved h.pending) (record t { moved = t.moved + 1 })
-      progressed = subst (λ (w : Op). Progress w d.memory port (touch t.moved h.pending) (record t { moved = t.moved + 1 })) (sym writes)
-          (upto_more h.pending.touched t.moved (subst (λ (w : Op). Progress w d.memory port h.pending t) writes x.progress))
+      progressed : TouchedAsMoved h.pending.request.asked.op d.memory port (touch t.moved h.pending) (record t { moved = t.moved + 1 })
+      progressed = subst (λ (w : Op). TouchedAsMoved w d.memory port (touch t.moved h.pending) (record t { moved = t.moved + 1 })) (sym writes)
+          (upto_more h.pending.touched t.moved (subst (λ (w : Op). TouchedAsMoved w d.memory port h.pending t) writes x.progress))
 
       pub write_follows : SimulatesSteps uses m d (record d {
-        port = changed d.port port (record (d.port port) { taken = changed (d.port port).taken slot (Some (record t { moved = t.moved + 1 })); disk = disk_with (d.port port).disk (next_sector t) bytes });
+        port = changed d.port port (record (d.port port) { taken = changed (d.port port).taken slot (Some (record t { moved = t.moved + 1 })); disk = disk_with_sector (d.port port).disk (next_sector t) bytes });
         tape = d.tape ++ entry.Move (move_of port slot t bytes) ∷ [];
       })
       write_follows = record {
         steps = Touch h.pending t.moved (slice_index bytes) ∷ [];
         may = (tt, may Write writes tt refl sector inside (λ b w lb. holds b lb));
         telling = refl;
-        told = λ t'. (tt, λ reads. write_is_no_read (sym writes ∙ reads));
-        gained = _;
-        tape = refl;
-        tells = (Touch h.pending t.moved (slice_index bytes) ∷ [], [], subst (λ (w : Option Op). TellsMove w m (move_of port slot t bytes) (Touch h.pending t.moved (slice_index bytes) ∷ [])) (sym o) (is_touch Write writes tt refl sector inside), refl, refl);
+        steps_are_faithful = λ t'. (tt, λ reads. write_is_no_read (sym writes ∙ reads));
+        new_entries = _;
+        tape_is = refl;
+        tape_tells_steps = (Touch h.pending t.moved (slice_index bytes) ∷ [], [], subst (λ (w : Option Op). TellsMove w m (move_of port slot t bytes) (Touch h.pending t.moved (slice_index bytes) ∷ [])) (sym o) (is_touch Write writes tt refl sector inside), refl, refl);
         plugged = plugged_kept d port _ (Touch h.pending t.moved (slice_index bytes) ∷ []) refl (λ _. refl);
         agrees = acted NoPort uses m (after_step m (Touch h.pending t.moved (slice_index bytes))) d a d.memory _ port slot _ (record {
           id = h.pending.request.id;
@@ -318,21 +318,21 @@ module _ (uses : SlotStates) (m : Machine) (d : Device) (a : StateRelation uses 
           only = λ q z. absurd z;
           fixed = fixed_more uses d.memory d.tape (entry.Move (move_of port slot t bytes)) (clients_move uses m d a port slot t bytes Write o);
           others = others_same _ _;
-          here = subst (λ (v : SlotState). RelatesSlot (after_step m (Touch h.pending t.moved (slice_index bytes))) d.memory (d.tape ++ entry.Move (move_of port slot t bytes) ∷ []) (record (d.port port) { taken = changed (d.port port).taken slot (Some (record t { moved = t.moved + 1 })); disk = disk_with (d.port port).disk (next_sector t) bytes }) port slot v) (sym u)
-              (moved_slot (after_step m (Touch h.pending t.moved (slice_index bytes))) d.memory (d.tape ++ entry.Move (move_of port slot t bytes) ∷ []) (disk_with (d.port port).disk (next_sector t) bytes) (touch t.moved h.pending) (record t { moved = t.moved + 1 })
-              (λ _ _. refl) (touch_moves m h.pending t.moved (slice_index bytes) h.moves) refl refl refl refl progressed);
+          here = subst (λ (v : SlotState). RelatesSlot (after_step m (Touch h.pending t.moved (slice_index bytes))) d.memory (d.tape ++ entry.Move (move_of port slot t bytes) ∷ []) (record (d.port port) { taken = changed (d.port port).taken slot (Some (record t { moved = t.moved + 1 })); disk = disk_with_sector (d.port port).disk (next_sector t) bytes }) port slot v) (sym u)
+              (moved_slot (after_step m (Touch h.pending t.moved (slice_index bytes))) d.memory (d.tape ++ entry.Move (move_of port slot t bytes) ∷ []) (disk_with_sector (d.port port).disk (next_sector t) bytes) (touch t.moved h.pending) (record t { moved = t.moved + 1 })
+              (λ _ _. refl) (touch_moves m h.pending t.moved (slice_index bytes) h.may_still_move) refl refl refl refl progressed);
           fre = refl;
           received_at = refl;
           present = refl;
           name = refl;
           size = refl;
-          sectors = λ t'. subst (λ (k : ℕ). SameSectors (after_step m (Touch h.pending t.moved (slice_index bytes))) (disk_with (d.port port).disk k bytes) port) (sym sector)
-              (sector_written m (after_step m (Touch h.pending t.moved (slice_index bytes))) (d.port port).disk port (sector_of h.pending.request t.moved) bytes (h.pending.request.held t.moved) (λ k b. now (port_at port) k b) holds (a.sectors t' port));
+          sectors = λ t'. subst (λ (k : ℕ). SameSectors (after_step m (Touch h.pending t.moved (slice_index bytes))) (disk_with_sector (d.port port).disk k bytes) port) (sym sector)
+              (sector_written m (after_step m (Touch h.pending t.moved (slice_index bytes))) (d.port port).disk port (sector_of h.pending.request t.moved) bytes (h.pending.request.held_blocks t.moved) (λ k b. now (port_at port) k b) holds (a.sectors_are_same t' port));
           other_sectors = λ t' q ne. sectors_on m (after_step m (Touch h.pending t.moved (slice_index bytes))) (d.port q).disk q
-              (λ k b lb. now (port_at q) k b ∙ ap (λ (f : Block). f b) (put_elsewhere (port_at port) (sector_of h.pending.request t.moved) (h.pending.request.held t.moved) m.disks (port_at q) k (λ z _. ne z))) (a.sectors t' q);
-          lasting = λ t'. lasting_on m (after_step m (Touch h.pending t.moved (slice_index bytes))) d.tape _ (d.port port) (d.port port) port refl refl (lasting_touched m h.pending t.moved (slice_index bytes) port) (gains_write d.tape (after_step m (Touch h.pending t.moved (slice_index bytes))) port slot t bytes port written) (a.lasting t' port);
-          other_lasting = λ t' q ne. lasting_on m (after_step m (Touch h.pending t.moved (slice_index bytes))) d.tape _ (d.port q) (d.port q) q refl refl (lasting_touched m h.pending t.moved (slice_index bytes) q) (gains_write d.tape (after_step m (Touch h.pending t.moved (slice_index bytes))) port slot t bytes q written) (a.lasting t' q);
-          memory = λ f b from small. a.memory f b from small ∙ ap (λ (g : state.Memory). g f b) (sym memory_kept);
+              (λ k b lb. now (port_at q) k b ∙ ap (λ (f : Block). f b) (put_elsewhere (port_at port) (sector_of h.pending.request t.moved) (h.pending.request.held_blocks t.moved) m.disks (port_at q) k (λ z _. ne z))) (a.sectors_are_same t' q);
+          lasting = λ t'. lasting_on m (after_step m (Touch h.pending t.moved (slice_index bytes))) d.tape _ (d.port port) (d.port port) port refl refl (lasting_touched m h.pending t.moved (slice_index bytes) port) (gains_write d.tape (after_step m (Touch h.pending t.moved (slice_index bytes))) port slot t bytes port written) (a.has_lasting t' port);
+          other_lasting = λ t' q ne. lasting_on m (after_step m (Touch h.pending t.moved (slice_index bytes))) d.tape _ (d.port q) (d.port q) q refl refl (lasting_touched m h.pending t.moved (slice_index bytes) q) (gains_write d.tape (after_step m (Touch h.pending t.moved (slice_index bytes))) port slot t bytes q written) (a.has_lasting t' q);
+          memory = λ f b from small. a.memory_is_same f b from small ∙ ap (λ (g : state.Memory). g f b) (sym memory_kept);
         });
       }
         where
@@ -343,7 +343,7 @@ module _ (uses : SlotStates) (m : Machine) (d : Device) (a : StateRelation uses 
           written : (b : ℕ) → b < 512 → slice_index bytes b ≡ (after_step m (Touch h.pending t.moved (slice_index bytes))).disks (port_at port) (next_sector t) b
           written b lb =
               holds b lb
-              ∙ ap (λ (f : Block). f b) (sym (put_there (port_at port) (sector_of h.pending.request t.moved) (h.pending.request.held t.moved) m.disks))
+              ∙ ap (λ (f : Block). f b) (sym (put_there (port_at port) (sector_of h.pending.request t.moved) (h.pending.request.held_blocks t.moved) m.disks))
               ∙ sym (now (port_at port) (sector_of h.pending.request t.moved) b)
               ∙ ap (λ (k : ℕ). (after_step m (Touch h.pending t.moved (slice_index bytes))).disks (port_at port) k b) (sym sector)
 
@@ -352,12 +352,12 @@ module _ (uses : SlotStates) (m : Machine) (d : Device) (a : StateRelation uses 
     module _ (trims : h.pending.request.asked.op ≡ Trim) (o : op_of t.meaning.operation ≡ Some Trim) (brings : bytes ≡ bytes_at d.memory (next_place t) 512) where
       trim_place : (t.places ≡ scratch_of port ∷ []) × (t.moved ≡ 0) × (next_place t ≡ scratch_of port)
       trim_place =
-          let is : t.places ≡ scratch_of port ∷ [] = subst (λ (w : Op). ArePlaces w port h.pending.request t.places) trims means.places_are in
+          let is : t.places ≡ scratch_of port ∷ [] = subst (λ (w : Op). AreRequestPlaces w port h.pending.request t.places) trims means.places_are in
           let one : t.moved ≡ 0 = let n : length t.places ≡ 1 = ap length is in omega (arith, left, n) in
           (is, one, ap (λ (k : ℕ). slice_index t.places k) one ∙ ap (λ (l : List ℕ). slice_index l 0) is)
 
-      was : Progress Trim d.memory port h.pending t
-      was = subst (λ (w : Op). Progress w d.memory port h.pending t) trims x.progress
+      was : TouchedAsMoved Trim d.memory port h.pending t
+      was = subst (λ (w : Op). TouchedAsMoved w d.memory port h.pending t) trims x.progress
 
       names : MeansRange bytes h.pending.request
       names = ⊎_elim
@@ -366,8 +366,8 @@ module _ (uses : SlotStates) (m : Machine) (d : Device) (a : StateRelation uses 
           (λ (y : (t.moved ≡ 1) × MeansRange t.block h.pending.request). absurd (let z : t.moved ≡ 0 = trim_place.1 in omega (arith, z, y.0)))
           was.1
 
-      fetched : Progress h.pending.request.asked.op d.memory port h.pending (record t { moved = t.moved + 1; block = bytes })
-      fetched = subst (λ (w : Op). Progress w d.memory port h.pending (record t { moved = t.moved + 1; block = bytes })) (sym trims)
+      fetched : TouchedAsMoved h.pending.request.asked.op d.memory port h.pending (record t { moved = t.moved + 1; block = bytes })
+      fetched = subst (λ (w : Op). TouchedAsMoved w d.memory port h.pending (record t { moved = t.moved + 1; block = bytes })) (sym trims)
           (was.0, inr ((let z : t.moved ≡ 0 = trim_place.1 in let r : t.moved + 1 ≡ 1 = omega (arith, z) in r), names))
 
       pub block_follows : SimulatesSteps uses m d (record d {
@@ -378,10 +378,10 @@ module _ (uses : SlotStates) (m : Machine) (d : Device) (a : StateRelation uses 
         steps = [];
         may = tt;
         telling = refl;
-        told = λ _. tt;
-        gained = _;
-        tape = refl;
-        tells = ([], [], subst (λ (w : Option Op). TellsMove w m (move_of port slot t bytes) []) (sym o) (trim_place.2, refl), refl, refl);
+        steps_are_faithful = λ _. tt;
+        new_entries = _;
+        tape_is = refl;
+        tape_tells_steps = ([], [], subst (λ (w : Option Op). TellsMove w m (move_of port slot t bytes) []) (sym o) (trim_place.2, refl), refl, refl);
         plugged = plugged_kept d port _ [] refl (λ _. refl);
         agrees = acted NoPort uses m m d a d.memory (d.tape ++ entry.Move (move_of port slot t bytes) ∷ []) port slot _ (record {
           id = record { 0 = 0 };
@@ -391,17 +391,17 @@ module _ (uses : SlotStates) (m : Machine) (d : Device) (a : StateRelation uses 
           fixed = fixed_more uses d.memory d.tape (entry.Move (move_of port slot t bytes)) (clients_move uses m d a port slot t bytes Trim o);
           others = others_same _ _;
           here = subst (λ (v : SlotState). RelatesSlot m d.memory (d.tape ++ entry.Move (move_of port slot t bytes) ∷ []) (record (d.port port) { taken = changed (d.port port).taken slot (Some (record t { moved = t.moved + 1; block = bytes })); disk = (d.port port).disk }) port slot v) (sym u)
-              (moved_slot m d.memory (d.tape ++ entry.Move (move_of port slot t bytes) ∷ []) (d.port port).disk h.pending (record t { moved = t.moved + 1; block = bytes }) (λ _ _. refl) h.moves refl refl refl refl fetched);
+              (moved_slot m d.memory (d.tape ++ entry.Move (move_of port slot t bytes) ∷ []) (d.port port).disk h.pending (record t { moved = t.moved + 1; block = bytes }) (λ _ _. refl) h.may_still_move refl refl refl refl fetched);
           fre = refl;
           received_at = refl;
           present = refl;
           name = refl;
           size = refl;
-          sectors = λ t'. a.sectors t' port;
-          other_sectors = λ t' q ne. a.sectors t' q;
-          lasting = λ t'. lasting_on m m d.tape _ (d.port port) (d.port port) port refl refl (λ _ _ held. held) (gains_quiet d.tape _ m port (quiet_move port slot t bytes (no_write o))) (a.lasting t' port);
-          other_lasting = λ t' q ne. lasting_on m m d.tape _ (d.port q) (d.port q) q refl refl (λ _ _ held. held) (gains_quiet d.tape _ m q (quiet_move port slot t bytes (no_write o))) (a.lasting t' q);
-          memory = a.memory;
+          sectors = λ t'. a.sectors_are_same t' port;
+          other_sectors = λ t' q ne. a.sectors_are_same t' q;
+          lasting = λ t'. lasting_on m m d.tape _ (d.port port) (d.port port) port refl refl (λ _ _ held. held) (gains_quiet d.tape _ m port (quiet_move port slot t bytes (no_write o))) (a.has_lasting t' port);
+          other_lasting = λ t' q ne. lasting_on m m d.tape _ (d.port q) (d.port q) q refl refl (λ _ _ held. held) (gains_quiet d.tape _ m q (quiet_move port slot t bytes (no_write o))) (a.has_lasting t' q);
+          memory = a.memory_is_same;
         });
       }
         where

@@ -16,11 +16,11 @@ use Rattle.adapter.proofs.Changed.{changed_same, changed_other}
 use Rattle.adapter.proofs.MemoryLemmas.{patched_bytes}
 use Rattle.block_machine.specs.State.{Machine}
 use Rattle.block_machine.specs.Histories.{IsReachable}
-use Rattle.refinement.specs.Places.{scratch_of}
-use Rattle.refinement.specs.Slots.{SlotState, Free, Own, Serves, SlotStates, ArePlaces, ServesRequest, PageStandsInScratch, OwnWaits, OwnTaken, OwnOver, ServesOwn, RelatesSlot, op_of, Armed}
+use Rattle.refinement.specs.MemoryLayout.{scratch_of}
+use Rattle.refinement.specs.Slots.{SlotState, Free, Own, Serves, SlotStates, AreRequestPlaces, ServesRequest, PageStandsInScratch, OwnAwaitsFetch, OwnIsTaken, OwnIsOver, ServesOwn, RelatesSlot, op_of, Armed}
 use Rattle.refinement.specs.Relation.{StateRelation}
 use Rattle.refinement.specs.Tape.{TellsMove}
-use Rattle.refinement.specs.Follows.{SimulatesSteps}
+use Rattle.refinement.specs.Simulation.{SimulatesSteps}
 use Rattle.refinement.proofs.relation.SlotRelation.{known_on, SameFixed, told_on, placed_on}
 use Rattle.refinement.proofs.relation.TouchesAndEnds.{Goes-refl}
 use Rattle.refinement.proofs.relation.WrittenBytes.{fixed_stays}
@@ -43,39 +43,39 @@ client_move : (uses : SlotStates) (m : Machine) (d : Device) (a : StateRelation 
     → TakenAs d.memory (d.port port) port slot h.pending h.command h.places (taken_of o first count places moved block cleared)
     → SimulatesSteps uses m d (device_after (Move port slot (taken_of o first count places moved block cleared) bytes) d)
 client_move uses m d a reached port slot id u h bytes operation.Identify first count places moved block cleared can x =
-    none_op (ap (λ (c : Meaning). op_of c.operation) x.meaning ∙ h.means.op)
+    none_op (ap (λ (c : Meaning). op_of c.operation) x.meaning ∙ h.means.op_is)
 client_move uses m d a reached port slot id u h bytes operation.ReadLog first count places moved block cleared can x =
-    none_op (ap (λ (c : Meaning). op_of c.operation) x.meaning ∙ h.means.op)
+    none_op (ap (λ (c : Meaning). op_of c.operation) x.meaning ∙ h.means.op_is)
 client_move uses m d a reached port slot id u h bytes operation.Flush first count places moved block cleared can x =
     let w = means_taken port slot h.pending.request h.command (record { operation = operation.Flush; first = first; count = count }) h.places places x.meaning x.places_are h.means in
-    absurd (let op : Flush ≡ h.pending.request.asked.op = op_same w.op in
-    let none : places ≡ [] = subst (λ (o : Op). ArePlaces o port h.pending.request places) (sym op) w.places_are in
+    absurd (let op : Flush ≡ h.pending.request.asked.op = op_same w.op_is in
+    let none : places ≡ [] = subst (λ (o : Op). AreRequestPlaces o port h.pending.request places) (sym op) w.places_are in
     let n : length places ≡ 0 = ap length none in
-    let l : moved < length places = can.left in omega (arith, n, l))
+    let l : moved < length places = can.piece_is_left in omega (arith, n, l))
 client_move uses m d a reached port slot id u h bytes operation.Read first count places moved block cleared can x =
     let w = means_taken port slot h.pending.request h.command (record { operation = operation.Read; first = first; count = count }) h.places places x.meaning x.places_are h.means in
-    read_follows uses m d a reached port slot id u h (taken_of operation.Read first count places moved block cleared) x bytes can.sector.0 can.left can.works.working.present
-    (sym (op_same w.op)) refl (ap (λ (k : ℕ). k + moved) (w.first refl)) can.brings.0 can.brings.1
+    read_follows uses m d a reached port slot id u h (taken_of operation.Read first count places moved block cleared) x bytes can.bytes_are_sector.0 can.piece_is_left can.works.working.present
+    (sym (op_same w.op_is)) refl (ap (λ (k : ℕ). k + moved) (w.first_sector_is refl)) can.brings.0 can.brings.1
 client_move uses m d a reached port slot id u h bytes operation.ReadQueued first count places moved block cleared can x =
     let w = means_taken port slot h.pending.request h.command (record { operation = operation.ReadQueued; first = first; count = count }) h.places places x.meaning x.places_are h.means in
-    read_follows uses m d a reached port slot id u h (taken_of operation.ReadQueued first count places moved block cleared) x bytes can.sector.0 can.left can.works.working.present
-    (sym (op_same w.op)) refl (ap (λ (k : ℕ). k + moved) (w.first refl)) can.brings.0 can.brings.1
+    read_follows uses m d a reached port slot id u h (taken_of operation.ReadQueued first count places moved block cleared) x bytes can.bytes_are_sector.0 can.piece_is_left can.works.working.present
+    (sym (op_same w.op_is)) refl (ap (λ (k : ℕ). k + moved) (w.first_sector_is refl)) can.brings.0 can.brings.1
 client_move uses m d a reached port slot id u h bytes operation.Write first count places moved block cleared can x =
     let w = means_taken port slot h.pending.request h.command (record { operation = operation.Write; first = first; count = count }) h.places places x.meaning x.places_are h.means in
-    write_follows uses m d a reached port slot id u h (taken_of operation.Write first count places moved block cleared) x bytes can.sector.0 can.left can.works.working.present
-    (sym (op_same w.op)) refl (ap (λ (k : ℕ). k + moved) (w.first refl)) can.brings.0 can.brings.1
+    write_follows uses m d a reached port slot id u h (taken_of operation.Write first count places moved block cleared) x bytes can.bytes_are_sector.0 can.piece_is_left can.works.working.present
+    (sym (op_same w.op_is)) refl (ap (λ (k : ℕ). k + moved) (w.first_sector_is refl)) can.brings.0 can.brings.1
 client_move uses m d a reached port slot id u h bytes operation.WriteQueued first count places moved block cleared can x =
     let w = means_taken port slot h.pending.request h.command (record { operation = operation.WriteQueued; first = first; count = count }) h.places places x.meaning x.places_are h.means in
-    write_follows uses m d a reached port slot id u h (taken_of operation.WriteQueued first count places moved block cleared) x bytes can.sector.0 can.left can.works.working.present
-    (sym (op_same w.op)) refl (ap (λ (k : ℕ). k + moved) (w.first refl)) can.brings.0 can.brings.1
+    write_follows uses m d a reached port slot id u h (taken_of operation.WriteQueued first count places moved block cleared) x bytes can.bytes_are_sector.0 can.piece_is_left can.works.working.present
+    (sym (op_same w.op_is)) refl (ap (λ (k : ℕ). k + moved) (w.first_sector_is refl)) can.brings.0 can.brings.1
 client_move uses m d a reached port slot id u h bytes operation.Trim first count places moved block cleared can x =
     let w = means_taken port slot h.pending.request h.command (record { operation = operation.Trim; first = first; count = count }) h.places places x.meaning x.places_are h.means in
-    block_follows uses m d a reached port slot id u h (taken_of operation.Trim first count places moved block cleared) x bytes can.sector.0 can.left can.works.working.present
-    (sym (op_same w.op)) refl can.brings
+    block_follows uses m d a reached port slot id u h (taken_of operation.Trim first count places moved block cleared) x bytes can.bytes_are_sector.0 can.piece_is_left can.works.working.present
+    (sym (op_same w.op_is)) refl can.brings
 
 -- a move of a command of the driver's own: a page into the scratch frame
 module _ (uses : SlotStates) (m : Machine) (d : Device) (a : StateRelation uses m d) (port slot : ℕ) (o : Operation) (u : uses port slot ≡ Own o) (h : ServesOwn d.memory d.tape (d.port port) port slot o) where
-  module _ (t : FetchedCommand) (x : OwnTaken d.memory d.tape (d.port port) port slot h.command) (is : x.command ≡ t) (bytes : List ℕ) (left : t.moved < length t.places) (size : length bytes ≡ 512) where
+  module _ (t : FetchedCommand) (x : OwnIsTaken d.memory d.tape (d.port port) port slot h.command) (is : x.command ≡ t) (bytes : List ℕ) (left : t.moved < length t.places) (size : length bytes ≡ 512) where
     places_are : t.places ≡ scratch_of port ∷ []
     places_are = ap (λ (y : FetchedCommand). y.places) (sym is) ∙ x.places_are
 
@@ -96,17 +96,17 @@ module _ (uses : SlotStates) (m : Machine) (d : Device) (a : StateRelation uses 
 
     fixed : SameFixed Here uses d.memory (patched d.memory (next_place t) bytes) d.tape (d.tape ++ entry.Move (move_of port slot t bytes) ∷ [])
     fixed = fixed_stays Here uses d.memory (next_place t) bytes d.tape (d.tape ++ entry.Move (move_of port slot t bytes) ∷ [])
-        (inr (inr (inl (record { port = port; below = h.placed.port_below; excepted = refl; here = place; size = size }))))
+        (inr (inr (inl (record { port = port; below = h.list_is_in_place.port_below; excepted = refl; here = place; size = size }))))
         (λ q w v out. gains_one d.tape (entry.Move (move_of port slot t bytes)) q w (λ y. out (sym y.0)))
 
     -- the page stands there
     brought : PageStandsInScratch (patched d.memory (next_place t) bytes) (d.tape ++ entry.Move (move_of port slot t bytes) ∷ []) port h.command.operation (d.port port).notes.st_set_at
     brought = record {
       before = d.tape;
-      after = h.known;
+      came_since = h.st_set_is_on_tape;
       move = move_of port slot t bytes;
       later = [];
-      here = refl;
+      tape_is_split = refl;
       is_move = (refl, operation_is ∙ sym h.operation_is);
       last = λ k e small. absurd (omega (arith, small));
       bytes = ap (λ (n : ℕ). bytes_at (patched d.memory (next_place t) bytes) (scratch_of port) n) (sym size)
@@ -132,29 +132,29 @@ module _ (uses : SlotStates) (m : Machine) (d : Device) (a : StateRelation uses 
       steps = [];
       may = tt;
       telling = refl;
-      told = λ _. tt;
-      gained = _;
-      tape = refl;
-      tells = ([], [], subst (λ (w : Option Op). TellsMove w m (move_of port slot t bytes) []) (sym (ap op_of operation_is ∙ h.own)) (place, refl), refl, refl);
+      steps_are_faithful = λ _. tt;
+      new_entries = _;
+      tape_is = refl;
+      tape_tells_steps = ([], [], subst (λ (w : Option Op). TellsMove w m (move_of port slot t bytes) []) (sym (ap op_of operation_is ∙ h.own)) (place, refl), refl, refl);
       plugged = plugged_kept d port _ [] refl (λ _. refl);
       agrees = acted Here uses m m d a (patched d.memory (next_place t) bytes) (d.tape ++ entry.Move (move_of port slot t bytes) ∷ []) port slot _ (record {
         id = record { 0 = 0 };
         goes = Goes-refl m (record { 0 = 0 });
         moves = λ port' slot' id' v ne y is r. r;
-        only = λ q z. (z, h.head);
+        only = λ q z. (z, h.slot_is_0);
         fixed = fixed;
         others = λ k ne. record { issued = refl; sact = refl; taken = changed_other (d.port port).taken slot _ k ne; st = refl; cr = refl; since = refl; list = refl };
         here = subst (λ (v : SlotState). RelatesSlot m (patched d.memory (next_place t) bytes) (d.tape ++ entry.Move (move_of port slot t bytes) ∷ []) (record (d.port port) { taken = changed (d.port port).taken slot (Some (record t { moved = t.moved + 1 })); disk = (d.port port).disk }) port slot v) (sym u)
             (record {
               own = h.own;
-              head = h.head;
-              placed = placed_on (d.port port) _ port slot refl h.placed;
+              slot_is_0 = h.slot_is_0;
+              list_is_in_place = placed_on (d.port port) _ port slot refl h.list_is_in_place;
               command = h.command;
               operation_is = h.operation_is;
-              told = told_on d.memory (patched d.memory (next_place t) bytes) (d.port port).bases.clb (d.port port).bases.clb port slot h.command (scratch_of port ∷ []) h.placed.list refl
-                  (fixed.tables port slot used h.placed.port_below h.placed.slot_below) h.told;
+              slot_decodes_to = told_on d.memory (patched d.memory (next_place t) bytes) (d.port port).bases.clb (d.port port).bases.clb port slot h.command (scratch_of port ∷ []) h.list_is_in_place.list refl
+                  (fixed.tables port slot used h.list_is_in_place.port_below h.list_is_in_place.slot_below) h.slot_decodes_to;
               unqueued = h.unqueued;
-              known = known_on d.tape (entry.Move (move_of port slot t bytes) ∷ []) (d.port port).notes.st_set_at h.known;
+              st_set_is_on_tape = known_on d.tape (entry.Move (move_of port slot t bytes) ∷ []) (d.port port).notes.st_set_at h.st_set_is_on_tape;
               stage = inr (inl (record {
                 command = record t { moved = t.moved + 1 };
                 taken = changed_same (d.port port).taken slot _;
@@ -162,7 +162,7 @@ module _ (uses : SlotStates) (m : Machine) (d : Device) (a : StateRelation uses 
                 places_are = places_are;
                 running = x.running;
                 issued = x.issued;
-                brought = inr (let n = none_moved in omega (arith, n), brought);
+                page_is_brought = inr (let n = none_moved in omega (arith, n), brought);
               }));
             });
         fre = refl;
@@ -170,22 +170,22 @@ module _ (uses : SlotStates) (m : Machine) (d : Device) (a : StateRelation uses 
         present = refl;
         name = refl;
         size = refl;
-        sectors = λ t'. a.sectors t' port;
-        other_sectors = λ t' q ne. a.sectors t' q;
-        lasting = λ t'. lasting_on m m d.tape _ (d.port port) (d.port port) port refl refl (λ _ _ held. held) (gains_quiet d.tape _ m port quiet) (a.lasting t' port);
-        other_lasting = λ t' q ne. lasting_on m m d.tape _ (d.port q) (d.port q) q refl refl (λ _ _ held. held) (gains_quiet d.tape _ m q quiet) (a.lasting t' q);
-        memory = memory_low m d.memory (next_place t) bytes (let below = h.placed.port_below in let p = place in omega (arith, p, size, below)) a.memory;
+        sectors = λ t'. a.sectors_are_same t' port;
+        other_sectors = λ t' q ne. a.sectors_are_same t' q;
+        lasting = λ t'. lasting_on m m d.tape _ (d.port port) (d.port port) port refl refl (λ _ _ held. held) (gains_quiet d.tape _ m port quiet) (a.has_lasting t' port);
+        other_lasting = λ t' q ne. lasting_on m m d.tape _ (d.port q) (d.port q) q refl refl (λ _ _ held. held) (gains_quiet d.tape _ m q quiet) (a.has_lasting t' q);
+        memory = memory_low m d.memory (next_place t) bytes (let below = h.list_is_in_place.port_below in let p = place in omega (arith, p, size, below)) a.memory_is_same;
       });
     }
 
   own_by : (bytes : List ℕ) (w : Operation) (first count : ℕ) (places : List ℕ) (moved : ℕ) (block : List ℕ) (cleared : ℕ) → op_of w ≡ None
       → MayMove d port slot (taken_of w first count places moved block cleared) bytes
-      → (x : OwnTaken d.memory d.tape (d.port port) port slot h.command) → x.command ≡ taken_of w first count places moved block cleared
+      → (x : OwnIsTaken d.memory d.tape (d.port port) port slot h.command) → x.command ≡ taken_of w first count places moved block cleared
       → SimulatesSteps uses m d (device_after (Move port slot (taken_of w first count places moved block cleared) bytes) d)
   own_by bytes operation.Identify first count places moved block cleared own can x is =
-      page_follows (taken_of operation.Identify first count places moved block cleared) x is bytes can.left can.sector.0
+      page_follows (taken_of operation.Identify first count places moved block cleared) x is bytes can.piece_is_left can.bytes_are_sector.0
   own_by bytes operation.ReadLog first count places moved block cleared own can x is =
-      page_follows (taken_of operation.ReadLog first count places moved block cleared) x is bytes can.left can.sector.0
+      page_follows (taken_of operation.ReadLog first count places moved block cleared) x is bytes can.piece_is_left can.bytes_are_sector.0
   own_by bytes operation.Read first count places moved block cleared own can x is = none_op (sym own)
   own_by bytes operation.ReadQueued first count places moved block cleared own can x is = none_op (sym own)
   own_by bytes operation.Write first count places moved block cleared own can x is = none_op (sym own)
@@ -194,7 +194,7 @@ module _ (uses : SlotStates) (m : Machine) (d : Device) (a : StateRelation uses 
   own_by bytes operation.Flush first count places moved block cleared own can x is = none_op (sym own)
 
   own_follows : (t : FetchedCommand) (bytes : List ℕ) → MayMove d port slot t bytes →
-      OwnWaits (d.port port) slot ⊎ (OwnTaken d.memory d.tape (d.port port) port slot h.command ⊎ OwnOver d.memory d.tape (d.port port) port slot h.command) → SimulatesSteps uses m d (device_after (Move port slot t bytes) d)
+      OwnAwaitsFetch (d.port port) slot ⊎ (OwnIsTaken d.memory d.tape (d.port port) port slot h.command ⊎ OwnIsOver d.memory d.tape (d.port port) port slot h.command) → SimulatesSteps uses m d (device_after (Move port slot t bytes) d)
   own_follows t bytes can (inl x) = some_none can.works.taken x.free
   own_follows t bytes can (inr (inl x)) =
       let e : x.command ≡ t = some_same (sym x.taken ∙ can.works.taken) in
@@ -205,7 +205,7 @@ module _ (uses : SlotStates) (m : Machine) (d : Device) (a : StateRelation uses 
 -- every move
 pub move_follows : (uses : SlotStates) (m : Machine) (d : Device) (a : StateRelation uses m d) → IsReachable m → (port slot : ℕ) (t : FetchedCommand) (bytes : List ℕ) → MayMove d port slot t bytes →
     SimulatesSteps uses m d (device_after (Move port slot t bytes) d)
-move_follows uses m d a reached port slot t bytes can = by (uses port slot) refl (a.slot port slot)
+move_follows uses m d a reached port slot t bytes can = by (uses port slot) refl (a.relates_slots port slot)
   where
     by : (v : SlotState) → uses port slot ≡ v → RelatesSlot m d.memory d.tape (d.port port) port slot v → SimulatesSteps uses m d (device_after (Move port slot t bytes) d)
     by Free u h = some_none can.works.taken h.free

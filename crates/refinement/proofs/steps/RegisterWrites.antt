@@ -7,22 +7,22 @@ use Rattle.hba_regs.specs.declared.reg.Reg.{Reg}
 use Rattle.hba_regs.specs.declared.reg.Reg.TheVariants.{Cap, Ghc, Is, Pi, Vs, Cap2, Bohc, Px}
 use Rattle.hba_regs.specs.declared.reg.PortReg.{PortReg}
 use Rattle.hba_regs.specs.declared.reg.PortReg.TheVariants as px
-use Rattle.adapter.specs.Access.{Writes, written, port_written, with_st, with_fre, with_is_bit_cleared}
+use Rattle.adapter.specs.Access.{Writes, written, port_after_write, port_after_st_write, port_after_fre_write, port_after_hba_is_write}
 use Rattle.adapter.specs.Commands.{is_queued}
 use Rattle.adapter.specs.Device as device
 use Rattle.adapter.specs.Device.{Lasting, DevicePort, Device}
-use Rattle.adapter.specs.Kept.{Keeps}
+use Rattle.adapter.specs.KeptBySteps.{Keeps}
 use Rattle.adapter.specs.Rules.{MayWrite, IsStable}
 use Rattle.adapter.specs.Steps.{Steps, with_port, halt_after_start}
 use Rattle.adapter.proofs.KeptLemmas.{law_step_lists_keep_what_steps_keep}
 use Rattle.block_machine.specs.State.{Machine}
 use Rattle.block_machine.specs.Expected as left
 use Rattle.block_machine.specs.Histories.{IsReachable}
-use Rattle.refinement.specs.Places.{list_of, received_of}
-use Rattle.refinement.specs.Slots.{SlotState, Free, Own, Serves, SlotStates, Stage, OwnWaits, OwnTaken, OwnOver, RelatesSlot, Armed, IsEmptySlot}
+use Rattle.refinement.specs.MemoryLayout.{list_of, received_of}
+use Rattle.refinement.specs.Slots.{SlotState, Free, Own, Serves, SlotStates, IsInSomeStage, OwnAwaitsFetch, OwnIsTaken, OwnIsOver, RelatesSlot, Armed, IsEmptySlot}
 use Rattle.refinement.specs.Relation.{StateRelation, IsDiskOf, SameSectors, HasLasting, HasReceivedArea}
 use Rattle.refinement.specs.Driver.{AllFree, IsSafeCmdWrite, LeavesUses}
-use Rattle.refinement.specs.Follows.{SimulatesSteps}
+use Rattle.refinement.specs.Simulation.{SimulatesSteps}
 use Rattle.refinement.proofs.relation.SlotRelation.{SameSlot, SameSlot-refl, served_on, own_free, serves_free, GainsNone-refl, placed_on}
 use Rattle.refinement.proofs.relation.LastingSectors.{disk_of, lasting_same}
 use Rattle.refinement.proofs.relation.OneSlot.{changed_at}
@@ -34,19 +34,19 @@ use Rattle.refinement.proofs.steps.FollowedSteps.{steps_follow}
 pub port_agrees : (uses : SlotStates) (m : Machine) (d : Device) → StateRelation uses m d → (port : ℕ) (new : DevicePort) → ((k : ℕ) → RelatesSlot m d.memory d.tape new port k (uses port k)) →
     (new.fre ≡ true → HasReceivedArea new port) → new.present ≡ (d.port port).present → disk_of new ≡ disk_of (d.port port) → StateRelation uses m (with_port d port new)
 port_agrees uses m d a port new slots receives present disk = record {
-  slot = λ q k. changed_at d.port port new (λ x p. RelatesSlot m d.memory d.tape p x k (uses x k)) (slots k) (λ x _. a.slot x k) q;
-  apart = a.apart;
-  received = changed_at d.port port new (λ k p. p.fre ≡ true → HasReceivedArea p k) receives (λ k _. a.received k);
-  disk = changed_at d.port port new (λ k p. IsDiskOf m p k)
+  relates_slots = λ q k. changed_at d.port port new (λ x p. RelatesSlot m d.memory d.tape p x k (uses x k)) (slots k) (λ x _. a.relates_slots x k) q;
+  serve_apart = a.serve_apart;
+  received_areas_are_placed = changed_at d.port port new (λ k p. p.fre ≡ true → HasReceivedArea p k) receives (λ k _. a.received_areas_are_placed k);
+  disks_are_same = changed_at d.port port new (λ k p. IsDiskOf m p k)
       (record {
-        present = (a.disk port).present ∙ sym present;
-        id = (a.disk port).id ∙ ap (λ (x : device.Disk × Lasting). x.0.name) (sym disk);
-        size = (a.disk port).size ∙ ap (λ (x : device.Disk × Lasting). x.0.size) (sym disk);
+        present = (a.disks_are_same port).present ∙ sym present;
+        id = (a.disks_are_same port).id ∙ ap (λ (x : device.Disk × Lasting). x.0.name) (sym disk);
+        size = (a.disks_are_same port).size ∙ ap (λ (x : device.Disk × Lasting). x.0.size) (sym disk);
       })
-      (λ k _. a.disk k);
-  memory = a.memory;
-  sectors = λ t. changed_at d.port port new (λ k p. SameSectors m p.disk k) (subst (λ (x : device.Disk × Lasting). SameSectors m x.0 port) (sym disk) (a.sectors t port)) (λ k _. a.sectors t k);
-  lasting = λ t. changed_at d.port port new (λ k p. HasLasting m d.tape p k) (lasting_same m d.tape (d.port port) new port disk (a.lasting t port)) (λ k _. a.lasting t k);
+      (λ k _. a.disks_are_same k);
+  memory_is_same = a.memory_is_same;
+  sectors_are_same = λ t. changed_at d.port port new (λ k p. SameSectors m p.disk k) (subst (λ (x : device.Disk × Lasting). SameSectors m x.0 port) (sym disk) (a.sectors_are_same t port)) (λ k _. a.sectors_are_same t k);
+  has_lasting = λ t. changed_at d.port port new (λ k p. HasLasting m d.tape p k) (lasting_same m d.tape (d.port port) new port disk (a.has_lasting t port)) (λ k _. a.has_lasting t k);
 }
 
 -- a slot that looks the same, in a memory that is the same
@@ -60,13 +60,13 @@ or_false false = refl
 
 module _ (uses : SlotStates) (m : Machine) (d : Device) (a : StateRelation uses m d) (port : ℕ) where
   received_on : (new : DevicePort) → new.fre ≡ (d.port port).fre → new.bases.fb ≡ (d.port port).bases.fb → new.fre ≡ true → HasReceivedArea new port
-  received_on new fre fb f = let r = a.received port (sym fre ∙ f) in record { below = r.below; area = fb ∙ r.area }
+  received_on new fre fb f = let r = a.received_areas_are_placed port (sym fre ∙ f) in record { below = r.below; area = fb ∙ r.area }
 
   -- a port that looks the same
   pub alike : (new : DevicePort) → ((k : ℕ) → SameSlot (d.port port) new k) → new.fre ≡ (d.port port).fre → new.bases.fb ≡ (d.port port).bases.fb →
       new.present ≡ (d.port port).present → disk_of new ≡ disk_of (d.port port) → StateRelation uses m (with_port d port new)
   alike new same fre fb present disk =
-      port_agrees uses m d a port new (λ k. slot_stays m d (d.port port) new port k (uses port k) (same k) (a.slot port k)) (received_on new fre fb) present disk
+      port_agrees uses m d a port new (λ k. slot_stays m d (d.port port) new port k (uses port k) (same k) (a.relates_slots port k)) (received_on new fre fb) present disk
 
   -- ---- PxCLB
 
@@ -75,14 +75,14 @@ module _ (uses : SlotStates) (m : Machine) (d : Device) (a : StateRelation uses 
   listed_slot v k Free at h = record { issued = h.issued; free = h.free; unarmed = h.unarmed }
   listed_slot v k Armed at h = record { issued = h.issued; free = h.free; armed = h.armed }
   listed_slot v k (Own o) at h = slot_stays m d (d.port port) _ port k (Own o)
-      (record { issued = refl; sact = refl; taken = refl; st = refl; cr = refl; since = refl; list = ⊎_elim (λ (e : v ≡ list_of port). e ∙ sym h.placed.list) (λ (f : Own o ≡ Free). absurd (own_free f)) at }) h
+      (record { issued = refl; sact = refl; taken = refl; st = refl; cr = refl; since = refl; list = ⊎_elim (λ (e : v ≡ list_of port). e ∙ sym h.list_is_in_place.list) (λ (f : Own o ≡ Free). absurd (own_free f)) at }) h
   listed_slot v k (Serves id) at h = slot_stays m d (d.port port) _ port k (Serves id)
-      (record { issued = refl; sact = refl; taken = refl; st = refl; cr = refl; since = refl; list = ⊎_elim (λ (e : v ≡ list_of port). e ∙ sym h.placed.list) (λ (f : Serves id ≡ Free). absurd (serves_free f)) at }) h
+      (record { issued = refl; sact = refl; taken = refl; st = refl; cr = refl; since = refl; list = ⊎_elim (λ (e : v ≡ list_of port). e ∙ sym h.list_is_in_place.list) (λ (f : Serves id ≡ Free). absurd (serves_free f)) at }) h
 
   listed : (v : ℕ) → (v ≡ list_of port) ⊎ AllFree uses port → StateRelation uses m (with_port d port (record (d.port port) { bases = record (d.port port).bases { clb = v; clb_set = true } }))
   listed v at = port_agrees uses m d a port _
-      (λ k. listed_slot v k (uses port k) (⊎_elim (λ (e : v ≡ list_of port). inl e) (λ (f : AllFree uses port). inr (f k)) at) (a.slot port k))
-      (λ f. let r = a.received port f in record { below = r.below; area = r.area }) refl refl
+      (λ k. listed_slot v k (uses port k) (⊎_elim (λ (e : v ≡ list_of port). inl e) (λ (f : AllFree uses port). inr (f k)) at) (a.relates_slots port k))
+      (λ f. let r = a.received_areas_are_placed port f in record { below = r.below; area = r.area }) refl refl
 
   -- ---- PxSACT, with no bit
 
@@ -97,7 +97,7 @@ module _ (uses : SlotStates) (m : Machine) (d : Device) (a : StateRelation uses 
   fallen_bit false f slot h = h refl
 
   -- ST is cleared: what waited is given up, and what is taken goes on
-  stopped_slot : (tape k : ℕ) (fre : Bool) (u : SlotState) → RelatesSlot m d.memory d.tape (d.port port) port k u → RelatesSlot m d.memory d.tape (with_fre fre (with_st false tape (d.port port))) port k u
+  stopped_slot : (tape k : ℕ) (fre : Bool) (u : SlotState) → RelatesSlot m d.memory d.tape (d.port port) port k u → RelatesSlot m d.memory d.tape (port_after_fre_write fre (port_after_st_write false tape (d.port port))) port k u
   stopped_slot tape k fre Free h = record {
     issued = fallen_bit (d.port port).st (d.port port).ci k (λ _. h.issued);
     free = h.free;
@@ -110,19 +110,19 @@ module _ (uses : SlotStates) (m : Machine) (d : Device) (a : StateRelation uses 
   }
   stopped_slot tape k fre (Own o) h = record {
     own = h.own;
-    head = h.head;
-    placed = placed_on (d.port port) _ port k refl h.placed;
+    slot_is_0 = h.slot_is_0;
+    list_is_in_place = placed_on (d.port port) _ port k refl h.list_is_in_place;
     command = h.command;
     operation_is = h.operation_is;
-    told = h.told;
+    slot_decodes_to = h.slot_decodes_to;
     unqueued = fallen_bit (d.port port).st (d.port port).sact k (λ _. h.unqueued);
-    known = h.known;
+    st_set_is_on_tape = h.st_set_is_on_tape;
     stage = stage h.stage;
   }
     where
-      stage : OwnWaits (d.port port) k ⊎ (OwnTaken d.memory d.tape (d.port port) port k h.command ⊎ OwnOver d.memory d.tape (d.port port) port k h.command)
-          → OwnWaits (with_fre fre (with_st false tape (d.port port))) k ⊎ (OwnTaken d.memory d.tape (with_fre fre (with_st false tape (d.port port))) port k h.command ⊎ OwnOver d.memory d.tape (with_fre fre (with_st false tape (d.port port))) port k h.command)
-      stage (inl w) = inr (inr (record { over = record { issued = fallen_bit (d.port port).st (d.port port).ci k (λ s. true_false w.started s); free = w.free }; brought = inl refl }))
+      stage : OwnAwaitsFetch (d.port port) k ⊎ (OwnIsTaken d.memory d.tape (d.port port) port k h.command ⊎ OwnIsOver d.memory d.tape (d.port port) port k h.command)
+          → OwnAwaitsFetch (port_after_fre_write fre (port_after_st_write false tape (d.port port))) k ⊎ (OwnIsTaken d.memory d.tape (port_after_fre_write fre (port_after_st_write false tape (d.port port))) port k h.command ⊎ OwnIsOver d.memory d.tape (port_after_fre_write fre (port_after_st_write false tape (d.port port))) port k h.command)
+      stage (inl w) = inr (inr (record { over = record { issued = fallen_bit (d.port port).st (d.port port).ci k (λ s. true_false w.started s); free = w.free }; page_is_brought = inl refl }))
       stage (inr (inl t)) = inr (inl (record {
         command = t.command;
         taken = t.taken;
@@ -130,23 +130,23 @@ module _ (uses : SlotStates) (m : Machine) (d : Device) (a : StateRelation uses 
         places_are = t.places_are;
         running = t.running;
         issued = fallen_bit (d.port port).st (d.port port).ci k (λ s. t.issued ∙ s);
-        brought = t.brought;
+        page_is_brought = t.page_is_brought;
       }))
-      stage (inr (inr x)) = inr (inr (record { over = record { issued = fallen_bit (d.port port).st (d.port port).ci k (λ _. x.over.issued); free = x.over.free }; brought = inl refl }))
+      stage (inr (inr x)) = inr (inr (record { over = record { issued = fallen_bit (d.port port).st (d.port port).ci k (λ _. x.over.issued); free = x.over.free }; page_is_brought = inl refl }))
   stopped_slot tape k fre (Serves id) h = record {
     pending = h.pending;
-    moves = h.moves;
+    may_still_move = h.may_still_move;
     id_is = h.id_is;
     port_is = h.port_is;
-    placed = placed_on (d.port port) _ port k refl h.placed;
+    list_is_in_place = placed_on (d.port port) _ port k refl h.list_is_in_place;
     command = h.command;
     places = h.places;
-    told = h.told;
+    slot_decodes_to = h.slot_decodes_to;
     means = h.means;
     stage = stage h.stage;
   }
     where
-      stage : Stage d.memory (d.port port) port k h.pending h.command h.places → Stage d.memory (with_fre fre (with_st false tape (d.port port))) port k h.pending h.command h.places
+      stage : IsInSomeStage d.memory (d.port port) port k h.pending h.command h.places → IsInSomeStage d.memory (port_after_fre_write fre (port_after_st_write false tape (d.port port))) port k h.pending h.command h.places
       stage (inl w) = inr (inr (inr (record {
         stopped = refl;
         issued = fallen_bit (d.port port).st (d.port port).ci k (λ s. true_false w.started s);
@@ -183,51 +183,51 @@ module _ (uses : SlotStates) (m : Machine) (d : Device) (a : StateRelation uses 
   receives : (v tape : ℕ) (b : Bool) → (bit v 4 ≡ true → (port < 4) × ((d.port port).bases.fb ≡ received_of port)) → (new : DevicePort) → new.fre ≡ bit v 4 → new.bases.fb ≡ (d.port port).bases.fb → new.fre ≡ true → HasReceivedArea new port
   receives v tape b area new fre fb f = let r = area (sym fre ∙ f) in record { below = r.0; area = fb ∙ r.1 }
 
-  commanded_by : (v tape : ℕ) → IsSafeCmdWrite uses port v (d.port port) → (b : Bool) → bit v 0 ≡ b → StateRelation uses m (with_port d port (with_fre (bit v 4) (with_st b tape (d.port port))))
+  commanded_by : (v tape : ℕ) → IsSafeCmdWrite uses port v (d.port port) → (b : Bool) → bit v 0 ≡ b → StateRelation uses m (with_port d port (port_after_fre_write (bit v 4) (port_after_st_write b tape (d.port port))))
   commanded_by v tape c false e =
-      port_agrees uses m d a port (with_fre (bit v 4) (with_st false tape (d.port port))) (λ k. stopped_slot tape k (bit v 4) (uses port k) (a.slot port k))
+      port_agrees uses m d a port (port_after_fre_write (bit v 4) (port_after_st_write false tape (d.port port))) (λ k. stopped_slot tape k (bit v 4) (uses port k) (a.relates_slots port k))
       (receives v tape false c.receive _ refl refl) refl refl
   commanded_by v tape c true e = running (d.port port).st refl
     where
-      going : (d.port port).st ≡ true → StateRelation uses m (with_port d port (with_fre (bit v 4) (with_st true tape (d.port port))))
+      going : (d.port port).st ≡ true → StateRelation uses m (with_port d port (port_after_fre_write (bit v 4) (port_after_st_write true tape (d.port port))))
       going s =
-          let same : with_st true tape (d.port port) ≡ d.port port = cond-true (d.port port).st _ _ s in
-          subst (λ (p : DevicePort). StateRelation uses m (with_port d port (with_fre (bit v 4) p))) (sym same)
-          (port_agrees uses m d a port (with_fre (bit v 4) (d.port port))
-          (λ k. slot_stays m d (d.port port) _ port k (uses port k) (record { issued = refl; sact = refl; taken = refl; st = refl; cr = refl; since = refl; list = refl }) (a.slot port k))
+          let same : port_after_st_write true tape (d.port port) ≡ d.port port = cond-true (d.port port).st _ _ s in
+          subst (λ (p : DevicePort). StateRelation uses m (with_port d port (port_after_fre_write (bit v 4) p))) (sym same)
+          (port_agrees uses m d a port (port_after_fre_write (bit v 4) (d.port port))
+          (λ k. slot_stays m d (d.port port) _ port k (uses port k) (record { issued = refl; sact = refl; taken = refl; st = refl; cr = refl; since = refl; list = refl }) (a.relates_slots port k))
           (receives v tape true c.receive _ refl refl) refl refl)
 
       over : (k : ℕ) → uses port k ≡ Free → IsEmptySlot (d.port port) k
-      over k f = subst (λ (u : SlotState). RelatesSlot m d.memory d.tape (d.port port) port k u) f (a.slot port k)
+      over k f = subst (λ (u : SlotState). RelatesSlot m d.memory d.tape (d.port port) port k u) f (a.relates_slots port k)
 
       started : DevicePort
       started = record (d.port port) { st = true; cr = true; broken = false; halt = halt_after_start (d.port port).halt; notes = record (d.port port).notes { st_set_at = tape } }
 
-      starting : (d.port port).st ≡ false → StateRelation uses m (with_port d port (with_fre (bit v 4) (with_st true tape (d.port port))))
+      starting : (d.port port).st ≡ false → StateRelation uses m (with_port d port (port_after_fre_write (bit v 4) (port_after_st_write true tape (d.port port))))
       starting s =
           let free : AllFree uses port = ⊎_elim (λ (t : (d.port port).st ≡ true). true_false t s) (λ (f : AllFree uses port). f) (c.start e) in
-          let same : with_st true tape (d.port port) ≡ record (d.port port) { st = true; cr = true; broken = false; halt = halt_after_start (d.port port).halt; notes = record (d.port port).notes { st_set_at = tape } } = cond-false (d.port port).st _ _ s in
-          subst (λ (p : DevicePort). StateRelation uses m (with_port d port (with_fre (bit v 4) p))) (sym same)
+          let same : port_after_st_write true tape (d.port port) ≡ record (d.port port) { st = true; cr = true; broken = false; halt = halt_after_start (d.port port).halt; notes = record (d.port port).notes { st_set_at = tape } } = cond-false (d.port port).st _ _ s in
+          subst (λ (p : DevicePort). StateRelation uses m (with_port d port (port_after_fre_write (bit v 4) p))) (sym same)
           (port_agrees uses m d a port
-          (with_fre (bit v 4) (record (d.port port) { st = true; cr = true; broken = false; halt = halt_after_start (d.port port).halt; notes = record (d.port port).notes { st_set_at = tape } }))
-          (λ k. subst (λ (u : SlotState). RelatesSlot m d.memory d.tape (with_fre (bit v 4) (record (d.port port) { st = true; cr = true; broken = false; halt = halt_after_start (d.port port).halt; notes = record (d.port port).notes { st_set_at = tape } })) port k u) (sym (free k))
+          (port_after_fre_write (bit v 4) (record (d.port port) { st = true; cr = true; broken = false; halt = halt_after_start (d.port port).halt; notes = record (d.port port).notes { st_set_at = tape } }))
+          (λ k. subst (λ (u : SlotState). RelatesSlot m d.memory d.tape (port_after_fre_write (bit v 4) (record (d.port port) { st = true; cr = true; broken = false; halt = halt_after_start (d.port port).halt; notes = record (d.port port).notes { st_set_at = tape } })) port k u) (sym (free k))
           (let o = over k (free k) in record { issued = o.issued; free = o.free; unarmed = o.unarmed }))
           (receives v tape true c.receive _ refl refl) refl refl)
 
-      running : (s : Bool) → (d.port port).st ≡ s → StateRelation uses m (with_port d port (with_fre (bit v 4) (with_st true tape (d.port port))))
+      running : (s : Bool) → (d.port port).st ≡ s → StateRelation uses m (with_port d port (port_after_fre_write (bit v 4) (port_after_st_write true tape (d.port port))))
       running true s = going s
       running false s = starting s
 
-  commanded : (v tape : ℕ) → IsSafeCmdWrite uses port v (d.port port) → StateRelation uses m (with_port d port (with_fre (bit v 4) (with_st (bit v 0) tape (d.port port))))
+  commanded : (v tape : ℕ) → IsSafeCmdWrite uses port v (d.port port) → StateRelation uses m (with_port d port (port_after_fre_write (bit v 4) (port_after_st_write (bit v 0) tape (d.port port))))
   commanded v tape c = commanded_by v tape c (bit v 0) refl
 
   -- ---- each register of the port
 
-  port_written_agrees : (r : PortReg) (v : ℕ) → ((d.port port).fre ≡ true → r ≡ px.Fb → ⊥) → LeavesUses uses (Px (record { 0 = port }) r) v d → StateRelation uses m (with_port d port (port_written r v (length d.tape) (d.port port)))
+  port_written_agrees : (r : PortReg) (v : ℕ) → ((d.port port).fre ≡ true → r ≡ px.Fb → ⊥) → LeavesUses uses (Px (record { 0 = port }) r) v d → StateRelation uses m (with_port d port (port_after_write r v (length d.tape) (d.port port)))
   port_written_agrees px.Clb v off x = listed v x
   port_written_agrees px.Clbu v off x = alike _ (λ k. record { issued = refl; sact = refl; taken = refl; st = refl; cr = refl; since = refl; list = refl }) refl refl refl refl
   port_written_agrees px.Fb v off x = port_agrees uses m d a port _
-      (λ k. slot_stays m d (d.port port) _ port k (uses port k) (record { issued = refl; sact = refl; taken = refl; st = refl; cr = refl; since = refl; list = refl }) (a.slot port k))
+      (λ k. slot_stays m d (d.port port) _ port k (uses port k) (record { issued = refl; sact = refl; taken = refl; st = refl; cr = refl; since = refl; list = refl }) (a.relates_slots port k))
       (λ f. absurd (off f refl)) refl refl
   port_written_agrees px.Fbu v off x = alike _ (λ k. record { issued = refl; sact = refl; taken = refl; st = refl; cr = refl; since = refl; list = refl }) refl refl refl refl
   port_written_agrees px.Is v off x = alike _ (λ k. record { issued = refl; sact = refl; taken = refl; st = refl; cr = refl; since = refl; list = refl }) refl refl refl refl
@@ -249,40 +249,40 @@ module _ (uses : SlotStates) (m : Machine) (d : Device) (a : StateRelation uses 
   all_alike : (new : ℕ → DevicePort) → ((q k : ℕ) → SameSlot (d.port q) (new q) k) → ((q : ℕ) → (new q).fre ≡ (d.port q).fre) → ((q : ℕ) → (new q).bases ≡ (d.port q).bases) →
       ((q : ℕ) → (new q).present ≡ (d.port q).present) → ((q : ℕ) → disk_of (new q) ≡ disk_of (d.port q)) → StateRelation uses m (record d { port = new })
   all_alike new same fre bases present disk = record {
-    slot = λ q k. slot_stays m d (d.port q) (new q) q k (uses q k) (same q k) (a.slot q k);
-    apart = a.apart;
-    received = λ q f. let r = a.received q (sym (fre q) ∙ f) in record { below = r.below; area = ap (λ (b : device.Bases). b.fb) (bases q) ∙ r.area };
-    disk = λ q. record {
-      present = (a.disk q).present ∙ sym (present q);
-      id = (a.disk q).id ∙ ap (λ (x : device.Disk × Lasting). x.0.name) (sym (disk q));
-      size = (a.disk q).size ∙ ap (λ (x : device.Disk × Lasting). x.0.size) (sym (disk q));
+    relates_slots = λ q k. slot_stays m d (d.port q) (new q) q k (uses q k) (same q k) (a.relates_slots q k);
+    serve_apart = a.serve_apart;
+    received_areas_are_placed = λ q f. let r = a.received_areas_are_placed q (sym (fre q) ∙ f) in record { below = r.below; area = ap (λ (b : device.Bases). b.fb) (bases q) ∙ r.area };
+    disks_are_same = λ q. record {
+      present = (a.disks_are_same q).present ∙ sym (present q);
+      id = (a.disks_are_same q).id ∙ ap (λ (x : device.Disk × Lasting). x.0.name) (sym (disk q));
+      size = (a.disks_are_same q).size ∙ ap (λ (x : device.Disk × Lasting). x.0.size) (sym (disk q));
     };
-    memory = a.memory;
-    sectors = λ t q. subst (λ (x : device.Disk × Lasting). SameSectors m x.0 q) (sym (disk q)) (a.sectors t q);
-    lasting = λ t q. lasting_same m d.tape (d.port q) (new q) q (disk q) (a.lasting t q);
+    memory_is_same = a.memory_is_same;
+    sectors_are_same = λ t q. subst (λ (x : device.Disk × Lasting). SameSectors m x.0 q) (sym (disk q)) (a.sectors_are_same t q);
+    has_lasting = λ t q. lasting_same m d.tape (d.port q) (new q) q (disk q) (a.has_lasting t q);
   }
 
   told_on : (v : ℕ) → StateRelation uses m (written Is v d)
-  told_on v = all_alike (λ q. if bit v q then with_is_bit_cleared (d.port q) else d.port q)
+  told_on v = all_alike (λ q. if bit v q then port_after_hba_is_write (d.port q) else d.port q)
       (λ q k. same q k (bit v q)) (λ q. fre q (bit v q)) (λ q. bases q (bit v q)) (λ q. present q (bit v q)) (λ q. disk q (bit v q))
     where
-      same : (q k : ℕ) (b : Bool) → SameSlot (d.port q) (if b then with_is_bit_cleared (d.port q) else d.port q) k
+      same : (q k : ℕ) (b : Bool) → SameSlot (d.port q) (if b then port_after_hba_is_write (d.port q) else d.port q) k
       same q k true = record { issued = refl; sact = refl; taken = refl; st = refl; cr = refl; since = refl; list = refl }
       same q k false = SameSlot-refl (d.port q) k
 
-      fre : (q : ℕ) (b : Bool) → (if b then with_is_bit_cleared (d.port q) else d.port q).fre ≡ (d.port q).fre
+      fre : (q : ℕ) (b : Bool) → (if b then port_after_hba_is_write (d.port q) else d.port q).fre ≡ (d.port q).fre
       fre q true = refl
       fre q false = refl
 
-      bases : (q : ℕ) (b : Bool) → (if b then with_is_bit_cleared (d.port q) else d.port q).bases ≡ (d.port q).bases
+      bases : (q : ℕ) (b : Bool) → (if b then port_after_hba_is_write (d.port q) else d.port q).bases ≡ (d.port q).bases
       bases q true = refl
       bases q false = refl
 
-      present : (q : ℕ) (b : Bool) → (if b then with_is_bit_cleared (d.port q) else d.port q).present ≡ (d.port q).present
+      present : (q : ℕ) (b : Bool) → (if b then port_after_hba_is_write (d.port q) else d.port q).present ≡ (d.port q).present
       present q true = refl
       present q false = refl
 
-      disk : (q : ℕ) (b : Bool) → disk_of (if b then with_is_bit_cleared (d.port q) else d.port q) ≡ disk_of (d.port q)
+      disk : (q : ℕ) (b : Bool) → disk_of (if b then port_after_hba_is_write (d.port q) else d.port q) ≡ disk_of (d.port q)
       disk q true = refl
       disk q false = refl
 
@@ -292,7 +292,7 @@ module _ (uses : SlotStates) (m : Machine) (d : Device) (a : StateRelation uses 
       -- PxFB is written with FRE clear
       off : (s : PortReg) → s ≡ px.Fb → MayWrite (Px port s) v d → (d.port port.0).fre ≡ true → ⊥
       off s is may on = let y = subst (λ (t : PortReg). MayWrite (Px port t) v d) is may in true_false on y.2.1
-  written_agrees Ghc v may x = record { slot = a.slot; apart = a.apart; received = a.received; disk = a.disk; memory = a.memory; sectors = a.sectors; lasting = a.lasting }
+  written_agrees Ghc v may x = record { relates_slots = a.relates_slots; serve_apart = a.serve_apart; received_areas_are_placed = a.received_areas_are_placed; disks_are_same = a.disks_are_same; memory_is_same = a.memory_is_same; sectors_are_same = a.sectors_are_same; has_lasting = a.has_lasting }
   written_agrees Is v may x = told_on v
   written_agrees Cap v may x = a
   written_agrees Pi v may x = a
@@ -308,8 +308,8 @@ leaves_on uses (Px port px.Cmd) v old mid may s x =
     let k : Keeps old mid = law_step_lists_keep_what_steps_keep s in
     let hr : old.hr ≡ false = (may old (record { steps = []; lead = refl })).0.no_reset in
     record {
-      start = λ b. ⊎_elim (λ (t : (old.port port.0).st ≡ true). inl (((k.on hr).controls port.0).st ∙ t)) (λ (f : AllFree uses port.0). inr f) (x.start b);
-      receive = λ b. let y = x.receive b in (y.0, ap (λ (z : device.Bases). z.fb) (k.port port.0).bases ∙ y.1);
+      start = λ b. ⊎_elim (λ (t : (old.port port.0).st ≡ true). inl (((k.keeps_outside_reset hr).controls port.0).st ∙ t)) (λ (f : AllFree uses port.0). inr f) (x.start b);
+      receive = λ b. let y = x.receive b in (y.0, ap (λ (z : device.Bases). z.fb) (k.ports_are_kept port.0).bases ∙ y.1);
     }
 leaves_on uses (Px port px.Clb) v old mid may s x = x
 leaves_on uses (Px port px.Sact) v old mid may s x = x
@@ -353,10 +353,10 @@ written_telling Cap2 v d = refl
 written_telling Bohc v d = refl
 
 -- no write puts a disk in
-port_plugged : (r : PortReg) (v tape : ℕ) (p : DevicePort) → (port_written r v tape p).plugged ≡ p.plugged
+port_plugged : (r : PortReg) (v tape : ℕ) (p : DevicePort) → (port_after_write r v tape p).plugged ≡ p.plugged
 port_plugged px.Cmd v tape p = by (bit v 0) p.st refl
   where
-    by : (b s : Bool) → p.st ≡ s → (with_fre (bit v 4) (with_st b tape p)).plugged ≡ p.plugged
+    by : (b s : Bool) → p.st ≡ s → (port_after_fre_write (bit v 4) (port_after_st_write b tape p)).plugged ≡ p.plugged
     by false s e = refl
     by true true e = ap (λ (q : DevicePort). q.plugged) (cond-true p.st _ _ e)
     by true false e = ap (λ (q : DevicePort). q.plugged) (cond-false p.st _ _ e)
@@ -378,7 +378,7 @@ pub written_plugged : (r : Reg) (v : ℕ) (d : Device) (q : ℕ) → ((written r
 written_plugged (Px port r) v d q = same_plugged d port.0 _ (port_plugged r v (length d.tape) (d.port port.0)) q
 written_plugged Is v d q = by (bit v q)
   where
-    by : (b : Bool) → (if b then with_is_bit_cleared (d.port q) else d.port q).plugged ≡ (d.port q).plugged
+    by : (b : Bool) → (if b then port_after_hba_is_write (d.port q) else d.port q).plugged ≡ (d.port q).plugged
     by true = refl
     by false = refl
 written_plugged Ghc v d q = refl

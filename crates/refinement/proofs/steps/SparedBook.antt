@@ -7,9 +7,9 @@ use Rattle.ata_types.specs.declared.request.Frame.{Frame}
 use Rattle.ata_types.specs.declared.request.RequestId.{RequestId}
 use Rattle.adapter.specs.Device.{Device}
 use Rattle.block_machine.specs.State.{Accepted, Block, Memory, Pending, Machine, frame_at, unanswered, is_reader}
-use Rattle.block_machine.specs.Steps.{Step, Accept, Issue, Touch, End, Age, Again, Answer, Revoke, Release, Unplug, Replace, Store, Load, May, MayStillMove, NoneQuarantined, after_step, at, touch, mark_ended, put_bytes, memory_after}
+use Rattle.block_machine.specs.Steps.{Step, Accept, Issue, Touch, End, Age, WaitAgain, Answer, Revoke, Release, Unplug, Replace, Store, Load, IsEnabled, MayStillMove, NoneQuarantined, after_step, update_pending, touch, mark_ended, put_bytes, memory_after}
 use Rattle.block_machine.specs.Expected.{after}
-use Rattle.block_machine.specs.Events.{IsByDevice, AllByDevice, AllMay}
+use Rattle.block_machine.specs.Events.{IsByDevice, AllByDevice, AllEnabled}
 use Rattle.block_machine.specs.Histories.{IsReachable}
 use Rattle.block_machine.proofs.HistoryLemmas.{reached_more}
 use Rattle.block_machine.proofs.Members.{contains_none, contains_here, contains_there, contains_cases, at_cases}
@@ -17,9 +17,9 @@ use Rattle.block_machine.proofs.Reading.{put_other}
 use Rattle.block_machine.proofs.Sound.{Sound}
 use Rattle.block_machine.proofs.Standing.{standing}
 use Rattle.block_machine.proofs.Trace.{runs_lives}
-use Rattle.refinement.specs.Follows.{SimulatesSteps}
+use Rattle.refinement.specs.Simulation.{SimulatesSteps}
 use Rattle.refinement.specs.Slots.{SlotStates}
-use Rattle.refinement.specs.Spares.{IsFurther, AllFurther, SparesBook}
+use Rattle.refinement.specs.SparedBook.{IsFurther, AllFurther, SparesBook}
 use Rattle.refinement.proofs.steps.WaitingRequests.{tells_device}
 
 -- ---- requests
@@ -53,11 +53,11 @@ touch_further i e = record { request = refl; issues = refl; age = refl; issued =
 ended_further : (e : Pending) → IsFurther e (mark_ended e)
 ended_further e = record { request = refl; issues = refl; age = refl; issued = refl; touched = λ k h. h; ended = λ h. refl }
 
-all_at : (f : Pending → Pending) → ((e : Pending) → IsFurther e (f e)) → (id : RequestId) (es : List Pending) → AllFurther es (map (at id f) es)
+all_at : (f : Pending → Pending) → ((e : Pending) → IsFurther e (f e)) → (id : RequestId) (es : List Pending) → AllFurther es (map (update_pending id f) es)
 all_at f on id [] = refl
 all_at f on id (e ∷ es) = (one, all_at f on id es)
   where
-    one : IsFurther e (at id f e)
+    one : IsFurther e (update_pending id f e)
     one = ⊎_elim
         (λ p. subst (λ (x : Pending). IsFurther e x) (sym p.1) (on e))
         (λ p. subst (λ (x : Pending). IsFurther e x) (sym p.1) (further_refl e))
@@ -100,7 +100,7 @@ step_spares m (Replace port id size disk) is = record { rows = refl; owner = ref
 step_spares m (Accept r) is = absurd is
 step_spares m (Issue mode e) is = absurd is
 step_spares m (Age ready) is = absurd is
-step_spares m (Again e) is = absurd is
+step_spares m (WaitAgain e) is = absurd is
 step_spares m (Answer e outcome) is = absurd is
 step_spares m (Revoke client number) is = absurd is
 step_spares m Release is = absurd is
@@ -157,7 +157,7 @@ unmoved_on m n frame s none e may lent = ⊎_elim
     was : (o : Pending) → IsFurther o e → m.lent frame ≡ Some o.request.id
     was o x = ap (λ f. f frame) (sym s.lent) ∙ lent ∙ ap (λ r. Some r.id) x.request
 
-touch_leaves : (m : Machine) → Sound m → (e : Pending) (i : ℕ) (block : Block) → May m (Touch e i block) → (frame : Frame) → IsUnmoved m frame → (b : ℕ) →
+touch_leaves : (m : Machine) → Sound m → (e : Pending) (i : ℕ) (block : Block) → IsEnabled m (Touch e i block) → (frame : Frame) → IsUnmoved m frame → (b : ℕ) →
     (after_step m (Touch e i block)).memory frame b ≡ m.memory frame b
 touch_leaves m s e i block may frame none b = by (is_reader e.request.asked.op) refl
   where
@@ -170,7 +170,7 @@ touch_leaves m s e i block may frame none b = by (is_reader e.request.asked.op) 
         ∙ put_other (frame_at e.request.asked.frames.items (i / 8)) frame (512 * (i % 8)) b 512 block m.memory
         (λ same low high. none e may.0 (ap m.lent (sym same) ∙ s.lent e l (i / 8) (omega (arith, room, may.1))))
 
-step_frames : (m : Machine) → Sound m → (step : Step) → IsByDevice step → May m step → (frame : Frame) → IsUnmoved m frame → (b : ℕ) → (after_step m step).memory frame b ≡ m.memory frame b
+step_frames : (m : Machine) → Sound m → (step : Step) → IsByDevice step → IsEnabled m step → (frame : Frame) → IsUnmoved m frame → (b : ℕ) → (after_step m step).memory frame b ≡ m.memory frame b
 step_frames m s (Touch e i block) is may frame none b = touch_leaves m s e i block may frame none b
 step_frames m s (End e) is may frame none b = refl
 step_frames m s (Unplug port) is may frame none b = refl
@@ -178,14 +178,14 @@ step_frames m s (Replace port id size disk) is may frame none b = refl
 step_frames m s (Accept r) is may frame none b = absurd is
 step_frames m s (Issue mode e) is may frame none b = absurd is
 step_frames m s (Age ready) is may frame none b = absurd is
-step_frames m s (Again e) is may frame none b = absurd is
+step_frames m s (WaitAgain e) is may frame none b = absurd is
 step_frames m s (Answer e outcome) is may frame none b = absurd is
 step_frames m s (Revoke client number) is may frame none b = absurd is
 step_frames m s Release is may frame none b = absurd is
 step_frames m s (Store client f offset bytes) is may frame none b = absurd is
 step_frames m s (Load client f offset bytes) is may frame none b = absurd is
 
-pub frames_stay : (m : Machine) (steps : List Step) (frame : Frame) → IsReachable m → AllByDevice steps → AllMay m steps → IsUnmoved m frame → (b : ℕ) → (after m steps).memory frame b ≡ m.memory frame b
+pub frames_stay : (m : Machine) (steps : List Step) (frame : Frame) → IsReachable m → AllByDevice steps → AllEnabled m steps → IsUnmoved m frame → (b : ℕ) → (after m steps).memory frame b ≡ m.memory frame b
 frames_stay m [] frame r is may none b = refl
 frames_stay m (step ∷ before) frame r is may none b =
     step_frames (after m before) (standing (after m before) (reached_more m before r may.0)).sound step is.1 may.1 frame
@@ -195,7 +195,7 @@ frames_stay m (step ∷ before) frame r is may none b =
 -- ---- a machine that follows
 
 pub follows_spare : (uses : SlotStates) (m : Machine) (old new : Device) → (f : SimulatesSteps uses m old new) → SparesBook m (after m f.steps)
-follows_spare uses m old new f = steps_spare m f.steps (tells_device m f.gained f.steps f.tells)
+follows_spare uses m old new f = steps_spare m f.steps (tells_device m f.new_entries f.steps f.tape_tells_steps)
 
 -- where no request of the port is kept, none is later
 pub none_kept_on : (m n : Machine) (port : Port) → SparesBook m n → NoneQuarantined m port → NoneQuarantined n port

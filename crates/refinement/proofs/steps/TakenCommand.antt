@@ -6,17 +6,17 @@ use Rattle.adapter.specs.Commands.{Meaning, is_queued}
 use Rattle.adapter.specs.Memory.{changed}
 use Rattle.adapter.specs.Device.{Device}
 use Rattle.adapter.specs.Decoding.{DecodesTo}
-use Rattle.adapter.specs.Steps.{device_after, IsFetchable, MayFetch, MayFetchFault, with_fetch, begun}
+use Rattle.adapter.specs.Steps.{device_after, IsFetchable, MayFetch, MayFetchFault, port_after_fetch, begun}
 use Rattle.adapter.specs.Steps.DeviceTransition.{Fetch}
 use Rattle.adapter.specs.declared.command.Operation.{Operation}
 use Rattle.adapter.specs.declared.command.Operation.TheVariants as operation
 use Rattle.adapter.proofs.Changed.{changed_same, changed_other}
 use Rattle.adapter.proofs.SaysLemmas.{says_meaning, says_places}
 use Rattle.block_machine.specs.State.{Pending, Machine}
-use Rattle.refinement.specs.Places.{scratch_of}
-use Rattle.refinement.specs.Slots.{SlotState, Free, Own, Serves, SlotStates, Progress, HasTrimBlock, TouchedUpTo, Stage, OwnWaits, OwnTaken, OwnOver, RelatesSlot, op_of, Armed}
+use Rattle.refinement.specs.MemoryLayout.{scratch_of}
+use Rattle.refinement.specs.Slots.{SlotState, Free, Own, Serves, SlotStates, TouchedAsMoved, HasTrimBlock, TouchedUpTo, IsInSomeStage, OwnAwaitsFetch, OwnIsTaken, OwnIsOver, RelatesSlot, op_of, Armed}
 use Rattle.refinement.specs.Relation.{StateRelation}
-use Rattle.refinement.specs.Follows.{SimulatesSteps}
+use Rattle.refinement.specs.Simulation.{SimulatesSteps}
 use Rattle.refinement.proofs.relation.SlotRelation.{SameFixed-refl, NoPort, placed_on}
 use Rattle.refinement.proofs.relation.TouchesAndEnds.{Goes-refl}
 use Rattle.refinement.proofs.relation.OneSlot.{acted}
@@ -47,7 +47,7 @@ other_if false f slot k ne = refl
 
 -- nothing moved yet
 started : (op : Op) (memory : ℕ → ℕ) (port : ℕ) (e : Pending) (c : Meaning) (places : List ℕ) → HasTrimBlock op memory port e.request → TouchedUpTo e.touched 0 →
-    Progress op memory port e (begun c places)
+    TouchedAsMoved op memory port e (begun c places)
 started Read memory port e c places block none = none
 started Write memory port e c places block none = none
 started Trim memory port e c places block none = (none, inl (refl, refl, block))
@@ -58,76 +58,76 @@ module _ (uses : SlotStates) (m : Machine) (d : Device) (a : StateRelation uses 
   waiting : (u : SlotState) → RelatesSlot m d.memory d.tape (d.port port) port slot u → IsFetchable (d.port port) slot → (c : Meaning) × (places : List ℕ) × DecodesTo d.memory (d.port port).bases.clb slot c places
   waiting Free h w = true_false w.issued h.issued
   waiting Armed h w = true_false w.issued h.issued
-  waiting (Own o) h w = (h.command, scratch_of port ∷ [], h.told.says)
-  waiting (Serves id) h w = (h.command, h.places, h.told.says)
+  waiting (Own o) h w = (h.command, scratch_of port ∷ [], h.slot_decodes_to.decodes_to)
+  waiting (Serves id) h w = (h.command, h.places, h.slot_decodes_to.decodes_to)
 
   -- no issued command is refused for its bytes
   pub never_refused : (kept_bits : ℕ) {A : Type 0} → MayFetchFault d port slot kept_bits → A
   never_refused kept_bits can =
-      let w = waiting (uses port slot) (a.slot port slot) can.fetchable in absurd (can.says_nothing w.0 w.1 w.2)
+      let w = waiting (uses port slot) (a.relates_slots port slot) can.fetchable in absurd (can.says_nothing w.0 w.1 w.2)
 
   module _ (c : Meaning) (places : List ℕ) (can : MayFetch d port slot c places) where
-    fetch_slot : (u : SlotState) → RelatesSlot m d.memory d.tape (d.port port) port slot u → RelatesSlot m d.memory d.tape (with_fetch (d.port port) slot c places) port slot u
+    fetch_slot : (u : SlotState) → RelatesSlot m d.memory d.tape (d.port port) port slot u → RelatesSlot m d.memory d.tape (port_after_fetch (d.port port) slot c places) port slot u
     fetch_slot Free h = true_false can.fetchable.issued h.issued
     fetch_slot Armed h = true_false can.fetchable.issued h.issued
     fetch_slot (Own o) h = record {
       own = h.own;
-      head = h.head;
-      placed = placed_on (d.port port) _ port slot refl h.placed;
+      slot_is_0 = h.slot_is_0;
+      list_is_in_place = placed_on (d.port port) _ port slot refl h.list_is_in_place;
       command = h.command;
       operation_is = h.operation_is;
-      told = h.told;
+      slot_decodes_to = h.slot_decodes_to;
       unqueued = h.unqueued;
-      known = h.known;
+      st_set_is_on_tape = h.st_set_is_on_tape;
       stage = own h.stage;
     }
       where
         same : c ≡ h.command
-        same = says_meaning d.memory (d.port port).bases.clb slot c h.command places (scratch_of port ∷ []) can.says h.told.says
+        same = says_meaning d.memory (d.port port).bases.clb slot c h.command places (scratch_of port ∷ []) can.says h.slot_decodes_to.decodes_to
 
         plain : is_queued c.operation ≡ false
         plain = own_plain c.operation (ap (λ (x : Meaning). op_of x.operation) same ∙ ap op_of h.operation_is ∙ h.own)
 
-        own : OwnWaits (d.port port) slot ⊎ (OwnTaken d.memory d.tape (d.port port) port slot h.command ⊎ OwnOver d.memory d.tape (d.port port) port slot h.command)
-            → OwnWaits (with_fetch (d.port port) slot c places) slot ⊎ (OwnTaken d.memory d.tape (with_fetch (d.port port) slot c places) port slot h.command ⊎ OwnOver d.memory d.tape (with_fetch (d.port port) slot c places) port slot h.command)
+        own : OwnAwaitsFetch (d.port port) slot ⊎ (OwnIsTaken d.memory d.tape (d.port port) port slot h.command ⊎ OwnIsOver d.memory d.tape (d.port port) port slot h.command)
+            → OwnAwaitsFetch (port_after_fetch (d.port port) slot c places) slot ⊎ (OwnIsTaken d.memory d.tape (port_after_fetch (d.port port) slot c places) port slot h.command ⊎ OwnIsOver d.memory d.tape (port_after_fetch (d.port port) slot c places) port slot h.command)
         own (inl x) =
             inr (inl (record {
               command = _;
               taken = changed_same (d.port port).taken slot _;
               meaning = same;
-              places_are = says_places d.memory (d.port port).bases.clb slot c h.command places (scratch_of port ∷ []) can.says h.told.says;
+              places_are = says_places d.memory (d.port port).bases.clb slot c h.command places (scratch_of port ∷ []) can.says h.slot_decodes_to.decodes_to;
               running = can.working.running;
               issued = fallen_if (is_queued c.operation) (d.port port).ci slot can.fetchable.issued ∙ ap not plain ∙ sym can.fetchable.st;
-              brought = inl refl;
+              page_is_brought = inl refl;
             }))
         own (inr (inl x)) = some_none x.taken can.fetchable.free
         own (inr (inr x)) = true_false can.fetchable.issued x.over.issued
     fetch_slot (Serves id) h = record {
       pending = h.pending;
-      moves = h.moves;
+      may_still_move = h.may_still_move;
       id_is = h.id_is;
       port_is = h.port_is;
-      placed = placed_on (d.port port) _ port slot refl h.placed;
+      list_is_in_place = placed_on (d.port port) _ port slot refl h.list_is_in_place;
       command = h.command;
       places = h.places;
-      told = h.told;
+      slot_decodes_to = h.slot_decodes_to;
       means = h.means;
       stage = of h.stage;
     }
       where
         same : c ≡ h.command
-        same = says_meaning d.memory (d.port port).bases.clb slot c h.command places h.places can.says h.told.says
+        same = says_meaning d.memory (d.port port).bases.clb slot c h.command places h.places can.says h.slot_decodes_to.decodes_to
 
         queued : is_queued c.operation ≡ is_queued h.command.operation
         queued = ap (λ (x : Meaning). is_queued x.operation) same
 
-        of : Stage d.memory (d.port port) port slot h.pending h.command h.places → Stage d.memory (with_fetch (d.port port) slot c places) port slot h.pending h.command h.places
+        of : IsInSomeStage d.memory (d.port port) port slot h.pending h.command h.places → IsInSomeStage d.memory (port_after_fetch (d.port port) slot c places) port slot h.pending h.command h.places
         of (inl x) =
             inr (inl (record {
               command = _;
               taken = changed_same (d.port port).taken slot _;
               meaning = same;
-              places_are = says_places d.memory (d.port port).bases.clb slot c h.command places h.places can.says h.told.says;
+              places_are = says_places d.memory (d.port port).bases.clb slot c h.command places h.places can.says h.slot_decodes_to.decodes_to;
               running = can.working.running;
               issued = fallen_if (is_queued c.operation) (d.port port).ci slot can.fetchable.issued ∙ ap not queued ∙ ap (λ (st : Bool). st && not (is_queued h.command.operation)) (sym can.fetchable.st);
               sact = x.sact ∙ ap (λ (st : Bool). st && is_queued h.command.operation) (sym can.fetchable.st);
@@ -143,12 +143,12 @@ module _ (uses : SlotStates) (m : Machine) (d : Device) (a : StateRelation uses 
       steps = [];
       may = tt;
       telling = refl;
-      told = λ _. tt;
-      gained = [];
-      tape = sym (append-nil d.tape);
-      tells = refl;
+      steps_are_faithful = λ _. tt;
+      new_entries = [];
+      tape_is = sym (append-nil d.tape);
+      tape_tells_steps = refl;
       plugged = plugged_kept d port _ [] refl (λ _. refl);
-      agrees = acted NoPort uses m m d a d.memory d.tape port slot (with_fetch (d.port port) slot c places) (record {
+      agrees = acted NoPort uses m m d a d.memory d.tape port slot (port_after_fetch (d.port port) slot c places) (record {
         id = record { 0 = 0 };
         goes = Goes-refl m (record { 0 = 0 });
         moves = λ port' slot' id' u ne e is r. r;
@@ -163,16 +163,16 @@ module _ (uses : SlotStates) (m : Machine) (d : Device) (a : StateRelation uses 
           since = refl;
           list = refl;
         };
-        here = fetch_slot (uses port slot) (a.slot port slot);
+        here = fetch_slot (uses port slot) (a.relates_slots port slot);
         fre = refl;
         received_at = refl;
         present = refl;
         name = refl;
         size = refl;
-        sectors = λ t. a.sectors t port;
-        other_sectors = λ t q ne. a.sectors t q;
-        lasting = λ t. a.lasting t port;
-        other_lasting = λ t q ne. a.lasting t q;
-        memory = a.memory;
+        sectors = λ t. a.sectors_are_same t port;
+        other_sectors = λ t q ne. a.sectors_are_same t q;
+        lasting = λ t. a.has_lasting t port;
+        other_lasting = λ t q ne. a.has_lasting t q;
+        memory = a.memory_is_same;
       });
     }

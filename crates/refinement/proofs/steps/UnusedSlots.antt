@@ -7,24 +7,24 @@ use Rattle.adapter.specs.Commands.{Meaning, reads_memory}
 use Rattle.adapter.specs.Device.{FetchedCommand, Device}
 use Rattle.adapter.specs.Memory.{patched}
 use Rattle.adapter.specs.Steps as steps
-use Rattle.adapter.specs.Steps.{Can, device_after, TransitionsLead, Steps, MayMove, next_place, with_done}
+use Rattle.adapter.specs.Steps.{Can, device_after, TransitionsLead, Steps, MayMove, next_place, port_after_done}
 use Rattle.adapter.specs.Steps.DeviceTransition.{Fetch, FetchFault, Move, Clear, Done, Fault, Fatal, Fall, FrFall, LinkUp, Unplug, Plug, ResetEnds, Scribble}
 use Rattle.adapter.specs.declared.command.Operation.{Operation}
-use Rattle.adapter.specs.Kept.{Keeps}
+use Rattle.adapter.specs.KeptBySteps.{Keeps}
 use Rattle.adapter.proofs.KeptLemmas.{step_keeps}
 use Rattle.adapter.proofs.MemoryLemmas.{patched_apart}
-use Rattle.block_machine.specs.Confined.{MovesBytes}
+use Rattle.block_machine.specs.Confinement.{MovesBytes}
 use Rattle.block_machine.specs.Histories.{IsReachable}
 use Rattle.block_machine.specs.Expected as left
 use Rattle.block_machine.specs.State.{Accepted, Machine, frame_at}
 use Rattle.block_machine.proofs.HistoryLemmas.{reached_more}
 use Rattle.block_machine.proofs.Standing.{standing}
 use Rattle.refinement.proofs.relation.SlotRelation.{told_on, block_on}
-use Rattle.refinement.specs.Places.{list_of, scratch_of, place_in}
-use Rattle.refinement.specs.Slots.{SlotDecodesTo, HasTrimBlock, SlotState, Free, Own, Serves, SlotStates, MeansRequest, ArePlaces, OwnWaits, OwnTaken, OwnOver, RelatesSlot, Armed}
+use Rattle.refinement.specs.MemoryLayout.{list_of, scratch_of, place_in}
+use Rattle.refinement.specs.Slots.{SlotDecodesTo, HasTrimBlock, SlotState, Free, Own, Serves, SlotStates, MeansRequest, AreRequestPlaces, OwnAwaitsFetch, OwnIsTaken, OwnIsOver, RelatesSlot, Armed}
 use Rattle.refinement.specs.Relation.{StateRelation}
 use Rattle.refinement.specs.Driver.{KeepsTables}
-use Rattle.refinement.specs.Follows.{SimulatesSteps}
+use Rattle.refinement.specs.Simulation.{SimulatesSteps}
 use Rattle.refinement.proofs.relation.WrittenBytes.{MayChange, table_spared, scratch_spared}
 use Rattle.refinement.proofs.steps.EndedCommand.{is_trim}
 use Rattle.refinement.proofs.steps.FollowedSteps.{step_follows}
@@ -66,33 +66,33 @@ weaken uses at n (inr (inr (inr x))) = inr (inr (inr x))
 
 module _ (uses : SlotStates) (m : Machine) (d : Device) (reached : IsReachable m) (a : StateRelation uses m d) where
   move_may : (port slot : ℕ) (t : FetchedCommand) (bytes : List ℕ) → MayMove d port slot t bytes → reads_memory t.meaning.operation ≡ false → MayChange (HasOwn uses) (next_place t) (length bytes)
-  move_may port slot t bytes can plain = by (uses port slot) refl (a.slot port slot)
+  move_may port slot t bytes can plain = by (uses port slot) refl (a.relates_slots port slot)
     where
       by : (u : SlotState) → uses port slot ≡ u → RelatesSlot m d.memory d.tape (d.port port) port slot u → MayChange (HasOwn uses) (next_place t) (length bytes)
       by Free u h = some_none can.works.taken h.free
       by Armed u h = some_none can.works.taken h.free
       by (Own o) u h = own h.stage
         where
-          own : OwnWaits (d.port port) slot ⊎ (OwnTaken d.memory d.tape (d.port port) port slot h.command ⊎ OwnOver d.memory d.tape (d.port port) port slot h.command) → MayChange (HasOwn uses) (next_place t) (length bytes)
+          own : OwnAwaitsFetch (d.port port) slot ⊎ (OwnIsTaken d.memory d.tape (d.port port) port slot h.command ⊎ OwnIsOver d.memory d.tape (d.port port) port slot h.command) → MayChange (HasOwn uses) (next_place t) (length bytes)
           own (inl x) = some_none can.works.taken x.free
           own (inr (inr x)) = some_none can.works.taken x.over.free
           own (inr (inl x)) =
               let e : x.command ≡ t = some_same (sym x.taken ∙ can.works.taken) in
               let places : t.places ≡ scratch_of port ∷ [] = ap (λ (y : FetchedCommand). y.places) (sym e) ∙ x.places_are in
-              let none : t.moved ≡ 0 = let n : length t.places ≡ 1 = ap length places in let l : t.moved < length t.places = can.left in omega (arith, l, n) in
+              let none : t.moved ≡ 0 = let n : length t.places ≡ 1 = ap length places in let l : t.moved < length t.places = can.piece_is_left in omega (arith, l, n) in
               inr (inr (inl (record {
                 port = port;
-                below = h.placed.port_below;
-                excepted = (o, subst (λ (k : ℕ). uses port k ≡ Own o) h.head u);
+                below = h.list_is_in_place.port_below;
+                excepted = (o, subst (λ (k : ℕ). uses port k ≡ Own o) h.slot_is_0 u);
                 here = ap (λ (k : ℕ). slice_index t.places k) none ∙ ap (λ (l : List ℕ). slice_index l 0) places;
-                size = can.sector.0;
+                size = can.bytes_are_sector.0;
               })))
       by (Serves id) u h = client h.pending.request.asked.op refl (taken_as d.memory (d.port port) port slot h.pending h.command h.places t can.works.taken h.stage)
         where
           framed : (op : Op) → h.pending.request.asked.op ≡ op → MovesBytes op → ((length t.places ≡ h.pending.request.asked.count) × ((i : ℕ) → i < h.pending.request.asked.count → slice_index t.places i ≡ place_in h.pending.request.asked.frames.items i)) → MayChange (HasOwn uses) (next_place t) (length bytes)
           framed op is b places =
-              let within : t.moved < h.pending.request.asked.count = let l : t.moved < length t.places = can.left in omega (arith, l, places.0) in
-              let f : DRIVER_FRAMES ≤ (frame_at h.pending.request.asked.frames.items (t.moved / 8)).0 = client_frame m reached h.pending h.moves (t.moved / 8) ((standing m reached).framed h.pending h.moves (subst MovesBytes (sym is) b) t.moved within) in
+              let within : t.moved < h.pending.request.asked.count = let l : t.moved < length t.places = can.piece_is_left in omega (arith, l, places.0) in
+              let f : DRIVER_FRAMES ≤ (frame_at h.pending.request.asked.frames.items (t.moved / 8)).0 = client_frame m reached h.pending h.may_still_move (t.moved / 8) ((standing m reached).framed h.pending h.may_still_move (subst MovesBytes (sym is) b) t.moved within) in
               let p : next_place t ≡ place_in h.pending.request.asked.frames.items t.moved = places.1 t.moved within in
               inr (inr (inr (omega (arith, f, p))))
 
@@ -100,13 +100,13 @@ module _ (uses : SlotStates) (m : Machine) (d : Device) (reached : IsReachable m
           means x = means_taken port slot h.pending.request h.command t.meaning h.places t.places x.meaning x.places_are h.means
 
           client : (op : Op) → h.pending.request.asked.op ≡ op → TakenAs d.memory (d.port port) port slot h.pending h.command h.places t → MayChange (HasOwn uses) (next_place t) (length bytes)
-          client Read is x = framed Read is tt (subst (λ (o : Op). ArePlaces o port h.pending.request t.places) is (means x).places_are)
-          client Write is x = framed Write is tt (subst (λ (o : Op). ArePlaces o port h.pending.request t.places) is (means x).places_are)
+          client Read is x = framed Read is tt (subst (λ (o : Op). AreRequestPlaces o port h.pending.request t.places) is (means x).places_are)
+          client Write is x = framed Write is tt (subst (λ (o : Op). AreRequestPlaces o port h.pending.request t.places) is (means x).places_are)
           client Flush is x = absurd (
-              let none : t.places ≡ [] = subst (λ (o : Op). ArePlaces o port h.pending.request t.places) is (means x).places_are in
+              let none : t.places ≡ [] = subst (λ (o : Op). AreRequestPlaces o port h.pending.request t.places) is (means x).places_are in
               let n : length t.places ≡ 0 = ap length none in
-              let l : t.moved < length t.places = can.left in omega (arith, n, l))
-          client Trim is x = true_false (ap reads_memory (is_trim t.meaning.operation ((means x).op ∙ ap Some is))) plain
+              let l : t.moved < length t.places = can.piece_is_left in omega (arith, n, l))
+          client Trim is x = true_false (ap reads_memory (is_trim t.meaning.operation ((means x).op_is ∙ ap Some is))) plain
 
   move_leaves : (port slot : ℕ) (t : FetchedCommand) (bytes : List ℕ) → MayMove d port slot t bytes → KeepsTables uses d (device_after (Move port slot t bytes) d)
   move_leaves port slot t bytes can = by (reads_memory t.meaning.operation) refl
@@ -138,7 +138,7 @@ leads_leave uses m (step ∷ steps) old new r a calm (can, lead) =
     let f : SimulatesSteps uses m old (device_after step old) = step_follows uses m old step r a can in
     let x : KeepsTables uses old (device_after step old) = step_leaves uses m old r a step calm can in
     let k : Keeps old (device_after step old) = step_keeps step old can in
-    let y : KeepsTables uses (device_after step old) new = leads_leave uses (left.after m f.steps) steps (device_after step old) new (reached_more m f.steps r f.may) f.agrees (k.on calm).no_reset lead in
+    let y : KeepsTables uses (device_after step old) new = leads_leave uses (left.after m f.steps) steps (device_after step old) new (reached_more m f.steps r f.may) f.agrees (k.keeps_outside_reset calm).no_reset lead in
     leaves_more uses old (device_after step old) new x y
 
 pub steps_leave : (uses : SlotStates) (m : Machine) (old new : Device) → IsReachable m → StateRelation uses m old → old.hr ≡ false → Steps old new → KeepsTables uses old new

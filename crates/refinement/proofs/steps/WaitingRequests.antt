@@ -15,11 +15,11 @@ use Rattle.adapter.specs.declared.tape.Entry.TheVariants as entry
 use Rattle.block_machine.specs.declared.due.QueueMode.{QueueMode}
 use Rattle.block_machine.specs.declared.due.Unanswered.{Unanswered}
 use Rattle.block_machine.specs.State.{Accepted, Pending, Machine, unanswered}
-use Rattle.block_machine.specs.Due.{IsDue, with_issued}
+use Rattle.block_machine.specs.DueRequests.{IsDue, with_issued}
 use Rattle.block_machine.specs.Rules.{HasRow}
-use Rattle.block_machine.specs.Steps.{Step, Accept, Issue, Touch, End, Age, Again, Answer, Revoke, Release, Unplug, Replace, Store, Load, May, MayStillMove, after_step, at, newly_issued, touch, mark_ended}
+use Rattle.block_machine.specs.Steps.{Step, Accept, Issue, Touch, End, Age, WaitAgain, Answer, Revoke, Release, Unplug, Replace, Store, Load, IsEnabled, MayStillMove, after_step, update_pending, newly_issued, touch, mark_ended}
 use Rattle.block_machine.specs.Expected as left
-use Rattle.block_machine.specs.Events.{AllMay, IsByDevice, AllByDevice}
+use Rattle.block_machine.specs.Events.{AllEnabled, IsByDevice, AllByDevice}
 use Rattle.block_machine.specs.Histories.{IsReachable}
 use Rattle.block_machine.proofs.Members.{map_in, into_map, at_cases}
 use Rattle.block_machine.proofs.Keeps.{at_keeps}
@@ -31,7 +31,7 @@ use Rattle.refinement.specs.Acts.{IsIssueStep}
 use Rattle.refinement.specs.Slots.{Serves, SlotStates, op_of}
 use Rattle.refinement.specs.Relation.{HaveSlots}
 use Rattle.refinement.specs.Tape.{TellsMove, TellsDone, TellsEntry, TapeTells, touch_steps}
-use Rattle.refinement.specs.Follows.{SimulatesSteps}
+use Rattle.refinement.specs.Simulation.{SimulatesSteps}
 use Rattle.refinement.proofs.relation.TouchesAndEnds.{Goes, touch_goes, end_goes}
 use Rattle.refinement.proofs.relation.OtherSlots.{true_false}
 
@@ -50,18 +50,18 @@ from_steps e a = subst AllByDevice (sym e) a
 
 move_device : (o : Option Op) (m : Machine) (move : tape_move.Move) (steps : List Step) → TellsMove o m move steps → AllByDevice steps
 move_device None m move steps t = from_steps t.1 tt
-move_device (Some Read) m move steps t = from_steps t.step (tt, tt)
-move_device (Some Write) m move steps t = from_steps t.step (tt, tt)
+move_device (Some Read) m move steps t = from_steps t.step_is (tt, tt)
+move_device (Some Write) m move steps t = from_steps t.step_is (tt, tt)
 move_device (Some Trim) m move steps t = from_steps t.1 tt
 move_device (Some Flush) m move steps t = absurd t
 
 done_device : (o : Option Op) (m : Machine) (done : tape_done.Done) (steps : List Step) → TellsDone o m done steps → AllByDevice steps
 done_device None m done steps t = from_steps t tt
-done_device (Some op) m done steps t = from_steps t.step (tt, tt)
+done_device (Some op) m done steps t = from_steps t.step_is (tt, tt)
 
 pub entry_device : (m : Machine) (e : Entry) (steps : List Step) → TellsEntry m e steps → AllByDevice steps
 entry_device m (entry.Move move) steps t = move_device (op_of move.operation) m move steps t
-entry_device m (entry.Clear clear) steps t = from_steps t.step (touches_device t.pending t.from clear.count)
+entry_device m (entry.Clear clear) steps t = from_steps t.step_is (touches_device t.pending t.first_number clear.count)
 entry_device m (entry.Done done) steps t = done_device (op_of done.operation) m done steps t
 entry_device m (entry.Fault fault) steps t = from_steps t tt
 entry_device m (entry.Fatal port) steps t = from_steps t tt
@@ -88,7 +88,7 @@ step_have uses m (Replace p name size disk) is port parked had = had
 step_have uses m (Accept r) is port parked had = absurd is
 step_have uses m (Issue mode x) is port parked had = absurd is
 step_have uses m (Age ready) is port parked had = absurd is
-step_have uses m (Again x) is port parked had = absurd is
+step_have uses m (WaitAgain x) is port parked had = absurd is
 step_have uses m (Answer x outcome) is port parked had = absurd is
 step_have uses m (Revoke client number) is port parked had = absurd is
 step_have uses m Release is port parked had = absurd is
@@ -100,7 +100,7 @@ steps_have uses m [] is port parked had = had
 steps_have uses m (step ∷ before) is port parked had = step_have uses (left.after m before) step is.1 port parked (steps_have uses m before is.0 port parked had)
 
 pub follows_have : (uses : SlotStates) (m : Machine) (old new : Device) (f : SimulatesSteps uses m old new) (port : ℕ) (parked : List RequestId) → HaveSlots uses m port parked → HaveSlots uses (left.after m f.steps) port parked
-follows_have uses m old new f = steps_have uses m f.steps (tells_device m f.gained f.steps f.tells)
+follows_have uses m old new f = steps_have uses m f.steps (tells_device m f.new_entries f.steps f.tape_tells_steps)
 
 -- ---- requests that may be issued may be so still
 
@@ -130,7 +130,7 @@ module _ (m : Machine) (s : Sound m) (x : Pending) (r : MayStillMove m x) where
 
   module _ (f : Pending → Pending) (request : (y : Pending) → (f y).request ≡ y.request) (issued : (y : Pending) → (f y).issued ≡ y.issued) where
     -- what says which are due stays
-    same_unanswered : (y : Pending) → unanswered (at x.request.id f y) ≡ unanswered y
+    same_unanswered : (y : Pending) → unanswered (update_pending x.request.id f y) ≡ unanswered y
     same_unanswered y = ⊎_elim
         (λ p. ap unanswered p.1 ∙ both y)
         (λ p. ap unanswered p.1)
@@ -139,24 +139,24 @@ module _ (m : Machine) (s : Sound m) (x : Pending) (r : MayStillMove m x) where
         both : (z : Pending) → unanswered (f z) ≡ unanswered z
         both z = let a : (f z).request ≡ z.request = request z in let b : (f z).issued ≡ z.issued = issued z in λ i. unanswered (record z { request = a i; issued = b i })
 
-    same_book : (es : List Pending) → map unanswered (map (at x.request.id f) es) ≡ map unanswered es
+    same_book : (es : List Pending) → map unanswered (map (update_pending x.request.id f) es) ≡ map unanswered es
     same_book [] = refl
-    same_book (y ∷ ys) = let a : unanswered (at x.request.id f y) ≡ unanswered y = same_unanswered y in let b : map unanswered (map (at x.request.id f) ys) ≡ map unanswered ys = same_book ys in λ i. a i ∷ b i
+    same_book (y ∷ ys) = let a : unanswered (update_pending x.request.id f y) ≡ unanswered y = same_unanswered y in let b : map unanswered (map (update_pending x.request.id f) ys) ≡ map unanswered ys = same_book ys in λ i. a i ∷ b i
 
-    changed_leaves : (later : Machine) → later.book ≡ map (at x.request.id f) m.book → later.kept ≡ map (at x.request.id f) m.kept → later.rows ≡ m.rows → LeavesWaiting m later
+    changed_leaves : (later : Machine) → later.book ≡ map (update_pending x.request.id f) m.book → later.kept ≡ map (update_pending x.request.id f) m.kept → later.rows ≡ m.rows → LeavesWaiting m later
     changed_leaves later book kept rows = record {
       waits = λ e here waits.
           subst (λ (es : List Pending). Contains es e) (sym book)
-          (subst (λ (y : Pending). Contains (map (at x.request.id f) m.book) y)
-          (⊎_elim (λ p. absurd (not_moving e here waits p.0)) (λ p. p.1) (at_cases x.request.id f e)) (into_map (at x.request.id f) m.book e here));
+          (subst (λ (y : Pending). Contains (map (update_pending x.request.id f) m.book) y)
+          (⊎_elim (λ p. absurd (not_moving e here waits p.0)) (λ p. p.1) (at_cases x.request.id f e)) (into_map (update_pending x.request.id f) m.book e here));
       asks = ap (map unanswered) book ∙ same_book m.book;
       kept = λ y here.
-          let q = map_in (at x.request.id f) m.kept y (subst (λ (es : List Pending). Contains es y) kept here) in
+          let q = map_in (update_pending x.request.id f) m.kept y (subst (λ (es : List Pending). Contains es y) kept here) in
           (q.0, q.1, sym (ap (λ (z : Pending). z.request) q.2 ∙ at_keeps x.request.id f request q.0));
       rows = rows;
     }
 
-step_leaves : (m : Machine) → Sound m → (step : Step) → IsByDevice step → May m step → LeavesWaiting m (after_step m step)
+step_leaves : (m : Machine) → Sound m → (step : Step) → IsByDevice step → IsEnabled m step → LeavesWaiting m (after_step m step)
 step_leaves m s (Touch x i block) is can = changed_leaves m s x can.0 (touch i) (λ y. refl) (λ y. refl) (after_step m (Touch x i block)) refl refl refl
 step_leaves m s (End x) is can = changed_leaves m s x can.0 mark_ended (λ y. refl) (λ y. refl) (after_step m (End x)) refl refl refl
 step_leaves m s (Unplug port) is can = record { waits = λ e here waits. here; asks = refl; kept = λ y here. (y, here, refl); rows = refl }
@@ -164,23 +164,23 @@ step_leaves m s (Replace port name size disk) is can = record { waits = λ e her
 step_leaves m s (Accept r) is can = absurd is
 step_leaves m s (Issue other x) is can = absurd is
 step_leaves m s (Age ready) is can = absurd is
-step_leaves m s (Again x) is can = absurd is
+step_leaves m s (WaitAgain x) is can = absurd is
 step_leaves m s (Answer x outcome) is can = absurd is
 step_leaves m s (Revoke client number) is can = absurd is
 step_leaves m s Release is can = absurd is
 step_leaves m s (Store client frame offset bytes) is can = absurd is
 step_leaves m s (Load client frame offset bytes) is can = absurd is
 
-device_leaves : (m : Machine) (steps : List Step) → IsReachable m → AllByDevice steps → AllMay m steps → LeavesWaiting m (left.after m steps)
+device_leaves : (m : Machine) (steps : List Step) → IsReachable m → AllByDevice steps → AllEnabled m steps → LeavesWaiting m (left.after m steps)
 device_leaves m [] r is all = leaves_none m
 device_leaves m (step ∷ before) r is all =
     leaves_more m (left.after m before) (after_step (left.after m before) step) (device_leaves m before r is.0 all.0)
     (step_leaves (left.after m before) (standing (left.after m before) (reached_more m before r all.0)).sound step is.1 all.1)
 
 module _ (m later : Machine) (l : LeavesWaiting m later) (mode : QueueMode) (e : Pending) where
-  issue_may : May m (Issue mode e) → May later (Issue mode e)
+  issue_may : IsEnabled m (Issue mode e) → IsEnabled later (Issue mode e)
   issue_may may = (
-    l.waits e may.0 (not-true e.issued (and_parts _ _ may.1.clear).0),
+    l.waits e may.0 (not-true e.issued (and_parts _ _ may.1.nothing_blocks).0),
     subst (λ (b : List Unanswered). IsDue mode b (unanswered e)) (sym l.asks) may.1,
     λ y here same. let q = l.kept y here in may.2 q.0 q.1 (ap (λ (j : Accepted). j.port) q.2 ∙ same),
     subst (λ (rows : List GrantRow). HasRow e.request.asked.client e.request.asked.grant rows) (sym l.rows) may.3,
@@ -190,7 +190,7 @@ module _ (m later : Machine) (l : LeavesWaiting m later) (mode : QueueMode) (e :
   issue_leaves : LeavesWaiting (after_step m (Issue mode e)) (after_step later (Issue mode e))
   issue_leaves = record {
     waits = λ y here waits.
-        let f : Pending → Pending = at e.request.id newly_issued in
+        let f : Pending → Pending = update_pending e.request.id newly_issued in
         let q = map_in f m.book y here in
         ⊎_elim
         (λ p. absurd (true_false (ap (λ (z : Pending). z.issued) (q.2 ∙ p.1)) waits))
@@ -205,16 +205,16 @@ module _ (m later : Machine) (l : LeavesWaiting m later) (mode : QueueMode) (e :
   }
 
 -- the same for issues, one after another
-issues_may : (m later : Machine) (l : LeavesWaiting m later) (own : List Step) → All IsIssueStep own → AllMay m own → AllMay later own × LeavesWaiting (left.after m own) (left.after later own)
+issues_may : (m later : Machine) (l : LeavesWaiting m later) (own : List Step) → All IsIssueStep own → AllEnabled m own → AllEnabled later own × LeavesWaiting (left.after m own) (left.after later own)
 issues_may m later l [] only may = (tt, l)
 issues_may m later l (step ∷ own) only may =
-    let before : AllMay later own × LeavesWaiting (left.after m own) (left.after later own) = issues_may m later l own (All-tail IsIssueStep step own only) may.0 in
-    let now : May (left.after later own) step × LeavesWaiting (after_step (left.after m own) step) (after_step (left.after later own) step) =
+    let before : AllEnabled later own × LeavesWaiting (left.after m own) (left.after later own) = issues_may m later l own (All-tail IsIssueStep step own only) may.0 in
+    let now : IsEnabled (left.after later own) step × LeavesWaiting (after_step (left.after m own) step) (after_step (left.after later own) step) =
     one before.1 step (All-head IsIssueStep step own only) may.1 in
     ((before.0, now.0), now.1)
   where
-    one : LeavesWaiting (left.after m own) (left.after later own) → (step : Step) → IsIssueStep step → May (left.after m own) step →
-        May (left.after later own) step × LeavesWaiting (after_step (left.after m own) step) (after_step (left.after later own) step)
+    one : LeavesWaiting (left.after m own) (left.after later own) → (step : Step) → IsIssueStep step → IsEnabled (left.after m own) step →
+        IsEnabled (left.after later own) step × LeavesWaiting (after_step (left.after m own) step) (after_step (left.after later own) step)
     one before (Issue mode e) is can = (issue_may (left.after m own) (left.after later own) before mode e can, issue_leaves (left.after m own) (left.after later own) before mode e)
     one before (Touch x i block) is can = absurd is
     one before (End x) is can = absurd is
@@ -222,12 +222,12 @@ issues_may m later l (step ∷ own) only may =
     one before (Replace port name size disk) is can = absurd is
     one before (Accept r) is can = absurd is
     one before (Age ready) is can = absurd is
-    one before (Again x) is can = absurd is
+    one before (WaitAgain x) is can = absurd is
     one before (Answer x outcome) is can = absurd is
     one before (Revoke client number) is can = absurd is
     one before Release is can = absurd is
     one before (Store client frame offset bytes) is can = absurd is
     one before (Load client frame offset bytes) is can = absurd is
 
-pub steps_may : (m : Machine) (steps : List Step) → IsReachable m → AllByDevice steps → AllMay m steps → (own : List Step) → All IsIssueStep own → AllMay m own → AllMay (left.after m steps) own
+pub steps_may : (m : Machine) (steps : List Step) → IsReachable m → AllByDevice steps → AllEnabled m steps → (own : List Step) → All IsIssueStep own → AllEnabled m own → AllEnabled (left.after m steps) own
 steps_may m steps r is all own only may = (issues_may m (left.after m steps) (device_leaves m steps r is all) own only may).0

@@ -9,7 +9,7 @@ use Rattle.ata_types.specs.declared.request.Frame.{Frame}
 use Rattle.ata_types.specs.declared.memory.TheConstants.{DRIVER_FRAMES}
 use Rattle.adapter.specs.Memory.{patched, changed}
 use Rattle.adapter.specs.Device as device
-use Rattle.adapter.specs.Steps.{disk_with}
+use Rattle.adapter.specs.Steps.{disk_with_sector}
 use Rattle.adapter.proofs.Changed.{changed_same, changed_other}
 use Rattle.adapter.proofs.MemoryLemmas.{patched_apart}
 use Rattle.block_machine.specs.State.{Block, DiskBytes, Machine}
@@ -74,25 +74,25 @@ put_elsewhere port k block disks p s ne =
 
 pub sector_written : (m m' : Machine) (disk : device.Disk) (port k : ℕ) (bytes : List ℕ) (block : Block) →
     ((s b : ℕ) → m'.disks (port_at port) s b ≡ put_sector (port_at port) k block m.disks (port_at port) s b) →
-    ((b : ℕ) → b < 512 → slice_index bytes b ≡ block b) → SameSectors m disk port → SameSectors m' (disk_with disk k bytes) port
+    ((b : ℕ) → b < 512 → slice_index bytes b ≡ block b) → SameSectors m disk port → SameSectors m' (disk_with_sector disk k bytes) port
 sector_written m m' disk port k bytes block now brings s = record {
-  told = changed s.told k bytes;
-  tells = ap (option_map (λ (told : ℕ → List ℕ). changed told k bytes)) s.tells;
-  same = λ x b xl bl. ⊎_elim (here x b bl) (there x b xl bl) (cases_eq x k);
+  told_sectors = changed s.told_sectors k bytes;
+  disk_tells = ap (option_map (λ (told : ℕ → List ℕ). changed told k bytes)) s.disk_tells;
+  bytes_are_same = λ x b xl bl. ⊎_elim (here x b bl) (there x b xl bl) (cases_eq x k);
 }
   where
-    here : (x b : ℕ) → b < 512 → x ≡ k → slice_index (changed s.told k bytes x) b ≡ m'.disks (port_at port) x b
+    here : (x b : ℕ) → b < 512 → x ≡ k → slice_index (changed s.told_sectors k bytes x) b ≡ m'.disks (port_at port) x b
     here x b bl e =
-        ap (λ (y : ℕ). slice_index (changed s.told k bytes y) b) e
-        ∙ ap (λ (l : List ℕ). slice_index l b) (changed_same s.told k bytes)
+        ap (λ (y : ℕ). slice_index (changed s.told_sectors k bytes y) b) e
+        ∙ ap (λ (l : List ℕ). slice_index l b) (changed_same s.told_sectors k bytes)
         ∙ brings b bl
         ∙ ap (λ (f : Block). f b) (sym (put_there (port_at port) k block m.disks))
         ∙ sym (now k b)
         ∙ ap (λ (y : ℕ). m'.disks (port_at port) y b) (sym e)
 
-    there : (x b : ℕ) → x < disk.size → b < 512 → (x ≡ k → ⊥) → slice_index (changed s.told k bytes x) b ≡ m'.disks (port_at port) x b
+    there : (x b : ℕ) → x < disk.size → b < 512 → (x ≡ k → ⊥) → slice_index (changed s.told_sectors k bytes x) b ≡ m'.disks (port_at port) x b
     there x b xl bl ne =
-        ap (λ (l : List ℕ). slice_index l b) (changed_other s.told k bytes x ne)
-        ∙ s.same x b xl bl
+        ap (λ (l : List ℕ). slice_index l b) (changed_other s.told_sectors k bytes x ne)
+        ∙ s.bytes_are_same x b xl bl
         ∙ ap (λ (f : Block). f b) (sym (put_elsewhere (port_at port) k block m.disks (port_at port) x (λ _ e. ne e)))
         ∙ sym (now x b)

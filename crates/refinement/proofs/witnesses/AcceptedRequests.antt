@@ -9,7 +9,7 @@ use Rattle.ata_types.specs.declared.refusal.Refusal.TheVariants as refused
 use Rattle.ata_types.specs.declared.grant.GrantRow.{GrantRow}
 use Rattle.adapter.specs.Decoding.{piece_addresses}
 use Rattle.adapter.proofs.SaysLemmas.{cut_index}
-use Rattle.block_machine.specs.Refusals.{Situation}
+use Rattle.block_machine.specs.Refusals.{AdmissionContext}
 use Rattle.ata_types.specs.declared.refusal.FrameFault.TheVariants.{FrameForeign, FrameTwice, FrameLent}
 use Rattle.ata_types.specs.declared.refusal.Rule.TheVariants.{NoGrant, NoRight, BadCount, OutsideGrant, FrameCount, Frames}
 use Rattle.ata_types.specs.SectorGrants.{AllowsOp, CoversSectors}
@@ -17,14 +17,14 @@ use Rattle.block_machine.specs.Rules.{IsNamed, BreaksNone, HasRow}
 use Rattle.block_machine.specs.State.{Accepted, Machine, block_of, frame_at}
 use Rattle.block_machine.specs.Steps.{MayAccept, unanswered_count}
 use Rattle.block_machine.proofs.Setting.{client, port, frame, row, request, two_rows, granted, its_row, IsFit, acceptable}
-use Rattle.refinement.specs.Places.{place_in}
+use Rattle.refinement.specs.MemoryLayout.{place_in}
 
 -- the request as the machine accepts it next
 abbrev pub accepted_of : Machine → Request → Accepted
-accepted_of m r = record { id = record { 0 = m.next }; port = port; asked = r; held = block_of m.memory r.frames.items }
+accepted_of m r = record { id = record { 0 = m.next_id }; port = port; asked = r; held_blocks = block_of m.memory r.frames.items }
 
 -- it breaks no rule, and names the row of port 0
-pub new_of : (m : Machine) (r : Request) → m.rows ≡ two_rows → r.grant ≡ 0 → BreaksNone m.rows m.owner m.lent r → unanswered_count m.book r.client < 16 → m.next < 2 ^ 64 → MayAccept m (accepted_of m r)
+pub new_of : (m : Machine) (r : Request) → m.rows ≡ two_rows → r.grant ≡ 0 → BreaksNone m.rows m.owner m.lent r → unanswered_count m.book r.client < 16 → m.next_id < 2 ^ 64 → MayAccept m (accepted_of m r)
 new_of m r rows grant unbroken few ids = record {
   id = refl;
   id_left = ids;
@@ -43,8 +43,8 @@ has_its_grant same = granted 0 (0, omega arith, refl) same
 abbrev pub read_into : ℕ → ℕ → Request
 read_into first n = request 0 Read first 8 (frame n ∷ [])
 
-abbrev situation_of : Machine → Situation
-situation_of m = record { rows = m.rows; owner = m.owner; lent = m.lent; state = λ p. Ready; sectors = λ p. 256; trims = λ p. true; unanswered = λ c. 0; next = 1 }
+abbrev admission_context_of : Machine → AdmissionContext
+admission_context_of m = record { rows = m.rows; owner = m.owner; lent = m.lent; state = λ p. Ready; sectors = λ p. 256; trims = λ p. true; unanswered = λ c. 0; next_id = 1 }
 
 pub read_no_trim : Read ≡ Trim → ⊥
 read_no_trim e = cc
@@ -56,7 +56,7 @@ places_in n i lt =
     let same : (frame_at (frame n ∷ []) (i / 8)).0 ≡ n = ap (λ (k : ℕ). (frame_at (frame n ∷ []) k).0) zero_is in
     cut_index (4096 * n) 8 i lt ∙ omega (arith, same, lt)
 
-read_fits : (m : Machine) (first n : ℕ) → m.rows ≡ two_rows → m.owner (frame n) ≡ Some client → m.lent (frame n) ≡ None → 100 ≤ first → first + 8 ≤ 164 → IsFit 0 (situation_of m) (read_into first n)
+read_fits : (m : Machine) (first n : ℕ) → m.rows ≡ two_rows → m.owner (frame n) ≡ Some client → m.lent (frame n) ≡ None → 100 ≤ first → first + 8 ≤ 164 → IsFit 0 (admission_context_of m) (read_into first n)
 read_fits m first n rows mine free low high = record {
   rows = rows;
   mine = (0, omega arith, refl);
@@ -76,10 +76,10 @@ read_fits m first n rows mine free low high = record {
   ids = omega arith;
 }
 
-pub read_is_new : (m : Machine) (first n : ℕ) → m.rows ≡ two_rows → m.owner (frame n) ≡ Some client → m.lent (frame n) ≡ None → 100 ≤ first → first + 8 ≤ 164 → unanswered_count m.book client < 16 → m.next < 2 ^ 64 →
+pub read_is_new : (m : Machine) (first n : ℕ) → m.rows ≡ two_rows → m.owner (frame n) ≡ Some client → m.lent (frame n) ≡ None → 100 ≤ first → first + 8 ≤ 164 → unanswered_count m.book client < 16 → m.next_id < 2 ^ 64 →
     MayAccept m (accepted_of m (read_into first n))
 read_is_new m first n rows mine free low high few ids =
-    new_of m (read_into first n) rows refl (λ rule h. acceptable 0 (situation_of m) (read_into first n) (read_fits m first n rows mine free low high) (refused.Rule rule) h) few ids
+    new_of m (read_into first n) rows refl (λ rule h. acceptable 0 (admission_context_of m) (read_into first n) (read_fits m first n rows mine free low high) (refused.Rule rule) h) few ids
 
 -- ---- a trim of eight sectors
 
@@ -108,5 +108,5 @@ trim_breaks_none m first rows low high = none
     none (Frames (FrameTwice i)) h = no_frame i h.0 h.4
     none (Frames (FrameLent i)) h = no_frame i h.0 h.1
 
-pub trim_is_new : (m : Machine) (first : ℕ) → m.rows ≡ two_rows → 100 ≤ first → first + 8 ≤ 164 → unanswered_count m.book client < 16 → m.next < 2 ^ 64 → MayAccept m (accepted_of m (trim_of first))
+pub trim_is_new : (m : Machine) (first : ℕ) → m.rows ≡ two_rows → 100 ≤ first → first + 8 ≤ 164 → unanswered_count m.book client < 16 → m.next_id < 2 ^ 64 → MayAccept m (accepted_of m (trim_of first))
 trim_is_new m first rows low high few ids = new_of m (trim_of first) rows refl (trim_breaks_none m first rows low high) few ids

@@ -18,13 +18,13 @@ use Rattle.adapter.specs.Memory.{changed}
 use Rattle.adapter.specs.Rules.{MayStart, MayWrite, MayWritePort, IsStable}
 use Rattle.adapter.specs.Steps.{Can, device_after}
 use Rattle.adapter.specs.Steps.DeviceTransition.{LinkUp}
-use Rattle.refinement.specs.Below.{StepLaws}
+use Rattle.refinement.specs.StepLaws.{StepLaws}
 use Rattle.refinement.specs.Relation.{port_at}
-use Rattle.refinement.specs.Booted.{waking_device, BootWitness}
+use Rattle.refinement.specs.BootWitness.{waking_device, BootWitness}
 use Rattle.refinement.specs.Errors.{IsDiskComing, NoDiskComes}
 use Rattle.refinement.specs.PortFacts.{TellsNoTrouble}
 use Rattle.refinement.specs.Links.{IsPlugEvent, NoPlugEvents}
-use Rattle.refinement.specs.Started.{IsUp, IsComingUp, SetsNoStart}
+use Rattle.refinement.specs.StartedPort.{IsUp, IsComingUp, SetsNoStart}
 use Rattle.refinement.proofs.device.AllowedWrites.{write_stays}
 use Rattle.refinement.proofs.device.BootedPort.{well_is_found}
 use Rattle.refinement.proofs.device.RisingLink.{comreset_comes, access_coming, up_is_found, access_up}
@@ -67,7 +67,7 @@ writes r v d = record { mid = d; steps = record { steps = []; lead = refl }; eff
 
 can_link : Can (LinkUp 0 0x101 true) released
 unfolding changed
-can_link = record { present = refl; det = refl; due = refl; fits = omega arith }
+can_link = record { present = refl; no_comreset = refl; link_is_due = refl; sig_fits = omega arith }
 
 links : Reads (port_reg Ssts) 3 released linked
 unfolding changed
@@ -79,7 +79,7 @@ waits = record { mid = quieted; steps = record { steps = []; lead = refl }; show
 
 is_startable : MayStart (ready.port 0)
 unfolding changed
-is_startable = record { fallen = refl; receives = refl; programmed = record { clb = refl; clbu = refl; fb = refl; fbu = refl }; link = refl; not_busy = refl }
+is_startable = record { cr_is_clear = refl; receives = refl; programmed = record { clb = refl; clbu = refl; fb = refl; fbu = refl }; link_was_seen = refl; not_busy = refl }
 
 -- 0 has no bit
 no_bit : (place : ℕ) → bit 0 place ≡ false
@@ -99,7 +99,7 @@ unfolding changed
 tells = record { mid = started; steps = record { steps = []; lead = refl }; shows = λ place cause. none_shown (started.port 0) refl refl (λ k. refl) place; effect = refl }
 
 no_trouble : TellsNoTrouble 0
-no_trouble = record { change = no_bit 6; ready = no_bit 22; quiet = λ place low high. no_bit place }
+no_trouble = record { pcs_is_clear = no_bit 6; prcs_is_clear = no_bit 22; no_error_bit_is_set = λ place low high. no_bit place }
 
 -- ---- the writes are permitted
 
@@ -133,10 +133,10 @@ may_start = permitted Cmd 0x11 ready (λ p e. cc) refl refl refl (record {
 
 -- the tape stays empty
 none_comes : (old new : Device) → new.tape ≡ old.tape ++ [] → NoDiskComes 0 old new
-none_comes old new same = record { gained = []; tape = same; none = All-nil (λ e. IsDiskComing 0 e → ⊥) }
+none_comes old new same = record { new_entries = []; tape_is = same; no_such_entry = All-nil (λ e. IsDiskComing 0 e → ⊥) }
 
 plugs_none : (old new : Device) → new.tape ≡ old.tape ++ [] → NoPlugEvents 0 old new
-plugs_none old new same = record { gained = []; tape = same; none = All-nil (λ e. IsPlugEvent 0 e → ⊥) }
+plugs_none old new same = record { new_entries = []; tape_is = same; no_such_entry = All-nil (λ e. IsPlugEvent 0 e → ⊥) }
 
 -- no write of PxCMD
 no_start : (r : PortReg) (v : ℕ) → (r ≡ Cmd → ⊥) → SetsNoStart (port_at 0) (Writing (port_reg r) v)
@@ -184,5 +184,5 @@ boot_is_found laws = record {
   starts = writes (port_reg Cmd) 0x11 ready;
   found = found;
   tells = tells;
-  well = well_is_found laws (port_at 0) 0x11 0 ready started found refl stands.5 stands.4 refl (is_ready laws) (writes (port_reg Cmd) 0x11 ready) tells no_trouble;
+  port_runs_well = well_is_found laws (port_at 0) 0x11 0 ready started found refl stands.5 stands.4 refl (is_ready laws) (writes (port_reg Cmd) 0x11 ready) tells no_trouble;
 }

@@ -25,13 +25,13 @@ use Rattle.block_machine.specs.declared.due.QueueMode.{QueueMode}
 use Rattle.block_machine.specs.Histories.{IsReachable}
 use Rattle.block_machine.specs.Expected.{IsInitial}
 use Rattle.block_machine.specs.State.{Accepted, Pending, Machine}
-use Rattle.block_machine.specs.Steps.{Accept, Issue, May, MayAccept, MayStillMove, HoldsOrHeldSinceFlush, after_step, newly_accepted, newly_issued}
+use Rattle.block_machine.specs.Steps.{Accept, Issue, IsEnabled, MayAccept, MayStillMove, HoldsOrHeldSinceFlush, after_step, newly_accepted, newly_issued}
 use Rattle.block_machine.proofs.Setting.{empty, filled_starts}
-use Rattle.refinement.specs.Below.{StepLaws}
+use Rattle.refinement.specs.StepLaws.{StepLaws}
 use Rattle.refinement.specs.Slots.{Free, Serves, SlotDecodesTo, IsEmptySlot}
 use Rattle.refinement.specs.Relation.{StateRelation, port_at, IsDiskOf, SameSectors, HasLasting, HasReceivedArea}
-use Rattle.refinement.specs.Driver.{DriverRelation, IsPrepared, idle}
-use Rattle.refinement.specs.Witness.{first_uses, first_known, ready_port, ready_with, prepared_read, PreparedReadWitness, FirstReadWitness}
+use Rattle.refinement.specs.Driver.{DriverRelation, IsPrepared, idle_driver_state}
+use Rattle.refinement.specs.ReadWitness.{first_uses, first_driver_state, ready_port, ready_device, prepared_read, PreparedReadWitness, FirstReadWitness}
 use Rattle.refinement.proofs.relation.OneSlot.{changed_at}
 use Rattle.refinement.proofs.witnesses.AcceptedRequests.{accepted_of, has_its_grant, read_into, read_is_new, read_no_trim, places_in}
 use Rattle.refinement.proofs.driver.PutSlot.{issued_port, issue_agrees, issue_have}
@@ -75,10 +75,10 @@ abbrev accepting : Machine
 accepting = after_step start (Accept accepted)
 
 accepting_reached : IsReachable accepting
-accepting_reached = record { first = start; past = Accept accepted ∷ []; starts = starts_with first_memory; legal = (tt, is_new); is = refl }
+accepting_reached = record { initial_machine = start; steps_since = Accept accepted ∷ []; is_initial = starts_with first_memory; is_legal = (tt, is_new); leads_to_machine = refl }
 
-may_issue : May accepting (Issue plain waits)
-may_issue = ((0, omega arith, refl), record { here = (0, omega arith, refl); clear = refl; slot = λ h. true_false refl h }, λ e h. absurd (All-contains (λ _. ⊥) [] e (All-nil (λ _. ⊥)) h), has_its_grant refl)
+may_issue : IsEnabled accepting (Issue plain waits)
+may_issue = ((0, omega arith, refl), record { is_in_book = (0, omega arith, refl); nothing_blocks = refl; slot_is_left = λ h. true_false refl h }, λ e h. absurd (All-contains (λ _. ⊥) [] e (All-nil (λ _. ⊥)) h), has_its_grant refl)
 
 abbrev pub issued : Machine
 issued = after_step accepting (Issue plain waits)
@@ -102,9 +102,9 @@ entries = refl
 
 told : SlotDecodesTo first_memory 0 0 0 (read_of 100 8) (piece_addresses 0x64000 8)
 told = record {
-  says = first_says;
-  table_is = sym first_says.header.points ∙ points;
-  few = (let h : little_from 0 4 (bytes_at first_memory 0 32) ≡ 5 + 0 + 65536 * length first_says.prds = first_says.header.first in let n = entries in omega (arith, h, n));
+  decodes_to = first_says;
+  table_is = sym first_says.header.table_address_is ∙ points;
+  prds_are_few = (let h : little_from 0 4 (bytes_at first_memory 0 32) ≡ 5 + 0 + 65536 * length first_says.prds = first_says.header.dword0_is in let n = entries in omega (arith, h, n));
 }
 
 pub tells : (k b : ℕ) → b < 512 → slice_index (first_disk_sector k) b ≡ k
@@ -112,40 +112,40 @@ unfolding first_disk_sector
 tells k b bl = get_or-replicate 512 b k 0 bl
 
 -- nothing is on the tape: the disk may come back as it was first in
-lasts : (memory : ℕ → ℕ) (k : ℕ) (bytes : List ℕ) → WereHeld [] (record { sectors = Some first_disk_sector; since = 0 }) 0 k bytes → HoldsOrHeldSinceFlush (start_with memory) (port_at 0) k (slice_index bytes)
+lasts : (memory : ℕ → ℕ) (k : ℕ) (bytes : List ℕ) → WereHeld [] (record { sectors = Some first_disk_sector; tape_length = 0 }) 0 k bytes → HoldsOrHeldSinceFlush (start_with memory) (port_at 0) k (slice_index bytes)
 lasts memory k bytes (inl is) = inl (λ b bl. ap (λ (l : List ℕ). slice_index l b) (sym (same_Some (first_disk_sector k) bytes is)) ∙ tells k b bl)
 lasts memory k bytes (inr (entry, here, is)) = let lt = here.1 in absurd (omega (arith, lt))
 
 -- a device with no command in a slot agrees with a machine to begin with
-pub ready_knows : (memory : ℕ → ℕ) → DriverRelation (start_with memory) (idle (ready_with memory))
+pub ready_knows : (memory : ℕ → ℕ) → DriverRelation (start_with memory) (idle_driver_state (ready_device memory))
 ready_knows memory = record {
-  agrees = record {
-    slot = λ q k. changed_at (λ _. empty_port) 0 ready_port (λ n p. IsEmptySlot p k) (record { issued = refl; free = refl; unarmed = refl }) (λ n ne. record { issued = refl; free = refl; unarmed = refl }) q;
-    apart = λ q k q' k' id u v. absurd (let z : Free ≡ Serves id = u in cc);
-    received = changed_at (λ _. empty_port) 0 ready_port (λ n p. p.fre ≡ true → HasReceivedArea p n) (λ _. record { below = omega arith; area = refl }) (λ n ne f. true_false f refl);
-    disk = changed_at (λ _. empty_port) 0 ready_port (λ n p. IsDiskOf (start_with memory) p n) (record { present = refl; id = refl; size = refl })
+  state_relation = record {
+    relates_slots = λ q k. changed_at (λ _. empty_port) 0 ready_port (λ n p. IsEmptySlot p k) (record { issued = refl; free = refl; unarmed = refl }) (λ n ne. record { issued = refl; free = refl; unarmed = refl }) q;
+    serve_apart = λ q k q' k' id u v. absurd (let z : Free ≡ Serves id = u in cc);
+    received_areas_are_placed = changed_at (λ _. empty_port) 0 ready_port (λ n p. p.fre ≡ true → HasReceivedArea p n) (λ _. record { below = omega arith; area = refl }) (λ n ne f. true_false f refl);
+    disks_are_same = changed_at (λ _. empty_port) 0 ready_port (λ n p. IsDiskOf (start_with memory) p n) (record { present = refl; id = refl; size = refl })
         (λ n ne. record { present = ne_eqb n 0 ne; id = refl; size = cond-false (n == 0) 256 0 (ne_eqb n 0 ne) });
-    memory = λ f b from small. refl;
-    sectors = λ _. changed_at (λ _. empty_port) 0 ready_port (λ n p. SameSectors (start_with memory) p.disk n)
-        (record { told = first_disk_sector; tells = refl; same = λ k b kl bl. tells k b bl })
-        (λ n ne. record { told = λ k. []; tells = refl; same = λ k b kl bl. absurd (omega (arith, kl)) });
-    lasting = λ _. changed_at (λ _. empty_port) 0 ready_port (λ n p. HasLasting (start_with memory) [] p n) (λ k inside bytes w. lasts memory k bytes w) (λ n ne k inside bytes w. absurd (omega (arith, inside)));
+    memory_is_same = λ f b from small. refl;
+    sectors_are_same = λ _. changed_at (λ _. empty_port) 0 ready_port (λ n p. SameSectors (start_with memory) p.disk n)
+        (record { told_sectors = first_disk_sector; disk_tells = refl; bytes_are_same = λ k b kl bl. tells k b bl })
+        (λ n ne. record { told_sectors = λ k. []; disk_tells = refl; bytes_are_same = λ k b kl bl. absurd (omega (arith, kl)) });
+    has_lasting = λ _. changed_at (λ _. empty_port) 0 ready_port (λ n p. HasLasting (start_with memory) [] p n) (λ k inside bytes w. lasts memory k bytes w) (λ n ne k inside bytes w. absurd (omega (arith, inside)));
   };
-  have = λ q e may at_port. ⊎_elim (λ z. absurd (All-contains (λ _. ⊥) [] e (All-nil (λ _. ⊥)) z.0)) (λ z. absurd (All-contains (λ _. ⊥) [] e (All-nil (λ _. ⊥)) z)) may;
+  have_slots = λ q e may at_port. ⊎_elim (λ z. absurd (All-contains (λ _. ⊥) [] e (All-nil (λ _. ⊥)) z.0)) (λ z. absurd (All-contains (λ _. ⊥) [] e (All-nil (λ _. ⊥)) z)) may;
 }
 
 -- a command that is issued there may be taken
-pub can_take : (memory : ℕ → ℕ) (c : Meaning) (places : List ℕ) → DecodesTo memory 0 0 c places → Can (Fetch 0 0 c places) (written (Px (port_at 0) Ci) 1 (ready_with memory))
+pub can_take : (memory : ℕ → ℕ) (c : Meaning) (places : List ℕ) → DecodesTo memory 0 0 c places → Can (Fetch 0 0 c places) (written (Px (port_at 0) Ci) 1 (ready_device memory))
 unfolding changed
 can_take memory c places says = record {
   fetchable = record { st = refl; issued = refl; free = refl };
   working = record { running = refl; present = refl; fresh = refl; admitted = refl; whole = refl };
-  alone = λ slot t is. absurd (none-some _ is);
+  is_unmixed = λ slot t is. absurd (none-some _ is);
   says = says;
 }
 
-accepting_knows : DriverRelation accepting (idle prepared_read)
-accepting_knows = accept_knows (idle prepared_read) start accepted (ready_knows first_memory)
+accepting_knows : DriverRelation accepting (idle_driver_state prepared_read)
+accepting_knows = accept_knows (idle_driver_state prepared_read) start accepted (ready_knows first_memory)
 
 -- ---- the read is issued
 
@@ -156,24 +156,24 @@ other_bit n k ne = ap (λ (b : ℕ). b == 1) (bit_at-pow_other n k ne)
 pub bit_one_other : (k : ℕ) → k ≢ 0 → bit 1 k ≡ false
 bit_one_other k ne = other_bit 0 k ne
 
-prepared : IsPrepared (idle prepared_read).uses accepting prepared_read 0 0 plain waits 1
+prepared : IsPrepared (idle_driver_state prepared_read).uses accepting prepared_read 0 0 plain waits 1
 unfolding changed
 prepared = record {
   may = may_issue;
   port_is = refl;
   free = refl;
   usable = omega arith;
-  head = λ _. refl;
-  started = refl;
-  placed = record { port_below = omega arith; slot_below = omega arith; list = refl };
+  plain_is_in_slot_0 = λ _. refl;
+  st_is_set = refl;
+  list_is_in_place = record { port_below = omega arith; slot_below = omega arith; list = refl };
   command = read_of 100 8;
   places = piece_addresses 0x64000 8;
-  told = told;
-  means = record { op = refl; first = λ _. refl; places_are = (cut_length 0x64000 8, places_in 100); head = λ e. absurd (read_no_trim e) };
+  slot_decodes_to = told;
+  means = record { op_is = refl; first_sector_is = λ _. refl; places_are = (cut_length 0x64000 8, places_in 100); trim_is_in_slot_0 = λ e. absurd (read_no_trim e) };
   kind = refl;
   block = tt;
-  here = refl;
-  alone = bit_one_other;
+  bit_is_set = refl;
+  no_other_bit_is_set = bit_one_other;
 }
 
 -- the write gives the first read
@@ -195,22 +195,22 @@ pub prepared_is_known : StepLaws → PreparedReadWitness
 prepared_is_known laws = record {
   machine = accepting;
   reached = accepting_reached;
-  knows = accepting_knows;
+  driver_relation = accepting_knows;
   mode = plain;
   request = waits;
   id_is = refl;
   prepared = prepared;
-  permitted = issue_is_permitted laws (idle prepared_read).uses accepting prepared_read accepting_reached accepting_knows.agrees (port_at 0) 0 plain waits 1
+  permitted = issue_is_permitted laws (idle_driver_state prepared_read).uses accepting prepared_read accepting_reached accepting_knows.state_relation (port_at 0) 0 plain waits 1
       (record { ae = refl; no_reset = refl }) (omega arith, refl) (omega arith) prepared;
   writes = record { mid = prepared_read; steps = record { steps = []; lead = refl }; effect = issues };
 }
 
-pub first_knows : DriverRelation issued first_known
+pub first_knows : DriverRelation issued first_driver_state
 first_knows = record {
-  agrees = subst (λ (d : Device). StateRelation first_uses issued d) (sym issues)
-      (issue_agrees (idle prepared_read).uses accepting prepared_read accepting_reached accepting_knows.agrees 0 0 plain waits 1 prepared);
-  have = λ q. issue_have (idle prepared_read).uses accepting prepared_read accepting_reached accepting_knows.agrees 0 0 plain waits 1 prepared q [] (accepting_knows.have q);
+  state_relation = subst (λ (d : Device). StateRelation first_uses issued d) (sym issues)
+      (issue_agrees (idle_driver_state prepared_read).uses accepting prepared_read accepting_reached accepting_knows.state_relation 0 0 plain waits 1 prepared);
+  have_slots = λ q. issue_have (idle_driver_state prepared_read).uses accepting prepared_read accepting_reached accepting_knows.state_relation 0 0 plain waits 1 prepared q [] (accepting_knows.have_slots q);
 }
 
 pub first_is_known : StepLaws → FirstReadWitness
-first_is_known laws = record { machine = issued; reached = (reached laws); knows = first_knows; request = newly_issued waits; moves = moves; id_is = refl }
+first_is_known laws = record { machine = issued; reached = (reached laws); driver_relation = first_knows; request = newly_issued waits; may_still_move = moves; id_is = refl }

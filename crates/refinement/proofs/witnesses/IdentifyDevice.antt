@@ -15,12 +15,12 @@ use Rattle.adapter.specs.declared.command.Operation.TheVariants.{Identify, Trim}
 use Rattle.adapter.proofs.FirstRead.{first_sane}
 use Rattle.block_machine.specs.Histories.{IsReachable}
 use Rattle.block_machine.specs.State.{Machine}
-use Rattle.refinement.specs.Below.{StepLaws}
+use Rattle.refinement.specs.StepLaws.{StepLaws}
 use Rattle.refinement.specs.Relation.{port_at}
-use Rattle.refinement.specs.Driver.{DriverRelation, IsOwnPrepared, idle}
-use Rattle.refinement.specs.Places.{scratch_of}
+use Rattle.refinement.specs.Driver.{DriverRelation, IsOwnPrepared, idle_driver_state}
+use Rattle.refinement.specs.MemoryLayout.{scratch_of}
 use Rattle.refinement.specs.Slots.{Free, Own, Serves, SlotDecodesTo}
-use Rattle.refinement.specs.Witness.{identify_memory, prepared_identify, issued_identify, own_known, OwnCommandAgrees}
+use Rattle.refinement.specs.ReadWitness.{identify_memory, prepared_identify, issued_identify, own_driver_state, OwnCommandAgrees}
 use Rattle.refinement.proofs.relation.OneSlot.{changed_at}
 use Rattle.refinement.proofs.driver.EndedRequests.{page_is_read}
 use Rattle.refinement.proofs.driver.PermittedAccesses.{own_is_permitted}
@@ -43,30 +43,30 @@ abbrev machine : Machine
 machine = start_with identify_memory
 
 reached : IsReachable machine
-reached = record { first = machine; past = []; starts = starts_with identify_memory; legal = tt; is = refl }
+reached = record { initial_machine = machine; steps_since = []; is_initial = starts_with identify_memory; is_legal = tt; leads_to_machine = refl }
 
-before : DriverRelation machine (idle prepared_identify)
+before : DriverRelation machine (idle_driver_state prepared_identify)
 before = ready_knows identify_memory
 
-prepared : IsOwnPrepared (idle prepared_identify).uses prepared_identify 0 Identify 1
+prepared : IsOwnPrepared (idle_driver_state prepared_identify).uses prepared_identify 0 Identify 1
 unfolding changed
 prepared = record {
   own = refl;
   free = refl;
-  started = refl;
-  placed = record { port_below = omega arith; slot_below = omega arith; list = refl };
+  st_is_set = refl;
+  list_is_in_place = record { port_below = omega arith; slot_below = omega arith; list = refl };
   command = identify;
   operation_is = refl;
-  told = told;
-  known = omega arith;
-  here = refl;
-  alone = bit_one_other;
+  slot_decodes_to = told;
+  st_set_is_on_tape = omega arith;
+  bit_is_set = refl;
+  no_other_bit_is_set = bit_one_other;
 }
 
-knows : DriverRelation machine own_known
+knows : DriverRelation machine own_driver_state
 knows = record {
-  agrees = own_agrees (idle prepared_identify).uses machine prepared_identify before.agrees 0 Identify 1 prepared;
-  have = λ q. put_have (idle prepared_identify).uses machine 0 0 (Own Identify) q [] (λ id u. absurd (let z : Free ≡ Serves id = u in cc)) (before.have q);
+  state_relation = own_agrees (idle_driver_state prepared_identify).uses machine prepared_identify before.state_relation 0 Identify 1 prepared;
+  have_slots = λ q. put_have (idle_driver_state prepared_identify).uses machine 0 0 (Own Identify) q [] (λ id u. absurd (let z : Free ≡ Serves id = u in cc)) (before.have_slots q);
 }
 
 -- ---- and its page comes
@@ -88,17 +88,17 @@ ended = device_after (Done 0 0 0 brought) moved
 
 page_is_sector : IsSector (first_disk_sector 0)
 unfolding changed
-page_is_sector = first_sane.disk 0 first_disk_sector refl 0 (omega arith)
+page_is_sector = first_sane.disks_hold_sectors 0 first_disk_sector refl 0 (omega arith)
 
 can_fetch : Can (Fetch 0 0 identify (scratch_of 0 ∷ [])) issued_identify
-can_fetch = can_take identify_memory identify (scratch_of 0 ∷ []) told.says
+can_fetch = can_take identify_memory identify (scratch_of 0 ∷ []) told.decodes_to
 
 can_move : Can (Move 0 0 taken (first_disk_sector 0)) fetched
 unfolding changed
 can_move = record {
   works = record { taken = refl; working = record { running = refl; present = refl; fresh = refl; admitted = refl; whole = refl } };
-  left = omega arith;
-  sector = page_is_sector;
+  piece_is_left = omega arith;
+  bytes_are_sector = page_is_sector;
   brings = tt;
 }
 
@@ -106,8 +106,8 @@ can_end : Can (Done 0 0 0 brought) moved
 unfolding changed
 can_end = record {
   works = record { taken = refl; working = record { running = refl; present = refl; fresh = refl; admitted = refl; whole = refl } };
-  finished = record { moved = refl; cleared = λ (e : Identify ≡ Trim). absurd cc };
-  shown = inl refl;
+  finished = record { all_is_moved = refl; all_is_cleared = λ (e : Identify ≡ Trim). absurd cc };
+  cause_is_allowed = inl refl;
 }
 
 comes : Steps issued_identify ended
@@ -136,12 +136,12 @@ own_is_known laws = record {
   reached = reached;
   before = before;
   prepared = prepared;
-  permitted = own_is_permitted laws (idle prepared_identify).uses machine prepared_identify reached before.agrees (port_at 0) Identify 1
+  permitted = own_is_permitted laws (idle_driver_state prepared_identify).uses machine prepared_identify reached before.state_relation (port_at 0) Identify 1
       (record { ae = refl; no_reset = refl }) (omega arith, refl) prepared;
   writes = record { mid = prepared_identify; steps = record { steps = []; lead = refl }; effect = refl };
-  knows = knows;
+  driver_relation = knows;
   found = noted (Px (port_at 0) Ci) 0 ended;
   reads = reads;
-  page = page_is_read laws own_known.uses machine (port_at 0) Identify 0 issued_identify (noted (Px (port_at 0) Ci) 0 ended) reached knows.agrees refl running
+  page = page_is_read laws own_driver_state.uses machine (port_at 0) Identify 0 issued_identify (noted (Px (port_at 0) Ci) 0 ended) reached knows.state_relation refl running
       (put_same (λ _ _. Free) 0 0 (Own Identify)) reads refl;
 }

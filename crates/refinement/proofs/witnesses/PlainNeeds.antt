@@ -19,17 +19,17 @@ use Rattle.adapter.specs.declared.command.Operation.TheVariants.{ReadQueued}
 use Rattle.adapter.specs.declared.command.Prd.{Prd}
 use Rattle.block_machine.specs.Histories.{IsReachable}
 use Rattle.block_machine.specs.State.{Machine}
-use Rattle.refinement.specs.Below.{StepLaws}
+use Rattle.refinement.specs.StepLaws.{StepLaws}
 use Rattle.refinement.specs.Relation.{StateRelation, port_at}
 use Rattle.refinement.specs.Driver.{LeavesUses}
-use Rattle.refinement.specs.Places.{table_of}
-use Rattle.refinement.specs.TwoReads.{queued_read, two_memory, two_issued, one_taken, two_known, TwoReadsWitness}
+use Rattle.refinement.specs.MemoryLayout.{table_of}
+use Rattle.refinement.specs.TwoReads.{queued_read, two_memory, two_issued, one_taken, two_reads_driver_state, TwoReadsWitness}
 use Rattle.refinement.specs.Slots.{SlotStates, SlotDecodesTo}
-use Rattle.refinement.specs.Witness.{ready_with}
+use Rattle.refinement.specs.ReadWitness.{ready_device}
 use Rattle.refinement.proofs.witnesses.QueuedReads.{two_are_known}
 use Rattle.refinement.proofs.witnesses.SpeltSlot.{IsSpelt, IsSpeltHeader, IsSpeltCommand, IsSpeltPrd, spelt_told, zeros_from}
 use Rattle.refinement.proofs.steps.RegisterWrites.{written_agrees}
-use Rattle.refinement.specs.Recovering.{WorksPlainly}
+use Rattle.refinement.specs.HaltRecovery.{WorksPlainly}
 
 abbrev AreTakenPlainly : Device → ℕ → Type 0
 AreTakenPlainly d port = (slot : ℕ) (t : FetchedCommand) → (d.port port).taken slot ≡ Some t → is_queued t.meaning.operation ≡ false
@@ -47,7 +47,7 @@ issued_runs = refl
 pub needs_unarmed : StepLaws → ((uses : SlotStates) (m : Machine) (port : ℕ) (old new : Device) → IsReachable m → StateRelation uses m old → Steps old new → halt_after_start (old.port port).halt ≡ NotHalted → AreTakenPlainly old port → AreTakenPlainly new port) → ⊥
 needs_unarmed laws law =
     let w : TwoReadsWitness = two_are_known laws in
-    absurd (both_ways _ (law (two_known two_issued).uses w.machine 0 two_issued one_taken w.reached w.issued.agrees w.takes issued_runs none_taken 0 w.command w.taken) w.queued)
+    absurd (both_ways _ (law (two_reads_driver_state two_issued).uses w.machine 0 two_issued one_taken w.reached w.issued.state_relation w.takes issued_runs none_taken 0 w.command w.taken) w.queued)
 
 -- ---- one was taken before ST was cleared
 
@@ -70,13 +70,13 @@ may_stop = (
   },
 )
 
-leaves : LeavesUses (two_known one_taken).uses (Px (port_at 0) Cmd) 0x10 one_taken
+leaves : LeavesUses (two_reads_driver_state one_taken).uses (Px (port_at 0) Cmd) 0x10 one_taken
 unfolding changed
 leaves = record { start = λ b. absurd (false≢true b); receive = λ _. (omega arith, refl) }
 
 can_fail : Can (Fault 0 0 0x40 0 queued_taken) stopping
 unfolding changed
-can_fail = record { taken = refl; running = refl; is_byte = omega arith; kept = refl }
+can_fail = record { taken = refl; running = refl; is_byte = omega arith; kept_bits_are_allowed = refl }
 
 stopping_is : (halt_after_start (stopping.port 0).halt ≡ NotHalted) × ((slot : ℕ) → (stopping.port 0).sact slot ≡ false)
 unfolding changed
@@ -90,8 +90,8 @@ pub needs_plain : StepLaws → ((uses : SlotStates) (m : Machine) (port : ℕ) (
     halt_after_start (new.port port).halt ≡ NotHalted) → ⊥
 needs_plain laws law =
     let w : TwoReadsWitness = two_are_known laws in
-    let a : StateRelation (two_known one_taken).uses w.machine stopping = written_agrees (two_known one_taken).uses w.machine one_taken w.knows.agrees (Px (port_at 0) Cmd) 0x10 may_stop leaves in
-    let z : LogOnly ≡ NotHalted = sym log_only ∙ law (two_known one_taken).uses w.machine 0 stopping (device_after (Fault 0 0 0x40 0 queued_taken) stopping) w.reached a
+    let a : StateRelation (two_reads_driver_state one_taken).uses w.machine stopping = written_agrees (two_reads_driver_state one_taken).uses w.machine one_taken w.driver_relation.state_relation (Px (port_at 0) Cmd) 0x10 may_stop leaves in
+    let z : LogOnly ≡ NotHalted = sym log_only ∙ law (two_reads_driver_state one_taken).uses w.machine 0 stopping (device_after (Fault 0 0 0x40 0 queued_taken) stopping) w.reached a
     (record { steps = (Fault 0 0 0x40 0 queued_taken) ∷ []; lead = (can_fail, refl) }) stopping_is.0 stopping_is.1 in
     cc
 
@@ -111,7 +111,7 @@ queued_spelt memory slot first n small aligned even header fis prd = record {
   fis = fis;
   meaning = record { ranged = λ _. (omega arith, omega arith, small); not_ranged = λ h. absurd (true≢false h) };
   prd = prd;
-  allowed = record { even_address = even; even_bytes = refl; some = omega arith; limit = omega arith };
+  allowed = record { even_address = even; even_bytes = refl; is_not_empty = omega arith; is_at_most_4_mib = omega arith };
   whole = refl;
   as_many = refl;
 }
@@ -122,20 +122,20 @@ first_told = spelt_told two_memory 0 (queued_read 100) (frame_prd 100)
     (queued_spelt two_memory 0 100 100 (omega arith) refl refl (refl, refl, refl) (refl, refl, refl, refl, refl, refl, refl, refl) (refl, refl, refl))
 
 abbrev unarmed : Device
-unarmed = written (Px (port_at 0) Ci) 1 (ready_with two_memory)
+unarmed = written (Px (port_at 0) Ci) 1 (ready_device two_memory)
 
 can_fetch : Can (Fetch 0 0 (queued_read 100) (piece_addresses 0x64000 8)) unarmed
 unfolding changed
 can_fetch = record {
   fetchable = record { st = refl; issued = refl; free = refl };
   working = record { running = refl; present = refl; fresh = refl; admitted = refl; whole = refl };
-  alone = λ slot t is. absurd (none-some _ is);
-  says = first_told.says;
+  is_unmixed = λ slot t is. absurd (none-some _ is);
+  says = first_told.decodes_to;
 }
 
 unarmed_works : WorksPlainly (unarmed.port 0)
 unfolding changed
-unarmed_works = record { restarts = refl; unarmed = λ slot. refl; plain = λ slot t is. absurd (none-some _ is) }
+unarmed_works = record { start_ends_halt = refl; unarmed = λ slot. refl; plain = λ slot t is. absurd (none-some _ is) }
 
 taken_then : ((device_after (Fetch 0 0 (queued_read 100) (piece_addresses 0x64000 8)) unarmed).port 0).taken 0 ≡ Some queued_taken
 unfolding changed

@@ -17,16 +17,16 @@ use Rattle.refinement.proofs.device.RecordedFaults.{running_faulted, steps_recor
 pub first_recorded : RecordsFaults first_read_device.tape (first_read_device.port 0) 0
 unfolding changed
 first_recorded = record {
-  known = omega arith;
-  linked = refl;
-  flag = λ f. absurd (false≢true f);
-  fault = λ f. running_faulted f;
+  st_set_is_on_tape = omega arith;
+  no_link_is_due = refl;
+  tfes_tells_fault = λ f. absurd (false≢true f);
+  shows_last_fault = λ f. running_faulted f;
 }
 
 -- the port beside it has no device
 pub second_quiet : IsCleanToStart (first_read_device.port 1)
 unfolding changed
-second_quiet = record { unflagged = (refl, refl); linked = refl; no_comreset = λ (e : 0 ≡ 1). omega (arith, e) }
+second_quiet = record { tfes_is_clear = (refl, refl); no_link_is_due = refl; no_comreset = λ (e : 0 ≡ 1). omega (arith, e) }
 
 -- the read is taken, and fails
 abbrev taken_read : FetchedCommand
@@ -43,13 +43,13 @@ unfolding changed
 first_fetch = record {
   fetchable = record { st = refl; issued = refl; free = refl };
   working = record { running = refl; present = refl; fresh = refl; admitted = refl; whole = refl };
-  alone = λ slot t is. absurd (none-some _ is);
+  is_unmixed = λ slot t is. absurd (none-some _ is);
   says = first_says;
 }
 
 first_fault : Can (Fault 0 0 0x40 0 taken_read) fetched
 unfolding changed
-first_fault = record { taken = refl; running = refl; is_byte = omega arith; kept = refl }
+first_fault = record { taken = refl; running = refl; is_byte = omega arith; kept_bits_are_allowed = refl }
 
 failing : Steps first_read_device failed
 failing = record { steps = Fetch 0 0 (read_of 100 8) (piece_addresses 0x64000 8) ∷ Fault 0 0 0x40 0 taken_read ∷ []; lead = (first_fetch, (first_fault, refl)) }

@@ -22,16 +22,16 @@ use Rattle.adapter.proofs.SaysLemmas.{cut_length}
 use Rattle.block_machine.specs.declared.due.QueueMode.{QueueMode}
 use Rattle.block_machine.specs.Histories.{IsReachable}
 use Rattle.block_machine.specs.State.{Accepted, Pending, Machine, unanswered}
-use Rattle.block_machine.specs.Steps.{Accept, Issue, May, after_step, newly_accepted, newly_issued}
+use Rattle.block_machine.specs.Steps.{Accept, Issue, IsEnabled, after_step, newly_accepted, newly_issued}
 use Rattle.block_machine.proofs.Members.{contains_here, contains_there, contains_none, contains_cases, into_map}
 use Rattle.block_machine.proofs.Setting.{frame}
-use Rattle.refinement.specs.Below.{StepLaws}
+use Rattle.refinement.specs.StepLaws.{StepLaws}
 use Rattle.refinement.specs.Relation.{StateRelation, port_at, HaveSlots}
-use Rattle.refinement.specs.Driver.{DriverRelation, IsPrepared, idle}
-use Rattle.refinement.specs.Places.{table_of}
-use Rattle.refinement.specs.TwoReads.{queued_read, two_memory, two_armed, armed_uses, one_issued, two_issued, one_taken, two_known, TwoReadsWitness, TwoStoredReads}
-use Rattle.refinement.specs.Slots.{Free, Serves, SlotStates, put, SlotDecodesTo, Armed}
-use Rattle.refinement.specs.Witness.{first_id, ready_with}
+use Rattle.refinement.specs.Driver.{DriverRelation, IsPrepared, idle_driver_state}
+use Rattle.refinement.specs.MemoryLayout.{table_of}
+use Rattle.refinement.specs.TwoReads.{queued_read, two_memory, two_armed, armed_uses, one_issued, two_issued, one_taken, two_reads_driver_state, TwoReadsWitness, TwoStoredReads}
+use Rattle.refinement.specs.Slots.{Free, Serves, SlotStates, set_slot_state, SlotDecodesTo, Armed}
+use Rattle.refinement.specs.ReadWitness.{first_id, ready_device}
 use Rattle.refinement.proofs.witnesses.AcceptedRequests.{accepted_of, has_its_grant, read_into, read_is_new, read_no_trim, places_in}
 use Rattle.refinement.proofs.driver.OwnSteps.{accept_knows}
 use Rattle.refinement.proofs.steps.FollowedSteps.{silent_agrees}
@@ -58,7 +58,7 @@ queued_spelt memory slot first n small aligned even header fis prd = record {
   fis = fis;
   meaning = record { ranged = λ _. (omega arith, omega arith, small); not_ranged = λ h. absurd (true≢false h) };
   prd = prd;
-  allowed = record { even_address = even; even_bytes = refl; some = omega arith; limit = omega arith };
+  allowed = record { even_address = even; even_bytes = refl; is_not_empty = omega arith; is_at_most_4_mib = omega arith };
   whole = refl;
   as_many = refl;
 }
@@ -92,14 +92,14 @@ accepted = after_step one_accepted (Accept second_request)
 
 accepted_reached : IsReachable accepted
 accepted_reached = record {
-  first = start;
-  past = Accept second_request ∷ Accept first_request ∷ [];
-  starts = starts_with two_memory;
-  legal = (
+  initial_machine = start;
+  steps_since = Accept second_request ∷ Accept first_request ∷ [];
+  is_initial = starts_with two_memory;
+  is_legal = (
     (tt, read_is_new start 100 100 refl refl refl (omega arith) (omega arith) (omega arith) (omega arith)),
     read_is_new one_accepted 108 101 refl refl refl (omega arith) (omega arith) (omega arith) (omega arith),
   );
-  is = refl;
+  leads_to_machine = refl;
 }
 
 abbrev queued : QueueMode
@@ -114,8 +114,8 @@ second_waits = newly_accepted second_request
 first_in : Contains accepted.book first_waits
 first_in = contains_here first_waits (second_waits ∷ []) first_waits refl
 
-may_first : May accepted (Issue queued first_waits)
-may_first = (first_in, record { here = into_map unanswered accepted.book first_waits first_in; clear = refl; slot = λ _. omega arith }, λ e h. absurd (contains_none e h), has_its_grant refl)
+may_first : IsEnabled accepted (Issue queued first_waits)
+may_first = (first_in, record { is_in_book = into_map unanswered accepted.book first_waits first_in; nothing_blocks = refl; slot_is_left = λ _. omega arith }, λ e h. absurd (contains_none e h), has_its_grant refl)
 
 abbrev issuing : Machine
 issuing = after_step accepted (Issue queued first_waits)
@@ -126,8 +126,8 @@ issuing_reached laws = laws.reached accepted (Issue queued first_waits ∷ []) a
 second_in : Contains issuing.book second_waits
 second_in = contains_there (newly_issued first_waits) (second_waits ∷ []) second_waits (contains_here second_waits [] second_waits refl)
 
-may_second : May issuing (Issue queued second_waits)
-may_second = (second_in, record { here = into_map unanswered issuing.book second_waits second_in; clear = refl; slot = λ _. omega arith }, λ e h. absurd (contains_none e h), has_its_grant refl)
+may_second : IsEnabled issuing (Issue queued second_waits)
+may_second = (second_in, record { is_in_book = into_map unanswered issuing.book second_waits second_in; nothing_blocks = refl; slot_is_left = λ _. omega arith }, λ e h. absurd (contains_none e h), has_its_grant refl)
 
 abbrev machine : Machine
 machine = after_step issuing (Issue queued second_waits)
@@ -137,38 +137,38 @@ reached laws = laws.reached issuing (Issue queued second_waits ∷ []) (issuing_
 
 -- ---- a read is prepared in a slot, with its bit of PxSACT
 
-read_prepared : (uses : SlotStates) (m was : Machine) (d : Device) (slot first n : ℕ) → May m (Issue queued (newly_accepted (accepted_of was (read_into first n)))) → uses 0 slot ≡ Armed → slot < 32 → (d.port 0).st ≡ true → (d.port 0).bases.clb ≡ 0 →
+read_prepared : (uses : SlotStates) (m was : Machine) (d : Device) (slot first n : ℕ) → IsEnabled m (Issue queued (newly_accepted (accepted_of was (read_into first n)))) → uses 0 slot ≡ Armed → slot < 32 → (d.port 0).st ≡ true → (d.port 0).bases.clb ≡ 0 →
     SlotDecodesTo d.memory 0 0 slot (queued_read first) (piece_addresses (4096 * n) 8) → IsPrepared uses m d 0 slot queued (newly_accepted (accepted_of was (read_into first n))) (2 ^ slot)
 read_prepared uses m was d slot first n may free small started list told = record {
   may = may;
   port_is = refl;
   free = free;
   usable = small;
-  head = λ plain. absurd (false≢true plain);
-  started = started;
-  placed = record { port_below = omega arith; slot_below = small; list = list };
+  plain_is_in_slot_0 = λ plain. absurd (false≢true plain);
+  st_is_set = started;
+  list_is_in_place = record { port_below = omega arith; slot_below = small; list = list };
   command = queued_read first;
   places = piece_addresses (4096 * n) 8;
-  told = subst (λ (at : ℕ). SlotDecodesTo d.memory at 0 slot (queued_read first) (piece_addresses (4096 * n) 8)) (sym list) told;
-  means = record { op = refl; first = λ _. refl; places_are = (cut_length (4096 * n) 8, places_in n); head = λ e. absurd (read_no_trim e) };
+  slot_decodes_to = subst (λ (at : ℕ). SlotDecodesTo d.memory at 0 slot (queued_read first) (piece_addresses (4096 * n) 8)) (sym list) told;
+  means = record { op_is = refl; first_sector_is = λ _. refl; places_are = (cut_length (4096 * n) 8, places_in n); trim_is_in_slot_0 = λ e. absurd (read_no_trim e) };
   kind = refl;
   block = tt;
-  here = ap (λ (b : ℕ). b == 1) (bit_at-pow_same slot);
-  alone = other_bit slot;
+  bit_is_set = ap (λ (b : ℕ). b == 1) (bit_at-pow_same slot);
+  no_other_bit_is_set = other_bit slot;
 }
 
 -- ---- PxSACT is written
 
-accepted_knows : DriverRelation accepted (idle (ready_with two_memory))
-accepted_knows = accept_knows (idle (ready_with two_memory)) one_accepted second_request (accept_knows (idle (ready_with two_memory)) start first_request (ready_knows two_memory))
+accepted_knows : DriverRelation accepted (idle_driver_state (ready_device two_memory))
+accepted_knows = accept_knows (idle_driver_state (ready_device two_memory)) one_accepted second_request (accept_knows (idle_driver_state (ready_device two_memory)) start first_request (ready_knows two_memory))
 
 abbrev one_armed : Device
-one_armed = written (Px (port_at 0) Sact) 1 (ready_with two_memory)
+one_armed = written (Px (port_at 0) Sact) 1 (ready_device two_memory)
 
 bit_here : (slot : ℕ) → bit (2 ^ slot) slot ≡ true
 bit_here slot = ap (λ (b : ℕ). b == 1) (bit_at-pow_same slot)
 
-ready_runs : ((ready_with two_memory).port 0).st ≡ true
+ready_runs : ((ready_device two_memory).port 0).st ≡ true
 unfolding changed
 ready_runs = refl
 
@@ -176,25 +176,25 @@ one_runs : (one_armed.port 0).st ≡ true
 unfolding changed
 one_runs = refl
 
-still_free : put (λ _ _. Free) 0 0 Armed 0 1 ≡ Free
+still_free : set_slot_state (λ _ _. Free) 0 0 Armed 0 1 ≡ Free
 unfolding changed
 still_free = refl
 
-one_armed_agrees : StateRelation (put (λ _ _. Free) 0 0 Armed) accepted one_armed
-one_armed_agrees = arming_agrees (idle (ready_with two_memory)).uses accepted (ready_with two_memory) accepted_knows.agrees 0 0 1 refl ready_runs (bit_here 0) (other_bit 0)
+one_armed_agrees : StateRelation (set_slot_state (λ _ _. Free) 0 0 Armed) accepted one_armed
+one_armed_agrees = arming_agrees (idle_driver_state (ready_device two_memory)).uses accepted (ready_device two_memory) accepted_knows.state_relation 0 0 1 refl ready_runs (bit_here 0) (other_bit 0)
 
 two_armed_agrees : StateRelation armed_uses accepted two_armed
-two_armed_agrees = arming_agrees (put (λ _ _. Free) 0 0 Armed) accepted one_armed one_armed_agrees 0 1 2 still_free one_runs (bit_here 1) (other_bit 1)
+two_armed_agrees = arming_agrees (set_slot_state (λ _ _. Free) 0 0 Armed) accepted one_armed one_armed_agrees 0 1 2 still_free one_runs (bit_here 1) (other_bit 1)
 
 armed_have : (q : ℕ) → HaveSlots armed_uses accepted q []
 armed_have q =
-    put_have (put (λ _ _. Free) 0 0 Armed) accepted 0 1 Armed q [] (λ id u. absurd (serves_free (sym u ∙ still_free)))
-    (put_have (λ _ _. Free) accepted 0 0 Armed q [] (λ id u. absurd (serves_free (sym u))) (accepted_knows.have q))
+    put_have (set_slot_state (λ _ _. Free) 0 0 Armed) accepted 0 1 Armed q [] (λ id u. absurd (serves_free (sym u ∙ still_free)))
+    (put_have (λ _ _. Free) accepted 0 0 Armed q [] (λ id u. absurd (serves_free (sym u))) (accepted_knows.have_slots q))
 
 -- ---- both are issued
 
 abbrev one_uses : SlotStates
-one_uses = put armed_uses 0 0 (Serves first_id)
+one_uses = set_slot_state armed_uses 0 0 (Serves first_id)
 
 first_prepared : IsPrepared armed_uses accepted two_armed 0 0 queued first_waits 1
 unfolding changed
@@ -210,10 +210,10 @@ second_prepared : IsPrepared one_uses issuing one_issued 0 1 queued second_waits
 unfolding changed
 second_prepared = read_prepared one_uses issuing one_accepted one_issued 1 108 101 may_second refl (omega arith) refl refl second_told
 
-two_knows : StepLaws → DriverRelation machine (two_known two_issued)
+two_knows : StepLaws → DriverRelation machine (two_reads_driver_state two_issued)
 two_knows laws = record {
-  agrees = issue_agrees one_uses issuing one_issued (issuing_reached laws) one_agrees 0 1 queued second_waits 2 second_prepared;
-  have = λ q. issue_have one_uses issuing one_issued (issuing_reached laws) one_agrees 0 1 queued second_waits 2 second_prepared q [] (one_have q);
+  state_relation = issue_agrees one_uses issuing one_issued (issuing_reached laws) one_agrees 0 1 queued second_waits 2 second_prepared;
+  have_slots = λ q. issue_have one_uses issuing one_issued (issuing_reached laws) one_agrees 0 1 queued second_waits 2 second_prepared q [] (one_have q);
 }
 
 -- ---- and the one is taken
@@ -223,13 +223,13 @@ unfolding changed
 can_fetch = record {
   fetchable = record { st = refl; issued = refl; free = refl };
   working = record { running = refl; present = refl; fresh = refl; admitted = refl; whole = refl };
-  alone = λ slot t is. absurd (none-some _ is);
-  says = first_told.says;
+  is_unmixed = λ slot t is. absurd (none-some _ is);
+  says = first_told.decodes_to;
 }
 
-taken_agrees : StepLaws → StateRelation (two_known one_taken).uses machine one_taken
-taken_agrees laws = silent_agrees (two_known one_taken).uses machine two_issued one_taken
-    (fetch_follows (two_known one_taken).uses machine two_issued (two_knows laws).agrees 0 0 (queued_read 100) (piece_addresses 0x64000 8) can_fetch) refl
+taken_agrees : StepLaws → StateRelation (two_reads_driver_state one_taken).uses machine one_taken
+taken_agrees laws = silent_agrees (two_reads_driver_state one_taken).uses machine two_issued one_taken
+    (fetch_follows (two_reads_driver_state one_taken).uses machine two_issued (two_knows laws).state_relation 0 0 (queued_read 100) (piece_addresses 0x64000 8) can_fetch) refl
 
 bits : ((one_taken.port 0).taken 0 ≡ Some (begun (queued_read 100) (piece_addresses 0x64000 8))) × ((one_taken.port 0).ci 1 ≡ true)
 unfolding changed
@@ -246,12 +246,12 @@ pub two_are_known : StepLaws → TwoReadsWitness
 two_are_known laws = record {
   before = accepted;
   reached_before = accepted_reached;
-  armed = record { agrees = two_armed_agrees; have = armed_have };
+  armed = record { state_relation = two_armed_agrees; have_slots = armed_have };
   machine = machine;
   reached = (reached laws);
-  first = newly_issued first_waits;
-  second = newly_issued second_waits;
-  moves = (
+  first_request = newly_issued first_waits;
+  second_request = newly_issued second_waits;
+  may_still_move = (
     inl (contains_here (newly_issued first_waits) (newly_issued second_waits ∷ []) (newly_issued first_waits) refl, refl),
     inl (contains_there (newly_issued first_waits) (newly_issued second_waits ∷ []) (newly_issued second_waits) (contains_here (newly_issued second_waits) [] (newly_issued second_waits) refl), refl),
   );
@@ -263,7 +263,7 @@ two_are_known laws = record {
       (record { ae = refl; no_reset = refl }) (omega arith, refl) (omega arith) second_prepared;
   issued = (two_knows laws);
   takes = record { steps = (Fetch 0 0 (queued_read 100) (piece_addresses 0x64000 8)) ∷ []; lead = (can_fetch, refl) };
-  knows = record { agrees = (taken_agrees laws); have = (two_knows laws).have };
+  driver_relation = record { state_relation = (taken_agrees laws); have_slots = (two_knows laws).have_slots };
   command = begun (queued_read 100) (piece_addresses 0x64000 8);
   taken = bits.0;
   queued = refl;
@@ -274,12 +274,12 @@ pub two_are_stored : TwoStoredReads
 two_are_stored = record {
   machine = accepted;
   reached = accepted_reached;
-  knows = accepted_knows;
+  driver_relation = accepted_knows;
   mode = queued;
   queued = refl;
   usable = omega arith;
-  first = first_waits;
-  second = second_waits;
+  first_request = first_waits;
+  second_request = second_waits;
   first_asks = record { port_is = refl; operation = refl; first_is = refl; count = refl; frames = refl };
   second_asks = record { port_is = refl; operation = refl; first_is = refl; count = refl; frames = refl };
   may = ((tt, may_first), may_second);

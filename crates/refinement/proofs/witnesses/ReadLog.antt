@@ -20,13 +20,13 @@ use Rattle.adapter.proofs.Changed.{changed_other}
 use Rattle.adapter.proofs.FirstRead.{first_sane}
 use Rattle.block_machine.specs.Histories.{IsReachable}
 use Rattle.block_machine.specs.State.{Machine}
-use Rattle.refinement.specs.Below.{StepLaws}
+use Rattle.refinement.specs.StepLaws.{StepLaws}
 use Rattle.refinement.specs.Relation.{StateRelation, port_at}
-use Rattle.refinement.specs.Driver.{DriverRelation, IsOwnPrepared, idle}
+use Rattle.refinement.specs.Driver.{DriverRelation, IsOwnPrepared, idle_driver_state}
 use Rattle.refinement.specs.PortFacts.{TellsNoTrouble}
-use Rattle.refinement.specs.Places.{scratch_of}
+use Rattle.refinement.specs.MemoryLayout.{scratch_of}
 use Rattle.refinement.specs.Slots.{Free, Own, SlotDecodesTo}
-use Rattle.refinement.specs.Witness.{ready_with}
+use Rattle.refinement.specs.ReadWitness.{ready_device}
 use Rattle.refinement.proofs.relation.OneSlot.{changed_at}
 use Rattle.refinement.proofs.driver.PermittedAccesses.{own_is_permitted}
 use Rattle.refinement.proofs.driver.PutSlot.{put_other, own_agrees}
@@ -35,8 +35,8 @@ use Rattle.refinement.proofs.relation.OtherSlots.{empty_port}
 use Rattle.refinement.proofs.relation.SlotRelation.{SameFixed-refl}
 use Rattle.refinement.proofs.witnesses.SpeltSlot.{page_told, zeros_from}
 use Rattle.refinement.proofs.witnesses.FirstRead.{start_with, starts_with, ready_knows, bit_one_other}
-use Rattle.refinement.specs.Logged.{log_memory, log_port, log_device, log_uses, LogIsEnded}
-use Rattle.refinement.specs.Recovering.{RunsLinked, EndsHalt, FaultLeavesIssued}
+use Rattle.refinement.specs.LogWitness.{log_memory, log_port, log_device, log_uses, LogIsEnded}
+use Rattle.refinement.specs.HaltRecovery.{RunsLinked, EndsHalt, FaultLeavesIssued}
 use Rattle.refinement.proofs.driver.EndedHalt.{issued_ends, ended_well}
 
 -- ---- what the bytes say
@@ -54,38 +54,38 @@ abbrev machine : Machine
 machine = start_with log_memory
 
 reached : IsReachable machine
-reached = record { first = machine; past = []; starts = starts_with log_memory; legal = tt; is = refl }
+reached = record { initial_machine = machine; steps_since = []; is_initial = starts_with log_memory; is_legal = tt; leads_to_machine = refl }
 
-ready : DriverRelation machine (idle (ready_with log_memory))
+ready : DriverRelation machine (idle_driver_state (ready_device log_memory))
 ready = ready_knows log_memory
 
 -- a halt is no matter of the slots
-halt_agrees : StateRelation (idle log_device).uses machine log_device
+halt_agrees : StateRelation (idle_driver_state log_device).uses machine log_device
 unfolding changed
 halt_agrees =
-    empty_port (idle (ready_with log_memory)).uses machine (ready_with log_memory) ready.agrees 0 log_port [] (SameFixed-refl (idle (ready_with log_memory)).uses log_memory []) (gains_none [] machine)
+    empty_port (idle_driver_state (ready_device log_memory)).uses machine (ready_device log_memory) ready.state_relation 0 log_port [] (SameFixed-refl (idle_driver_state (ready_device log_memory)).uses log_memory []) (gains_none [] machine)
     (record { slots = λ k. record { issued = refl; sact = refl; taken = refl; st = refl; cr = refl; since = refl; list = refl }; fre = refl; received_at = refl; present = refl; disk = refl })
 
-knows : DriverRelation machine (idle log_device)
-knows = record { agrees = halt_agrees; have = ready.have }
+knows : DriverRelation machine (idle_driver_state log_device)
+knows = record { state_relation = halt_agrees; have_slots = ready.have_slots }
 
 runs : RunsLinked (log_device.port 0)
 unfolding changed
-runs = record { st = refl; cr = refl; det = refl; present = refl; fresh = refl; linked = refl; whole = refl }
+runs = record { st = refl; cr = refl; det = refl; present = refl; fresh = refl; no_link_is_due = refl; is_not_broken = refl }
 
-prepared : IsOwnPrepared (idle log_device).uses log_device 0 ReadLog 1
+prepared : IsOwnPrepared (idle_driver_state log_device).uses log_device 0 ReadLog 1
 unfolding changed
 prepared = record {
   own = refl;
   free = refl;
-  started = refl;
-  placed = record { port_below = omega arith; slot_below = omega arith; list = refl };
+  st_is_set = refl;
+  list_is_in_place = record { port_below = omega arith; slot_below = omega arith; list = refl };
   command = read_log;
   operation_is = refl;
-  told = told;
-  known = omega arith;
-  here = refl;
-  alone = bit_one_other;
+  slot_decodes_to = told;
+  st_set_is_on_tape = omega arith;
+  bit_is_set = refl;
+  no_other_bit_is_set = bit_one_other;
 }
 
 -- ---- it is issued
@@ -97,18 +97,18 @@ writes : Writes (Px (port_at 0) Ci) 1 log_device issued
 writes = record { mid = log_device; steps = record { steps = []; lead = refl }; effect = refl }
 
 ends : StepLaws → EndsHalt log_uses 0 issued
-ends laws = issued_ends laws (idle log_device).uses machine (port_at 0) ReadLog 1 log_device issued reached halt_agrees refl (λ slot ne. refl) prepared writes
+ends laws = issued_ends laws (idle_driver_state log_device).uses machine (port_at 0) ReadLog 1 log_device issued reached halt_agrees refl (λ slot ne. refl) prepared writes
 
 opens : FaultLeavesIssued log_uses 0 issued
 unfolding changed
-opens = record { off = refl; st = refl; plain = refl; undue = refl; alone = λ slot ne. put_other (λ _ _. Free) 0 0 (Own ReadLog) 0 slot (λ _ z. ne z); told = inl refl }
+opens = record { hr_is_clear = refl; st = refl; slot_0_is_plain = refl; link_is_not_due = refl; no_other_slot_is_used = λ slot ne. put_other (λ _ _. Free) 0 0 (Own ReadLog) 0 slot (λ _ z. ne z); tfes_is_clear_or_issued = inl refl }
 
 issued_agrees : StateRelation log_uses machine issued
-issued_agrees = own_agrees (idle log_device).uses machine log_device halt_agrees 0 ReadLog 1 prepared
+issued_agrees = own_agrees (idle_driver_state log_device).uses machine log_device halt_agrees 0 ReadLog 1 prepared
 
 issued_runs : RunsLinked (issued.port 0)
 unfolding changed
-issued_runs = record { st = refl; cr = refl; det = refl; present = refl; fresh = refl; linked = refl; whole = refl }
+issued_runs = record { st = refl; cr = refl; det = refl; present = refl; fresh = refl; no_link_is_due = refl; is_not_broken = refl }
 
 -- ---- and its page comes
 
@@ -129,23 +129,23 @@ ended = device_after (Done 0 0 0 brought) moved
 
 page_is_sector : IsSector (first_disk_sector 0)
 unfolding changed
-page_is_sector = first_sane.disk 0 first_disk_sector refl 0 (omega arith)
+page_is_sector = first_sane.disks_hold_sectors 0 first_disk_sector refl 0 (omega arith)
 
 can_fetch : Can (Fetch 0 0 read_log (scratch_of 0 ∷ [])) issued
 unfolding changed
 can_fetch = record {
   fetchable = record { st = refl; issued = refl; free = refl };
   working = record { running = refl; present = refl; fresh = refl; admitted = refl; whole = refl };
-  alone = λ slot t is. absurd (none-some _ is);
-  says = told.says;
+  is_unmixed = λ slot t is. absurd (none-some _ is);
+  says = told.decodes_to;
 }
 
 can_move : Can (Move 0 0 taken (first_disk_sector 0)) fetched
 unfolding changed
 can_move = record {
   works = record { taken = refl; working = record { running = refl; present = refl; fresh = refl; admitted = refl; whole = refl } };
-  left = omega arith;
-  sector = page_is_sector;
+  piece_is_left = omega arith;
+  bytes_are_sector = page_is_sector;
   brings = tt;
 }
 
@@ -153,8 +153,8 @@ can_end : Can (Done 0 0 0 brought) moved
 unfolding changed
 can_end = record {
   works = record { taken = refl; working = record { running = refl; present = refl; fresh = refl; admitted = refl; whole = refl } };
-  finished = record { moved = refl; cleared = λ (e : ReadLog ≡ Trim). absurd cc };
-  shown = inl refl;
+  finished = record { all_is_moved = refl; all_is_cleared = λ (e : ReadLog ≡ Trim). absurd cc };
+  cause_is_allowed = inl refl;
 }
 
 comes : Steps issued ended
@@ -201,9 +201,9 @@ tells = record { mid = over; steps = record { steps = []; lead = refl }; shows =
 
 no_trouble : TellsNoTrouble 1
 no_trouble = record {
-  change = bit_one_other 6 (λ e. omega (arith, e));
-  ready = bit_one_other 22 (λ e. omega (arith, e));
-  quiet = λ place low high. bit_one_other place (λ e. omega (arith, e, low));
+  pcs_is_clear = bit_one_other 6 (λ e. omega (arith, e));
+  prcs_is_clear = bit_one_other 22 (λ e. omega (arith, e));
+  no_error_bit_is_set = λ place low high. bit_one_other place (λ e. omega (arith, e, low));
 }
 
 halted : (log_device.port 0).halt ≡ LogOnly
@@ -214,18 +214,18 @@ pub log_is_ended : StepLaws → LogIsEnded
 log_is_ended laws = record {
   machine = machine;
   reached = reached;
-  knows = knows;
+  driver_relation = knows;
   halted = halted;
-  runs = runs;
+  runs_linked = runs;
   prepared = prepared;
-  permitted = own_is_permitted laws (idle log_device).uses machine log_device reached halt_agrees (port_at 0) ReadLog 1 (record { ae = refl; no_reset = refl }) (omega arith, refl) prepared;
+  permitted = own_is_permitted laws (idle_driver_state log_device).uses machine log_device reached halt_agrees (port_at 0) ReadLog 1 (record { ae = refl; no_reset = refl }) (omega arith, refl) prepared;
   issued = issued;
   writes = writes;
-  ends = (ends laws);
-  opens = opens;
-  over = over;
+  ends_halt = (ends laws);
+  fault_leaves_issued = opens;
+  ended_device = over;
   reads = reads;
   found = noted (Px (port_at 0) Is) 1 over;
   tells = tells;
-  well = ended_well laws log_uses machine (port_at 0) 0 1 issued over (noted (Px (port_at 0) Is) 1 over) reached issued_agrees (ends laws) issued_runs reads refl tells no_trouble;
+  port_runs_well = ended_well laws log_uses machine (port_at 0) 0 1 issued over (noted (Px (port_at 0) Is) 1 over) reached issued_agrees (ends laws) issued_runs reads refl tells no_trouble;
 }

@@ -23,12 +23,12 @@ use Rattle.adapter.specs.Steps.{Can, device_after, begun, Steps}
 use Rattle.adapter.specs.Steps.DeviceTransition.{Fetch, Fault, Fall}
 use Rattle.adapter.proofs.Changed.{changed_other}
 use Rattle.adapter.proofs.FirstRead.{first_says}
-use Rattle.refinement.specs.Below.{StepLaws}
+use Rattle.refinement.specs.StepLaws.{StepLaws}
 use Rattle.refinement.specs.Relation.{port_at}
 use Rattle.refinement.specs.PortFacts.{IsEngineStopped, TellsNoTrouble}
 use Rattle.refinement.proofs.device.AllowedWrites.{write_stays}
-use Rattle.refinement.specs.Recovered.{FaultIsSeen, RecoveredWitness}
-use Rattle.refinement.specs.Recovering.{IsLinked, WorksPlainly}
+use Rattle.refinement.specs.RecoveryWitness.{FaultIsSeen, RecoveredWitness}
+use Rattle.refinement.specs.HaltRecovery.{IsLinked, WorksPlainly}
 use Rattle.refinement.specs.TwoReads.{queued_read, two_issued}
 use Rattle.refinement.proofs.device.PlainPort.{plainly_well}
 use Rattle.refinement.proofs.witnesses.QueuedReads.{second_told}
@@ -78,13 +78,13 @@ unfolding changed
 first_fetch = record {
   fetchable = record { st = refl; issued = refl; free = refl };
   working = record { running = refl; present = refl; fresh = refl; admitted = refl; whole = refl };
-  alone = λ slot t is. absurd (none-some _ is);
+  is_unmixed = λ slot t is. absurd (none-some _ is);
   says = first_says;
 }
 
 first_fault : Can (Fault 0 0 0x40 0 taken_read) fetched
 unfolding changed
-first_fault = record { taken = refl; running = refl; is_byte = omega arith; kept = refl }
+first_fault = record { taken = refl; running = refl; is_byte = omega arith; kept_bits_are_allowed = refl }
 
 fails : Steps first_read_device failed
 fails = record { steps = Fetch 0 0 (read_of 100 8) (piece_addresses 0x64000 8) ∷ Fault 0 0 0x40 0 taken_read ∷ []; lead = (first_fetch, (first_fault, refl)) }
@@ -135,7 +135,7 @@ tells : Reads (port_reg Is) 0 started found
 tells = record { mid = started; steps = record { steps = []; lead = refl }; shows = λ place cause. none_shown (started.port 0) clear_errors.0 clear_errors.1 all_quiet place; effect = refl }
 
 no_trouble : TellsNoTrouble 0
-no_trouble = record { change = no_bit 6; ready = no_bit 22; quiet = λ place low high. no_bit place }
+no_trouble = record { pcs_is_clear = no_bit 6; prcs_is_clear = no_bit 22; no_error_bit_is_set = λ place low high. no_bit place }
 
 -- ---- the writes are permitted
 
@@ -162,7 +162,7 @@ may_stop = permitted Cmd 0x10 failed (λ p e. cc) refl refl refl (record {
 
 is_startable : MayStart (ready.port 0)
 unfolding changed
-is_startable = record { fallen = refl; receives = refl; programmed = record { clb = refl; clbu = refl; fb = refl; fbu = refl }; link = refl; not_busy = refl }
+is_startable = record { cr_is_clear = refl; receives = refl; programmed = record { clb = refl; clbu = refl; fb = refl; fbu = refl }; link_was_seen = refl; not_busy = refl }
 
 may_start : IsStable (MayWrite (port_reg Cmd) 0x11) ready
 unfolding changed
@@ -177,19 +177,19 @@ may_start = permitted Cmd 0x11 ready (λ p e. cc) refl refl refl (record {
 
 first_plain : WorksPlainly (first_read_device.port 0)
 unfolding changed
-first_plain = record { restarts = refl; unarmed = λ slot. refl; plain = λ slot t is. absurd (none-some _ is) }
+first_plain = record { start_ends_halt = refl; unarmed = λ slot. refl; plain = λ slot t is. absurd (none-some _ is) }
 
 first_linked : IsLinked (first_read_device.port 0)
 unfolding changed
-first_linked = record { det = refl; present = refl; fresh = refl; linked = refl; released = λ (e : 0 ≡ 1). omega (arith, e) }
+first_linked = record { det = refl; present = refl; fresh = refl; no_link_is_due = refl; comreset_is_over = λ (e : 0 ≡ 1). omega (arith, e) }
 
 ready_plain : WorksPlainly (ready.port 0)
 unfolding changed
-ready_plain = record { restarts = refl; unarmed = λ slot. refl; plain = λ slot t is. absurd (none-some _ is) }
+ready_plain = record { start_ends_halt = refl; unarmed = λ slot. refl; plain = λ slot t is. absurd (none-some _ is) }
 
 ready_linked : IsLinked (ready.port 0)
 unfolding changed
-ready_linked = record { det = refl; present = refl; fresh = refl; linked = refl; released = λ (e : 0 ≡ 1). omega (arith, e) }
+ready_linked = record { det = refl; present = refl; fresh = refl; no_link_is_due = refl; comreset_is_over = λ (e : 0 ≡ 1). omega (arith, e) }
 
 states : ((failed.port 0).halt ≡ HaltedPlain) × ((ready.port 0).st ≡ false) × ((ready.port 0).cr ≡ false)
 unfolding changed
@@ -212,7 +212,7 @@ recovery_is_found laws = record {
   stops = writes (port_reg Cmd) 0x10 failed;
   stopped = stopped;
   falls = record { steps = (Fall 0) ∷ []; lead = (can_fall, refl) };
-  stands = stands;
+  engine_has_stopped = stands;
   may_clear = permitted Serr 0xffffffff stopped (λ p e. cc) refl refl refl tt;
   cleared = cleared;
   clears = writes (port_reg Serr) 0xffffffff stopped;
@@ -230,7 +230,7 @@ recovery_is_found laws = record {
   tells = tells;
   still_plain = ready_plain;
   still_linked = ready_linked;
-  well = plainly_well laws (port_at 0) 0x11 0 ready started found refl states.1 states.2 refl ready_linked ready_plain (writes (port_reg Cmd) 0x11 ready) tells no_trouble;
+  port_runs_well = plainly_well laws (port_at 0) 0x11 0 ready started found refl states.1 states.2 refl ready_linked ready_plain (writes (port_reg Cmd) 0x11 ready) tells no_trouble;
 }
 
 -- ---- the fault is seen
@@ -261,13 +261,13 @@ unfolding changed
 second_fetch = record {
   fetchable = record { st = refl; issued = refl; free = refl };
   working = record { running = refl; present = refl; fresh = refl; admitted = refl; whole = refl };
-  alone = λ slot t is. absurd (none-some _ is);
-  says = second_told.says;
+  is_unmixed = λ slot t is. absurd (none-some _ is);
+  says = second_told.decodes_to;
 }
 
 second_fault : Can (Fault 0 1 0x40 0 second_read) second_taken
 unfolding changed
-second_fault = record { taken = refl; running = refl; is_byte = omega arith; kept = refl }
+second_fault = record { taken = refl; running = refl; is_byte = omega arith; kept_bits_are_allowed = refl }
 
 second_fails : Steps two_issued second_failed
 second_fails = record { steps = Fetch 0 1 (queued_read 108) (piece_addresses 0x65000 8) ∷ Fault 0 1 0x40 0 second_read ∷ []; lead = (second_fetch, (second_fault, refl)) }

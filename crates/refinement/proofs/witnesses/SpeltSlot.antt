@@ -12,7 +12,7 @@ use Rattle.adapter.specs.declared.command.Command.{Command}
 use Rattle.adapter.specs.declared.command.Prd.{Prd}
 use Rattle.adapter.proofs.MemoryLemmas.{bytes_length}
 use Rattle.adapter.proofs.SaysLemmas.{cut_length}
-use Rattle.refinement.specs.Places.{scratch_of, table_of}
+use Rattle.refinement.specs.MemoryLayout.{scratch_of, table_of}
 use Rattle.refinement.specs.Slots.{SlotDecodesTo}
 
 -- the bytes from a place on are zero, as a test
@@ -67,14 +67,14 @@ module _ (memory : ℕ → ℕ) (slot : ℕ) (c : Meaning) (e : Prd) (s : IsSpel
     prds = e ∷ [];
     header = record {
       size = bytes_length memory (0 + 32 * slot) 32;
-      first = s.header.0;
-      points = s.header.1;
+      dword0_is = s.header.0;
+      table_address_is = s.header.1;
       aligned = s.aligned;
       zeros = λ i low high. are_zero 12 (bytes_at memory (0 + 32 * slot) 32) i s.header.2 low;
     };
     fis = record {
       size = bytes_length memory (table_of 0 slot) 20;
-      kind = s.fis.0;
+      fis_type = s.fis.0;
       c_bit = s.fis.1;
       code = s.fis.2;
       features = s.fis.3;
@@ -84,19 +84,19 @@ module _ (memory : ℕ → ℕ) (slot : ℕ) (c : Meaning) (e : Prd) (s : IsSpel
       zeros = λ i low high. are_zero 14 (bytes_at memory (table_of 0 slot) 20) i s.fis.7 low;
     };
     meaning = s.meaning;
-    stand = (
-      record { size = bytes_length memory (table_of 0 slot + 128) 16; allowed = s.allowed; address = s.prd.0; upper = s.prd.1; count = s.prd.2 },
+    prds_stand = (
+      record { size = bytes_length memory (table_of 0 slot + 128) 16; allowed = s.allowed; address = s.prd.0; upper_is_zero = s.prd.1; byte_count_is = s.prd.2 },
       tt,
     );
-    few = omega arith;
-    whole = one_whole e s.whole;
-    in_order = sym (append-nil (piece_addresses e.address (e.bytes / 512)));
-    as_many = cut_length e.address (e.bytes / 512) ∙ s.as_many;
+    prd_count_is_allowed = omega arith;
+    prds_are_whole_pieces = one_whole e s.whole;
+    places_are = sym (append-nil (piece_addresses e.address (e.bytes / 512)));
+    place_count_is = cut_length e.address (e.bytes / 512) ∙ s.as_many;
   }
 
   pub spelt_told : SlotDecodesTo memory 0 0 slot c (piece_addresses e.address (e.bytes / 512))
   unfolding says
-  spelt_told = record { says = says; table_is = refl; few = omega arith }
+  spelt_told = record { decodes_to = says; table_is = refl; prds_are_few = omega arith }
 
 -- a command of slot 0 that names no sectors and has its page or block in the scratch frame
 abbrev page_prd : Prd
@@ -110,7 +110,7 @@ page_told memory o unranged one header fis prd = spelt_told memory 0 (record { o
   fis = fis;
   meaning = record { ranged = λ h. absurd (both_ways _ unranged h); not_ranged = λ _. (refl, refl) };
   prd = prd;
-  allowed = record { even_address = refl; even_bytes = refl; some = omega arith; limit = omega arith };
+  allowed = record { even_address = refl; even_bytes = refl; is_not_empty = omega arith; is_at_most_4_mib = omega arith };
   whole = refl;
   as_many = sym one;
 })

@@ -13,15 +13,15 @@ use Rattle.adapter.specs.declared.command.Operation.TheVariants.{Trim}
 use Rattle.adapter.proofs.MemoryLemmas.{patched_bytes}
 use Rattle.block_machine.specs.Histories.{IsReachable}
 use Rattle.block_machine.specs.State.{Accepted, Pending, Machine, unanswered}
-use Rattle.block_machine.specs.Steps.{Accept, Issue, May, after_step, newly_accepted, newly_issued}
+use Rattle.block_machine.specs.Steps.{Accept, Issue, IsEnabled, after_step, newly_accepted, newly_issued}
 use Rattle.block_machine.proofs.Members.{contains_here, contains_none, into_map}
-use Rattle.refinement.specs.Below.{StepLaws}
+use Rattle.refinement.specs.StepLaws.{StepLaws}
 use Rattle.refinement.specs.Relation.{port_at}
-use Rattle.refinement.specs.Driver.{DriverRelation, IsPrepared, idle}
-use Rattle.refinement.specs.Places.{scratch_of}
+use Rattle.refinement.specs.Driver.{DriverRelation, IsPrepared, idle_driver_state}
+use Rattle.refinement.specs.MemoryLayout.{scratch_of}
 use Rattle.refinement.specs.Slots.{Free, Serves, SlotDecodesTo}
-use Rattle.refinement.specs.Trimmed.{trim, example_trim_block, trim_memory, prepared_trim, issued_trim, taken_trim, trim_known, TrimAgrees}
-use Rattle.refinement.specs.Witness.{first_id, first_uses}
+use Rattle.refinement.specs.TrimWitness.{trim, example_trim_block, trim_memory, prepared_trim, issued_trim, taken_trim, trim_driver_state, TrimAgrees}
+use Rattle.refinement.specs.ReadWitness.{first_id, first_uses}
 use Rattle.refinement.proofs.witnesses.AcceptedRequests.{accepted_of, has_its_grant, trim_of, trim_is_new}
 use Rattle.refinement.proofs.driver.OwnSteps.{accept_knows}
 use Rattle.refinement.proofs.witnesses.EndedRead.{done_is_known}
@@ -59,11 +59,11 @@ accepted = after_step start (Accept request)
 
 accepted_reached : IsReachable accepted
 accepted_reached = record {
-  first = start;
-  past = Accept request ∷ [];
-  starts = starts_with trim_memory;
-  legal = (tt, trim_is_new start 100 refl (omega arith) (omega arith) (omega arith) (omega arith));
-  is = refl;
+  initial_machine = start;
+  steps_since = Accept request ∷ [];
+  is_initial = starts_with trim_memory;
+  is_legal = (tt, trim_is_new start 100 refl (omega arith) (omega arith) (omega arith) (omega arith));
+  leads_to_machine = refl;
 }
 
 abbrev waits : Pending
@@ -72,8 +72,8 @@ waits = newly_accepted request
 waits_in : Contains accepted.book waits
 waits_in = contains_here waits [] waits refl
 
-may_issue : May accepted (Issue plain waits)
-may_issue = (waits_in, record { here = into_map unanswered accepted.book waits waits_in; clear = refl; slot = λ h. absurd (true≢false h) }, λ e h. absurd (contains_none e h), has_its_grant refl)
+may_issue : IsEnabled accepted (Issue plain waits)
+may_issue = (waits_in, record { is_in_book = into_map unanswered accepted.book waits waits_in; nothing_blocks = refl; slot_is_left = λ h. absurd (true≢false h) }, λ e h. absurd (contains_none e h), has_its_grant refl)
 
 abbrev issued : Machine
 issued = after_step accepted (Issue plain waits)
@@ -83,37 +83,37 @@ reached laws = laws.reached accepted (Issue plain waits ∷ []) accepted_reached
 
 -- ---- it is issued, and taken
 
-accepted_knows : DriverRelation accepted (idle prepared_trim)
-accepted_knows = accept_knows (idle prepared_trim) start request (ready_knows trim_memory)
+accepted_knows : DriverRelation accepted (idle_driver_state prepared_trim)
+accepted_knows = accept_knows (idle_driver_state prepared_trim) start request (ready_knows trim_memory)
 
-prepared : IsPrepared (idle prepared_trim).uses accepted prepared_trim 0 0 plain waits 1
+prepared : IsPrepared (idle_driver_state prepared_trim).uses accepted prepared_trim 0 0 plain waits 1
 unfolding changed
 prepared = record {
   may = may_issue;
   port_is = refl;
   free = refl;
   usable = omega arith;
-  head = λ _. refl;
-  started = refl;
-  placed = record { port_below = omega arith; slot_below = omega arith; list = refl };
+  plain_is_in_slot_0 = λ _. refl;
+  st_is_set = refl;
+  list_is_in_place = record { port_below = omega arith; slot_below = omega arith; list = refl };
   command = trim;
   places = scratch_of 0 ∷ [];
-  told = told;
-  means = record { op = refl; first = λ h. absurd (false≢true h); places_are = refl; head = λ _. refl };
+  slot_decodes_to = told;
+  means = record { op_is = refl; first_sector_is = λ h. absurd (false≢true h); places_are = refl; trim_is_in_slot_0 = λ _. refl };
   kind = refl;
   block = ap trim_sectors block_is ∙ block_means;
-  here = refl;
-  alone = bit_one_other;
+  bit_is_set = refl;
+  no_other_bit_is_set = bit_one_other;
 }
 
-issued_knows : DriverRelation issued trim_known
+issued_knows : DriverRelation issued trim_driver_state
 issued_knows = record {
-  agrees = issue_agrees (idle prepared_trim).uses accepted prepared_trim accepted_reached accepted_knows.agrees 0 0 plain waits 1 prepared;
-  have = λ q. issue_have (idle prepared_trim).uses accepted prepared_trim accepted_reached accepted_knows.agrees 0 0 plain waits 1 prepared q [] (accepted_knows.have q);
+  state_relation = issue_agrees (idle_driver_state prepared_trim).uses accepted prepared_trim accepted_reached accepted_knows.state_relation 0 0 plain waits 1 prepared;
+  have_slots = λ q. issue_have (idle_driver_state prepared_trim).uses accepted prepared_trim accepted_reached accepted_knows.state_relation 0 0 plain waits 1 prepared q [] (accepted_knows.have_slots q);
 }
 
 can_fetch : Can (Fetch 0 0 trim (scratch_of 0 ∷ [])) issued_trim
-can_fetch = can_take trim_memory trim (scratch_of 0 ∷ []) told.says
+can_fetch = can_take trim_memory trim (scratch_of 0 ∷ []) told.decodes_to
 
 -- ---- and done
 
@@ -150,8 +150,8 @@ can_move : Can (Move 0 0 (begun trim (scratch_of 0 ∷ [])) example_trim_block) 
 unfolding changed
 can_move = record {
   works = record { taken = refl; working = record { running = refl; present = refl; fresh = refl; admitted = refl; whole = refl } };
-  left = omega arith;
-  sector = (refl, small);
+  piece_is_left = omega arith;
+  bytes_are_sector = (refl, small);
   brings = sym block_is;
 }
 
@@ -160,9 +160,9 @@ unfolding changed
 can_clear = record {
   works = record { taken = refl; working = record { running = refl; present = refl; fresh = refl; admitted = refl; whole = refl } };
   trim = refl;
-  moved = refl;
-  next = refl;
-  sectors = refl;
+  block_is_moved = refl;
+  first_is_next = refl;
+  sectors_follow = refl;
   inside = inr (omega arith);
 }
 
@@ -170,8 +170,8 @@ can_end : Can (Done 0 0 0 cleared) zeroed
 unfolding changed
 can_end = record {
   works = record { taken = refl; working = record { running = refl; present = refl; fresh = refl; admitted = refl; whole = refl } };
-  finished = record { moved = refl; cleared = λ _. refl };
-  shown = inl refl;
+  finished = record { all_is_moved = refl; all_is_cleared = λ _. refl };
+  cause_is_allowed = inl refl;
 }
 
 comes : Steps issued_trim ended
@@ -189,17 +189,17 @@ trim_is_known laws = record {
   machine = issued;
   reached = (reached laws);
   request = newly_issued waits;
-  moves = inl (contains_here (newly_issued waits) [] (newly_issued waits) refl, refl);
+  may_still_move = inl (contains_here (newly_issued waits) [] (newly_issued waits) refl, refl);
   id_is = refl;
   op_is = refl;
-  permitted = issue_is_permitted laws (idle prepared_trim).uses accepted prepared_trim accepted_reached accepted_knows.agrees (port_at 0) 0 plain waits 1
+  permitted = issue_is_permitted laws (idle_driver_state prepared_trim).uses accepted prepared_trim accepted_reached accepted_knows.state_relation (port_at 0) 0 plain waits 1
       (record { ae = refl; no_reset = refl }) (omega arith, refl) (omega arith) prepared;
   issued = issued_knows;
   takes = record { steps = (Fetch 0 0 trim (scratch_of 0 ∷ [])) ∷ []; lead = (can_fetch, refl) };
   taken = bits.3;
-  knows = record {
-    agrees = silent_agrees first_uses issued issued_trim taken_trim (fetch_follows first_uses issued issued_trim issued_knows.agrees 0 0 trim (scratch_of 0 ∷ []) can_fetch) refl;
-    have = issued_knows.have;
+  driver_relation = record {
+    state_relation = silent_agrees first_uses issued issued_trim taken_trim (fetch_follows first_uses issued issued_trim issued_knows.state_relation 0 0 trim (scratch_of 0 ∷ []) can_fetch) refl;
+    have_slots = issued_knows.have_slots;
   };
-  done = done_is_known laws trim_known issued (reached laws) issued_knows first_id (put_same (λ _ _. Free) 0 0 (Serves first_id)) refl ended comes refl bits.0 bits.1 bits.2;
+  done = done_is_known laws trim_driver_state issued (reached laws) issued_knows first_id (put_same (λ _ _. Free) 0 0 (Serves first_id)) refl ended comes refl bits.0 bits.1 bits.2;
 }

@@ -150,7 +150,7 @@ fn check(rt: &(impl Abort + AllocGlobal), boot: &Boot) -> Result<(), Fail> {
     let mut watched = Watched::new(rt.alloc(), model(rt.alloc(), boot.pi, 8)?)?;
     let host = take_over(&mut watched, &boot.wanted);
     let (port, readings) = boot.read;
-    let read = watched.readings(Reg::Px(port, PortReg::Ssts)).all;
+    let read = watched.readings(Reg::Px(port, PortReg::Ssts)).total;
     assert_eq!(rt;
         (host.ports, read, watched.touched()),
         (boot.found, readings, boot.touched)

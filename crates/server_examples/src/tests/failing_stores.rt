@@ -313,7 +313,7 @@ pub const NEVER: u64 = u64::MAX;
 
 impl Case<'_> {
     /// How many calls there are.
-    pub fn count(&self) -> u64 {
+    pub fn call_count(&self) -> u64 {
         self.calls
             .iter()
             .fold(0, |count: u64, calls| count.saturating_add(calls.count))
@@ -422,7 +422,7 @@ pub fn is_told<S: SectorStore>(
 #[test]
 fn a_call_that_fails_is_told_to_its_request(rt: HostRuntime) -> Result<(), Fail> {
     for case in &CASES {
-        for failing in (0..case.count()).chain([NEVER]) {
+        for failing in (0..case.call_count()).chain([NEVER]) {
             let image = FailingStore::new(image_of_numbers(rt.alloc(), case.sectors)?, failing);
             let blank = FailingStore::new(MemStore::new(rt.alloc(), 0)?, 0);
             let told = is_told(rt.alloc(), case, failing, image, blank)?;

@@ -70,7 +70,7 @@ const PARTS: u64 = 3;
 /// Each `PARTS`th call of the trim fails, from one on, and then none.
 fn calls_of_the_longest_trim_fail(alloc: Global, rt: &impl Abort, part: u64) -> Result<(), Fail> {
     let case = &LONGEST_TRIM;
-    let count = case.count();
+    let count = case.call_count();
     for failing in (0..count)
         .filter(|call| call % PARTS == part)
         .chain([NEVER])

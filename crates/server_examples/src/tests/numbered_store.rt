@@ -1,7 +1,7 @@
 // A disk that needs no memory for its sectors, for runs in which tens of thousands of them are cleared.
 ghost use Rattle.std.specs.Prelude.{ℕ, ◌≡◌, ◌≤◌, ◌<◌, ◌^◌, Some, replicate, true};
 ghost use Rattle.sector_store.specs.Stores.{IsStoredSector};
-ghost use Rattle.server_examples.specs.Numbered.{numbered_sectors};
+ghost use Rattle.server_examples.specs.NumberedSectors.{numbered_sectors};
 
 use super::failing_store::FailingCall;
 use sector_store::SectorStore;

@@ -15,11 +15,11 @@ trim = \"none\"
 
 /// An output that takes so many bytes, and fails then.
 #[derive(Drop)]
-struct Narrow {
+struct LimitedOutput {
     room: usize,
 }
 
-impl io::Write for Narrow {
+impl io::Write for LimitedOutput {
     fn write(&mut self, bytes: &[u8]) -> io::Result<usize> {
         let taken = bytes.len().min(self.room);
         if taken == 0 {
@@ -36,12 +36,12 @@ impl io::Write for Narrow {
 
 /// An output that takes two bytes at a time, and of which a signal interrupts each other write.
 #[derive(Drop)]
-struct Interrupted {
+struct InterruptedOutput {
     is_next: bool,
     taken: usize,
 }
 
-impl io::Write for Interrupted {
+impl io::Write for InterruptedOutput {
     fn write(&mut self, bytes: &[u8]) -> io::Result<usize> {
         self.is_next = !self.is_next;
         if !self.is_next {
@@ -73,9 +73,13 @@ fn an_output_that_fails_ends_the_run(rt: HostRuntime) -> Result<(), Fail> {
         } else {
             Ended::Done
         };
-        let told = ended(rt.alloc(), b"service\nservice\n", &mut Narrow { room })?;
+        let told = ended(
+            rt.alloc(),
+            b"service\nservice\n",
+            &mut LimitedOutput { room },
+        )?;
         assert_eq!(rt; told, wanted, "{room} bytes");
-        let told = ended(rt.alloc(), b"service\nserve\n", &mut Narrow { room })?;
+        let told = ended(rt.alloc(), b"service\nserve\n", &mut LimitedOutput { room })?;
         assert_eq!(rt; told, Ended::Line(2), "{room} bytes");
     }
     Ok(())
@@ -83,7 +87,7 @@ fn an_output_that_fails_ends_the_run(rt: HostRuntime) -> Result<(), Fail> {
 
 #[test]
 fn an_interrupted_write_is_made_again(rt: HostRuntime) -> Result<(), Fail> {
-    let mut out = Interrupted {
+    let mut out = InterruptedOutput {
         is_next: true,
         taken: 0,
     };

@@ -1,7 +1,7 @@
 // What a server does to its adapter, seen through one that watches, and calls that no line of a script spells.
 ghost use Rattle.std.specs.Prelude.{◌≡◌, IfOk, true};
-ghost use Rattle.block_server.specs.Made.{IsReadyFor};
-ghost use Rattle.block_server.specs.View.{server_of};
+ghost use Rattle.block_server.specs.InitialServer.{IsReadyFor};
+ghost use Rattle.block_server.specs.ServerView.{server_of};
 ghost use Rattle.server_history.specs.Histories.{StartsHistory};
 ghost use Rattle.configuration.specs.Rules.{LacksEveryFault};
 
@@ -165,7 +165,7 @@ fn check(
     accesses: &[AdapterCall],
 ) -> Result<(), Fail> {
     let (watched, before) = served(rt, text, requests)?;
-    let low = watched.low.as_slice();
+    let low = watched.low_memory.as_slice();
     let table = 0x1000 + 0x880 * usize::from(slot);
     let (header, fis) = (piece(low, 0x20 * usize::from(slot)), piece(low, table));
     let (first, last) = (piece(low, table + 0x80), piece(low, table + 0x870));

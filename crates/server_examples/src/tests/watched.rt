@@ -68,14 +68,14 @@ pub const NOTED_MEMORY_END: usize = 0x4300;
 pub struct Watched<A> {
     pub adapter: A,
     pub accesses: Vec<AdapterCall>,
-    pub low: Vec<u8>,
+    pub low_memory: Vec<u8>,
 }
 
 /// The readings of a register.
 #[derive(Clone, Copy)]
 pub struct RegisterReadings {
     /// How many there were.
-    pub all: usize,
+    pub total: usize,
     /// How many there were since it was last written.
     pub since_write: usize,
     /// Which access the first was, where the first access has the number 1; 0 if there was none.
@@ -92,14 +92,14 @@ impl<A: Drop> Watched<A> {
         Ok(Watched {
             adapter,
             accesses: Vec::new(alloc),
-            low: vec![in alloc; 0u8; NOTED_MEMORY_END]?,
+            low_memory: vec![in alloc; 0u8; NOTED_MEMORY_END]?,
         })
     }
 
     /// The readings of a register so far.
     pub fn readings(&self, r: Reg) -> RegisterReadings {
         let mut readings = RegisterReadings {
-            all: 0,
+            total: 0,
             since_write: 0,
             first: 0,
             last: 0,
@@ -108,10 +108,10 @@ impl<A: Drop> Watched<A> {
             match access {
                 AdapterCall::Read(read) if *read == r => {
                     readings.last = (place as u64).saturating_add(1);
-                    if readings.all == 0 {
+                    if readings.total == 0 {
                         readings.first = readings.last;
                     }
-                    readings.all = readings.all.saturating_add(1);
+                    readings.total = readings.total.saturating_add(1);
                     readings.since_write = readings.since_write.saturating_add(1);
                 }
                 AdapterCall::Write(written, _) if *written == r => readings.since_write = 0,
@@ -170,7 +170,12 @@ impl<A: Adapter> Adapter for Watched<A> {
 
     fn store(&mut self, addr: u32, bytes: &[u8]) {
         let _full = self.accesses.push(AdapterCall::Store).is_err();
-        for (kept, byte) in self.low.iter_mut().skip(addr as usize).zip(bytes.iter()) {
+        for (kept, byte) in self
+            .low_memory
+            .iter_mut()
+            .skip(addr as usize)
+            .zip(bytes.iter())
+        {
             *kept = *byte;
         }
         self.adapter.store(addr, bytes);

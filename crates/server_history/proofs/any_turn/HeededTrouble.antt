@@ -14,7 +14,7 @@ use Rattle.adapter.specs.Access.Access.{Reading, Writing, Loading, Storing}
 use Rattle.adapter.specs.Device.{Device}
 use Rattle.adapter.specs.Rules.{IsOn}
 use Rattle.adapter.specs.declared.tape.Entry.{Entry}
-use Rattle.refinement.specs.Driven.{IsDrivenBy, SparesOtherPorts}
+use Rattle.refinement.specs.Fragments.{IsDrivenBy, SparesOtherPorts}
 use Rattle.refinement.specs.Errors.{IsFatalOf}
 use Rattle.refinement.specs.PortFacts.{IsFaultOf, ShowsNoTrouble}
 use Rattle.refinement.specs.Links.{IsPlugEvent, DoesNotWrite}
@@ -26,12 +26,12 @@ use Rattle.driver_history.specs.Histories.{LosesNoPortError}
 use Rattle.error_recovery.specs.Evidence.{GainsSinceStart, ShowsFatal}
 use Rattle.commands.specs.Masks.{ReadsCiOrSact}
 use Rattle.commands.specs.Batches.{IsBatchAccess}
-use Rattle.port_control.specs.Looks.{IsLooking}
-use Rattle.port_control.specs.Services.{LeavesCauses}
+use Rattle.port_control.specs.PortEvents.{IsEventAccess}
+use Rattle.port_control.specs.ServiceAccesses.{LeavesPxIs}
 use Rattle.port_control.specs.declared.events.PortEvent.TheVariants.{NoEvent}
-use Rattle.slots.specs.Uses.{PortSlots}
+use Rattle.slots.specs.SlotUses.{PortSlots}
 use Rattle.server_history.specs.Prerequisites.{PrerequisiteLaws}
-use Rattle.server_history.specs.Served.{PollsUsedSlots, IsEmptyMask, HasTurnWithoutError}
+use Rattle.server_history.specs.IssuingAndAnswering.{PollsUsedSlots, IsEmptyMask, HasTurnWithoutError}
 use Rattle.server_history.proofs.state.TurnAccesses.{none_or_some}
 use Rattle.server_history.proofs.state.TransferAccesses.{issuing_serves}
 use Rattle.server_history.proofs.any_turn.ShownTrouble.{fatal_unless, set_unless}
@@ -41,22 +41,22 @@ use Rattle.server_history.proofs.any_turn.ShownTrouble.{fatal_unless, set_unless
 -- a kind of entry that none of those gained is of
 pub gains_none : (Such : Entry → Type 0) (old new : Device) (gained : List Entry) → new.tape ≡ old.tape ++ gained → All (λ e. Such e → ⊥) gained → TapeGainsEntry Such old new → ⊥
 gains_none Such old new gained tape none g =
-    let same : g.gained ≡ gained = append_cancel_left old.tape g.gained gained (sym g.tape ∙ tape) in
-    All-contains (λ e. Such e → ⊥) gained g.entry none (subst (λ (xs : List Entry). Contains xs g.entry) same g.here) g.is
+    let same : g.new_entries ≡ gained = append_cancel_left old.tape g.new_entries gained (sym g.tape_is ∙ tape) in
+    All-contains (λ e. Such e → ⊥) gained g.entry none (subst (λ (xs : List Entry). Contains xs g.entry) same g.entry_is_new) g.entry_is_of_kind
 
 -- what was gained since ST was set was gained
 pub gained_running : (Such : Entry → Type 0) (port : ℕ) (old new : Device) → GainsSinceStart Such port old new → TapeGainsEntry Such old new
 gained_running Such port old new g = record {
-  gained = g.before ++ (g.entry ∷ g.later);
-  tape = g.tape;
+  new_entries = g.before ++ (g.entry ∷ g.later);
+  tape_is = g.tape;
   entry = g.entry;
-  here = Contains-append_right g.before (g.entry ∷ g.later) g.entry (0, omega arith, refl);
-  is = g.is;
+  entry_is_new = Contains-append_right g.before (g.entry ∷ g.later) g.entry (0, omega arith, refl);
+  entry_is_of_kind = g.is_of_kind;
 }
 
 -- ---- accesses that are ordinary
 
-finding_ordinary : (port : Port) (access : Access) → ReadsCiOrSact port access → LeavesCauses port access
+finding_ordinary : (port : Port) (access : Access) → ReadsCiOrSact port access → LeavesPxIs port access
 finding_ordinary port (Reading r v) here = (tt, tt)
 finding_ordinary port (Writing r v) here = absurd here
 finding_ordinary port (Loading at bytes) here = absurd here
@@ -71,26 +71,26 @@ issuing_spares port (Storing at bytes) here = tt
 issuing_spares port (Loading at bytes) here = tt
 issuing_spares port (Reading r v) here = tt
 
-issuing_ordinary : (port : Port) (access : Access) → IsBatchAccess port access → LeavesCauses port access
+issuing_ordinary : (port : Port) (access : Access) → IsBatchAccess port access → LeavesPxIs port access
 issuing_ordinary port access here = (issuing_serves port access here, issuing_spares port access here)
 
 module _ (laws : PrerequisiteLaws) where
   module _ (port : Port) (slots : PortSlots) (replies : List Reply) (old : JointState Device) (new : Device) (turn : HasTurnWithoutError port slots replies old.device new) (on : IsOn old.device) where
     -- what comes after a look that told nothing
-    pub later_driven : turn.look ≡ NoEvent → IsDrivenBy (LeavesCauses port) turn.seen new
+    pub later_driven : turn.look ≡ NoEvent → IsDrivenBy (LeavesPxIs port) turn.seen new
     later_driven calm = ⊎_elim
-        (λ (none : IsEmptyMask c.mask). subst (IsDrivenBy (LeavesCauses port) turn.seen) (sym (c.idle none).1) (by_none (LeavesCauses port) turn.seen))
+        (λ (none : IsEmptyMask c.mask). subst (IsDrivenBy (LeavesPxIs port) turn.seen) (sym (c.idle none).1) (by_none (LeavesPxIs port) turn.seen))
         (λ some.
         let k = c.checks (λ none. false≢true (sym (none some.0 some.1) ∙ some.2)) in
-        by_then laws (driven_as (ReadsCiOrSact port) (LeavesCauses port) turn.seen k.read (finding_ordinary port) k.reads.driven)
-        (driven_as (IsBatchAccess port) (LeavesCauses port) k.read new (issuing_ordinary port) k.over))
+        by_then laws (driven_as (ReadsCiOrSact port) (LeavesPxIs port) turn.seen k.read (finding_ordinary port) k.reads.driven)
+        (driven_as (IsBatchAccess port) (LeavesPxIs port) k.read new (issuing_ordinary port) k.over))
         (none_or_some 32 c.mask)
       where
         c : PollsUsedSlots port slots replies turn.seen new
         c = turn.checked
 
     seen_on : IsOn turn.seen
-    seen_on = laws.of_on port old.device turn.seen on (driven_as (IsLooking port) (SparesOtherPorts port) old.device turn.seen (laws.looking.looking_of port) (laws.looking.looks_driven port turn.look old.device turn.seen turn.looks))
+    seen_on = laws.of_on port old.device turn.seen on (driven_as (IsEventAccess port) (SparesOtherPorts port) old.device turn.seen (laws.looking.looking_of port) (laws.looking.looks_driven port turn.look old.device turn.seen turn.looks))
 
     module _ (calm : turn.look ≡ NoEvent) where
       -- it showed no trouble, then
@@ -99,7 +99,7 @@ module _ (laws : PrerequisiteLaws) where
 
       -- what was read told of no error
       told_none : (place : ℕ) → 27 ≤ place → place ≤ 30 → bit turn.looks.causes place ≡ false
-      told_none = (laws.looking.looks_undisturbed turn.looks.causes turn.looks.status (sym turn.looks.tells ∙ calm)).0.quiet
+      told_none = (laws.looking.looks_undisturbed turn.looks.causes turn.looks.status (sym turn.looks.result_is ∙ calm)).0.no_error_bit_is_set
 
       -- so a fault that came is shown
       fault_shown : TapeGainsEntry (IsFaultOf port.0) old.device new → (new.port port.0).is 30 ≡ true
@@ -107,7 +107,7 @@ module _ (laws : PrerequisiteLaws) where
           let late = laws.looking.ordinary_faults port turn.seen new seen_on (later_driven calm) clear in
           let early = laws.looking.looks_fault port turn.look old.device turn.seen on turn.looks (told_none 30 (omega arith) (omega arith)) late.0 in
           let none = laws.looks.tape.fails_more port.0 old.device turn.seen new early.1 late.1 in
-          gains_none (IsFaultOf port.0) old.device new none.gained none.tape none.none g)
+          gains_none (IsFaultOf port.0) old.device new none.new_entries none.tape_is none.no_such_entry g)
 
       -- and so is a fatal error
       fatal_shown : TapeGainsEntry (IsFatalOf port.0) old.device new → ShowsFatal (new.port port.0)
@@ -115,7 +115,7 @@ module _ (laws : PrerequisiteLaws) where
           let late = laws.looking.ordinary_fatals port turn.seen new seen_on (later_driven calm) clear in
           let early = laws.looking.looks_fatal port turn.look old.device turn.seen on turn.looks (λ place low high. told_none place low (omega (arith, high))) late.0 in
           let none = laws.looks.tape.fatal_more port.0 old.device turn.seen new early.1 late.1 in
-          gains_none (IsFatalOf port.0) old.device new none.gained none.tape none.none g)
+          gains_none (IsFatalOf port.0) old.device new none.new_entries none.tape_is none.no_such_entry g)
 
       -- and so is a disk that went or came
       disk_shown : TapeGainsEntry (IsPlugEvent port.0) old.device new → (new.port port.0).serr_n ≡ true
@@ -123,12 +123,12 @@ module _ (laws : PrerequisiteLaws) where
           let late = laws.looking.ordinary_disks port turn.seen new seen_on (later_driven calm) clear in
           let early = laws.looking.looks_disk port turn.look old.device turn.seen on turn.looks late.0 in
           let none = laws.looks.tape.plugs_more port.0 old.device turn.seen new early.1 late.1 in
-          gains_none (IsPlugEvent port.0) old.device new none.gained none.tape none.none g)
+          gains_none (IsPlugEvent port.0) old.device new none.new_entries none.tape_is none.no_such_entry g)
 
       -- no failure was shown when it began
       pub never_failed : ShowsFailure (old.device.port port.0) → ⊥
-      never_failed (inl fatal) = let high = fatal.to in false≢true (sym (shown_none.quiet fatal.place fatal.from (omega (arith, high))) ∙ fatal.set)
-      never_failed (inr fault) = false≢true (sym (shown_none.quiet 30 (omega arith) (omega arith)) ∙ fault)
+      never_failed (inl fatal) = let high = fatal.to in false≢true (sym (shown_none.no_error_bit_is_set fatal.place fatal.from (omega (arith, high))) ∙ fatal.cause_is_set)
+      never_failed (inr fault) = false≢true (sym (shown_none.no_error_bit_is_set 30 (omega arith) (omega arith)) ∙ fault)
 
       -- nor a change of its link
       pub never_changed : ShowsChange (old.device.port port.0) → ⊥

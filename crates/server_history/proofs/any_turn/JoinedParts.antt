@@ -20,9 +20,9 @@ use Rattle.block_machine.specs.State.{Pending}
 use Rattle.block_machine.specs.Steps.{Step, Answer}
 use Rattle.host_boot.specs.TakeOver.{probe_result_of}
 use Rattle.host_boot.specs.declared.ProbeResult.{ProbeResult}
-use Rattle.driver_history.specs.Parts.{EvidenceAgreesOn}
+use Rattle.driver_history.specs.PortTurn.{EvidenceAgreesOn}
 use Rattle.server_history.specs.Turns.{NamesOnly}
-use Rattle.server_history.specs.Server.{ServerState, last_disk_in, last_disk_of, is_served, mode_in, ports_of, remembered_at, last_sectors_of, last_serial_of, state_of, trims_of}
+use Rattle.server_history.specs.ServerState.{ServerState, last_disk_in, last_disk_of, is_served, mode_in, ports_of, remembered_at, last_sectors_of, last_serial_of, state_of, trims_of}
 use Rattle.server_history.proofs.state.FirstMembers.{nowhere}
 
 -- ---- answers of lists of steps
@@ -74,7 +74,7 @@ told_then n early late before its p x own = record {
   answers = p.answers ++ x.answers;
   permuted = subst (IsPermutation (p.answers ++ x.answers)) (sym (answers_append late early))
       (IsPermutation-trans (p.answers ++ x.answers) (answers_of early ++ answers_of late) (answers_of late ++ answers_of early)
-      (IsPermutation-append p.answers (answers_of early) x.answers (answers_of late) p.permuted x.same)
+      (IsPermutation-append p.answers (answers_of early) x.answers (answers_of late) p.permuted x.is_permutation)
       (IsPermutation-append_comm (answers_of early) (answers_of late)));
   ordered = all_pairs_append IsToldBefore p.answers x.answers p.ordered x.ordered (λ a b here there.
       let lt = All-contains (λ (y : Pending × Outcome). y.0.request.port.0 < n) p.answers a p.low here in
@@ -84,11 +84,11 @@ told_then n early late before its p x own = record {
       (All-weaker (λ a. a.0.request.port.0 < n) (λ a. a.0.request.port.0 < n + 1) (λ a lt. omega (arith, lt)) p.answers p.low)
       (All-weaker (Contains x.answers) (λ a. a.0.request.port.0 < n + 1) (λ a here. let is : a.0.request.port.0 ≡ n = ap (λ (q : Port). q.0) (its_port a here) in omega (arith, is)) x.answers
       (All-contains_itself x.answers));
-  told = ap (λ (list : List Reply). list ++ its) p.told ∙ ap (λ (list : List Reply). map reply_of p.answers ++ list) x.told ∙ sym (map-append reply_of p.answers x.answers);
+  told = ap (λ (list : List Reply). list ++ its) p.told ∙ ap (λ (list : List Reply). map reply_of p.answers ++ list) x.replies_are ∙ sym (map-append reply_of p.answers x.answers);
 }
   where
     its_port : (a : Pending × Outcome) → Contains x.answers a → a.0.request.port ≡ port_at n
-    its_port a here = own a.0 a.1 (answers_there late a (Contains-permutation x.answers (answers_of late) a x.same here))
+    its_port a here = own a.0 a.1 (answers_there late a (Contains-permutation x.answers (answers_of late) a x.is_permutation here))
 
 -- ---- evidence
 
@@ -97,7 +97,7 @@ abbrev pub joined : Evidence → Evidence → Evidence
 joined one other = record {
   faults = one.faults ++ other.faults;
   lost = one.lost ++ other.lost;
-  gone = one.gone ++ other.gone;
+  link_changed = one.link_changed ++ other.link_changed;
   failed = one.failed ++ other.failed;
   fatal = one.fatal ++ other.fatal;
   stopped = one.stopped ++ other.stopped;
@@ -107,7 +107,7 @@ joined one other = record {
 -- the evidence names such ports alone
 pub record NamesSome (Such : Port → Type 0) (evidence : Evidence) : Type 0 where
   pub lost : All Such evidence.lost
-  pub gone : All Such evidence.gone
+  pub gone : All Such evidence.link_changed
   pub failed : All Such evidence.failed
   pub fatal : All Such evidence.fatal
   pub stopped : All Such evidence.stopped
@@ -116,7 +116,7 @@ pub record NamesSome (Such : Port → Type 0) (evidence : Evidence) : Type 0 whe
 pub names_more : (One Other : Port → Type 0) → ((q : Port) → One q → Other q) → (evidence : Evidence) → NamesSome One evidence → NamesSome Other evidence
 names_more One Other each evidence n = record {
   lost = All-weaker One Other each evidence.lost n.lost;
-  gone = All-weaker One Other each evidence.gone n.gone;
+  gone = All-weaker One Other each evidence.link_changed n.gone;
   failed = All-weaker One Other each evidence.failed n.failed;
   fatal = All-weaker One Other each evidence.fatal n.fatal;
   stopped = All-weaker One Other each evidence.stopped n.stopped;
@@ -124,12 +124,12 @@ names_more One Other each evidence n = record {
 }
 
 pub names_only : (port : Port) (evidence : Evidence) → NamesOnly port evidence → NamesSome (λ q. q ≡ port) evidence
-names_only port evidence n = record { lost = n.lost; gone = n.gone; failed = n.failed; fatal = n.fatal; stopped = n.stopped; stuck = n.stuck }
+names_only port evidence n = record { lost = n.lost; gone = n.link_changed; failed = n.failed; fatal = n.fatal; stopped = n.stopped; stuck = n.stuck }
 
 pub names_joined : (Such : Port → Type 0) (one other : Evidence) → NamesSome Such one → NamesSome Such other → NamesSome Such (joined one other)
 names_joined Such one other a b = record {
   lost = All-append Such one.lost other.lost a.lost b.lost;
-  gone = All-append Such one.gone other.gone a.gone b.gone;
+  gone = All-append Such one.link_changed other.link_changed a.gone b.gone;
   failed = All-append Such one.failed other.failed a.failed b.failed;
   fatal = All-append Such one.fatal other.fatal a.fatal b.fatal;
   stopped = All-append Such one.stopped other.stopped a.stopped b.stopped;
@@ -152,7 +152,7 @@ list_alike_right port one other none = (
 pub alike_first : (Such : Port → Type 0) (port : Port) → (Such port → ⊥) → (one other : Evidence) → NamesSome Such other → EvidenceAgreesOn port one (joined one other)
 alike_first Such port not one other n = record {
   lost = list_alike port one.lost other.lost (λ here. not (All-contains Such other.lost port n.lost here));
-  gone = list_alike port one.gone other.gone (λ here. not (All-contains Such other.gone port n.gone here));
+  link_changed = list_alike port one.link_changed other.link_changed (λ here. not (All-contains Such other.link_changed port n.gone here));
   failed = list_alike port one.failed other.failed (λ here. not (All-contains Such other.failed port n.failed here));
   fatal = list_alike port one.fatal other.fatal (λ here. not (All-contains Such other.fatal port n.fatal here));
   stopped = list_alike port one.stopped other.stopped (λ here. not (All-contains Such other.stopped port n.stopped here));
@@ -162,7 +162,7 @@ alike_first Such port not one other n = record {
 pub alike_then : (Such : Port → Type 0) (port : Port) → (Such port → ⊥) → (one other : Evidence) → NamesSome Such one → EvidenceAgreesOn port other (joined one other)
 alike_then Such port not one other n = record {
   lost = list_alike_right port one.lost other.lost (λ here. not (All-contains Such one.lost port n.lost here));
-  gone = list_alike_right port one.gone other.gone (λ here. not (All-contains Such one.gone port n.gone here));
+  link_changed = list_alike_right port one.link_changed other.link_changed (λ here. not (All-contains Such one.link_changed port n.gone here));
   failed = list_alike_right port one.failed other.failed (λ here. not (All-contains Such one.failed port n.failed here));
   fatal = list_alike_right port one.fatal other.fatal (λ here. not (All-contains Such one.fatal port n.fatal here));
   stopped = list_alike_right port one.stopped other.stopped (λ here. not (All-contains Such one.stopped port n.stopped here));
@@ -204,9 +204,9 @@ serviced_lift a b c d one other q x y alike i = (
   (λ dead. same_then a c d q (same_then a b c q x (i.0 (x.1 ∙ dead))) y),
   (λ lives. let w = i.1 (λ dead. lives (sym x.1 ∙ dead)) in (
     record {
-      served = y.0 ∙ w.0.served ∙ x.0;
-      stuck = (λ dead. alike.stuck.0 (w.0.stuck.0 (sym y.1 ∙ dead)), λ named. y.1 ∙ w.0.stuck.1 (alike.stuck.1 named));
-      keeps = λ unready. same_disk a b c d q x y (w.0.keeps (λ ready. unready (y.1 ∙ ready)));
+      served_is_kept = y.0 ∙ w.0.served_is_kept ∙ x.0;
+      dead_is_stuck = (λ dead. alike.stuck.0 (w.0.dead_is_stuck.0 (sym y.1 ∙ dead)), λ named. y.1 ∙ w.0.dead_is_stuck.1 (alike.stuck.1 named));
+      disk_is_kept = λ unready. same_disk a b c d q x y (w.0.disk_is_kept (λ ready. unready (y.1 ∙ ready)));
     },
     ⊎_elim (λ same. inl (same_then a c d q (same_then a b c q x same) y)) (λ int. inr (⊎_elim (λ s. inl (alike.stopped.0 s)) (λ t. inr (alike.stuck.0 t)) int)) w.1,
   )),

@@ -14,18 +14,18 @@ use Rattle.adapter.specs.Device.{Device, DevicePort}
 use Rattle.adapter.specs.Rules.{IsOn}
 use Rattle.adapter.specs.declared.tape.Entry.{Entry}
 use Rattle.adapter.specs.declared.tape.Entry.TheVariants as entry
-use Rattle.refinement.specs.Driven.{TapeGrows}
+use Rattle.refinement.specs.Fragments.{TapeGrows}
 use Rattle.refinement.specs.Driver.{IsBacked}
 use Rattle.refinement.specs.Errors.{IsDiskComing, NoDiskComes}
 use Rattle.refinement.specs.Links.{IsPlugEvent, NoPlugEvents, DoesNotWrite}
 use Rattle.block_machine.specs.Events.{changes_disk}
 use Rattle.block_machine.specs.State.{Machine}
 use Rattle.block_machine.specs.Steps.{Step}
-use Rattle.port_control.specs.Looks.{LooksAt}
+use Rattle.port_control.specs.PortEvents.{TakesEvent}
 use Rattle.port_control.specs.declared.events.PortEvent.{PortEvent}
 use Rattle.server_history.specs.Prerequisites.{PrerequisiteLaws}
 use Rattle.server_history.proofs.any_turn.ShownTrouble.{grows_over}
-use Rattle.server_history.specs.Server.{ServerState, MachineRelation}
+use Rattle.server_history.specs.ServerState.{ServerState, MachineRelation}
 use Rattle.server_history.proofs.any_turn.ToldTrouble.{one_or_none, shows_link}
 use Rattle.port_control.specs.declared.events.PortEvent.TheVariants.{LinkChanged}
 
@@ -52,9 +52,9 @@ coming_plugs port (entry.Fatal x) is = absurd is
 -- where no disk goes or comes, none comes
 pub none_comes : (port : ℕ) (old new : Device) → NoPlugEvents port old new → NoDiskComes port old new
 none_comes port old new none = record {
-  gained = none.gained;
-  tape = none.tape;
-  none = All-weaker (λ e. IsPlugEvent port e → ⊥) (λ e. IsDiskComing port e → ⊥) (λ e plugs is. plugs (coming_plugs port e is)) none.gained none.none;
+  new_entries = none.new_entries;
+  tape_is = none.tape_is;
+  no_such_entry = All-weaker (λ e. IsPlugEvent port e → ⊥) (λ e. IsDiskComing port e → ⊥) (λ e plugs is. plugs (coming_plugs port e is)) none.new_entries none.no_such_entry;
 }
 
 -- where none comes, this goes on
@@ -83,7 +83,7 @@ module _ (laws : PrerequisiteLaws) (port : Port) (P : DevicePort → Type 0) (on
   stays_so accesses old new does = (so_all accesses old new does).1
 
 module _ (laws : PrerequisiteLaws) (port : Port) where
-  module _ (old seen : Device) (look : PortEvent) (l : LooksAt port look old seen) (on : IsOn old) (not_lost : look ≢ LinkChanged) where
+  module _ (old seen : Device) (look : PortEvent) (l : TakesEvent port look old seen) (on : IsOn old) (not_lost : look ≢ LinkChanged) where
     on_over : (access : Access) (a b : Device) → DoesNotWrite Ghc access → Does access a b → IsOn a → IsOn b
     on_over access a b spares does here = laws.looks.access_on access a b here (λ v is. absurd (subst (DoesNotWrite Ghc) is spares refl)) does
 
@@ -92,8 +92,8 @@ module _ (laws : PrerequisiteLaws) (port : Port) where
     shows_device =
         let read = on_over (Reading (Px port Is) l.causes) old l.seen tt l.reads on in
         let cleared = on_over (Writing (Px port Is) l.causes) l.seen l.cleared (λ e. absurd (let z : Px port Is ≡ Ghc = e in cc)) l.clears read in
-        let acknowledged = on_over (Writing reg.Is l.own) l.cleared l.acknowledged (λ e. absurd (let z : reg.Is ≡ Ghc = e in cc)) l.acknowledges cleared in
-        sym (laws.looks.shown_after port Ssts l.status l.acknowledged seen acknowledged.no_reset l.shows) ∙ shows_link laws port look old seen l on not_lost
+        let acknowledged = on_over (Writing reg.Is l.port_mask) l.cleared l.acknowledged (λ e. absurd (let z : reg.Is ≡ Ghc = e in cc)) l.acknowledges cleared in
+        sym (laws.looks.shown_after port Ssts l.status l.acknowledged seen acknowledged.no_reset l.reads_status) ∙ shows_link laws port look old seen l on not_lost
 
   -- where a disk is in at a moment, one was in before, or the tape tells that one came
   was_in : (accesses : List Access) (old seen : Device) → DoesAll accesses old seen → (seen.port port.0).present ≡ true → ((old.port port.0).present ≡ true) ⊎ ((gained : List Entry) × (seen.tape ≡ old.tape ++ gained) × ((e : Entry) × Contains gained e × IsDiskComing port.0 e))
@@ -104,7 +104,7 @@ module _ (laws : PrerequisiteLaws) (port : Port) where
         grows.1,
         ⊎_elim
             (λ found. found)
-            (λ none. absurd (false≢true (sym (stays_so laws port (λ p. p.present ≡ false) (laws.out_on port) accesses old seen does (record { gained = grows.0; tape = grows.1; none = none }) out) ∙ own)))
+            (λ none. absurd (false≢true (sym (stays_so laws port (λ p. p.present ≡ false) (laws.out_on port) accesses old seen does (record { new_entries = grows.0; tape_is = grows.1; no_such_entry = none }) out) ∙ own)))
             (one_or_none (IsDiskComing port.0) (is_coming port.0) grows.0),
       ))
       (cases_Bool ((old.port port.0).present))
@@ -114,8 +114,8 @@ module _ (laws : PrerequisiteLaws) (port : Port) where
 pub had_disk : (laws : PrerequisiteLaws) (port : Port) (s : ServerState) (seen new : Device) (m : Machine) (accesses : List Access) → DoesAll accesses s.device seen → (seen.port port.0).present ≡ true
     → MachineRelation s m → TapeGrows seen new → (steps : List Step) → IsBacked s.device new m steps → (m.present port ≡ true) ⊎ (list_any (changes_disk port) steps ≡ true)
 had_disk laws port s seen new m accesses does own is later steps backed = ⊎_elim
-    (λ was. inl ((is.knows.agrees.disk port.0).present ∙ was))
+    (λ was. inl ((is.driver_relation.state_relation.disks_are_same port.0).present ∙ was))
     (λ came. inr (
-    let whole : backed.gained ≡ came.0 ++ later.0 = append_cancel_left s.device.tape backed.gained (came.0 ++ later.0) (sym backed.tape ∙ later.1 ∙ ap (λ (tape : List Entry). tape ++ later.0) came.1 ∙ append_assoc s.device.tape came.0 later.0) in
-    laws.disks_told port m backed.gained steps backed.tells came.2.0 (subst (λ (list : List Entry). Contains list came.2.0) (sym whole) (Contains-append_left came.0 later.0 came.2.0 came.2.1)) (coming_plugs port.0 came.2.0 came.2.2)))
+    let whole : backed.new_entries ≡ came.0 ++ later.0 = append_cancel_left s.device.tape backed.new_entries (came.0 ++ later.0) (sym backed.tape_is ∙ later.1 ∙ ap (λ (tape : List Entry). tape ++ later.0) came.1 ∙ append_assoc s.device.tape came.0 later.0) in
+    laws.disks_told port m backed.new_entries steps backed.tells_device_steps came.2.0 (subst (λ (list : List Entry). Contains list came.2.0) (sym whole) (Contains-append_left came.0 later.0 came.2.0 came.2.1)) (coming_plugs port.0 came.2.0 came.2.2)))
     (was_in laws port accesses s.device seen does own)

@@ -14,7 +14,7 @@ use Rattle.adapter.specs.Access.Access.{Writing}
 use Rattle.adapter.specs.Device.{Device, DevicePort}
 use Rattle.adapter.specs.Rules.{IsOn}
 use Rattle.adapter.specs.declared.tape.Entry.{Entry}
-use Rattle.refinement.specs.Driven.{TapeGrows}
+use Rattle.refinement.specs.Fragments.{TapeGrows}
 use Rattle.refinement.specs.Errors.{IsFatalOf, NoneFails, NoneFatal}
 use Rattle.refinement.specs.PortFacts.{IsFaultOf}
 use Rattle.refinement.specs.Links.{IsPlugEvent, NoPlugEvents, DoesNotWrite}
@@ -61,20 +61,20 @@ module _ (Such : Entry → Type 0) (port : ℕ) where
   since_then old start new grows set g =
       let at : (old.tape ++ g.before) ++ (g.entry ∷ g.later) ≡ start.tape ++ grows.0 = append_assoc old.tape g.before (g.entry ∷ g.later) ∙ sym g.tape ∙ grows.1 in
       let long = length-append old.tape g.before in
-      let since = g.since in
+      let since = g.came_since_start in
       let m = behind start.tape grows.0 (old.tape ++ g.before) (g.entry ∷ g.later) at (omega (arith, set, long, since)) in
       let same = m.2 in
-      record { before = m.0; entry = g.entry; later = g.later; tape = grows.1 ∙ ap (λ (list : List Entry). start.tape ++ list) m.1; is = g.is; since = omega (arith, since, long, same) }
+      record { before = m.0; entry = g.entry; later = g.later; tape = grows.1 ∙ ap (λ (list : List Entry). start.tape ++ list) m.1; is_of_kind = g.is_of_kind; came_since_start = omega (arith, since, long, same) }
 
   -- and by a moment after which none came
   pub until_then : (start mid new : Device) → TapeGrows start mid → (later : List Entry) → new.tape ≡ mid.tape ++ later → All (λ e. Such e → ⊥) later → (new.port port).notes.st_set_at ≡ (mid.port port).notes.st_set_at
       → GainsSinceStart Such port start new → GainsSinceStart Such port start mid
   until_then start mid new grows later is none same g =
       let at : g.before ++ (g.entry ∷ g.later) ≡ grows.0 ++ later = cancel start.tape (sym g.tape ∙ is ∙ ap (λ (list : List Entry). list ++ later) grows.1 ∙ append_assoc start.tape grows.0 later) in
-      let since = g.since in
+      let since = g.came_since_start in
       ⊎_elim
-      (λ early. record { before = g.before; entry = g.entry; later = early.0; tape = grows.1 ∙ ap (λ (list : List Entry). start.tape ++ list) early.1; is = g.is; since = omega (arith, since, same) })
-      (λ late. absurd (All-contains (λ e. Such e → ⊥) later g.entry none late g.is))
+      (λ early. record { before = g.before; entry = g.entry; later = early.0; tape = grows.1 ∙ ap (λ (list : List Entry). start.tape ++ list) early.1; is_of_kind = g.is_of_kind; came_since_start = omega (arith, since, same) })
+      (λ late. absurd (All-contains (λ e. Such e → ⊥) later g.entry none late g.is_of_kind))
       (split g.before g.entry g.later grows.0 later at)
     where
       cancel : (first : List Entry) {xs ys : List Entry} → first ++ xs ≡ first ++ ys → xs ≡ ys
@@ -86,7 +86,7 @@ module _ (Such : Entry → Type 0) (port : ℕ) where
   none_came start new later is none g =
       let here = split [] g.entry g.later [] (g.entry ∷ g.later) refl in
       let m = behind start.tape later (start.tape ++ g.before) (g.entry ∷ g.later) (append_assoc start.tape g.before (g.entry ∷ g.later) ∙ sym g.tape ∙ is) (let long = length-append start.tape g.before in omega (arith, long)) in
-      All-contains (λ e. Such e → ⊥) later g.entry none (subst (λ (list : List Entry). Contains list g.entry) (sym m.1) (Contains-append_right m.0 (g.entry ∷ g.later) g.entry ((0, omega arith, refl)))) g.is
+      All-contains (λ e. Such e → ⊥) later g.entry none (subst (λ (list : List Entry). Contains list g.entry) (sym m.1) (Contains-append_right m.0 (g.entry ∷ g.later) g.entry ((0, omega arith, refl)))) g.is_of_kind
 
 -- ---- stretches that clear nothing
 
@@ -122,9 +122,9 @@ pub fatal_unless : (p : DevicePort) → (ShowsNoFatal p → ⊥) → ShowsFatal 
 fatal_unless p not = by (p.is 27) (p.is 28) (p.is 29) refl refl refl
   where
     by : (a b c : Bool) → p.is 27 ≡ a → p.is 28 ≡ b → p.is 29 ≡ c → ShowsFatal p
-    by true b c x y z = record { place = 27; from = omega arith; to = omega arith; set = x }
-    by false true c x y z = record { place = 28; from = omega arith; to = omega arith; set = y }
-    by false false true x y z = record { place = 29; from = omega arith; to = omega arith; set = z }
+    by true b c x y z = record { place = 27; from = omega arith; to = omega arith; cause_is_set = x }
+    by false true c x y z = record { place = 28; from = omega arith; to = omega arith; cause_is_set = y }
+    by false false true x y z = record { place = 29; from = omega arith; to = omega arith; cause_is_set = z }
     by false false false x y z = absurd (not (λ place from to. at place from to))
       where
         at : (place : ℕ) → 27 ≤ place → place ≤ 29 → p.is place ≡ false
@@ -170,9 +170,9 @@ module _ (laws : PrerequisiteLaws) (port : Port) where
 -- where ST was set before the stretch, at its beginning
 pub shown_since : (port : ℕ) (old start new : Device) → ShowsAll port start new → (start.port port).notes.st_set_at ≡ length start.tape → HidesNoTrouble port old new
 shown_since port old start new a set = record {
-  fault = λ g. set_unless ((new.port port).is 30) (λ clear. let n = (a.fault clear).1 in none_came (IsFaultOf port) port start new n.gained n.tape n.none (since_then (IsFaultOf port) port old start new a.grows early g));
-  fatal = λ g. fatal_unless (new.port port) (λ clear. let n = (a.fatal clear).1 in none_came (IsFatalOf port) port start new n.gained n.tape n.none (since_then (IsFatalOf port) port old start new a.grows early g));
-  disk = λ g. set_unless (new.port port).serr_n (λ clear. let n = (a.disk clear).1 in none_came (IsPlugEvent port) port start new n.gained n.tape n.none (since_then (IsPlugEvent port) port old start new a.grows early g));
+  fault_is_shown = λ g. set_unless ((new.port port).is 30) (λ clear. let n = (a.fault clear).1 in none_came (IsFaultOf port) port start new n.new_entries n.tape_is n.no_such_entry (since_then (IsFaultOf port) port old start new a.grows early g));
+  fatal_is_shown = λ g. fatal_unless (new.port port) (λ clear. let n = (a.fatal clear).1 in none_came (IsFatalOf port) port start new n.new_entries n.tape_is n.no_such_entry (since_then (IsFatalOf port) port old start new a.grows early g));
+  plug_is_shown = λ g. set_unless (new.port port).serr_n (λ clear. let n = (a.disk clear).1 in none_came (IsPlugEvent port) port start new n.new_entries n.tape_is n.no_such_entry (since_then (IsPlugEvent port) port old start new a.grows early g));
 }
   where
     early : length start.tape ≤ (new.port port).notes.st_set_at
@@ -181,19 +181,19 @@ shown_since port old start new a set = record {
 -- where it was shown when the stretch began, ST having been set after another moment
 pub shown_more : (port : ℕ) (old start mid new : Device) → HidesNoTrouble port start mid → TapeGrows start mid → length start.tape ≤ (mid.port port).notes.st_set_at → ShowsAll port mid new → HidesNoTrouble port old new
 shown_more port old start mid new shown grows set a = record {
-  fault = λ g. set_unless ((new.port port).is 30) (λ clear.
+  fault_is_shown = λ g. set_unless ((new.port port).is 30) (λ clear.
       let n = a.fault clear in
-      let before = until_then (IsFaultOf port) port start mid new grows n.1.gained n.1.tape n.1.none a.same (since_then (IsFaultOf port) port old start new whole early g) in
-      let z : false ≡ true = sym n.0 ∙ shown.fault before in absurd cc);
-  fatal = λ g. fatal_unless (new.port port) (λ clear.
+      let before = until_then (IsFaultOf port) port start mid new grows n.1.new_entries n.1.tape_is n.1.no_such_entry a.same (since_then (IsFaultOf port) port old start new whole early g) in
+      let z : false ≡ true = sym n.0 ∙ shown.fault_is_shown before in absurd cc);
+  fatal_is_shown = λ g. fatal_unless (new.port port) (λ clear.
       let n = a.fatal clear in
-      let before = until_then (IsFatalOf port) port start mid new grows n.1.gained n.1.tape n.1.none a.same (since_then (IsFatalOf port) port old start new whole early g) in
-      let f = shown.fatal before in
-      let z : false ≡ true = sym (n.0 f.place f.from f.to) ∙ f.set in absurd cc);
-  disk = λ g. set_unless (new.port port).serr_n (λ clear.
+      let before = until_then (IsFatalOf port) port start mid new grows n.1.new_entries n.1.tape_is n.1.no_such_entry a.same (since_then (IsFatalOf port) port old start new whole early g) in
+      let f = shown.fatal_is_shown before in
+      let z : false ≡ true = sym (n.0 f.place f.from f.to) ∙ f.cause_is_set in absurd cc);
+  plug_is_shown = λ g. set_unless (new.port port).serr_n (λ clear.
       let n = a.disk clear in
-      let before = until_then (IsPlugEvent port) port start mid new grows n.1.gained n.1.tape n.1.none a.same (since_then (IsPlugEvent port) port old start new whole early g) in
-      let z : false ≡ true = sym n.0 ∙ shown.disk before in absurd cc);
+      let before = until_then (IsPlugEvent port) port start mid new grows n.1.new_entries n.1.tape_is n.1.no_such_entry a.same (since_then (IsPlugEvent port) port old start new whole early g) in
+      let z : false ≡ true = sym n.0 ∙ shown.plug_is_shown before in absurd cc);
 }
   where
     early : length start.tape ≤ (new.port port).notes.st_set_at

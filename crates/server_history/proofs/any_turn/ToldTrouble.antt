@@ -14,7 +14,7 @@ use Rattle.adapter.specs.Device.{Device}
 use Rattle.adapter.specs.Rules.{IsOn}
 use Rattle.adapter.specs.declared.tape.Entry.{Entry}
 use Rattle.adapter.specs.declared.tape.Entry.TheVariants as entry
-use Rattle.refinement.specs.Driven.{TapeGrows}
+use Rattle.refinement.specs.Fragments.{TapeGrows}
 use Rattle.refinement.specs.Errors.{IsFatalOf, NoDiskComes}
 use Rattle.refinement.specs.PortFacts.{IsFaultOf}
 use Rattle.refinement.specs.Links.{IsPlugEvent, DoesNotWrite}
@@ -22,8 +22,8 @@ use Rattle.server_history.proofs.state.ListMembers.{contains_there}
 use Rattle.driver_history.specs.Evidence.{TapeGainsEntry, ShowsChange, ShowsFailure}
 use Rattle.error_recovery.specs.Evidence.{ShowsFatal}
 use Rattle.error_recovery.specs.declared.Recovered.{Recovered}
-use Rattle.port_boot.specs.States.{RunsOn}
-use Rattle.port_control.specs.Looks.{LooksAt, port_event_of}
+use Rattle.port_boot.specs.States.{StaysRunning}
+use Rattle.port_control.specs.PortEvents.{TakesEvent, port_event_of}
 use Rattle.port_control.specs.declared.events.PortEvent.{PortEvent}
 use Rattle.port_control.specs.declared.events.PortEvent.TheVariants.{FatalError, TaskFileError, LinkChanged, NoEvent}
 use Rattle.server_history.specs.Prerequisites.{PrerequisiteLaws}
@@ -76,11 +76,11 @@ one_or_none Such told (e ∷ gained) = ⊎_elim
 -- what the first of two stretches gained, both did
 gains_more : (Such : Entry → Type 0) (old mid new : Device) → TapeGrows mid new → TapeGainsEntry Such old mid → TapeGainsEntry Such old new
 gains_more Such old mid new grows g = record {
-  gained = g.gained ++ grows.0;
-  tape = grows.1 ∙ ap (λ (tape : List Entry). tape ++ grows.0) g.tape ∙ append_assoc old.tape g.gained grows.0;
+  new_entries = g.new_entries ++ grows.0;
+  tape_is = grows.1 ∙ ap (λ (tape : List Entry). tape ++ grows.0) g.tape_is ∙ append_assoc old.tape g.new_entries grows.0;
   entry = g.entry;
-  here = Contains-append_left g.gained grows.0 g.entry g.here;
-  is = g.is;
+  entry_is_new = Contains-append_left g.new_entries grows.0 g.entry g.entry_is_new;
+  entry_is_of_kind = g.entry_is_of_kind;
 }
 
 -- ---- kinds of trouble
@@ -101,9 +101,9 @@ lost_or_not kinds.TimedOut = inr (λ e. let z : kinds.TimedOut ≡ kinds.LinkCha
 
 -- ---- what a look saw
 
-module _ (laws : PrerequisiteLaws) (port : Port) (look : PortEvent) (old seen : Device) (l : LooksAt port look old seen) (on : IsOn old) where
+module _ (laws : PrerequisiteLaws) (port : Port) (look : PortEvent) (old seen : Device) (l : TakesEvent port look old seen) (on : IsOn old) where
   its : (told : PortEvent) → look ≡ told → port_event_of l.causes l.status ≡ told
-  its told is = sym l.tells ∙ is
+  its told is = sym l.result_is ∙ is
 
   -- a bit that was set when the turn began
   set_then : (place : ℕ) → (old.port port.0).is place ≡ true → (l.seen.port port.0).is place ≡ true
@@ -116,13 +116,13 @@ module _ (laws : PrerequisiteLaws) (port : Port) (look : PortEvent) (old seen : 
   looked =
       laws.looks.tape.grows_more old l.seen seen (laws.looks.tape.access_grows (Reading (Px port Is) l.causes) old l.seen l.reads)
       (laws.looks.tape.grows_more l.seen l.cleared seen (laws.looks.tape.access_grows (Writing (Px port Is) l.causes) l.seen l.cleared l.clears)
-      (laws.looks.tape.grows_more l.cleared l.acknowledged seen (laws.looks.tape.access_grows (Writing reg.Is l.own) l.cleared l.acknowledged l.acknowledges)
-      (laws.looks.tape.access_grows (Reading (Px port Ssts) l.status) l.acknowledged seen l.shows)))
+      (laws.looks.tape.grows_more l.cleared l.acknowledged seen (laws.looks.tape.access_grows (Writing reg.Is l.port_mask) l.cleared l.acknowledged l.acknowledges)
+      (laws.looks.tape.access_grows (Reading (Px port Ssts) l.status) l.acknowledged seen l.reads_status)))
 
   grows : TapeGrows old l.seen
   grows = laws.looks.tape.access_grows (Reading (Px port Is) l.causes) old l.seen l.reads
 
-  goes : RunsOn port.0 old l.seen
+  goes : StaysRunning port.0 old l.seen
   goes = laws.runs_on port (Reading (Px port Is) l.causes ∷ []) old l.seen on (l.seen, l.reads, refl) (All-cons (DoesNotWrite Ghc) (Reading (Px port Is) l.causes) [] tt (All-nil (DoesNotWrite Ghc)))
       (All-cons (DoesNotWrite (Px port Sctl)) (Reading (Px port Is) l.causes) [] tt (All-nil (DoesNotWrite (Px port Sctl)))) (All-cons (DoesNotWrite (Px port Cmd)) (Reading (Px port Is) l.causes) [] tt (All-nil (DoesNotWrite (Px port Cmd))))
 
@@ -148,8 +148,8 @@ module _ (laws : PrerequisiteLaws) (port : Port) (look : PortEvent) (old seen : 
     fault_shown new later = ⊎_elim
         (λ (is : (old.port port.0).is 30 ≡ true). inl is)
         (λ (clear : (old.port port.0).is 30 ≡ false). inr (⊎_elim
-        (λ found. gains_more (IsFaultOf port.0) old l.seen new later (record { gained = grows.0; tape = grows.1; entry = found.0; here = found.1; is = found.2 }))
-        (λ none. absurd (false≢true (sym (goes.goes.errors.fault (record { gained = grows.0; tape = grows.1; none = none }) clear) ∙ sym (shown_at 30 refl) ∙ told.0)))
+        (λ found. gains_more (IsFaultOf port.0) old l.seen new later (record { new_entries = grows.0; tape_is = grows.1; entry = found.0; entry_is_new = found.1; entry_is_of_kind = found.2 }))
+        (λ none. absurd (false≢true (sym (goes.bits_rise_with_cause.changes_by_errors.fault (record { new_entries = grows.0; tape_is = grows.1; no_such_entry = none }) clear) ∙ sym (shown_at 30 refl) ∙ told.0)))
         (one_or_none (IsFaultOf port.0) (is_fault port.0) grows.0)))
         (cases_Bool ((old.port port.0).is 30))
 
@@ -164,10 +164,10 @@ module _ (laws : PrerequisiteLaws) (port : Port) (look : PortEvent) (old seen : 
         at : (place : ℕ) → 27 ≤ place → place ≤ 29 → is_cause place ≡ true → shown_interrupt (l.seen.port port.0) place ≡ (l.seen.port port.0).is place → bit l.causes place ≡ true
             → ShowsFatal (old.port port.0) ⊎ TapeGainsEntry (IsFatalOf port.0) old new
         at place from to cause plain set = ⊎_elim
-            (λ (is : (old.port port.0).is place ≡ true). inl (record { place = place; from = from; to = to; set = is }))
+            (λ (is : (old.port port.0).is place ≡ true). inl (record { place = place; from = from; to = to; cause_is_set = is }))
             (λ (clear : (old.port port.0).is place ≡ false). inr (⊎_elim
-            (λ found. gains_more (IsFatalOf port.0) old l.seen new later (record { gained = grows.0; tape = grows.1; entry = found.0; here = found.1; is = found.2 }))
-            (λ none. absurd (false≢true (sym (goes.goes.errors.fatal (record { gained = grows.0; tape = grows.1; none = none }) place from to clear) ∙ sym plain ∙ sym (shown_at place cause) ∙ set)))
+            (λ found. gains_more (IsFatalOf port.0) old l.seen new later (record { new_entries = grows.0; tape_is = grows.1; entry = found.0; entry_is_new = found.1; entry_is_of_kind = found.2 }))
+            (λ none. absurd (false≢true (sym (goes.bits_rise_with_cause.changes_by_errors.fatal (record { new_entries = grows.0; tape_is = grows.1; no_such_entry = none }) place from to clear) ∙ sym plain ∙ sym (shown_at place cause) ∙ set)))
             (one_or_none (IsFatalOf port.0) (is_fatal port.0) grows.0)))
             (cases_Bool ((old.port port.0).is place))
 
@@ -207,7 +207,7 @@ module _ (laws : PrerequisiteLaws) (port : Port) (look : PortEvent) (old seen : 
   loss_shown lost undue new later = ⊎_elim
       (λ change. inl change)
       (λ more. inr (⊎_elim (λ out. inl out) (λ some. inr (⊎_elim
-      (λ found. gains_more (IsPlugEvent port.0) old seen new later (record { gained = looked.0; tape = looked.1; entry = found.0; here = found.1; is = found.2 }))
-      (λ none. absurd (some (record { gained = looked.0; tape = looked.1; none = none })))
+      (λ found. gains_more (IsPlugEvent port.0) old seen new later (record { new_entries = looked.0; tape_is = looked.1; entry = found.0; entry_is_new = found.1; entry_is_of_kind = found.2 }))
+      (λ none. absurd (some (record { new_entries = looked.0; tape_is = looked.1; no_such_entry = none })))
       (one_or_none (IsPlugEvent port.0) (is_plugging port.0) looked.0))) more))
-      (laws.looking.looks_loss port old seen on (subst (λ (told : PortEvent). LooksAt port told old seen) lost l) undue)
+      (laws.looking.looks_loss port old seen on (subst (λ (told : PortEvent). TakesEvent port told old seen) lost l) undue)

@@ -9,13 +9,13 @@ use Rattle.ata_types.specs.declared.request.Outcome.TheVariants.{Ok, DeviceError
 use Rattle.ata_types.specs.declared.request.RequestId.{RequestId}
 use Rattle.adapter.specs.declared.access.DeviceStep.{DeviceStep}
 use Rattle.refinement.specs.Relation.{port_at}
-use Rattle.block_machine.specs.Events.{AbstractCall, AbstractState, AllAnswersLawful, AllMay, AreStepsOfCall, IsIssuedIn, IsLawfulAnswer, IssuesLast, AnswersAllUnplugged, changes_disk}
+use Rattle.block_machine.specs.Events.{AbstractCall, AbstractState, AllAnswersLawful, AllEnabled, AreStepsOfCall, IsIssuedIn, IsLawfulAnswer, IssuesLast, AnswersAllUnplugged, changes_disk}
 use Rattle.block_machine.specs.Histories.{IsReachable}
 use Rattle.block_machine.specs.Expected.{after}
 use Rattle.block_machine.specs.Ports.{Evidence, Ports}
 use Rattle.block_machine.specs.State.{Machine, Pending}
-use Rattle.block_machine.specs.Steps.{Step, Again, Answer, Issue, Replace, Unplug}
-use Rattle.driver_history.specs.Heeding.{OnlyFailedPortsRequeue}
+use Rattle.block_machine.specs.Steps.{Step, WaitAgain, Answer, Issue, Replace, Unplug}
+use Rattle.driver_history.specs.EvidenceHandling.{OnlyFailedPortsRequeue}
 use Rattle.server_history.specs.Turns.{IsOfTurn, IsStepOf}
 use Rattle.server_history.proofs.any_turn.TurnSteps.{IsSame, StandsIn, handled_own, issued_before, others_left, others_were, same_as, same_more, stood}
 use Rattle.server_history.proofs.plain_calls.IssueRounds.{issued_parts}
@@ -26,7 +26,7 @@ use Rattle.server_history.specs.Prerequisites.{PrerequisiteLaws}
 -- steps of ports of one kind are of ports of another
 of_ports : (One Other : Port → Type 0) → ((q : Port) → One q → Other q) → (step : Step) → IsStepOf One step → IsStepOf Other step
 of_ports One Other each (Issue mode e) is = each e.request.port is
-of_ports One Other each (Again e) is = each e.request.port is
+of_ports One Other each (WaitAgain e) is = each e.request.port is
 of_ports One Other each (Answer e o) is = each e.request.port is
 of_ports One Other each step is = is
 
@@ -38,8 +38,8 @@ pub answered_of : (Such : Port → Type 0) (steps : List Step) → All (IsStepOf
 answered_of Such steps all e o here = All-contains (IsStepOf Such) steps (Answer e o) all here
 
 -- and so is who waits again in them
-pub again_of : (Such : Port → Type 0) (steps : List Step) → All (IsStepOf Such) steps → (e : Pending) → Contains steps (Again e) → Such e.request.port
-again_of Such steps all e here = All-contains (IsStepOf Such) steps (Again e) all here
+pub again_of : (Such : Port → Type 0) (steps : List Step) → All (IsStepOf Such) steps → (e : Pending) → Contains steps (WaitAgain e) → Such e.request.port
+again_of Such steps all e here = All-contains (IsStepOf Such) steps (WaitAgain e) all here
 
 pub belong_join : (ask : AbstractCall DeviceStep) (ports : Ports) (late early : List Step) → AreStepsOfCall ask ports late → AreStepsOfCall ask ports early → AreStepsOfCall ask ports (late ++ early)
 belong_join ask ports [] early a b = b
@@ -48,29 +48,29 @@ belong_join ask ports (step ∷ late) early a b = (belong_join ask ports late ea
 pub lawful_join : (old : AbstractState) (evidence : Evidence) (ports : Ports) (late early : List Step) → AllAnswersLawful old evidence ports late → AllAnswersLawful old evidence ports early → AllAnswersLawful old evidence ports (late ++ early)
 lawful_join old evidence ports [] early a b = b
 lawful_join old evidence ports (Answer e o ∷ late) early a b = (lawful_join old evidence ports late early a.0 b, a.1)
-lawful_join old evidence ports (Again e ∷ late) early a b = (lawful_join old evidence ports late early a.0 b, a.1)
+lawful_join old evidence ports (WaitAgain e ∷ late) early a b = (lawful_join old evidence ports late early a.0 b, a.1)
 lawful_join old evidence ports (step ∷ late) early a b = lawful_join old evidence ports late early a b
 
 -- answers are lawful in another call where each of them is
 pub lawful_on : (old new : AbstractState) (evidence other : Evidence) (ports later : Ports) (steps : List Step)
     → ((e : Pending) (o : Outcome) → Contains steps (Answer e o) → IsLawfulAnswer old evidence ports e o → IsLawfulAnswer new other later e o)
-    → ((e : Pending) → Contains steps (Again e) → Contains evidence.stopped e.request.port → Contains other.stopped e.request.port)
+    → ((e : Pending) → Contains steps (WaitAgain e) → Contains evidence.stopped e.request.port → Contains other.stopped e.request.port)
     → AllAnswersLawful old evidence ports steps → AllAnswersLawful new other later steps
 lawful_on old new evidence other ports later [] each again a = tt
 lawful_on old new evidence other ports later (Answer e o ∷ steps) each again a = (
-  lawful_on old new evidence other ports later steps (λ x y h. each x y (Contains-append_right ((Answer e o) ∷ []) steps (Answer x y) h)) (λ x h. again x (Contains-append_right ((Answer e o) ∷ []) steps (Again x) h)) a.0,
+  lawful_on old new evidence other ports later steps (λ x y h. each x y (Contains-append_right ((Answer e o) ∷ []) steps (Answer x y) h)) (λ x h. again x (Contains-append_right ((Answer e o) ∷ []) steps (WaitAgain x) h)) a.0,
   each e o (Contains-get_or ((Answer e o) ∷ steps) 0 (Answer e o) (omega arith)) a.1,
 )
-lawful_on old new evidence other ports later (Again e ∷ steps) each again a = (
-  lawful_on old new evidence other ports later steps (λ x y h. each x y (Contains-append_right ((Again e) ∷ []) steps (Answer x y) h)) (λ x h. again x (Contains-append_right ((Again e) ∷ []) steps (Again x) h)) a.0,
-  again e (Contains-get_or ((Again e) ∷ steps) 0 (Again e) (omega arith)) a.1,
+lawful_on old new evidence other ports later (WaitAgain e ∷ steps) each again a = (
+  lawful_on old new evidence other ports later steps (λ x y h. each x y (Contains-append_right ((WaitAgain e) ∷ []) steps (Answer x y) h)) (λ x h. again x (Contains-append_right ((WaitAgain e) ∷ []) steps (WaitAgain x) h)) a.0,
+  again e (Contains-get_or ((WaitAgain e) ∷ steps) 0 (WaitAgain e) (omega arith)) a.1,
 )
 lawful_on old new evidence other ports later (step ∷ steps) each again a =
-    lawful_on old new evidence other ports later steps (λ x y h. each x y (Contains-append_right (step ∷ []) steps (Answer x y) h)) (λ x h. again x (Contains-append_right (step ∷ []) steps (Again x) h)) a
+    lawful_on old new evidence other ports later steps (λ x y h. each x y (Contains-append_right (step ∷ []) steps (Answer x y) h)) (λ x h. again x (Contains-append_right (step ∷ []) steps (WaitAgain x) h)) a
 
 pub grounded_join : (evidence : Evidence) (late early : List Step) → OnlyFailedPortsRequeue evidence late → OnlyFailedPortsRequeue evidence early → OnlyFailedPortsRequeue evidence (late ++ early)
 grounded_join evidence [] early a b = b
-grounded_join evidence (Again e ∷ late) early a b = (grounded_join evidence late early a.0 b, a.1)
+grounded_join evidence (WaitAgain e ∷ late) early a b = (grounded_join evidence late early a.0 b, a.1)
 grounded_join evidence (Answer e Aborted ∷ late) early a b = (grounded_join evidence late early a.0 b, a.1)
 grounded_join evidence (Answer e Revoked ∷ late) early a b = (grounded_join evidence late early a.0 b, a.1)
 grounded_join evidence (Answer e (DeviceError status error) ∷ late) early a b = (grounded_join evidence late early a.0 b, a.1)
@@ -81,7 +81,7 @@ grounded_join evidence (step ∷ late) early a b = grounded_join evidence late e
 
 pub grounded_on : (evidence other : Evidence) → ((q : Port) → Contains evidence.failed q → Contains other.failed q) → (steps : List Step) → OnlyFailedPortsRequeue evidence steps → OnlyFailedPortsRequeue other steps
 grounded_on evidence other more [] a = tt
-grounded_on evidence other more (Again e ∷ steps) a = (grounded_on evidence other more steps a.0, more e.request.port a.1)
+grounded_on evidence other more (WaitAgain e ∷ steps) a = (grounded_on evidence other more steps a.0, more e.request.port a.1)
 grounded_on evidence other more (Answer e Aborted ∷ steps) a = (grounded_on evidence other more steps a.0, more e.request.port a.1)
 grounded_on evidence other more (Answer e Revoked ∷ steps) a = (grounded_on evidence other more steps a.0, more e.request.port a.1)
 grounded_on evidence other more (Answer e (DeviceError status error) ∷ steps) a = (grounded_on evidence other more steps a.0, more e.request.port a.1)
@@ -120,7 +120,7 @@ present_before m q (step ∷ steps) is = present_before m q steps is
 -- Steps of a call in which ports below this number had their turns: the server's are of requests of those, so that each request of another port is as
 -- it was when the call began; and each that is unanswered was so then.
 pub record AreTurns (old : AbstractState) (n : ℕ) (steps : List Step) : Type 0 where
-  pub may : AllMay old.machine steps
+  pub may : AllEnabled old.machine steps
   pub last : IssuesLast steps
   pub below : All (IsStepOf (λ q. q.0 < n)) steps
   pub issued : (id : RequestId) → IsIssuedIn id steps → (e : Pending) × Contains old.machine.book e × (e.request.id.0 ≡ id.0) × (e.request.port.0 < n)
@@ -152,7 +152,7 @@ module _ (laws : PrerequisiteLaws) (old : AbstractState) (reached : IsReachable 
     origin = λ e h far. x.origin e h (omega (arith, le, far));
   }
 
-  module _ (n : ℕ) (base late : List Step) (x : AreTurns old n base) (own : All (IsOfTurn (port_at n)) late) (may : AllMay (after old.machine base) late) (last : IssuesLast late) where
+  module _ (n : ℕ) (base late : List Step) (x : AreTurns old n base) (own : All (IsOfTurn (port_at n)) late) (may : AllEnabled (after old.machine base) late) (last : IssuesLast late) where
     m_reached : IsReachable (after old.machine base)
     m_reached = laws.basic.reached old.machine base reached x.may
 
@@ -169,7 +169,7 @@ module _ (laws : PrerequisiteLaws) (old : AbstractState) (reached : IsReachable 
         let is : w.0.request.port.0 ≡ n = ap (λ (y : Pending). y.request.port.0) it ∙ ap (λ r. r.port.0) b.request ∙ ap (λ (q : Port). q.0) its in
         absurd (omega (arith, small, is))
 
-    last_join : (steps : List Step) → All (IsOfTurn (port_at n)) steps → AllMay (after old.machine base) steps → IssuesLast steps → IssuesLast (steps ++ base)
+    last_join : (steps : List Step) → All (IsOfTurn (port_at n)) steps → AllEnabled (after old.machine base) steps → IssuesLast steps → IssuesLast (steps ++ base)
     last_join [] all its_may l = x.last
     last_join (step ∷ steps) all its_may l = (
       last_join steps (All-tail (IsOfTurn (port_at n)) step steps all) its_may.0 l.0,
@@ -220,20 +220,20 @@ module _ (laws : PrerequisiteLaws) (old : AbstractState) (reached : IsReachable 
     -- who is left of what was answered before, or stays, stays answered so
     pub unplugs_join : AnswersAllUnplugged base (after old.machine base) → AnswersAllUnplugged late (after (after old.machine base) late) → AnswersAllUnplugged (late ++ base) (after old.machine (late ++ base))
     unplugs_join early its = record {
-      emptied = λ e other here there. ⊎_elim
-          (λ i. its.emptied e other i (in_whole other there))
+      none_is_left = λ e other here there. ⊎_elim
+          (λ i. its.none_is_left e other i (in_whole other there))
           (λ i same.
           let b = stood laws (port_at n) (after old.machine base) late own other (in_whole other there) in
-          early.emptied e b.was i b.here (ap (λ r. r.port) b.request ∙ same))
+          early.none_is_left e b.was i b.here (ap (λ r. r.port) b.request ∙ same))
           (Contains-append_cases late base (Answer e Unplugged) here);
-      alike = λ e other here there same. ⊎_elim
+      none_is_told_dead = λ e other here there same. ⊎_elim
           (λ i. ⊎_elim
-          (λ j. its.alike e other i j same)
+          (λ j. its.none_is_told_dead e other i j same)
           (λ j. crossed e.request.port other.request.port (answered_of (λ q. q ≡ port_at n) late own e Unplugged i) (answered_of (λ q. q.0 < n) base x.below other PortDead j) same)
           (Contains-append_cases late base (Answer other PortDead) there))
           (λ i. ⊎_elim
           (λ j. crossed other.request.port e.request.port (answered_of (λ q. q ≡ port_at n) late own other PortDead j) (answered_of (λ q. q.0 < n) base x.below e Unplugged i) (sym same))
-          (λ j. early.alike e other i j same)
+          (λ j. early.none_is_told_dead e other i j same)
           (Contains-append_cases late base (Answer other PortDead) there))
           (Contains-append_cases late base (Answer e Unplugged) here);
     }

@@ -10,14 +10,14 @@ use Rattle.ata_types.specs.declared.request.Outcome.TheVariants as outcome
 use Rattle.ata_types.specs.declared.request.Reply.{Reply}
 use Rattle.ata_types.specs.declared.request.RequestId.{RequestId}
 use Rattle.adapter.specs.declared.access.DeviceStep.{DeviceStep}
-use Rattle.block_machine.specs.Events.{AllAnswersLawful, AreStepsOfCall, EndsUndone, IsByDevice, IsIssuedIn, IsLawfulAnswer, IsByServer, AbstractState, Service, Tick, issues_it}
+use Rattle.block_machine.specs.Events.{AllAnswersLawful, AreStepsOfCall, EndsUndone, IsByDevice, IsIssuedIn, IsLawfulAnswer, IsByServer, AbstractState, Service, Tick, issues_id}
 use Rattle.block_machine.specs.Ports.{Evidence, Ports}
 use Rattle.block_machine.specs.State.{Pending}
-use Rattle.block_machine.specs.Steps.{Step, Again, Answer, Issue}
+use Rattle.block_machine.specs.Steps.{Step, WaitAgain, Answer, Issue}
 use Rattle.block_machine.specs.declared.due.QueueMode.{QueueMode}
-use Rattle.driver_history.specs.Heeding.{OnlyFailedPortsRequeue}
+use Rattle.driver_history.specs.EvidenceHandling.{OnlyFailedPortsRequeue}
 use Rattle.server_history.proofs.state.ListMembers.{contains_cases, contains_there}
-use Rattle.request_queue.specs.Entries.{BookEntry}
+use Rattle.request_queue.specs.BookEntries.{BookEntry}
 use Rattle.request_queue.specs.Dispositions.{BookAndLoans, AreResolved, IsResolved, disposition_of, disposition_of_unfailed}
 use Rattle.request_queue.specs.declared.PendingRequest.{PendingRequest}
 use Rattle.request_queue.specs.declared.disposition.FailedRequest.{FailedRequest}
@@ -26,9 +26,9 @@ use Rattle.request_queue.specs.declared.disposition.Disposition.TheVariants.{Com
 use Rattle.request_queue.specs.declared.disposition.Revalidation.{Revalidation}
 use Rattle.request_queue.specs.declared.disposition.Revalidation.TheVariants.{SameDisk, DiskLost, Dead as NoEnd}
 use Rattle.server_history.specs.Prerequisites.{PrerequisiteLaws}
-use Rattle.server_history.specs.Dispositions.{IsResolveStep}
-use Rattle.server_history.specs.Served.{AnswersEach, AllByDeviceOrIssue}
-use Rattle.server_history.specs.Server.{ServerState}
+use Rattle.server_history.specs.ResolvedRequests.{IsResolveStep}
+use Rattle.server_history.specs.IssuingAndAnswering.{AnswersEach, AllByDeviceOrIssue}
+use Rattle.server_history.specs.ServerState.{ServerState}
 use Rattle.server_history.specs.Turns.{IsOfTurn}
 use Rattle.server_history.proofs.state.FirstMembers.{nowhere, first_here}
 
@@ -122,7 +122,7 @@ pub answered_left : PrerequisiteLaws → (port : Port) (done : ℕ) (requests : 
 answered_left laws port done [] old new none x here = (subst (λ (s : ServerState). Contains s.book x) none here, λ e there. absurd (nowhere e there))
 answered_left laws port done (request ∷ requests) old new (mid, one, its, more) x here =
     let rest = answered_left laws port done requests mid new more x here in
-    let left = (laws.left old.book request.entry.id x).0 (subst (λ (s : ServerState). Contains s.book x) one.server rest.0) in
+    let left = (laws.left old.book request.entry.id x).0 (subst (λ (s : ServerState). Contains s.book x) one.server_is rest.0) in
     (left.0, λ e there. ⊎_elim (λ (same : e ≡ request). λ is. left.1 (is ∙ ap (λ (y : BookEntry). y.entry.id) same)) (λ late. rest.1 e late) (contains_cases request requests e there))
 
 -- ---- steps that decide
@@ -139,64 +139,64 @@ module _ (port : Port) where
   deciding_own steps all = All-weaker (IsResolveStep port) (IsOfTurn port) own steps all
     where
       own : (step : Step) → IsResolveStep port step → IsOfTurn port step
-      own (Again e) is = is
+      own (WaitAgain e) is = is
       own (Answer e o) is = is
       own step is = absurd is
 
-  pub deciding_belong : (ports : Ports) (steps : List Step) → All (IsResolveStep port) steps → ((e : Pending) → Contains steps (Again e) → ports.state e.request.port ≡ ReadyState) → AreStepsOfCall {D = DeviceStep} Service ports steps
+  pub deciding_belong : (ports : Ports) (steps : List Step) → All (IsResolveStep port) steps → ((e : Pending) → Contains steps (WaitAgain e) → ports.state e.request.port ≡ ReadyState) → AreStepsOfCall {D = DeviceStep} Service ports steps
   deciding_belong ports [] all again = tt
-  deciding_belong ports (Again e ∷ steps) all again = (
-    deciding_belong ports steps (All-tail (IsResolveStep port) (Again e) steps all) (λ x there. again x (contains_there (Again e) steps (Again x) there)),
-    inr (again e (first_here (Again e) steps)),
+  deciding_belong ports (WaitAgain e ∷ steps) all again = (
+    deciding_belong ports steps (All-tail (IsResolveStep port) (WaitAgain e) steps all) (λ x there. again x (contains_there (WaitAgain e) steps (WaitAgain x) there)),
+    inr (again e (first_here (WaitAgain e) steps)),
   )
   deciding_belong ports (Answer e o ∷ steps) all again =
-      (deciding_belong ports steps (All-tail (IsResolveStep port) (Answer e o) steps all) (λ x there. again x (contains_there (Answer e o) steps (Again x) there)), inr tt)
+      (deciding_belong ports steps (All-tail (IsResolveStep port) (Answer e o) steps all) (λ x there. again x (contains_there (Answer e o) steps (WaitAgain x) there)), inr tt)
   deciding_belong ports (step ∷ steps) all again = absurd (All-head (IsResolveStep port) step steps all)
 
   pub deciding_lawful : (old : AbstractState) (evidence : Evidence) (ports : Ports) (steps : List Step) → All (IsResolveStep port) steps → ((e : Pending) (o : Outcome) → Contains steps (Answer e o) → IsLawfulAnswer old evidence ports e o)
-      → ((e : Pending) → Contains steps (Again e) → Contains evidence.stopped e.request.port) → AllAnswersLawful old evidence ports steps
+      → ((e : Pending) → Contains steps (WaitAgain e) → Contains evidence.stopped e.request.port) → AllAnswersLawful old evidence ports steps
   deciding_lawful old evidence ports [] all answer again = tt
-  deciding_lawful old evidence ports (Again e ∷ steps) all answer again = (
-    deciding_lawful old evidence ports steps (All-tail (IsResolveStep port) (Again e) steps all) (λ x o there. answer x o (contains_there (Again e) steps (Answer x o) there)) (λ x there. again x (contains_there (Again e) steps (Again x) there)),
-    again e (first_here (Again e) steps),
+  deciding_lawful old evidence ports (WaitAgain e ∷ steps) all answer again = (
+    deciding_lawful old evidence ports steps (All-tail (IsResolveStep port) (WaitAgain e) steps all) (λ x o there. answer x o (contains_there (WaitAgain e) steps (Answer x o) there)) (λ x there. again x (contains_there (WaitAgain e) steps (WaitAgain x) there)),
+    again e (first_here (WaitAgain e) steps),
   )
   deciding_lawful old evidence ports (Answer e o ∷ steps) all answer again = (
-    deciding_lawful old evidence ports steps (All-tail (IsResolveStep port) (Answer e o) steps all) (λ x y there. answer x y (contains_there (Answer e o) steps (Answer x y) there)) (λ x there. again x (contains_there (Answer e o) steps (Again x) there)),
+    deciding_lawful old evidence ports steps (All-tail (IsResolveStep port) (Answer e o) steps all) (λ x y there. answer x y (contains_there (Answer e o) steps (Answer x y) there)) (λ x there. again x (contains_there (Answer e o) steps (WaitAgain x) there)),
     answer e o (first_here (Answer e o) steps),
   )
   deciding_lawful old evidence ports (step ∷ steps) all answer again = absurd (All-head (IsResolveStep port) step steps all)
 
   -- a request that goes again, or is aborted, told Revoked or told a fault in its place, is of a port that failed
-  pub deciding_grounded : (evidence : Evidence) (steps : List Step) → All (IsResolveStep port) steps → ((e : Pending) → Contains steps (Again e) → Contains evidence.failed port)
+  pub deciding_grounded : (evidence : Evidence) (steps : List Step) → All (IsResolveStep port) steps → ((e : Pending) → Contains steps (WaitAgain e) → Contains evidence.failed port)
       → ((e : Pending) (o : Outcome) → Contains steps (Answer e o) → RestsOnFailure o → Contains evidence.failed port) → OnlyFailedPortsRequeue evidence steps
   deciding_grounded evidence [] all again answer = tt
-  deciding_grounded evidence (Again e ∷ steps) all again answer = (
-    deciding_grounded evidence steps (All-tail (IsResolveStep port) (Again e) steps all) (λ x there. again x (contains_there (Again e) steps (Again x) there)) (λ x o there. answer x o (contains_there (Again e) steps (Answer x o) there)),
-    subst (Contains evidence.failed) (sym (All-head (IsResolveStep port) (Again e) steps all)) (again e (first_here (Again e) steps)),
+  deciding_grounded evidence (WaitAgain e ∷ steps) all again answer = (
+    deciding_grounded evidence steps (All-tail (IsResolveStep port) (WaitAgain e) steps all) (λ x there. again x (contains_there (WaitAgain e) steps (WaitAgain x) there)) (λ x o there. answer x o (contains_there (WaitAgain e) steps (Answer x o) there)),
+    subst (Contains evidence.failed) (sym (All-head (IsResolveStep port) (WaitAgain e) steps all)) (again e (first_here (WaitAgain e) steps)),
   )
   deciding_grounded evidence (Answer e outcome.Aborted ∷ steps) all again answer = (
-    deciding_grounded evidence steps (All-tail (IsResolveStep port) (Answer e outcome.Aborted) steps all) (λ x there. again x (contains_there (Answer e outcome.Aborted) steps (Again x) there)) (λ x o there. answer x o (contains_there (Answer e outcome.Aborted) steps (Answer x o) there)),
+    deciding_grounded evidence steps (All-tail (IsResolveStep port) (Answer e outcome.Aborted) steps all) (λ x there. again x (contains_there (Answer e outcome.Aborted) steps (WaitAgain x) there)) (λ x o there. answer x o (contains_there (Answer e outcome.Aborted) steps (Answer x o) there)),
     subst (Contains evidence.failed) (sym (All-head (IsResolveStep port) (Answer e outcome.Aborted) steps all)) (answer e outcome.Aborted (first_here (Answer e outcome.Aborted) steps) tt),
   )
   deciding_grounded evidence (Answer e outcome.Revoked ∷ steps) all again answer = (
-    deciding_grounded evidence steps (All-tail (IsResolveStep port) (Answer e outcome.Revoked) steps all) (λ x there. again x (contains_there (Answer e outcome.Revoked) steps (Again x) there)) (λ x o there. answer x o (contains_there (Answer e outcome.Revoked) steps (Answer x o) there)),
+    deciding_grounded evidence steps (All-tail (IsResolveStep port) (Answer e outcome.Revoked) steps all) (λ x there. again x (contains_there (Answer e outcome.Revoked) steps (WaitAgain x) there)) (λ x o there. answer x o (contains_there (Answer e outcome.Revoked) steps (Answer x o) there)),
     subst (Contains evidence.failed) (sym (All-head (IsResolveStep port) (Answer e outcome.Revoked) steps all)) (answer e outcome.Revoked (first_here (Answer e outcome.Revoked) steps) tt),
   )
   deciding_grounded evidence (Answer e (outcome.DeviceError status error) ∷ steps) all again answer = (
-    deciding_grounded evidence steps (All-tail (IsResolveStep port) (Answer e (outcome.DeviceError status error)) steps all) (λ x there. again x (contains_there (Answer e (outcome.DeviceError status error)) steps (Again x) there)) (λ x o there. answer x o (contains_there (Answer e (outcome.DeviceError status error)) steps (Answer x o) there)),
+    deciding_grounded evidence steps (All-tail (IsResolveStep port) (Answer e (outcome.DeviceError status error)) steps all) (λ x there. again x (contains_there (Answer e (outcome.DeviceError status error)) steps (WaitAgain x) there)) (λ x o there. answer x o (contains_there (Answer e (outcome.DeviceError status error)) steps (Answer x o) there)),
     subst (Contains evidence.failed) (sym (All-head (IsResolveStep port) (Answer e (outcome.DeviceError status error)) steps all)) (answer e (outcome.DeviceError status error) (first_here (Answer e (outcome.DeviceError status error)) steps) tt),
   )
   deciding_grounded evidence (Answer e outcome.Ok ∷ steps) all again answer =
-      deciding_grounded evidence steps (All-tail (IsResolveStep port) (Answer e outcome.Ok) steps all) (λ x there. again x (contains_there (Answer e outcome.Ok) steps (Again x) there)) (λ x o there. answer x o (contains_there (Answer e outcome.Ok) steps (Answer x o) there))
+      deciding_grounded evidence steps (All-tail (IsResolveStep port) (Answer e outcome.Ok) steps all) (λ x there. again x (contains_there (Answer e outcome.Ok) steps (WaitAgain x) there)) (λ x o there. answer x o (contains_there (Answer e outcome.Ok) steps (Answer x o) there))
   deciding_grounded evidence (Answer e outcome.Unplugged ∷ steps) all again answer =
-      deciding_grounded evidence steps (All-tail (IsResolveStep port) (Answer e outcome.Unplugged) steps all) (λ x there. again x (contains_there (Answer e outcome.Unplugged) steps (Again x) there)) (λ x o there. answer x o (contains_there (Answer e outcome.Unplugged) steps (Answer x o) there))
+      deciding_grounded evidence steps (All-tail (IsResolveStep port) (Answer e outcome.Unplugged) steps all) (λ x there. again x (contains_there (Answer e outcome.Unplugged) steps (WaitAgain x) there)) (λ x o there. answer x o (contains_there (Answer e outcome.Unplugged) steps (Answer x o) there))
   deciding_grounded evidence (Answer e outcome.PortDead ∷ steps) all again answer =
-      deciding_grounded evidence steps (All-tail (IsResolveStep port) (Answer e outcome.PortDead) steps all) (λ x there. again x (contains_there (Answer e outcome.PortDead) steps (Again x) there)) (λ x o there. answer x o (contains_there (Answer e outcome.PortDead) steps (Answer x o) there))
+      deciding_grounded evidence steps (All-tail (IsResolveStep port) (Answer e outcome.PortDead) steps all) (λ x there. again x (contains_there (Answer e outcome.PortDead) steps (WaitAgain x) there)) (λ x o there. answer x o (contains_there (Answer e outcome.PortDead) steps (Answer x o) there))
   deciding_grounded evidence (step ∷ steps) all again answer = absurd (All-head (IsResolveStep port) step steps all)
 
-  pub deciding_issues_none : (id : RequestId) (steps : List Step) → All (IsResolveStep port) steps → list_any (issues_it id) steps ≡ false
+  pub deciding_issues_none : (id : RequestId) (steps : List Step) → All (IsResolveStep port) steps → list_any (issues_id id) steps ≡ false
   deciding_issues_none id [] all = refl
-  deciding_issues_none id (Again e ∷ steps) all = deciding_issues_none id steps (All-tail (IsResolveStep port) (Again e) steps all)
+  deciding_issues_none id (WaitAgain e ∷ steps) all = deciding_issues_none id steps (All-tail (IsResolveStep port) (WaitAgain e) steps all)
   deciding_issues_none id (Answer e o ∷ steps) all = deciding_issues_none id steps (All-tail (IsResolveStep port) (Answer e o) steps all)
   deciding_issues_none id (step ∷ steps) all = absurd (All-head (IsResolveStep port) step steps all)
 
@@ -205,11 +205,11 @@ module _ (port : Port) where
       → AreStepsOfCall {D = DeviceStep} Service ports steps
   issuing_belong mode ports its [] only ready = tt
   issuing_belong mode ports its (Issue m e ∷ steps) only ready = (
-    issuing_belong mode ports its steps only.2 (λ id there. ready id (or_right (e.request.id.0 == id.0) (list_any (issues_it id) steps) there)),
-    inr (ap ports.state only.1 ∙ ready e.request.id (or_left (e.request.id.0 == e.request.id.0) (list_any (issues_it e.request.id) steps) (eq-eqb e.request.id.0 e.request.id.0 refl)), ap ports.mode only.1 ∙ its ∙ sym only.0),
+    issuing_belong mode ports its steps only.2 (λ id there. ready id (or_right (e.request.id.0 == id.0) (list_any (issues_id id) steps) there)),
+    inr (ap ports.state only.1 ∙ ready e.request.id (or_left (e.request.id.0 == e.request.id.0) (list_any (issues_id e.request.id) steps) (eq-eqb e.request.id.0 e.request.id.0 refl)), ap ports.mode only.1 ∙ its ∙ sym only.0),
   )
   issuing_belong mode ports its (step ∷ steps) only ready = (
-    issuing_belong mode ports its steps only.1 (λ id there. ready id (or_right (issues_it id step) (list_any (issues_it id) steps) there)),
+    issuing_belong mode ports its steps only.1 (λ id there. ready id (or_right (issues_id id step) (list_any (issues_id id) steps) there)),
     inl only.0,
   )
 
@@ -227,6 +227,6 @@ belong_tick ports (step ∷ steps) gives b = (
     one : (step : Step) → ((e : Pending) (o : Outcome) → Answer e o ≡ step → EndsUndone o ⊎ (o ≡ outcome.Ok)) → IsByServer {D = DeviceStep} Service ports step
         → IsByDevice step ⊎ IsByServer {D = DeviceStep} Tick ports step
     one (Issue mode e) gives its = inr its
-    one (Again e) gives its = inr its
+    one (WaitAgain e) gives its = inr its
     one (Answer e o) gives its = inr (gives e o refl)
     one step gives its = absurd its

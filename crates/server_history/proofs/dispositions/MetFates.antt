@@ -17,18 +17,18 @@ use Rattle.block_machine.specs.Events.{IsByDevice, IsToldBefore, RepliesMatch, a
 use Rattle.block_machine.specs.Histories.{IsReachable}
 use Rattle.block_machine.specs.Expected.{after}
 use Rattle.block_machine.specs.State.{Machine, Pending}
-use Rattle.block_machine.specs.Steps.{Step, Again, Answer, May, after_step, stays, unlend}
+use Rattle.block_machine.specs.Steps.{Step, WaitAgain, Answer, IsEnabled, after_step, is_kept_at_answer, unlend}
 use Rattle.dma_frames.specs.Loan.{Lending}
-use Rattle.dma_frames.specs.Table.{Table, lent_to}
-use Rattle.request_queue.specs.Entries.{HasFewIssues, BookEntry, IsAccepted, IsEarlier, BookIsInOrder, update_if_id, requeued_entry, without_entry}
+use Rattle.dma_frames.specs.FrameTables.{FrameOwnership, lent_to}
+use Rattle.request_queue.specs.BookEntries.{HasFewIssues, BookEntry, IsAccepted, IsEarlier, BookIsInOrder, update_if_id, requeued_entry, without_entry}
 use Rattle.request_queue.specs.Dispositions.{KeepsOrEndsLoan, BookAndLoans, AreResolved, IsResolved, keeps_loan, reply_to}
-use Rattle.request_queue.specs.Machine.{BookRelation, EntryRelation}
+use Rattle.request_queue.specs.BookRelation.{BookRelation, EntryRelation}
 use Rattle.request_queue.specs.declared.PendingRequest.{PendingRequest}
 use Rattle.request_queue.specs.declared.disposition.Disposition.{Disposition}
 use Rattle.request_queue.specs.declared.disposition.Disposition.TheVariants.{Complete, Requeue, Wait}
 use Rattle.server_history.specs.Prerequisites.{PrerequisiteLaws}
-use Rattle.server_history.specs.Dispositions.{IsResolveStep, IsDecidedAndReleased, AreResolvable, AreResolvedInMachine, keeps_frames_lent, loan_of, loans_of}
-use Rattle.server_history.specs.Server.{DifferInRequest, RevokedMarkAgrees}
+use Rattle.server_history.specs.ResolvedRequests.{IsResolveStep, IsDecidedAndReleased, AreResolvable, AreResolvedInMachine, keeps_frames_lent, loan_of, loans_of}
+use Rattle.server_history.specs.ServerState.{DifferInRequest, RevokedMarkAgrees}
 use Rattle.server_history.proofs.dispositions.FittingFates.{AllFit, FitsEntry}
 use Rattle.server_history.proofs.healthy_turn.OneAnswer.{given_back}
 use Rattle.server_history.proofs.any_turn.JoinedParts.{all_pairs_append, answers_append, answers_there, first_or_later}
@@ -41,7 +41,7 @@ use Rattle.server_history.proofs.state.RevokedMarks.{tellable, unmarked_has}
 -- ---- fates
 
 -- whether it is kept is told by both alike
-stays_is : (o : Outcome) (e : PendingRequest) (p : Pending) → p.issued ≡ e.issued → stays p o ≡ keeps_loan o e
+stays_is : (o : Outcome) (e : PendingRequest) (p : Pending) → p.issued ≡ e.issued → is_kept_at_answer p o ≡ keeps_loan o e
 stays_is outcome.Ok e p same = refl
 stays_is (outcome.DeviceError status error) e p same = refl
 stays_is outcome.Aborted e p same = refl
@@ -180,13 +180,13 @@ module _ (laws : PrerequisiteLaws) (port : Port) (disposition : PendingRequest �
     -- ---- with those that come after it
 
     -- this step decides it, by which these are kept
-    module _ (step : Step) (its later replies : List Reply) (new : BookAndLoans) (split : replies ≡ its ++ later) (comes : May m step) (of_port : IsResolveStep port step) (own : IsByDevice step → ⊥)
+    module _ (step : Step) (its later replies : List Reply) (new : BookAndLoans) (split : replies ≡ its ++ later) (comes : IsEnabled m step) (of_port : IsResolveStep port step) (own : IsByDevice step → ⊥)
         (parked : ℕ → List RequestId) (elsewhere : (q : ℕ) → q ≢ port.0 → parked q ≡ k.parked q)
         (its_still : (id : RequestId) → Contains (parked port.0) id → Contains (k.parked port.0) id × (IsDecidedAndReleased disposition request → request.entry.id ≢ id))
         (gone : List Pending) (keeps : (after_step m step).kept ≡ gone ++ m.kept) (lends : mid.kept ≡ now.kept ++ loans_of gone) (alone : AllPairs DifferInRequest (loans_of gone))
         (its_own : (e : Pending) → Contains gone e → EntryRelation request e × (keeps_frames_lent (disposition request.entry) request.entry ≡ true))
         (told : (e : Pending) (o : Outcome) → Answer e o ≡ step → EntryRelation request e × (disposition request.entry ≡ Complete o))
-        (waits : (e : Pending) → Again e ≡ step → EntryRelation request e × (disposition request.entry ≡ Requeue))
+        (waits : (e : Pending) → WaitAgain e ≡ step → EntryRelation request e × (disposition request.entry ≡ Requeue))
         (r : AreResolvedInMachine port disposition rest later mid new (record k { parked = parked }) (after_step m step)) where
       whole_is : after m (r.steps ++ step ∷ []) ≡ after (after_step m step) r.steps
       whole_is = laws.basic.joined m r.steps (step ∷ [])
@@ -200,14 +200,14 @@ module _ (laws : PrerequisiteLaws) (port : Port) (disposition : PendingRequest �
           (first_or_later step [] (Answer e o) last))
           (Contains-append_cases r.steps (step ∷ []) (Answer e o) there)
 
-      again_by : (e : Pending) → Contains (r.steps ++ step ∷ []) (Again e) → (y : BookEntry) × Contains (request ∷ rest) y × EntryRelation y e × (disposition y.entry ≡ Requeue)
+      again_by : (e : Pending) → Contains (r.steps ++ step ∷ []) (WaitAgain e) → (y : BookEntry) × Contains (request ∷ rest) y × EntryRelation y e × (disposition y.entry ≡ Requeue)
       again_by e there = ⊎_elim
           (λ early. let w = r.again e early in (w.0, in_rest w.0 w.1, w.2, w.3))
           (λ last. ⊎_elim
-          (λ (is : Again e ≡ step). let w = waits e is in (request, Contains-get_or (request ∷ rest) 0 request (omega arith), w.0, w.1))
-          (λ none. absurd (nowhere (Again e) none))
-          (first_or_later step [] (Again e) last))
-          (Contains-append_cases r.steps (step ∷ []) (Again e) there)
+          (λ (is : WaitAgain e ≡ step). let w = waits e is in (request, Contains-get_or (request ∷ rest) 0 request (omega arith), w.0, w.1))
+          (λ none. absurd (nowhere (WaitAgain e) none))
+          (first_or_later step [] (WaitAgain e) last))
+          (Contains-append_cases r.steps (step ∷ []) (WaitAgain e) there)
 
       kept_by : (e : Pending) → Contains (r.held ++ gone) e → (y : BookEntry) × Contains (request ∷ rest) y × EntryRelation y e × (keeps_frames_lent (disposition y.entry) y.entry ≡ true)
       kept_by e there = ⊎_elim
@@ -237,10 +237,10 @@ module _ (laws : PrerequisiteLaws) (port : Port) (disposition : PendingRequest �
       decides tells = record {
         steps = r.steps ++ step ∷ [];
         parked = r.parked;
-        may = laws.basic.may m r.steps (step ∷ []) (tt, comes) r.may;
+        steps_are_enabled = laws.basic.may m r.steps (step ∷ []) (tt, comes) r.steps_are_enabled;
         own = All-append (IsResolveStep port) r.steps (step ∷ []) r.own (All-cons (IsResolveStep port) step [] of_port (All-nil (IsResolveStep port)));
         backed = λ d. laws.backed_parts d d d m (step ∷ []) r.steps (laws.backed_own d m step own) (r.backed d);
-        knows = subst (λ (n : Machine). DriverRelation n (record k { parked = r.parked })) (sym whole_is) r.knows;
+        driver_relation = subst (λ (n : Machine). DriverRelation n (record k { parked = r.parked })) (sym whole_is) r.driver_relation;
         others = λ q ne. r.others q ne ∙ elsewhere q ne;
         still = still_by;
         book = subst (λ (n : Machine). BookRelation new.book n.book) (sym whole_is) r.book;
@@ -252,7 +252,7 @@ module _ (laws : PrerequisiteLaws) (port : Port) (disposition : PendingRequest �
         whose = kept_by;
         answered = answered_by;
         again = again_by;
-        tells = tells;
+        replies_match = tells;
       }
 
   -- ---- one that ends
@@ -265,7 +265,7 @@ module _ (laws : PrerequisiteLaws) (port : Port) (disposition : PendingRequest �
     its_entry : EntryRelation request x
     its_entry = (entry request rest now mid k m may).2
 
-    comes : May m (Answer x o)
+    comes : IsEnabled m (Answer x o)
     comes = (
       (entry request rest now mid k m may).1,
       tellable m request x o its_entry (its_mark request rest now mid k m may) (λ told. fit.revoked (is ∙ ap Complete told)) (λ told. fit.aborted (is ∙ ap Complete told)),
@@ -277,7 +277,7 @@ module _ (laws : PrerequisiteLaws) (port : Port) (disposition : PendingRequest �
     fate_is : keeps_frames_lent (disposition request.entry) request.entry ≡ keeps_loan o request.entry
     fate_is = ap (λ (f : Disposition). keeps_frames_lent f request.entry) is
 
-    stay : stays x o ≡ keeps_loan o request.entry
+    stay : is_kept_at_answer x o ≡ keeps_loan o request.entry
     stay = stays_is o request.entry x its_entry.issued
 
     reply_is : reply_to request o ≡ reply_of (x, o)
@@ -291,7 +291,7 @@ module _ (laws : PrerequisiteLaws) (port : Port) (disposition : PendingRequest �
         (subst (λ (id : RequestId). BookRelation (without_entry id now.book) (after_step m (Answer x o)).book) (id_is request rest now mid k m may) (laws.answers now.book m x o may.book))
 
     ordered : BookIsInOrder mid.book
-    ordered = subst BookIsInOrder (sym meets.1) (laws.fewer now.book request.entry.id may.ordered)
+    ordered = subst BookIsInOrder (sym meets.1) (laws.fewer now.book request.entry.id may.book_is_in_order)
 
     still : (e : BookEntry) → Contains rest e → Contains mid.book e × (e.entry.port ≡ port)
     still e there =
@@ -307,13 +307,13 @@ module _ (laws : PrerequisiteLaws) (port : Port) (disposition : PendingRequest �
       r = more (record k { parked = parked }) (after_step m (Answer x o)) goes
 
       -- it is told first
-      first : All (IsToldBefore (x, o)) r.tells.answers
-      first = All-weaker (Contains r.tells.answers) (IsToldBefore (x, o)) (λ a there.
-          let w = r.answered a.0 a.1 (answers_there r.steps a (Contains-permutation r.tells.answers (answers_of r.steps) a r.tells.same there)) in
+      first : All (IsToldBefore (x, o)) r.replies_match.answers
+      first = All-weaker (Contains r.replies_match.answers) (IsToldBefore (x, o)) (λ a there.
+          let w = r.answered a.0 a.1 (answers_there r.steps a (Contains-permutation r.replies_match.answers (answers_of r.steps) a r.replies_match.is_permutation there)) in
           let lt = later_id request rest now mid k m may w.0 w.1 in
           let mine = ap (λ (i : RequestId). i.0) its_entry.id in
           let other = ap (λ (i : RequestId). i.0) w.2.id in
-          inr (of_port ∙ sym (w.2.port ∙ (may.here w.0 (in_rest request rest now mid k m may w.0 w.1)).1), omega (arith, lt, mine, other))) r.tells.answers (All-contains_itself r.tells.answers)
+          inr (of_port ∙ sym (w.2.port ∙ (may.here w.0 (in_rest request rest now mid k m may w.0 w.1)).1), omega (arith, lt, mine, other))) r.replies_match.answers (All-contains_itself r.replies_match.answers)
 
       answers : AreResolvedInMachine port disposition (request ∷ rest) replies now new k m
       answers =
@@ -322,14 +322,14 @@ module _ (laws : PrerequisiteLaws) (port : Port) (disposition : PendingRequest �
           let e_is : e ≡ x = (let z : Answer e other ≡ Answer x o = same in cc) in
           let o_is : other ≡ o = (let z : Answer e other ≡ Answer x o = same in cc) in
           (subst (EntryRelation request) (sym e_is) its_entry, is ∙ ap Complete (sym o_is)))
-          (λ e same. let z : Again e ≡ Answer x o = same in absurd cc)
+          (λ e same. let z : WaitAgain e ≡ Answer x o = same in absurd cc)
           r
           (record {
-            answers = (x, o) ∷ r.tells.answers;
-            same = subst (IsPermutation ((x, o) ∷ r.tells.answers)) (sym (answers_append r.steps (Answer x o ∷ [])))
-                (IsPermutation-trans _ _ _ (IsPermutation-append_comm ((x, o) ∷ []) r.tells.answers) (IsPermutation-append _ _ _ _ r.tells.same (IsPermutation-refl ((x, o) ∷ []))));
-            ordered = AllPairs-cons IsToldBefore (x, o) r.tells.answers first r.tells.ordered;
-            told = split ∙ ap (λ (y : List Reply). y ++ later) meets.0 ∙ (λ i. reply_is i ∷ r.tells.told i);
+            answers = (x, o) ∷ r.replies_match.answers;
+            is_permutation = subst (IsPermutation ((x, o) ∷ r.replies_match.answers)) (sym (answers_append r.steps (Answer x o ∷ [])))
+                (IsPermutation-trans _ _ _ (IsPermutation-append_comm ((x, o) ∷ []) r.replies_match.answers) (IsPermutation-append _ _ _ _ r.replies_match.is_permutation (IsPermutation-refl ((x, o) ∷ []))));
+            ordered = AllPairs-cons IsToldBefore (x, o) r.replies_match.answers first r.replies_match.ordered;
+            replies_are = split ∙ ap (λ (y : List Reply). y ++ later) meets.0 ∙ (λ i. reply_is i ∷ r.replies_match.replies_are i);
           })
 
     by : (b : Bool) → keeps_loan o request.entry ≡ b → AreResolvedInMachine port disposition (request ∷ rest) replies now new k m
@@ -339,12 +339,12 @@ module _ (laws : PrerequisiteLaws) (port : Port) (disposition : PendingRequest �
         (ap (λ (b : Bool). if b then x ∷ m.kept else m.kept) (stay ∙ never)) (loan.0 ∙ sym (append-nil now.kept)) (λ i j d lt below. absurd (omega (arith, lt, below))) (λ e there. absurd (nowhere e there))
         (record {
           reached = reached;
-          knows = laws.slots.answered_agrees k m x o (decided k.parked port.0 request.entry.id) may.reached may.knows comes.0 (stay ∙ never) (unserved request rest now mid k m may (fate_is ∙ never)) (forgets request rest now mid k m may);
+          driver_relation = laws.slots.answered_agrees k m x o (decided k.parked port.0 request.entry.id) may.reached may.driver_relation comes.0 (stay ∙ never) (unserved request rest now mid k m may (fate_is ∙ never)) (forgets request rest now mid k m may);
           book = book;
           lent = λ frame. ap (λ (b : Bool). (if b then m.lent else unlend x.request.id m.lent) frame) (stay ∙ never)
-              ∙ given_back laws m request x now.table mid.table may.reached (inl comes.0) its_entry may.lent (All-contains (IsAccepted now.table) now.book request may.accepted (here request rest now mid k m may)).lent loan.1 frame;
-          ordered = ordered;
-          accepted = subst (All (IsAccepted mid.table)) (sym meets.1) (laws.still_answered now.table mid.table now.book request (here request rest now mid k m may) loan.1 may.accepted);
+              ∙ given_back laws m request x now.table mid.table may.reached (inl comes.0) its_entry may.lent (All-contains (IsAccepted now.table) now.book request may.requests_are_accepted (here request rest now mid k m may)).frames_are_lent loan.1 frame;
+          book_is_in_order = ordered;
+          requests_are_accepted = subst (All (IsAccepted mid.table)) (sym meets.1) (laws.still_answered now.table mid.table now.book request (here request rest now mid k m may) loan.1 may.requests_are_accepted);
           here = still;
           marked = λ e there. may.marked e (in_rest request rest now mid k m may e there);
           earlier = earlier request rest now mid k m may;
@@ -359,12 +359,12 @@ module _ (laws : PrerequisiteLaws) (port : Port) (disposition : PendingRequest �
         (λ e there. ⊎_elim (λ (same : e ≡ x). (subst (EntryRelation request) (sym same) its_entry, fate_is ∙ keeps)) (λ none. absurd (nowhere e none)) (first_or_later x [] e there))
         (record {
           reached = reached;
-          knows = laws.slots.kept_agrees k m x o may.reached may.knows comes.0 (stay ∙ keeps);
+          driver_relation = laws.slots.kept_agrees k m x o may.reached may.driver_relation comes.0 (stay ∙ keeps);
           book = book;
-          lent = λ frame. ap (λ (b : Bool). (if b then m.lent else unlend x.request.id m.lent) frame) (stay ∙ keeps) ∙ may.lent frame ∙ ap (λ (t : Table). lent_to t frame) (sym loan.1);
-          ordered = ordered;
-          accepted = subst (All (IsAccepted mid.table)) (sym meets.1) (subst (λ (t : Table). All (IsAccepted t) (without_entry request.entry.id now.book)) (sym loan.1)
-              (All-weaker (Contains (without_entry request.entry.id now.book)) (IsAccepted now.table) (λ e there. All-contains (IsAccepted now.table) now.book e may.accepted ((laws.left now.book request.entry.id e).0 there).0)
+          lent = λ frame. ap (λ (b : Bool). (if b then m.lent else unlend x.request.id m.lent) frame) (stay ∙ keeps) ∙ may.lent frame ∙ ap (λ (t : FrameOwnership). lent_to t frame) (sym loan.1);
+          book_is_in_order = ordered;
+          requests_are_accepted = subst (All (IsAccepted mid.table)) (sym meets.1) (subst (λ (t : FrameOwnership). All (IsAccepted t) (without_entry request.entry.id now.book)) (sym loan.1)
+              (All-weaker (Contains (without_entry request.entry.id now.book)) (IsAccepted now.table) (λ e there. All-contains (IsAccepted now.table) now.book e may.requests_are_accepted ((laws.left now.book request.entry.id e).0 there).0)
               (without_entry request.entry.id now.book) (All-contains_itself (without_entry request.entry.id now.book))));
           here = still;
           marked = λ e there. may.marked e (in_rest request rest now mid k m may e there);
@@ -389,10 +389,10 @@ module _ (laws : PrerequisiteLaws) (port : Port) (disposition : PendingRequest �
   meet_one request rest now mid new its later replies k m may split more fit Wait is meets = record {
     steps = r.steps;
     parked = r.parked;
-    may = r.may;
+    steps_are_enabled = r.steps_are_enabled;
     own = r.own;
     backed = r.backed;
-    knows = r.knows;
+    driver_relation = r.driver_relation;
     others = r.others;
     still = λ id there. let w = r.still id there in (
       w.0,
@@ -410,17 +410,17 @@ module _ (laws : PrerequisiteLaws) (port : Port) (disposition : PendingRequest �
     whose = λ e here. let w = r.whose e here in (w.0, in_rest request rest now mid k m may w.0 w.1, w.2, w.3);
     answered = λ e o here. let w = r.answered e o here in (w.0, in_rest request rest now mid k m may w.0 w.1, w.2, w.3);
     again = λ e here. let w = r.again e here in (w.0, in_rest request rest now mid k m may w.0 w.1, w.2, w.3);
-    tells = subst (RepliesMatch r.steps) (sym (split ∙ ap (λ (x : List Reply). x ++ later) meets.0)) r.tells;
+    replies_match = subst (RepliesMatch r.steps) (sym (split ∙ ap (λ (x : List Reply). x ++ later) meets.0)) r.replies_match;
   }
     where
       goes : AreResolvable port disposition rest now k m
       goes = record {
         reached = may.reached;
-        knows = may.knows;
+        driver_relation = may.driver_relation;
         book = may.book;
         lent = may.lent;
-        ordered = may.ordered;
-        accepted = may.accepted;
+        book_is_in_order = may.book_is_in_order;
+        requests_are_accepted = may.requests_are_accepted;
         here = λ e there. may.here e (in_rest request rest now mid k m may e there);
         marked = λ e there. may.marked e (in_rest request rest now mid k m may e there);
         earlier = earlier request rest now mid k m may;
@@ -430,18 +430,18 @@ module _ (laws : PrerequisiteLaws) (port : Port) (disposition : PendingRequest �
       r : AreResolvedInMachine port disposition rest later mid new k m
       r = more k m (subst (λ (h : BookAndLoans). AreResolvable port disposition rest h k m) (sym meets.1) goes)
   meet_one request rest now mid new its later replies k m may split more fit Requeue is meets =
-      decides request rest now mid k m may (Again x) its later replies new split comes of_port (λ none. none) (decided k.parked port.0 request.entry.id)
+      decides request rest now mid k m may (WaitAgain x) its later replies new split comes of_port (λ none. none) (decided k.parked port.0 request.entry.id)
       (decided_elsewhere k.parked port.0 request.entry.id)
       (λ id there. let w = left_parked request rest now mid k m may id there in (w.0, λ goes. w.1)) [] refl
       (ap (λ (h : BookAndLoans). h.kept) meets.1 ∙ sym (append-nil now.kept)) (λ i j d lt below. absurd (omega (arith, lt, below))) (λ e there. absurd (nowhere e there))
-      (λ e o same. let z : Answer e o ≡ Again x = same in absurd cc)
-      (λ e same. let e_is : e ≡ x = (let z : Again e ≡ Again x = same in cc) in (subst (EntryRelation request) (sym e_is) (entry request rest now mid k m may).2, is))
+      (λ e o same. let z : Answer e o ≡ WaitAgain x = same in absurd cc)
+      (λ e same. let e_is : e ≡ x = (let z : WaitAgain e ≡ WaitAgain x = same in cc) in (subst (EntryRelation request) (sym e_is) (entry request rest now mid k m may).2, is))
       r
       (record {
-        answers = r.tells.answers;
-        same = subst (IsPermutation r.tells.answers) (sym (answers_append r.steps (Again x ∷ []) ∙ append-nil (answers_of r.steps))) r.tells.same;
-        ordered = r.tells.ordered;
-        told = split ∙ ap (λ (y : List Reply). y ++ later) meets.0 ∙ r.tells.told;
+        answers = r.replies_match.answers;
+        is_permutation = subst (IsPermutation r.replies_match.answers) (sym (answers_append r.steps (WaitAgain x ∷ []) ∙ append-nil (answers_of r.steps))) r.replies_match.is_permutation;
+        ordered = r.replies_match.ordered;
+        replies_are = split ∙ ap (λ (y : List Reply). y ++ later) meets.0 ∙ r.replies_match.replies_are;
       })
     where
       x : Pending
@@ -452,10 +452,10 @@ module _ (laws : PrerequisiteLaws) (port : Port) (disposition : PendingRequest �
 
       few : request.entry.issues < 4
       few =
-          let most = (All-contains (λ (e : BookEntry). HasFewIssues e.entry) now.book request may.ordered.issues (here request rest now mid k m may)).0 in
+          let most = (All-contains (λ (e : BookEntry). HasFewIssues e.entry) now.book request may.book_is_in_order.issues_are_few (here request rest now mid k m may)).0 in
           let other = eqb-false request.entry.issues 4 its_issue.1 in omega (arith, most, other)
 
-      comes : May m (Again x)
+      comes : IsEnabled m (WaitAgain x)
       comes =
           let e = entry request rest now mid k m may in
           (e.1, e.2.issued ∙ its_issue.0, subst (λ (n : ℕ). n < 4) (sym e.2.issues) few, unmarked_has m request x e.2 (its_mark request rest now mid k m may) its_issue.2)
@@ -463,14 +463,14 @@ module _ (laws : PrerequisiteLaws) (port : Port) (disposition : PendingRequest �
       of_port : x.request.port ≡ port
       of_port = (entry request rest now mid k m may).2.port ∙ its_port request rest now mid k m may
 
-      goes : AreResolvable port disposition rest (record now { book = map (update_if_id request.entry.id requeued_entry) now.book }) (left_known request rest now mid k m may) (after_step m (Again x))
+      goes : AreResolvable port disposition rest (record now { book = map (update_if_id request.entry.id requeued_entry) now.book }) (left_known request rest now mid k m may) (after_step m (WaitAgain x))
       goes = record {
-        reached = laws.basic.reached m (Again x ∷ []) may.reached (tt, comes);
-        knows = laws.slots.again_agrees k m x (decided k.parked port.0 request.entry.id) may.reached may.knows comes.0 (unserved request rest now mid k m may (ap (λ (f : Disposition). keeps_frames_lent f request.entry) is)) (forgets request rest now mid k m may);
-        book = subst (λ (id : RequestId). BookRelation (map (update_if_id id requeued_entry) now.book) (after_step m (Again x)).book) (id_is request rest now mid k m may) (laws.again now.book m x may.book);
+        reached = laws.basic.reached m (WaitAgain x ∷ []) may.reached (tt, comes);
+        driver_relation = laws.slots.again_agrees k m x (decided k.parked port.0 request.entry.id) may.reached may.driver_relation comes.0 (unserved request rest now mid k m may (ap (λ (f : Disposition). keeps_frames_lent f request.entry) is)) (forgets request rest now mid k m may);
+        book = subst (λ (id : RequestId). BookRelation (map (update_if_id id requeued_entry) now.book) (after_step m (WaitAgain x)).book) (id_is request rest now mid k m may) (laws.again now.book m x may.book);
         lent = may.lent;
-        ordered = laws.requeued now.book request.entry.id may.ordered (request, here request rest now mid k m may, refl, its_issue.0, few);
-        accepted = laws.still_requeued now.table now.book request.entry.id may.accepted;
+        book_is_in_order = laws.requeued now.book request.entry.id may.book_is_in_order (request, here request rest now mid k m may, refl, its_issue.0, few);
+        requests_are_accepted = laws.still_requeued now.table now.book request.entry.id may.requests_are_accepted;
         here = λ e there.
             let w = may.here e (in_rest request rest now mid k m may e there) in
             (laws.others now.book request.entry.id requeued_entry e w.0 (differs request rest now mid k m may e there), w.1);
@@ -479,8 +479,8 @@ module _ (laws : PrerequisiteLaws) (port : Port) (disposition : PendingRequest �
         unserved = λ e there never. may.unserved e (in_rest request rest now mid k m may e there) never;
       }
 
-      r : AreResolvedInMachine port disposition rest later mid new (left_known request rest now mid k m may) (after_step m (Again x))
-      r = more (left_known request rest now mid k m may) (after_step m (Again x)) (subst (λ (h : BookAndLoans). AreResolvable port disposition rest h (left_known request rest now mid k m may) (after_step m (Again x))) (sym meets.1) goes)
+      r : AreResolvedInMachine port disposition rest later mid new (left_known request rest now mid k m may) (after_step m (WaitAgain x))
+      r = more (left_known request rest now mid k m may) (after_step m (WaitAgain x)) (subst (λ (h : BookAndLoans). AreResolvable port disposition rest h (left_known request rest now mid k m may) (after_step m (WaitAgain x))) (sym meets.1) goes)
   meet_one request rest now mid new its later replies k m may split more fit (Complete o) is meets = meet_end request rest now mid new its later replies k m may split more fit o is meets
 
 pub meet : PrerequisiteLaws → (port : Port) (disposition : PendingRequest → Disposition) (requests : List BookEntry) → AllFit disposition requests → (replies : List Reply) (old new : BookAndLoans) (k : DriverState) (m : Machine)
@@ -488,10 +488,10 @@ pub meet : PrerequisiteLaws → (port : Port) (disposition : PendingRequest → 
 meet laws port disposition [] fit replies old new k m may (none, is) = record {
   steps = [];
   parked = k.parked;
-  may = tt;
+  steps_are_enabled = tt;
   own = All-nil (IsResolveStep port);
   backed = λ d. laws.backed_none d m;
-  knows = may.knows;
+  driver_relation = may.driver_relation;
   others = λ q ne. refl;
   still = λ id here. (here, λ e none goes same. nowhere e none);
   book = subst (λ (h : BookAndLoans). BookRelation h.book m.book) (sym is) may.book;
@@ -502,8 +502,8 @@ meet laws port disposition [] fit replies old new k m may (none, is) = record {
   two = λ i j d lt below. absurd (omega (arith, lt, below));
   whose = λ e here. absurd (nowhere e here);
   answered = λ e o here. absurd (nowhere (Answer e o) here);
-  again = λ e here. absurd (nowhere (Again e) here);
-  tells = record { answers = []; same = IsPermutation-refl []; ordered = λ i j d lt below. absurd (omega (arith, lt, below)); told = none };
+  again = λ e here. absurd (nowhere (WaitAgain e) here);
+  replies_match = record { answers = []; is_permutation = IsPermutation-refl []; ordered = λ i j d lt below. absurd (omega (arith, lt, below)); replies_are = none };
 }
 meet laws port disposition (request ∷ rest) fit replies old new k m may (mid, its, later, split, meets, more) =
     meet_one laws port disposition request rest old mid new its later replies k m may split

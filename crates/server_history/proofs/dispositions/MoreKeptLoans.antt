@@ -10,8 +10,8 @@ use Rattle.dma_frames.specs.Loan.{Lending}
 use Rattle.host_boot.specs.TakeOver.{probe_result_of}
 use Rattle.host_boot.specs.declared.ProbeResult.{ProbeResult}
 use Rattle.host_boot.specs.declared.ProbeResult.TheVariants.{Unready}
-use Rattle.server_history.specs.Dispositions.{loan_of, loans_of}
-use Rattle.server_history.specs.Server.{QuarantineRelation, DifferInRequest, quarantined_at}
+use Rattle.server_history.specs.ResolvedRequests.{loan_of, loans_of}
+use Rattle.server_history.specs.ServerState.{QuarantineRelation, DifferInRequest, quarantined_at}
 use Rattle.server_history.proofs.any_turn.JoinedParts.{all_pairs_append}
 use Rattle.server_history.proofs.dispositions.MetFates.{in_loans, loans_in}
 

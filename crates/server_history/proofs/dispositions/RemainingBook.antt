@@ -12,8 +12,8 @@ use Rattle.ata_types.specs.declared.request.Outcome.TheVariants as outcome
 use Rattle.ata_types.specs.declared.request.Reply.{Reply}
 use Rattle.ata_types.specs.declared.request.RequestId.{RequestId}
 use Rattle.server_history.proofs.state.ListMembers.{contains_cases, contains_there, map_in}
-use Rattle.dma_frames.specs.Table.{Table}
-use Rattle.request_queue.specs.Entries.{HasFewIssues, BookEntry, IsAccepted, IsEarlier, BookIsInOrder, update_if_id, has_id, is_of_port, requeued_entry, without_entry}
+use Rattle.dma_frames.specs.FrameTables.{FrameOwnership}
+use Rattle.request_queue.specs.BookEntries.{HasFewIssues, BookEntry, IsAccepted, IsEarlier, BookIsInOrder, update_if_id, has_id, is_of_port, requeued_entry, without_entry}
 use Rattle.request_queue.specs.Dispositions.{KeepsOrEndsLoan, BookAndLoans, AreResolved, IsResolved, disposition_of, disposition_of_unfailed, keeps_loan}
 use Rattle.request_queue.specs.declared.PendingRequest.{PendingRequest}
 use Rattle.request_queue.specs.declared.disposition.FailedRequest.{FailedRequest}
@@ -23,7 +23,7 @@ use Rattle.request_queue.specs.declared.disposition.Revalidation.{Revalidation}
 use Rattle.request_queue.specs.declared.disposition.Revalidation.TheVariants.{Dead, DiskLost, SameDisk}
 use Rattle.server_history.specs.Prerequisites.{PrerequisiteLaws}
 use Rattle.server_history.specs.ErrorHandling.{book_and_loans_of, requests_of}
-use Rattle.server_history.specs.Server.{RevokedMarkInvariant, ServerState}
+use Rattle.server_history.specs.ServerState.{RevokedMarkInvariant, ServerState}
 use Rattle.server_history.proofs.dispositions.FittingFates.{AllFit, FitsEntry}
 use Rattle.server_history.proofs.state.LoanCounts.{counts, fewer_issued, issued_of, kept_issued, one_fewer, requeued_issued}
 use Rattle.server_history.proofs.state.FirstMembers.{nowhere, first_here}
@@ -58,7 +58,7 @@ pub record MayDecide (port : Port) (requests : List BookEntry) (now : BookAndLoa
 
 -- so it is with all of the port's
 pub its_requests : (port : Port) (s : ServerState) → BookIsInOrder s.book → All (IsAccepted s.table) s.book → MayDecide port (requests_of port s.book) (book_and_loans_of port s)
-its_requests port s ordered accepted = record { here = here; earlier = AllPairs-filter IsEarlier own s.book ordered.ordered; ordered = ordered; accepted = accepted }
+its_requests port s ordered accepted = record { here = here; earlier = AllPairs-filter IsEarlier own s.book ordered.ids_rise; ordered = ordered; accepted = accepted }
   where
     own : BookEntry → Bool
     own e = is_of_port port e.entry
@@ -207,17 +207,17 @@ module _ (laws : PrerequisiteLaws) (port : Port) (disposition : PendingRequest �
 
         few : request.entry.issues < 4
         few =
-            let most = (All-contains (λ (e : BookEntry). HasFewIssues e.entry) old.book request may.ordered.issues its).0 in
+            let most = (All-contains (λ (e : BookEntry). HasFewIssues e.entry) old.book request may.ordered.issues_are_few its).0 in
             let other = eqb-false request.entry.issues 4 issue.1 in omega (arith, most, other)
 
     -- it is answered, and its loan is kept, or ends
     loan_left : (kept : Bool) → KeepsOrEndsLoan kept request old mid → (mid.table.owners ≡ old.table.owners) × All (IsAccepted mid.table) (without_entry request.entry.id old.book)
     loan_left true loan = (
-      ap (λ (table : Table). table.owners) loan.1,
-      subst (λ (table : Table). All (IsAccepted table) (without_entry request.entry.id old.book)) (sym loan.1)
+      ap (λ (table : FrameOwnership). table.owners) loan.1,
+      subst (λ (table : FrameOwnership). All (IsAccepted table) (without_entry request.entry.id old.book)) (sym loan.1)
           (All-filter (λ (e : BookEntry). not (has_id request.entry.id e)) (IsAccepted old.table) old.book may.accepted),
     )
-    loan_left false loan = (loan.1.owners, laws.still_answered old.table mid.table old.book request its loan.1 may.accepted)
+    loan_left false loan = (loan.1.owners_are_kept, laws.still_answered old.table mid.table old.book request its loan.1 may.accepted)
 
     -- and then it is one loan more, and one issued request fewer
     loan_placed : mid.book ≡ without_entry request.entry.id old.book → (kept : Bool) → (kept ≡ true → request.entry.issued ≡ true) → KeepsOrEndsLoan kept request old mid

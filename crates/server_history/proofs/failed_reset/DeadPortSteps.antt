@@ -9,7 +9,7 @@ use Rattle.block_machine.specs.Events.{IsLawfulAnswer, AbstractState, AnswersAll
 use Rattle.block_machine.specs.Ports.{Evidence, Ports}
 use Rattle.block_machine.specs.State.{Machine, Pending}
 use Rattle.block_machine.specs.Steps.{Step, Answer}
-use Rattle.driver_history.specs.Heeding.{OnlyFailedPortsRequeue}
+use Rattle.driver_history.specs.EvidenceHandling.{OnlyFailedPortsRequeue}
 use Rattle.server_history.proofs.state.AnswerSteps.{IsAnswerOf, answer_told}
 
 -- a request of a port that is dead by these is told so
@@ -28,7 +28,7 @@ module _ (ports : Ports) where
   deaths_grounded evidence (step ∷ steps) all = absurd (All-head (IsAnswerOf (IsDeath ports)) step steps all)
 
   pub deaths_unplug_none : (steps : List Step) → All (IsAnswerOf (IsDeath ports)) steps → (m : Machine) → AnswersAllUnplugged steps m
-  deaths_unplug_none steps all m = record { emptied = λ e other here. absurd (never e here); alike = λ e other here. absurd (never e here) }
+  deaths_unplug_none steps all m = record { none_is_left = λ e other here. absurd (never e here); none_is_told_dead = λ e other here. absurd (never e here) }
     where
       never : (e : Pending) → Contains steps (Answer e outcome.Unplugged) → ⊥
       never e here = let z : outcome.Unplugged ≡ outcome.PortDead = (answer_told (IsDeath ports) steps all e outcome.Unplugged here).0 in cc

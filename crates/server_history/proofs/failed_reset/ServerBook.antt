@@ -11,12 +11,12 @@ use Rattle.ata_types.specs.declared.request.Reply.{Reply}
 use Rattle.host_boot.specs.TakeOver.{StillBacksProbeResult, probe_result_of, wanted_of}
 use Rattle.host_boot.specs.declared.ProbeResult.{ProbeResult}
 use Rattle.host_boot.specs.declared.ProbeResult.TheVariants.{Ready, Unready, Unserved}
-use Rattle.request_queue.specs.Entries.{BookEntry}
+use Rattle.request_queue.specs.BookEntries.{BookEntry}
 use Rattle.request_queue.specs.Dispositions.{disposition_of}
 use Rattle.server_history.specs.Prerequisites.{PrerequisiteLaws}
 use Rattle.server_history.specs.ErrorHandling.{book_and_loans_of, requests_of}
 use Rattle.server_history.specs.Resets.{MayResolve, ResolvesPort, with_book_and_loans, ResolvePorts}
-use Rattle.server_history.specs.Server.{ServerState, InCallInvariant, is_served, quarantined_at, state_of, used_for}
+use Rattle.server_history.specs.ServerState.{ServerState, InCallInvariant, is_served, quarantined_at, state_of, used_for}
 use Rattle.server_history.specs.StuckServer.{ServerInvariant}
 use Rattle.server_history.proofs.state.IssueCounts.{places}
 use Rattle.server_history.proofs.any_turn.JoinedParts.{ready_or_not}
@@ -37,7 +37,7 @@ module _ (laws : PrerequisiteLaws) (s : ServerState) (k : InCallInvariant s) whe
   -- of a port that isn't ready nobody is issued
   none_issued : (port : Port) → state_of (probe_result_of s.ports port.0) ≢ ReadyState → issued_of port s.book ≡ 0
   none_issued port other = ap (count_by (λ (e : BookEntry). e.entry.issued)) (nobody (requests_of port s.book) (λ e here.
-      let w = (its_requests port s k.ordered k.accepted).here e here in
+      let w = (its_requests port s k.book_is_in_order k.requests_are_accepted).here e here in
       other (ap (λ (q : Port). state_of (probe_result_of s.ports q.0)) (sym w.1) ∙ of_ready s k e w.0)))
 
   have_places : (port : Port) → length (quarantined_at s.kept port.0) + issued_of port s.book ≤ 32
@@ -52,61 +52,61 @@ module _ (laws : PrerequisiteLaws) (s : ServerState) (k : InCallInvariant s) whe
 
   pub booked : ServerInvariant s
   booked = record {
-    room = k.room;
-    served = λ port low. served_is (wanted_of s.wanted port) (probe_result_of s.ports port) port s.device (k.behind port low).behind;
-    few = λ port its. (k.there port its).0;
-    idle = λ port low unserved. (subst (λ (f : ProbeResult). StillBacksProbeResult (wanted_of s.wanted port) f port s.device) unserved (k.behind port low).behind).1;
+    driver_memory_fits = k.driver_memory_fits;
+    served = λ port low. served_is (wanted_of s.wanted port) (probe_result_of s.ports port) port s.device (k.port_invariant port low).probe_result_is_backed;
+    few_are_served = λ port its. (k.served_ports_exist port its).0;
+    unserved_are_idle = λ port low unserved. (subst (λ (f : ProbeResult). StillBacksProbeResult (wanted_of s.wanted port) f port s.device) unserved (k.port_invariant port low).probe_result_is_backed).1;
     unused = λ port slot unserved. ⊎_elim
         (λ u. let z : Absent ≡ ReadyState = sym (ap state_of unserved) ∙ used_ready s port slot u.0 k u.1 in absurd cc)
         (λ (none : used_for s.slots port slot ≡ None). none)
         (used_or_not (used_for s.slots port slot));
-    four = k.four;
+    four_slots = k.four_slots;
     four_modes = k.four_modes;
     four_remembered = k.four_remembered;
     four_kept = k.four_kept;
     places = have_places;
-    rows = k.rows;
-    owners = k.owners;
-    accepted = k.accepted;
-    ordered = k.ordered;
-    marked = k.marked;
-    handed_out = k.handed_out;
-    asked = All-weaker (λ (e : BookEntry). state_of (probe_result_of s.ports e.entry.port.0) ≡ ReadyState) (λ (e : BookEntry). is_served (probe_result_of s.ports e.entry.port.0) ≡ true)
-        (λ e ready. ready_served (probe_result_of s.ports e.entry.port.0) ready) s.book k.ready;
+    rows_are_valid = k.rows_are_valid;
+    owned_frames_are_clients = k.owned_frames_are_clients;
+    requests_are_accepted = k.requests_are_accepted;
+    book_is_in_order = k.book_is_in_order;
+    revoked_marks_agree = k.revoked_marks_agree;
+    ids_were_handed_out = k.ids_were_handed_out;
+    requests_are_of_served_ports = All-weaker (λ (e : BookEntry). state_of (probe_result_of s.ports e.entry.port.0) ≡ ReadyState) (λ (e : BookEntry). is_served (probe_result_of s.ports e.entry.port.0) ≡ true)
+        (λ e ready. ready_served (probe_result_of s.ports e.entry.port.0) ready) s.book k.requests_are_of_ready_ports;
     machine = k.machine;
     reached = k.reached;
-    stands = k.stands;
+    machine_relation = k.machine_relation;
   }
 
 -- so its requests may meet their fates
 pub may_settle : (s : ServerState) → ServerInvariant s → MayResolve s
-may_settle s b = record { four_kept = b.four_kept; ordered = b.ordered; accepted = b.accepted; places = b.places }
+may_settle s b = record { four_kept = b.four_kept; book_is_in_order = b.book_is_in_order; requests_are_accepted = b.requests_are_accepted; places = b.places }
 
 -- and those of the other ports may still, once those of one port met theirs
 module _ (laws : PrerequisiteLaws) (s new : ServerState) (port : Port) (replies : List Reply) (low : port.0 < 4) (may : MayResolve s) (settles : ResolvesPort port replies s new) where
-  pub left : IsLeft port (disposition_of None settles.revalidation) (requests_of port s.book) (book_and_loans_of port s) settles.now
-  left = fated laws port (disposition_of None settles.revalidation) (requests_of port s.book) (fits_each None settles.revalidation (requests_of port s.book)) replies (book_and_loans_of port s) settles.now (its_requests port s may.ordered may.accepted) settles.meets
+  pub left : IsLeft port (disposition_of None settles.revalidation) (requests_of port s.book) (book_and_loans_of port s) settles.book_and_loans_after
+  left = fated laws port (disposition_of None settles.revalidation) (requests_of port s.book) (fits_each None settles.revalidation (requests_of port s.book)) replies (book_and_loans_of port s) settles.book_and_loans_after (its_requests port s may.book_is_in_order may.requests_are_accepted) settles.are_resolved
 
-  pub kept_same : quarantined_at (with_book_and_loans port settles.now s).kept port.0 ≡ settles.now.kept
-  kept_same = get_or-set_same s.kept port.0 settles.now.kept [] (let four = may.four_kept in omega (arith, four, low))
+  pub kept_same : quarantined_at (with_book_and_loans port settles.book_and_loans_after s).kept port.0 ≡ settles.book_and_loans_after.kept
+  kept_same = get_or-set_same s.kept port.0 settles.book_and_loans_after.kept [] (let four = may.four_kept in omega (arith, four, low))
 
-  pub kept_other : (q : ℕ) → q ≢ port.0 → quarantined_at (with_book_and_loans port settles.now s).kept q ≡ quarantined_at s.kept q
-  kept_other q other = get_or-set_other s.kept port.0 q settles.now.kept [] other
+  pub kept_other : (q : ℕ) → q ≢ port.0 → quarantined_at (with_book_and_loans port settles.book_and_loans_after s).kept q ≡ quarantined_at s.kept q
+  kept_other q other = get_or-set_other s.kept port.0 q settles.book_and_loans_after.kept [] other
 
-  places_then : (q : Port) → length (quarantined_at (with_book_and_loans port settles.now s).kept q.0) + issued_of q settles.now.book ≤ 32
+  places_then : (q : Port) → length (quarantined_at (with_book_and_loans port settles.book_and_loans_after s).kept q.0) + issued_of q settles.book_and_loans_after.book ≤ 32
   places_then q = ⊎_elim
       (λ (same : q.0 ≡ port.0).
       let its : port ≡ q = ap (λ (n : ℕ). record { 0 = n }) (sym same) in
-      subst (λ (p : Port). length (quarantined_at (with_book_and_loans port settles.now s).kept p.0) + issued_of p settles.now.book ≤ 32) its
+      subst (λ (p : Port). length (quarantined_at (with_book_and_loans port settles.book_and_loans_after s).kept p.0) + issued_of p settles.book_and_loans_after.book ≤ 32) its
       (let long = ap length kept_same in let were = may.places port in let less = left.places in omega (arith, long, were, less)))
       (λ (other : q.0 ≢ port.0). let long = ap length (kept_other q.0 other) in let were = may.places q in let less = left.fewer q in omega (arith, long, were, less))
       (cases_eq q.0 port.0)
 
   pub settles_on : MayResolve new
-  settles_on = subst MayResolve (sym settles.server) (record {
-    four_kept = length-set s.kept port.0 settles.now.kept ∙ may.four_kept;
-    ordered = left.ordered;
-    accepted = left.accepted;
+  settles_on = subst MayResolve (sym settles.server_is) (record {
+    four_kept = length-set s.kept port.0 settles.book_and_loans_after.kept ∙ may.four_kept;
+    book_is_in_order = left.ordered;
+    requests_are_accepted = left.accepted;
     places = places_then;
   })
 

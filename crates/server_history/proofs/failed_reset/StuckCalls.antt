@@ -16,28 +16,28 @@ use Rattle.ata_types.specs.declared.request.Outcome.{Outcome}
 use Rattle.ata_types.specs.declared.request.Request.{Request}
 use Rattle.adapter.specs.Access.{Loads, Stores}
 use Rattle.adapter.specs.Access.Access.{Storing}
-use Rattle.adapter.specs.Asked.{Asked}
+use Rattle.adapter.specs.ToldSteps.{DoesOrFailsStep}
 use Rattle.adapter.specs.Device.{Device}
 use Rattle.adapter.specs.Idle.{IsIdlePort}
 use Rattle.adapter.specs.Rules.{IsOn}
 use Rattle.adapter.specs.Steps.{Steps}
 use Rattle.adapter.specs.declared.access.DeviceStep.{DeviceStep}
-use Rattle.refinement.specs.Driven.{known}
+use Rattle.refinement.specs.Fragments.{driver_state_of}
 use Rattle.refinement.specs.Links.{SameAdapter}
-use Rattle.block_machine.specs.Events.{AllMay, AnswersTick, Device as Told, HasTimedOut, LoadAt, AbstractState, RevokeOf, Served, Shown, State, Stepped, StoreAt, Submit, Submitted, Tick, WasRevoked}
-use Rattle.block_machine.specs.Histories.{JointEvent, JointState, now}
+use Rattle.block_machine.specs.Events.{AllEnabled, AnswersTick, Device as Told, HasTimedOut, LoadAt, AbstractState, RevokeOf, Served, Shown, State, Stepped, StoreAt, Submit, Submitted, Tick, WasRevoked}
+use Rattle.block_machine.specs.Histories.{JointEvent, JointState, joint_state_after}
 use Rattle.block_machine.specs.Expected.{after}
 use Rattle.block_machine.specs.Ports.{Ports}
 use Rattle.block_machine.specs.Refusals.{IsAcceptable, IsFirstMemFault, IsFirstRefusal, MayAccessFrame}
 use Rattle.block_machine.specs.Rules.{HasRow}
 use Rattle.block_machine.specs.State.{Pending}
-use Rattle.block_machine.specs.Steps.{Step, Age, Again, Answer, Load, Store, older}
+use Rattle.block_machine.specs.Steps.{Step, Age, WaitAgain, Answer, Load, Store, aged_pending}
 use Rattle.server_history.proofs.state.ListMembers.{contains_cases}
-use Rattle.dma_frames.specs.Table.{lent_to, owner_of}
-use Rattle.driver_history.specs.Trace.{IsAccessForPorts, LeavesEngine}
+use Rattle.dma_frames.specs.FrameTables.{lent_to, owner_of}
+use Rattle.driver_history.specs.AccessTrace.{IsAccessForPorts, LeavesEngine}
 use Rattle.server_history.specs.Prerequisites.{PrerequisiteLaws}
 use Rattle.server_history.specs.Histories.{ExtendsHistory, ExtendsStuck, LeadsToServer, load_said, store_said}
-use Rattle.server_history.specs.Server.{ServerState, MachineRelation, ports_of, admission_context}
+use Rattle.server_history.specs.ServerState.{ServerState, MachineRelation, ports_of, admission_context}
 use Rattle.server_history.specs.StuckServer.{ServerInvariant, StuckInvariant}
 use Rattle.server_history.proofs.plain_calls.RefusalsAndBytes.{GoesTo, device_event, load_ends, load_event, load_refused_event, revoke_refused_event, state_event, store_ends, store_event, store_refused_event, submit_refused_event, undone_event}
 use Rattle.server_history.proofs.state.HistorySteps.{lead_by, machine_on, ports_same}
@@ -46,7 +46,7 @@ use Rattle.server_history.proofs.failed_reset.StuckInstant.{access_idle, booked_
 use Rattle.server_history.proofs.state.CallEvidence.{told_by, uninterrupted}
 
 -- where none gets older, the book stays what it is
-none_older : (book : List Pending) → map (older (λ port. false)) book ≡ book
+none_older : (book : List Pending) → map (aged_pending (λ port. false)) book ≡ book
 none_older [] = refl
 none_older (e ∷ book) = ap₂ (λ (x : Pending) (xs : List Pending). x ∷ xs) (by e.issued) (none_older book)
   where
@@ -60,36 +60,36 @@ never_here step ready other here = ⊎_elim other (nowhere step) (contains_cases
 
 module _ (laws : PrerequisiteLaws) (s : ServerState) (t : StuckInvariant s) where
   abbrev b : ServerInvariant s
-  b = t.booked
+  b = t.server_invariant
 
   -- ---- the server with another device
 
   pub goes : (new : Device) → StuckInvariant (record s { device = new }) → GoesTo s new
   goes new then_is = record {
-    holds = holds_off (record s { device = new }) then_is.booked then_is.dead then_is.off;
-    port_error = λ m are port. never_troubled s t.dead (told_by s.device m.ports) (record { device = s.device; abstract = m }) (ports_of s) new port are (never_ready s t.dead port.0);
+    holds = holds_off (record s { device = new }) then_is.server_invariant then_is.served_ports_are_dead then_is.adapter_is_not_on;
+    port_error = λ m are port. never_troubled s t.served_ports_are_dead (told_by s.device m.ports) (record { device = s.device; abstract = m }) (ports_of s) new port are (never_ready s t.served_ports_are_dead port.0);
   }
 
   then_stalled : (new : Device) → SameAdapter s.device new → ((port : ℕ) → IsIdlePort (s.device.port port) → IsIdlePort (new.port port)) → (IsOn new → ⊥)
-      → (steps : List Step) → AllMay b.machine steps → MachineRelation (record s { device = new }) (after b.machine steps) → StuckInvariant (record s { device = new })
+      → (steps : List Step) → AllEnabled b.machine steps → MachineRelation (record s { device = new }) (after b.machine steps) → StuckInvariant (record s { device = new })
   then_stalled new same idle off steps may is = record {
-    booked = booked_on s new b same idle (after b.machine steps) (laws.basic.reached b.machine steps b.reached may) is;
-    off = off;
-    dead = t.dead;
+    server_invariant = booked_on s new b same idle (after b.machine steps) (laws.basic.reached b.machine steps b.reached may) is;
+    adapter_is_not_on = off;
+    served_ports_are_dead = t.served_ports_are_dead;
   }
 
   -- ---- the device's steps
 
   never_on : (new : Device) → Steps s.device new → IsOn new → ⊥
-  never_on new moves on = t.off (laws.basic.was_on s.device new moves on)
+  never_on new moves on = t.adapter_is_not_on (laws.basic.was_on s.device new moves on)
 
   moved : (new : Device) → Steps s.device new → StuckInvariant (record s { device = new })
   moved new moves =
-      let x = (laws.basic.device_adds (known b.stands.uses b.stands.parked s.device) new moves).adds b.machine b.reached b.stands.knows in
-      then_stalled new (steps_same laws s.device new moves) (steps_idle laws s.device new moves) (never_on new moves) x.0 x.1 (machine_on laws s new b.machine x.0 b.stands x.3.only x.2)
+      let x = (laws.basic.device_adds (driver_state_of b.machine_relation.uses b.machine_relation.parked s.device) new moves).simulates b.machine b.reached b.machine_relation.driver_relation in
+      then_stalled new (steps_same laws s.device new moves) (steps_idle laws s.device new moves) (never_on new moves) x.0 x.1 (machine_on laws s new b.machine x.0 b.machine_relation x.3.only x.2)
 
-  pub stalled_device : (new : Device) (step : DeviceStep) → Asked step s.device new → Steps s.device new → ExtendsStuck s (record s { device = new }) (Told step) (Stepped true)
-  stalled_device new step asked moves = record { stalled = moved new moves; adds = device_event laws s new (goes new (moved new moves)) step asked moves }
+  pub stalled_device : (new : Device) (step : DeviceStep) → DoesOrFailsStep step s.device new → Steps s.device new → ExtendsStuck s (record s { device = new }) (Told step) (Stepped true)
+  stalled_device new step asked moves = record { stuck_invariant = moved new moves; extends_history = device_event laws s new (goes new (moved new moves)) step asked moves }
 
   -- ---- calls that do nothing
 
@@ -108,30 +108,30 @@ module _ (laws : PrerequisiteLaws) (s : ServerState) (t : StuckInvariant s) wher
   stalled_load_refused = load_refused_event laws s (goes s.device t)
 
   pub stalled_revoke_refused : (client : ClientId) (number : ℕ) → (HasRow client number s.grants → ⊥) → ExtendsHistory s s (RevokeOf client number) (WasRevoked None)
-  stalled_revoke_refused client number none = revoke_refused_event laws s (goes s.device t) client number none (λ m at port ready. absurd (never_ready s t.dead port.0 ready))
+  stalled_revoke_refused client number none = revoke_refused_event laws s (goes s.device t) client number none (λ m at port ready. absurd (never_ready s t.served_ports_are_dead port.0 ready))
 
   pub stalled_submit : (r : Request) (refusal : Refusal) → IsFirstRefusal (admission_context s) r refusal → ExtendsHistory s s (Submit r) (Submitted (Err refusal))
-  stalled_submit r refusal is = submit_refused_event laws s (goes s.device t) r refusal is (λ m at port ready. absurd (never_ready s t.dead port.0 ready))
+  stalled_submit r refusal is = submit_refused_event laws s (goes s.device t) r refusal is (λ m at port ready. absurd (never_ready s t.served_ports_are_dead port.0 ready))
 
   -- a request that has a grant is of a port that isn't ready
   pub none_acceptable : (r : Request) → IsAcceptable (admission_context s) r → ⊥
-  none_acceptable r fine = fine (refused.Rule NoGrant) (λ row named. fine (refused.PortNotReady ((ports_of s).state row.port)) (never_ready s t.dead row.port.0, (row, named, refl)))
+  none_acceptable r fine = fine (refused.Rule NoGrant) (λ row named. fine (refused.PortNotReady ((ports_of s).state row.port)) (never_ready s t.served_ports_are_dead row.port.0, (row, named, refl)))
 
   -- ---- clients' bytes
 
   module _ (new : Device) (client : ClientId) (frame : Frame) (offset : ℕ) (bytes : List ℕ) (opens : MayAccessFrame (owner_of s.table) (lent_to s.table) client frame offset (length bytes)) where
     loaded : Loads (4096 * frame.0 + offset) bytes s.device new → StuckInvariant (record s { device = new })
     loaded loads =
-        let x = load_ends laws s new client frame offset bytes opens loads b.machine b.reached b.stands in
-        then_stalled new (steps_same laws s.device new loads.steps) (steps_idle laws s.device new loads.steps) (never_on new loads.steps) (Load client frame offset bytes ∷ x.0.steps) x.0.may x.1
+        let x = load_ends laws s new client frame offset bytes opens loads b.machine b.reached b.machine_relation in
+        then_stalled new (steps_same laws s.device new loads.steps) (steps_idle laws s.device new loads.steps) (never_on new loads.steps) (Load client frame offset bytes ∷ x.0.steps) x.0.steps_are_enabled x.1
 
     load_adds : Loads (4096 * frame.0 + offset) bytes s.device new → ExtendsStuck s (record s { device = new }) (LoadAt client frame offset (length bytes)) (load_said (Ok tt) bytes)
-    load_adds loads = record { stalled = loaded loads; adds = load_event laws s new (goes new (loaded loads)) client frame offset bytes opens loads }
+    load_adds loads = record { stuck_invariant = loaded loads; extends_history = load_event laws s new (goes new (loaded loads)) client frame offset bytes opens loads }
 
     stored : Stores (4096 * frame.0 + offset) bytes s.device new → StuckInvariant (record s { device = new })
     stored stores =
-        let x = store_ends laws s new client frame offset bytes opens stores b.machine b.reached b.stands in
-        then_stalled new same (access_idle laws (Storing (4096 * frame.0 + offset) bytes) tt s.device new stores) off (Store client frame offset bytes ∷ x.0.steps) x.0.may x.1
+        let x = store_ends laws s new client frame offset bytes opens stores b.machine b.reached b.machine_relation in
+        then_stalled new same (access_idle laws (Storing (4096 * frame.0 + offset) bytes) tt s.device new stores) off (Store client frame offset bytes ∷ x.0.steps) x.0.steps_are_enabled x.1
       where
         same : SameAdapter s.device new
         same = subst (SameAdapter s.device) (sym stores.effect) (let was = steps_same laws s.device stores.mid stores.steps in record { telling = was.telling; size = was.size; cap = was.cap; pi = was.pi })
@@ -140,7 +140,7 @@ module _ (laws : PrerequisiteLaws) (s : ServerState) (t : StuckInvariant s) wher
         off on = let then_on = subst IsOn stores.effect on in never_on stores.mid stores.steps (record { ae = then_on.ae; no_reset = then_on.no_reset })
 
     pub stalled_store : Stores (4096 * frame.0 + offset) bytes s.device new → ExtendsStuck s (record s { device = new }) (StoreAt client frame offset bytes) (store_said (Ok tt))
-    stalled_store stores = record { stalled = stored stores; adds = store_event laws s new (goes new (stored stores)) client frame offset bytes opens stores }
+    stalled_store stores = record { stuck_invariant = stored stores; extends_history = store_event laws s new (goes new (stored stores)) client frame offset bytes opens stores }
 
   -- of so many bytes
   pub stalled_load : (new : Device) (client : ClientId) (frame : Frame) (offset count : ℕ) (bytes : List ℕ) → length bytes ≡ count
@@ -154,13 +154,13 @@ module _ (laws : PrerequisiteLaws) (s : ServerState) (t : StuckInvariant s) wher
 
   module _ (first : JointState Device) (past : List (JointEvent Device DeviceStep)) (leads : LeadsToServer first past s) where
     abbrev old : AbstractState
-    old = (now first past).abstract
+    old = (joint_state_after first past).abstract
 
     abbrev ages : List Step
     ages = Age (λ port. false) ∷ []
 
     was_never : (port : Port) → old.ports.state port ≢ ReadyState
-    was_never port ready = never_ready s t.dead port.0 (ap (λ (p : Ports). p.state port) (sym leads.stands.ports_are) ∙ ready)
+    was_never port ready = never_ready s t.served_ports_are_dead port.0 (ap (λ (p : Ports). p.state port) (sym leads.stands.ports_are) ∙ ready)
 
     not_hung : (port : Port) → HasTimedOut old port → ⊥
     not_hung port hung = was_never port hung.ready
@@ -170,42 +170,42 @@ module _ (laws : PrerequisiteLaws) (s : ServerState) (t : StuckInvariant s) wher
 
     answers : AnswersTick old (told_by s.device old.ports) ages [] (record { machine = after old.machine ages; ports = ports_of s })
     answers = record {
-      tells = record { answers = []; same = IsPermutation-refl []; ordered = λ i j d lt below. absurd (omega (arith, lt, below)); told = refl };
-      ages = record { ready = λ port. false; is_ready = λ port. ((λ yes. absurd (false≢true yes)), (λ ready. absurd (was_never port ready))); later = []; first = refl; once = refl };
-      restarts = record {
+      replies_match = record { answers = []; is_permutation = IsPermutation-refl []; ordered = λ i j d lt below. absurd (omega (arith, lt, below)); replies_are = refl };
+      ages_once = record { ready_ports = λ port. false; is_ready = λ port. ((λ yes. absurd (false≢true yes)), (λ ready. absurd (was_never port ready))); later = []; age_is_first = refl; no_other_age = refl };
+      restarts_timed_out = record {
         ports = λ port. inl (not_hung port, ports_same old.ports (ports_of s) leads.stands.ports_are port);
-        again = λ e here. absurd (never_here (Again e) (λ port. false) (λ is. let z : Again e ≡ Age (λ port. false) = is in cc) here);
-        answer = λ e o here. absurd (none_answered e o here);
-        ended = λ port hung. absurd (not_hung port hung);
-        anew = λ port hung. absurd (not_hung port hung);
-        interrupts = λ port. (λ hung. absurd (not_hung port hung), λ i. absurd (uninterrupted s.device old.ports port i));
-        finds = λ e here. absurd (none_answered e _ here);
-        disk = λ port hung. absurd (not_hung port hung);
+        only_timed_out_wait_again = λ e here. absurd (never_here (WaitAgain e) (λ port. false) (λ is. let z : WaitAgain e ≡ Age (λ port. false) = is in cc) here);
+        only_timed_out_are_answered = λ e o here. absurd (none_answered e o here);
+        answers_ended = λ port hung. absurd (not_hung port hung);
+        none_stays_issued = λ port hung. absurd (not_hung port hung);
+        is_interrupted = λ port. (λ hung. absurd (not_hung port hung), λ i. absurd (uninterrupted s.device old.ports port i));
+        unplugged_lost_disk = λ e here. absurd (none_answered e _ here);
+        shown_disk_was_in_or_came = λ port hung. absurd (not_hung port hung);
       };
-      unplugs = record { emptied = λ e other here. absurd (none_answered e _ here); alike = λ e other here. absurd (none_answered e _ here) };
-      issues = λ port ready. absurd (never_ready s t.dead port.0 ready);
-      emptied = λ port ready. absurd (was_never port ready);
+      answers_all_unplugged = record { none_is_left = λ e other here. absurd (none_answered e _ here); none_is_told_dead = λ e other here. absurd (none_answered e _ here) };
+      none_is_due = λ port ready. absurd (never_ready s t.served_ports_are_dead port.0 ready);
+      empty_unless_ready = λ port ready. absurd (was_never port ready);
     }
 
     ticked : (h : JointEvent Device DeviceStep) × (h.event.ask ≡ Tick) × (h.event.said ≡ Served []) × LeadsToServer first (h ∷ past) s
-    ticked = lead_by laws first past s s Tick (Served []) ages refl refl leads (holds_off s b t.dead t.off) (tt, tt) (tt, inr tt) (tt, λ id h i. false≢true h) tt
+    ticked = lead_by laws first past s s Tick (Served []) ages refl refl leads (holds_off s b t.served_ports_are_dead t.adapter_is_not_on) (tt, tt) (tt, inr tt) (tt, λ id h i. false≢true h) tt
         answers
         tt
         []
         (refl, All-nil (IsAccessForPorts (HasTimedOut old)))
         (λ port. All-nil (LeavesEngine port))
-        (λ port ready. absurd (never_ready s t.dead port.0 ready))
+        (λ port ready. absurd (never_ready s t.served_ports_are_dead port.0 ready))
         (λ port. record {
-          finds = λ hung. absurd (not_hung port hung);
-          faults = tt;
-          probes = tt;
-          boots = λ hung. absurd (not_hung port hung);
-          port_error = never_troubled s t.dead (told_by s.device old.ports) (record { device = s.device; abstract = old }) (ports_of s) s.device port leads.stands.ports_are (never_ready s t.dead port.0);
-          well = λ i. absurd (uninterrupted s.device old.ports port i);
-          heeds = tt;
+          finds_done = λ hung. absurd (not_hung port hung);
+          plain_faults_are_told = tt;
+          probes_disk = tt;
+          boots_anew = λ hung. absurd (not_hung port hung);
+          loses_no_error = never_troubled s t.served_ports_are_dead (told_by s.device old.ports) (record { device = s.device; abstract = old }) (ports_of s) s.device port leads.stands.ports_are (never_ready s t.served_ports_are_dead port.0);
+          runs_well_anew = λ i. absurd (uninterrupted s.device old.ports port i);
+          handles_evidence = tt;
         })
         (laws.backed_own s.device old.machine (Age (λ port. false)) (λ none. none))
-        (subst (λ (book : List Pending). MachineRelation s (record (old.machine) { book = book })) (sym (none_older old.machine.book)) leads.stands.machine)
+        (subst (λ (book : List Pending). MachineRelation s (record (old.machine) { book = book })) (sym (none_older old.machine.book)) leads.stands.machine_stands_for_it)
 
   pub stalled_tick : ExtendsStuck s s Tick (Served [])
-  stalled_tick = record { stalled = t; adds = ticked }
+  stalled_tick = record { stuck_invariant = t; extends_history = ticked }

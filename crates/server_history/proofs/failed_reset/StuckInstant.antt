@@ -26,15 +26,15 @@ use Rattle.driver_history.specs.Histories.{LosesNoPortError, IsPortAlive}
 use Rattle.refinement.specs.Acts.{DriverSlots}
 use Rattle.driver_history.specs.PortInvariants.{PortStateInvariant, DriverInvariantWith, HasNoUnanswered}
 use Rattle.dma_frames.specs.Loan.{Lending}
-use Rattle.dma_frames.specs.Table.{Table}
+use Rattle.dma_frames.specs.FrameTables.{FrameOwnership}
 use Rattle.host_boot.specs.TakeOver.{probe_result_of, wanted_of}
 use Rattle.host_boot.specs.declared.ProbeResult.{ProbeResult}
 use Rattle.host_boot.specs.declared.ProbeResult.TheVariants.{Ready, Unready, Unserved}
-use Rattle.request_queue.specs.Entries.{BookEntry, IsAccepted, BookIsInOrder}
-use Rattle.request_queue.specs.Machine.{EntryRelation}
+use Rattle.request_queue.specs.BookEntries.{BookEntry, IsAccepted, BookIsInOrder}
+use Rattle.request_queue.specs.BookRelation.{EntryRelation}
 use Rattle.server_history.specs.Prerequisites.{PrerequisiteLaws}
 use Rattle.server_history.specs.ErrorHandling.{requests_of}
-use Rattle.server_history.specs.Server.{RevokedMarkInvariant, ServerState, MachineRelation, is_served, quarantined_at, ports_of, state_of, slot_state_of}
+use Rattle.server_history.specs.ServerState.{RevokedMarkInvariant, ServerState, MachineRelation, is_served, quarantined_at, ports_of, state_of, slot_state_of}
 use Rattle.server_history.specs.StuckServer.{AreDead, ServerInvariant}
 use Rattle.server_history.proofs.state.HistorySteps.{IsHolding}
 use Rattle.server_history.proofs.state.PortSlots.{none_kept}
@@ -74,10 +74,10 @@ module _ (s : ServerState) (dead : AreDead s.ports) where
 
   pub dead_fit : ((port : ℕ) → is_served (probe_result_of s.ports port) ≡ true → port < 4) → PortsWellFormed (ports_of s)
   dead_fit few = record {
-    few = λ port its. few port.0 its;
-    absent = λ port other. ⊎_elim (λ unserved. ap state_of unserved) (λ is. absurd (false≢true (sym other ∙ ap is_served is))) (either port.0);
-    slots = λ port ready. absurd (never_ready port.0 ready);
-    causes = λ port cause unfit. ⊎_elim
+    few_are_served = λ port its. few port.0 its;
+    unserved_are_absent = λ port other. ⊎_elim (λ unserved. ap state_of unserved) (λ is. absurd (false≢true (sym other ∙ ap is_served is))) (either port.0);
+    modes_are_valid = λ port ready. absurd (never_ready port.0 ready);
+    causes_are_valid = λ port cause unfit. ⊎_elim
         (λ unserved. absurd (let z : Absent ≡ Unfit cause = sym (ap state_of unserved) ∙ unfit in cc))
         (λ is. absurd (let z : Dead ≡ Unfit cause = sym (ap state_of is) ∙ unfit in cc))
         (either port.0);
@@ -98,29 +98,29 @@ module _ (s : ServerState) (b : ServerInvariant s) (dead : AreDead s.ports) (off
   nobody_waits : (port : Port) → probe_result_of s.ports port.0 ≡ Unserved → HasNoUnanswered m port
   nobody_waits port unserved e here own =
       let a = at_right EntryRelation s.book m.book is.book e here in
-      let its = All-contains (λ (x : BookEntry). is_served (probe_result_of s.ports x.entry.port.0) ≡ true) s.book a.0 b.asked a.1 in
+      let its = All-contains (λ (x : BookEntry). is_served (probe_result_of s.ports x.entry.port.0) ≡ true) s.book a.0 b.requests_are_of_served_ports a.1 in
       false≢true (sym (ap is_served unserved) ∙ ap (λ (q : Port). is_served (probe_result_of s.ports q.0)) (sym own ∙ a.2.port) ∙ its)
 
   of_unserved : (port : Port) → port.0 < 4 → probe_result_of s.ports port.0 ≡ Unserved → HoldsAs port (probe_result_of s.ports port.0)
   of_unserved port low unserved =
       let alive : probe_result_of s.ports port.0 ≢ Unready Dead = λ is_dead. let z : Unserved ≡ Unready Dead = sym unserved ∙ is_dead in cc in
       subst (HoldsAs port) (sym unserved) (record {
-        absent = ap state_of unserved;
-        idle = b.idle port.0 low unserved;
-        slots = record { free = λ slot. is.used port.0 slot alive ∙ ap slot_state_of (b.unused port.0 slot unserved); unparked = is.unparked port.0 alive };
-        waits = nobody_waits port unserved;
-        kept = none_kept s m port is alive;
+        state_is_absent = ap state_of unserved;
+        port_is_idle = b.unserved_are_idle port.0 low unserved;
+        has_nothing_in_slots = record { all_are_free = λ slot. is.are_uses_of port.0 slot alive ∙ ap slot_state_of (b.unused port.0 slot unserved); none_is_parked = is.unparked port.0 alive };
+        has_no_unanswered = nobody_waits port unserved;
+        none_is_quarantined = none_kept s m port is alive;
       })
 
   of_dead : (port : Port) → probe_result_of s.ports port.0 ≡ Unready Dead → HoldsAs port (probe_result_of s.ports port.0)
-  of_dead port is_dead = subst (HoldsAs port) (sym is_dead) (record { why = inr off; waits = λ on. absurd (off on) })
+  of_dead port is_dead = subst (HoldsAs port) (sym is_dead) (record { is_backed_or_off = inr off; has_no_unanswered = λ on. absurd (off on) })
 
   holds_with_off : DriverInvariantWith s.wanted slots instant
   holds_with_off = record {
-    knows = is.knows;
+    driver_relation = is.driver_relation;
     served = λ port low. b.served port.0 low;
-    on = inr (λ port its. ap state_of (dead port.0 its));
-    port = λ port low. ⊎_elim (of_unserved port low) (of_dead port) (either s dead port.0);
+    adapter_is_on = inr (λ port its. ap state_of (dead port.0 its));
+    ports_hold = λ port low. ⊎_elim (of_unserved port low) (of_dead port) (either s dead port.0);
   }
 
 pub holds_off : (s : ServerState) → ServerInvariant s → AreDead s.ports → (IsOn s.device → ⊥) → IsHolding s
@@ -139,7 +139,7 @@ LeavesPorts access = ⊥
 module _ (laws : PrerequisiteLaws) where
   pub steps_idle : (old new : Device) → Steps old new → (port : ℕ) → IsIdlePort (old.port port) → IsIdlePort (new.port port)
   steps_idle old new steps port idle =
-      let keeps = (laws.basic.keeps old new steps).port port in
+      let keeps = (laws.basic.keeps old new steps).ports_are_kept port in
       record {
         st = keeps.st idle.st;
         cr = keeps.cr idle.cr;
@@ -147,7 +147,7 @@ module _ (laws : PrerequisiteLaws) where
         fr = keeps.fr idle.fr;
         ci = λ slot. keeps.ci slot (idle.ci slot);
         sact = λ slot. keeps.sact slot (idle.sact slot);
-        taken = keeps.idle idle.cr idle.taken;
+        taken = keeps.stays_without_commands idle.cr idle.taken;
       }
 
   pub access_idle : (access : Access) → LeavesPorts access → (old new : Device) → Does access old new → (port : ℕ) → IsIdlePort (old.port port) → IsIdlePort (new.port port)
@@ -171,55 +171,55 @@ module _ (laws : PrerequisiteLaws) where
 pub booked_on : (s : ServerState) (new : Device) → ServerInvariant s → SameAdapter s.device new → ((port : ℕ) → IsIdlePort (s.device.port port) → IsIdlePort (new.port port))
     → (m : Machine) → IsReachable m → MachineRelation (record s { device = new }) m → ServerInvariant (record s { device = new })
 booked_on s new b same idle m reached is = record {
-  room = subst (λ (n : ℕ). DRIVER_BYTES ≤ n) (sym same.size) b.room;
+  driver_memory_fits = subst (λ (n : ℕ). DRIVER_BYTES ≤ n) (sym same.size) b.driver_memory_fits;
   served = λ port low.
       let was = b.served port low in
       ((λ its. let w = was.0 its in (w.0, ap (λ (pi : ℕ). bit pi port) same.pi ∙ w.1)), (λ w. was.1 (w.0, ap (λ (pi : ℕ). bit pi port) (sym same.pi) ∙ w.1)));
-  few = b.few;
-  idle = λ port low unserved. idle port (b.idle port low unserved);
+  few_are_served = b.few_are_served;
+  unserved_are_idle = λ port low unserved. idle port (b.unserved_are_idle port low unserved);
   unused = b.unused;
-  four = b.four;
+  four_slots = b.four_slots;
   four_modes = b.four_modes;
   four_remembered = b.four_remembered;
   four_kept = b.four_kept;
   places = b.places;
-  rows = b.rows;
-  owners = λ frame client own. let o = b.owners frame client own in (o.0, subst (λ (n : ℕ). 4096 * frame.0 + 4096 ≤ n) (sym same.size) o.1);
-  accepted = b.accepted;
-  ordered = b.ordered;
-  marked = b.marked;
-  handed_out = b.handed_out;
-  asked = b.asked;
+  rows_are_valid = b.rows_are_valid;
+  owned_frames_are_clients = λ frame client own. let o = b.owned_frames_are_clients frame client own in (o.0, subst (λ (n : ℕ). 4096 * frame.0 + 4096 ≤ n) (sym same.size) o.1);
+  requests_are_accepted = b.requests_are_accepted;
+  book_is_in_order = b.book_is_in_order;
+  revoked_marks_agree = b.revoked_marks_agree;
+  ids_were_handed_out = b.ids_were_handed_out;
+  requests_are_of_served_ports = b.requests_are_of_served_ports;
   machine = m;
   reached = reached;
-  stands = is;
+  machine_relation = is;
 }
 
 -- ---- the server with other requests
 
-pub booked_then : (s : ServerState) (grants : List GrantRow) (table : Table) (kept : List (List Lending)) (book : List BookEntry) → ServerInvariant s → All IsValidRow grants → table.owners ≡ s.table.owners → length kept ≡ 4
+pub booked_then : (s : ServerState) (grants : List GrantRow) (table : FrameOwnership) (kept : List (List Lending)) (book : List BookEntry) → ServerInvariant s → All IsValidRow grants → table.owners ≡ s.table.owners → length kept ≡ 4
     → ((port : Port) → length (quarantined_at kept port.0) + count_by (λ (e : BookEntry). e.entry.issued) (requests_of port book) ≤ 32) → All (IsAccepted table) book → BookIsInOrder book → All (RevokedMarkInvariant grants) book
-    → All (λ e. e.entry.id.0 ≤ s.last) book → All (λ e. is_served (probe_result_of s.ports e.entry.port.0) ≡ true) book → (m : Machine) → IsReachable m → MachineRelation (record s { grants = grants; table = table; kept = kept; book = book }) m
+    → All (λ e. e.entry.id.0 ≤ s.last_id) book → All (λ e. is_served (probe_result_of s.ports e.entry.port.0) ≡ true) book → (m : Machine) → IsReachable m → MachineRelation (record s { grants = grants; table = table; kept = kept; book = book }) m
     → ServerInvariant (record s { grants = grants; table = table; kept = kept; book = book })
 booked_then s grants table kept book b rows owners four places accepted ordered marked handed_out asked m reached is = record {
-  room = b.room;
+  driver_memory_fits = b.driver_memory_fits;
   served = b.served;
-  few = b.few;
-  idle = b.idle;
+  few_are_served = b.few_are_served;
+  unserved_are_idle = b.unserved_are_idle;
   unused = b.unused;
-  four = b.four;
+  four_slots = b.four_slots;
   four_modes = b.four_modes;
   four_remembered = b.four_remembered;
   four_kept = four;
   places = places;
-  rows = rows;
-  owners = λ frame client own. b.owners frame client (ap (λ (list : List (Option ClientId)). get_or list frame.0 None) (sym owners) ∙ own);
-  accepted = accepted;
-  ordered = ordered;
-  marked = marked;
-  handed_out = handed_out;
-  asked = asked;
+  rows_are_valid = rows;
+  owned_frames_are_clients = λ frame client own. b.owned_frames_are_clients frame client (ap (λ (list : List (Option ClientId)). get_or list frame.0 None) (sym owners) ∙ own);
+  requests_are_accepted = accepted;
+  book_is_in_order = ordered;
+  revoked_marks_agree = marked;
+  ids_were_handed_out = handed_out;
+  requests_are_of_served_ports = asked;
   machine = m;
   reached = reached;
-  stands = is;
+  machine_relation = is;
 }

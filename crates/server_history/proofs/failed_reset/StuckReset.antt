@@ -14,25 +14,25 @@ use Rattle.adapter.specs.Rules.{IsOn}
 use Rattle.adapter.specs.declared.access.DeviceStep.{DeviceStep}
 use Rattle.refinement.specs.Driver.{IsBacked}
 use Rattle.server_history.proofs.state.FollowedAccesses.{followed_adds}
-use Rattle.block_machine.specs.Events.{AllByDevice, AllMay, Reset, WasReset}
-use Rattle.block_machine.specs.Histories.{JointEvent, JointState, IsReachable, now}
+use Rattle.block_machine.specs.Events.{AllByDevice, AllEnabled, Reset, WasReset}
+use Rattle.block_machine.specs.Histories.{JointEvent, JointState, IsReachable, joint_state_after}
 use Rattle.block_machine.specs.Expected.{after}
 use Rattle.block_machine.specs.Ports.{PortsWellFormed, Evidence, RequestFault, IsAfterStuckReset, Ports, SameDisk}
 use Rattle.block_machine.specs.State.{Machine}
 use Rattle.block_machine.specs.Steps.{Step}
 use Rattle.driver_history.specs.Evidence.{IsEvidencedOf}
 use Rattle.driver_history.specs.Histories.{PortCorresponds}
-use Rattle.driver_history.specs.Trace.{LeavesEngine}
-use Rattle.host_boot.specs.Resets.{IsOfReset}
+use Rattle.driver_history.specs.AccessTrace.{LeavesEngine}
+use Rattle.host_boot.specs.Resets.{IsResetAccess}
 use Rattle.host_boot.specs.TakeOver.{probe_result_of}
 use Rattle.host_boot.specs.declared.ProbeResult.{ProbeResult}
 use Rattle.host_boot.specs.declared.ProbeResult.TheVariants.{Ready, Unready, Unserved}
 use Rattle.identify.specs.declared.DiskInfo.{DiskInfo}
 use Rattle.std.specs.Prelude.{Option}
-use Rattle.request_queue.specs.Entries.{BookEntry}
+use Rattle.request_queue.specs.BookEntries.{BookEntry}
 use Rattle.server_history.specs.Prerequisites.{PrerequisiteLaws}
 use Rattle.server_history.specs.Histories.{ExtendsStuck, LeadsToServer}
-use Rattle.server_history.specs.Server.{ServerState, MachineRelation, last_disk_in, last_disk_of, is_served, ports_of, remembered_at, last_sectors_of, last_serial_of, state_of, slot_state_of}
+use Rattle.server_history.specs.ServerState.{ServerState, MachineRelation, last_disk_in, last_disk_of, is_served, ports_of, remembered_at, last_sectors_of, last_serial_of, state_of, slot_state_of}
 use Rattle.server_history.specs.StuckServer.{AreDead, ResetGetsStuck, ServerInvariant, StuckInvariant, found_after_stuck_reset}
 use Rattle.server_history.proofs.state.DeviceSteps.{devices_belong, devices_last, devices_lawful}
 use Rattle.server_history.proofs.state.HistorySteps.{happening_with, lead_with, machine_on, with_device}
@@ -43,7 +43,7 @@ use Rattle.server_history.proofs.state.CallEvidence.{chosen, chosen_is, evidence
 -- ---- a reset's accesses
 
 -- they leave each port
-leaves_ports : (access : Access) → IsOfReset access → LeavesPorts access
+leaves_ports : (access : Access) → IsResetAccess access → LeavesPorts access
 leaves_ports (Reading Ghc v) its = tt
 leaves_ports (Writing Ghc v) its = tt
 leaves_ports (Reading r v) its = absurd its
@@ -52,7 +52,7 @@ leaves_ports (Loading at bytes) its = absurd its
 leaves_ports (Storing at bytes) its = absurd its
 
 -- so none stops one
-leaves_engine : (port : Port) (access : Access) → IsOfReset access → LeavesEngine port access
+leaves_engine : (port : Port) (access : Access) → IsResetAccess access → LeavesEngine port access
 leaves_engine port (Reading Ghc v) its = (tt, tt)
 leaves_engine port (Writing Ghc v) its = ((λ e. let z : Ghc ≡ Px port Cmd = e in cc), (λ e. let z : Ghc ≡ Px port Sctl = e in cc))
 leaves_engine port (Reading r v) its = absurd its
@@ -90,7 +90,7 @@ module _ (laws : PrerequisiteLaws) (s new : ServerState) (b : ServerInvariant s)
   n = record s { device = new.device; ports = new.ports; remembered = new.remembered; modes = new.modes; slots = new.slots }
 
   abbrev its_accesses : List Access
-  its_accesses = g.stays.followed.driven.accesses
+  its_accesses = g.stays.followed.is_driven.accesses
 
   dead : AreDead new.ports
   dead port its = g.found port ∙ stuck_dead (probe_result_of s.ports port) (sym (ap is_served (g.found port)) ∙ its)
@@ -109,25 +109,25 @@ module _ (laws : PrerequisiteLaws) (s new : ServerState) (b : ServerInvariant s)
       ap (λ (f : ProbeResult). last_disk_of f (remembered_at new.remembered port.0)) (g.found port.0) ∙ stuck_disk (probe_result_of s.ports port.0) (remembered_at new.remembered port.0) ∙ g.remembered port.0
 
   off : IsOn new.device → ⊥
-  off on = false≢true (sym on.no_reset ∙ g.stays.pending)
+  off on = false≢true (sym on.no_reset ∙ g.stays.hr_is_set)
 
   -- ---- the machine that stands for it
 
   stands_then : (m : Machine) → MachineRelation (record s { device = new.device }) m → MachineRelation n m
   stands_then m is = record {
     uses = is.uses;
-    used = λ port slot alive.
+    are_uses_of = λ port slot alive.
         let unserved = alive_unserved port alive in
-        is.used port slot (unserved_alive port unserved) ∙ ap slot_state_of (b.unused port slot unserved) ∙ sym (ap slot_state_of (g.unused port slot));
+        is.are_uses_of port slot (unserved_alive port unserved) ∙ ap slot_state_of (b.unused port slot unserved) ∙ sym (ap slot_state_of (g.unused port slot));
     parked = is.parked;
     unparked = λ port alive. is.unparked port (unserved_alive port (alive_unserved port alive));
-    knows = is.knows;
+    driver_relation = is.driver_relation;
     book = is.book;
-    kept = record {
-      dead = λ e here. g.found e.request.port.0 ∙ ap found_after_stuck_reset (is.kept.dead e here);
-      loan = is.kept.loan;
-      whose = is.kept.whose;
-      apart = is.kept.apart;
+    quarantine_relation = record {
+      dead = λ e here. g.found e.request.port.0 ∙ ap found_after_stuck_reset (is.quarantine_relation.dead e here);
+      loan = is.quarantine_relation.loan;
+      whose = is.quarantine_relation.whose;
+      apart = is.quarantine_relation.apart;
     };
     rows = is.rows;
     owner = is.owner;
@@ -142,48 +142,48 @@ module _ (laws : PrerequisiteLaws) (s new : ServerState) (b : ServerInvariant s)
   record Follows (m : Machine) : Type 0 where
     steps : List Step
     only : AllByDevice steps
-    may : AllMay m steps
+    may : AllEnabled m steps
     backed : IsBacked s.device new.device m steps
     with_device_alone : MachineRelation (record s { device = new.device }) (after m steps)
 
   follows : (m : Machine) → IsReachable m → MachineRelation s m → Follows m
   follows m reached is =
-      let x = (followed_adds laws g.stays.followed is.uses is.parked tt).adds m reached is.knows in
-      record { steps = x.0; only = x.3.only; may = x.1; backed = x.3.backed; with_device_alone = machine_on laws s new.device m x.0 is x.3.only x.2 }
+      let x = (followed_adds laws g.stays.followed is.uses is.parked tt).simulates m reached is.driver_relation in
+      record { steps = x.0; only = x.3.only; may = x.1; backed = x.3.is_backed; with_device_alone = machine_on laws s new.device m x.0 is x.3.only x.2 }
 
   booked_then : (m : Machine) → IsReachable m → MachineRelation (record s { device = new.device }) m → ServerInvariant n
   booked_then m reached is =
-      let on = booked_on s new.device b g.stays.same
-      (λ port idle. accesses_idle laws its_accesses (All-weaker IsOfReset LeavesPorts leaves_ports its_accesses g.stays.followed.driven.only) s.device new.device g.stays.followed.driven.all port idle)
+      let on = booked_on s new.device b g.stays.adapter_is_kept
+      (λ port idle. accesses_idle laws its_accesses (All-weaker IsResetAccess LeavesPorts leaves_ports its_accesses g.stays.followed.is_driven.accesses_are_of_kind) s.device new.device g.stays.followed.is_driven.all_are_done port idle)
       m reached is in
       record {
-        room = on.room;
+        driver_memory_fits = on.driver_memory_fits;
         served = λ port low. let w = on.served port low in ((λ its. w.0 (sym (served_same port) ∙ its)), (λ there. served_same port ∙ w.1 there));
-        few = λ port its. on.few port (sym (served_same port) ∙ its);
-        idle = λ port low unserved. on.idle port low (was_unserved port unserved);
+        few_are_served = λ port its. on.few_are_served port (sym (served_same port) ∙ its);
+        unserved_are_idle = λ port low unserved. on.unserved_are_idle port low (was_unserved port unserved);
         unused = λ port slot unserved. g.unused port slot;
-        four = g.four_slots;
+        four_slots = g.four_slots;
         four_modes = g.four_modes;
         four_remembered = g.four;
         four_kept = on.four_kept;
         places = on.places;
-        rows = on.rows;
-        owners = on.owners;
-        accepted = on.accepted;
-        ordered = on.ordered;
-        marked = on.marked;
-        handed_out = on.handed_out;
-        asked = All-weaker (λ (e : BookEntry). is_served (probe_result_of s.ports e.entry.port.0) ≡ true) (λ (e : BookEntry). is_served (probe_result_of new.ports e.entry.port.0) ≡ true)
-            (λ e its. served_same e.entry.port.0 ∙ its) s.book b.asked;
+        rows_are_valid = on.rows_are_valid;
+        owned_frames_are_clients = on.owned_frames_are_clients;
+        requests_are_accepted = on.requests_are_accepted;
+        book_is_in_order = on.book_is_in_order;
+        revoked_marks_agree = on.revoked_marks_agree;
+        ids_were_handed_out = on.ids_were_handed_out;
+        requests_are_of_served_ports = All-weaker (λ (e : BookEntry). is_served (probe_result_of s.ports e.entry.port.0) ≡ true) (λ (e : BookEntry). is_served (probe_result_of new.ports e.entry.port.0) ≡ true)
+            (λ e its. served_same e.entry.port.0 ∙ its) s.book b.requests_are_of_served_ports;
         machine = m;
         reached = reached;
-        stands = stands_then m is;
+        machine_relation = stands_then m is;
       }
 
   stalled : StuckInvariant n
   stalled =
-      let f = follows b.machine b.reached b.stands in
-      record { booked = booked_then (after b.machine f.steps) (laws.basic.reached b.machine f.steps b.reached f.may) f.with_device_alone; off = off; dead = dead }
+      let f = follows b.machine b.reached b.machine_relation in
+      record { server_invariant = booked_then (after b.machine f.steps) (laws.basic.reached b.machine f.steps b.reached f.may) f.with_device_alone; adapter_is_not_on = off; served_ports_are_dead = dead }
 
   -- ---- the event
 
@@ -195,11 +195,11 @@ module _ (laws : PrerequisiteLaws) (s new : ServerState) (b : ServerInvariant s)
   stuck_told ports = record (told_by s.device ports) { stuck = chosen its_served four }
 
   stuck_named : (port : Port) → is_served (probe_result_of s.ports port.0) ≡ true → Contains (chosen its_served four) port
-  stuck_named port its = is_chosen its_served four port (in_four port (b.few port.0 its)) its
+  stuck_named port its = is_chosen its_served four port (in_four port (b.few_are_served port.0 its)) its
 
   module _ (first : JointState Device) (past : List (JointEvent Device DeviceStep)) (leads : LeadsToServer first past s) where
     abbrev old : JointState Device
-    old = now first past
+    old = joint_state_after first past
 
     abbrev began : JointState Device
     began = with_device s.device old
@@ -230,12 +230,12 @@ module _ (laws : PrerequisiteLaws) (s new : ServerState) (b : ServerInvariant s)
     evidenced_port : (port : Port) → IsEvidencedOf Reset (WasReset None) its_accesses began (ports_of n) new.device evidence port
     unfolding evidence
     evidenced_port port =
-        let leaves = All-weaker IsOfReset (LeavesEngine port) (leaves_engine port) its_accesses g.stays.followed.driven.only in
+        let leaves = All-weaker IsResetAccess (LeavesEngine port) (leaves_engine port) its_accesses g.stays.followed.is_driven.accesses_are_of_kind in
         let base = evidenced_of four Reset (WasReset None) its_accesses began (ports_of n) new.device port (λ ready. in_four port (laws.basic.ready_served old.abstract.ports port fit ready).1) leaves in
         record {
           lost = base.lost;
-          gone_all = base.gone_all;
-          gone_only = base.gone_only;
+          link_changed_all = base.link_changed_all;
+          link_changed_only = base.link_changed_only;
           failed_all = base.failed_all;
           failed_only = base.failed_only;
           fatal_all = base.fatal_all;
@@ -252,31 +252,31 @@ module _ (laws : PrerequisiteLaws) (s new : ServerState) (b : ServerInvariant s)
     part : (steps : List Step) (port : Port) → PortCorresponds began (happening_with evidence new.device Reset (WasReset None) steps (ports_of n)) its_accesses port
     unfolding evidence
     part steps port = record {
-      finds = tt;
-      faults = tt;
-      probes = tt;
-      boots = tt;
-      port_error = record {
+      finds_done = tt;
+      plain_faults_are_told = tt;
+      probes_disk = tt;
+      boots_anew = tt;
+      loses_no_error = record {
         errors = λ ready shown. inl (inr (stuck_named port (was_served port (laws.basic.ready_served old.abstract.ports port fit ready).0)));
         changes = λ tends shown. inl (inr (stuck_named port (was_served port tends.0)));
         fault = λ ready. absurd (never_ready n dead port.0 ready);
         fatal = λ ready. absurd (never_ready n dead port.0 ready);
         disk = λ ready. absurd (never_ready n dead port.0 ready);
       };
-      well = λ i ready. absurd (never_ready n dead port.0 ready);
-      heeds = tt;
+      runs_well_anew = λ i ready. absurd (never_ready n dead port.0 ready);
+      handles_evidence = tt;
     }
 
     event : (h : JointEvent Device DeviceStep) × (h.event.ask ≡ Reset) × (h.event.said ≡ WasReset None) × LeadsToServer first (h ∷ past) n
     event =
-        let f = follows old.abstract.machine (laws.basic.history_reached s.wanted first past leads.history) leads.stands.machine in
-        lead_with laws first past s n Reset (WasReset None) evidence f.steps refl leads (holds_off n stalled.booked dead off) (dead_fit n dead stalled.booked.few)
+        let f = follows old.abstract.machine (laws.basic.history_reached s.wanted first past leads.history) leads.stands.machine_stands_for_it in
+        lead_with laws first past s n Reset (WasReset None) evidence f.steps refl leads (holds_off n stalled.server_invariant dead off) (dead_fit n dead stalled.server_invariant.few_are_served)
         f.may (devices_belong {D = DeviceStep} Reset (ports_of n) f.steps f.only) (devices_last f.steps f.only) (devices_lawful old.abstract evidence (ports_of n) f.steps f.only)
         (λ e o here there same. same_disk e.request.port)
         (f.only, gets_stuck)
         tt
         its_accesses
-        (g.stays.followed.driven.all, g.stays.awaited)
+        (g.stays.followed.is_driven.all_are_done, g.stays.awaited)
         (record { faults = λ told here. absurd (no_fault told here); port = evidenced_port })
         (λ port ready. absurd (never_ready n dead port.0 ready))
         (part f.steps)
@@ -284,4 +284,4 @@ module _ (laws : PrerequisiteLaws) (s new : ServerState) (b : ServerInvariant s)
         (stands_then (after old.abstract.machine f.steps) f.with_device_alone)
 
   pub stuck_adds : ExtendsStuck s new Reset (WasReset None)
-  stuck_adds = subst (λ (x : ServerState). ExtendsStuck s x Reset (WasReset None)) (sym g.server) (record { stalled = stalled; adds = event })
+  stuck_adds = subst (λ (x : ServerState). ExtendsStuck s x Reset (WasReset None)) (sym g.server_is) (record { stuck_invariant = stalled; extends_history = event })

@@ -12,22 +12,22 @@ use Rattle.ata_types.specs.declared.request.Outcome.TheVariants as outcome
 use Rattle.ata_types.specs.declared.request.Reply.{Reply}
 use Rattle.ata_types.specs.declared.request.RequestId.{RequestId}
 use Rattle.refinement.specs.Relation.{port_at}
-use Rattle.refinement.specs.Driven.{known}
+use Rattle.refinement.specs.Fragments.{driver_state_of}
 use Rattle.refinement.specs.Driver.{HasNoSlot, IsBacked, DriverState}
-use Rattle.block_machine.specs.Events.{AllMay, AnswersService, AbstractState, Served, Service}
-use Rattle.block_machine.specs.Histories.{IsReachable, JointEvent, JointState, now}
+use Rattle.block_machine.specs.Events.{AllEnabled, AnswersService, AbstractState, Served, Service}
+use Rattle.block_machine.specs.Histories.{IsReachable, JointEvent, JointState, joint_state_after}
 use Rattle.block_machine.specs.Expected.{after}
 use Rattle.block_machine.specs.State.{Machine, Pending}
-use Rattle.block_machine.specs.Steps.{Step, Again, Answer}
+use Rattle.block_machine.specs.Steps.{Step, WaitAgain, Answer}
 use Rattle.dma_frames.specs.Loan.{Lending}
-use Rattle.dma_frames.specs.Table.{Table}
+use Rattle.dma_frames.specs.FrameTables.{FrameOwnership}
 use Rattle.host_boot.specs.TakeOver.{probe_result_of}
 use Rattle.host_boot.specs.declared.ProbeResult.{ProbeResult}
 use Rattle.host_boot.specs.declared.ProbeResult.TheVariants.{Ready, Unready, Unserved}
 use Rattle.identify.specs.declared.DiskInfo.{DiskInfo}
-use Rattle.request_queue.specs.Entries.{BookEntry, IsAccepted, is_of_port}
+use Rattle.request_queue.specs.BookEntries.{BookEntry, IsAccepted, is_of_port}
 use Rattle.request_queue.specs.Dispositions.{disposition_of, disposition_of_unfailed, BookAndLoans, AreResolved}
-use Rattle.request_queue.specs.Machine.{EntryRelation}
+use Rattle.request_queue.specs.BookRelation.{EntryRelation}
 use Rattle.request_queue.specs.declared.PendingRequest.{PendingRequest}
 use Rattle.request_queue.specs.declared.disposition.Disposition.{Disposition}
 use Rattle.request_queue.specs.declared.disposition.Disposition.TheVariants.{Complete, Requeue}
@@ -36,7 +36,7 @@ use Rattle.request_queue.specs.declared.disposition.Revalidation.TheVariants.{Sa
 use Rattle.server_history.specs.Histories.{ExtendsStuck, LeadsToServer}
 use Rattle.block_machine.specs.Ports.{IsServiced, Ports, SamePort}
 use Rattle.driver_history.specs.Histories.{HasUnservedDisk, IsPortAlive, ProbesDisk}
-use Rattle.driver_history.specs.Trace.{IsAccessForPorts, LeavesEngine}
+use Rattle.driver_history.specs.AccessTrace.{IsAccessForPorts, LeavesEngine}
 use Rattle.server_history.proofs.state.HistorySteps.{lead_by, ports_same}
 use Rattle.server_history.proofs.healthy_turn.CallPart.{none_last}
 use Rattle.server_history.proofs.state.CallEvidence.{no_evidence, told_by, uninterrupted}
@@ -45,10 +45,10 @@ use Rattle.adapter.specs.Device.{Device}
 use Rattle.std.proofs.lemmas.List.{set_past}
 use Rattle.server_history.proofs.recovery_turn.ReplacedPort.{is_listed}
 use Rattle.server_history.specs.Prerequisites.{PrerequisiteLaws}
-use Rattle.server_history.specs.Dispositions.{IsResolveStep, AreResolvable, AreResolvedInMachine, keeps_frames_lent, loans_of}
+use Rattle.server_history.specs.ResolvedRequests.{IsResolveStep, AreResolvable, AreResolvedInMachine, keeps_frames_lent, loans_of}
 use Rattle.server_history.specs.ErrorHandling.{book_and_loans_of, requests_of}
 use Rattle.server_history.specs.Resets.{IsResetRevalidation, MayResolve, ResolvePorts, ResolvesPort, with_book_and_loans}
-use Rattle.server_history.specs.Server.{QuarantineRelation, ServerState, MachineRelation, is_served, quarantined_at, ports_of, state_of, RevokedMarkInvariant}
+use Rattle.server_history.specs.ServerState.{QuarantineRelation, ServerState, MachineRelation, is_served, quarantined_at, ports_of, state_of, RevokedMarkInvariant}
 use Rattle.server_history.specs.StuckServer.{ServerInvariant, StuckInvariant}
 use Rattle.server_history.proofs.failed_reset.ServerBook.{kept_other, kept_same, left, may_settle, settles_on}
 use Rattle.server_history.proofs.failed_reset.DeadPortSteps.{IsDeath, death_lawful, deaths_grounded, deaths_unplug_none}
@@ -78,16 +78,16 @@ other_prospect was found revalidation expects alive is = alive (subst (IsResetRe
 
 module _ (laws : PrerequisiteLaws) (s : ServerState) (t : StuckInvariant s) where
   abbrev b : ServerInvariant s
-  b = t.booked
+  b = t.server_invariant
 
   -- the server, with these holdings of all ports
-  abbrev with_all : Table → List (List Lending) → List BookEntry → ServerState
+  abbrev with_all : FrameOwnership → List (List Lending) → List BookEntry → ServerState
   with_all table kept book = record s { table = table; kept = kept; book = book }
 
   -- Requests of ports below this number were told by these steps, and so it came to this server, by these replies.
   record HaveEnded (m : Machine) (n : ℕ) (c : ServerState) (replies : List Reply) : Type 0 where
     steps : List Step
-    may : AllMay m steps
+    may : AllEnabled m steps
     stands : MachineRelation c (after m steps)
     backed : IsBacked s.device s.device m steps
     deaths : All (IsAnswerOf (IsDeath (ports_of s))) steps
@@ -115,15 +115,15 @@ module _ (laws : PrerequisiteLaws) (s : ServerState) (t : StuckInvariant s) wher
 
   -- a request is of a served port
   served_one : (e : BookEntry) → Contains s.book e → is_served (probe_result_of s.ports e.entry.port.0) ≡ true
-  served_one e here = All-contains (λ (x : BookEntry). is_served (probe_result_of s.ports x.entry.port.0) ≡ true) s.book e b.asked here
+  served_one e here = All-contains (λ (x : BookEntry). is_served (probe_result_of s.ports x.entry.port.0) ≡ true) s.book e b.requests_are_of_served_ports here
 
-  module _ (m : Machine) (reached : IsReachable m) (n : ℕ) (low : n < 4) (table : Table) (kept : List (List Lending)) (book : List BookEntry) (before its : List Reply) (mid : ServerState)
+  module _ (m : Machine) (reached : IsReachable m) (n : ℕ) (low : n < 4) (table : FrameOwnership) (kept : List (List Lending)) (book : List BookEntry) (before its : List Reply) (mid : ServerState)
       (p : HaveEnded m n (with_all table kept book) before) (one : ResolvesPort (port_at n) its (with_all table kept book) mid) where
     abbrev c : ServerState
     c = with_all table kept book
 
     abbrev new : ServerState
-    new = with_book_and_loans (port_at n) one.now c
+    new = with_book_and_loans (port_at n) one.book_and_loans_after c
 
     abbrev disposition : PendingRequest → Disposition
     disposition = disposition_of None one.revalidation
@@ -138,10 +138,10 @@ module _ (laws : PrerequisiteLaws) (s : ServerState) (t : StuckInvariant s) wher
     w_reached = laws.basic.reached m p.steps reached p.may
 
     abbrev k : DriverState
-    k = known p.stands.uses p.stands.parked s.device
+    k = driver_state_of p.stands.uses p.stands.parked s.device
 
     of_its : (e : BookEntry) → Contains requests e → Contains book e × (e.entry.port ≡ port_at n)
-    of_its = (its_requests (port_at n) c p.settle.ordered p.settle.accepted).here
+    of_its = (its_requests (port_at n) c p.settle.book_is_in_order p.settle.requests_are_accepted).here
 
     -- a port that isn't served has none
     none_unserved : probe_result_of s.ports n ≡ Unserved → (e : BookEntry) → Contains book e → e.entry.port.0 ≡ n → ⊥
@@ -150,14 +150,14 @@ module _ (laws : PrerequisiteLaws) (s : ServerState) (t : StuckInvariant s) wher
         false≢true (sym (ap is_served unserved) ∙ ap (λ (q : ℕ). is_served (probe_result_of s.ports q)) (sym own ∙ ap (λ (q : Port). q.0) x.port) ∙ served_one x.was x.there)
 
     ends_dead : probe_result_of s.ports n ≡ Unready Dead → (e : PendingRequest) → disposition e ≡ Complete outcome.PortDead
-    ends_dead dead e = ap (λ (x : Revalidation). disposition_of_unfailed x e) (dead_prospect _ (probe_result_of s.ports n) one.revalidation one.expects dead)
+    ends_dead dead e = ap (λ (x : Revalidation). disposition_of_unfailed x e) (dead_prospect _ (probe_result_of s.ports n) one.revalidation one.is_revalidation dead)
 
     keeps_issued : probe_result_of s.ports n ≡ Unready Dead → (e : PendingRequest) → keeps_frames_lent (disposition e) e ≡ e.issued
     keeps_issued dead e = ap (λ (f : Disposition). keeps_frames_lent f e) (ends_dead dead e)
 
     -- on a port that isn't served no loan is kept
     quiet : probe_result_of s.ports n ≢ Unready Dead → (e : PendingRequest) → keeps_frames_lent (disposition e) e ≡ false
-    quiet alive e = kept_dead_alone None one.revalidation e (other_prospect _ (probe_result_of s.ports n) one.revalidation one.expects alive)
+    quiet alive e = kept_dead_alone None one.revalidation e (other_prospect _ (probe_result_of s.ports n) one.revalidation one.is_revalidation alive)
 
     not_dead : probe_result_of s.ports n ≡ Unserved → probe_result_of s.ports n ≢ Unready Dead
     not_dead unserved dead = let z : Unserved ≡ Unready Dead = sym unserved ∙ dead in cc
@@ -168,25 +168,25 @@ module _ (laws : PrerequisiteLaws) (s : ServerState) (t : StuckInvariant s) wher
         (λ dead.
         let x = at_left EntryRelation book w.book p.stands.book e (of_its e here).0 in
         let waits : x.0.issued ≡ false = x.2.issued ∙ sym (keeps_issued dead e.entry) ∙ never in
-        subst (HasNoSlot p.stands.uses) x.2.id (laws.slots.waiting p.stands.uses w s.device w_reached p.stands.knows.agrees x.0 x.1 waits))
-        (either s t.dead n)
+        subst (HasNoSlot p.stands.uses) x.2.id (laws.slots.waiting p.stands.uses w s.device w_reached p.stands.driver_relation.state_relation x.0 x.1 waits))
+        (either s t.served_ports_are_dead n)
 
     may_meet : AreResolvable (port_at n) disposition requests (book_and_loans_of (port_at n) c) k w
     may_meet = record {
       reached = w_reached;
-      knows = p.stands.knows;
+      driver_relation = p.stands.driver_relation;
       book = p.stands.book;
       lent = p.stands.lent;
-      ordered = p.settle.ordered;
-      accepted = p.settle.accepted;
+      book_is_in_order = p.settle.book_is_in_order;
+      requests_are_accepted = p.settle.requests_are_accepted;
       here = of_its;
-      marked = λ e there. tells_of w.rows s.grants e.entry p.stands.rows (marked_from s.grants s.book b.marked e (p.from e (of_its e there).0)).tells;
-      earlier = (its_requests (port_at n) c p.settle.ordered p.settle.accepted).earlier;
+      marked = λ e there. tells_of w.rows s.grants e.entry p.stands.rows (marked_from s.grants s.book b.revoked_marks_agree e (p.from e (of_its e there).0)).tells;
+      earlier = (its_requests (port_at n) c p.settle.book_is_in_order p.settle.requests_are_accepted).earlier;
       unserved = unserved;
     }
 
-    met : AreResolvedInMachine (port_at n) disposition requests its (book_and_loans_of (port_at n) c) one.now k w
-    met = meet laws (port_at n) disposition requests (fits_each None one.revalidation requests) its (book_and_loans_of (port_at n) c) one.now k w may_meet one.meets
+    met : AreResolvedInMachine (port_at n) disposition requests its (book_and_loans_of (port_at n) c) one.book_and_loans_after k w
+    met = meet laws (port_at n) disposition requests (fits_each None one.revalidation requests) its (book_and_loans_of (port_at n) c) one.book_and_loans_after k w may_meet one.are_resolved
 
     abbrev z : Machine
     z = after w met.steps
@@ -194,7 +194,7 @@ module _ (laws : PrerequisiteLaws) (s : ServerState) (t : StuckInvariant s) wher
     -- who was parked of a port that isn't dead is decided on
     none_left : probe_result_of s.ports n ≢ Unready Dead → met.parked n ≡ []
     none_left alive =
-        none_parked (port_at n) disposition requests (fits_each None one.revalidation requests) its (book_and_loans_of (port_at n) c) one.now k w met (quiet alive)
+        none_parked (port_at n) disposition requests (fits_each None one.revalidation requests) its (book_and_loans_of (port_at n) c) one.book_and_loans_after k w met (quiet alive)
         (λ id here. absurd (nowhere id (subst (λ (ids : List RequestId). Contains ids id) (p.stands.unparked n alive) here)))
 
     -- ---- its steps
@@ -207,11 +207,11 @@ module _ (laws : PrerequisiteLaws) (s : ServerState) (t : StuckInvariant s) wher
         let same : Complete outcome.PortDead ≡ Complete o = sym (ends_dead dead x.0.entry) ∙ x.3 in
         let is : outcome.PortDead ≡ o = cc in
         (sym is, ap (λ (q : Port). state_of (probe_result_of s.ports q.0)) own ∙ ap state_of dead))
-        (either s t.dead n)
-    its_death (Again e) here own = absurd (⊎_elim
+        (either s t.served_ports_are_dead n)
+    its_death (WaitAgain e) here own = absurd (⊎_elim
         (λ free. let x = met.again e here in none_unserved free x.0 (of_its x.0 x.1).0 (ap (λ (q : Port). q.0) (of_its x.0 x.1).1))
         (λ dead. let x = met.again e here in let same : Complete outcome.PortDead ≡ Requeue = sym (ends_dead dead x.0.entry) ∙ x.3 in cc)
-        (either s t.dead n))
+        (either s t.served_ports_are_dead n))
     its_death step here own = absurd own
 
     its_deaths : All (IsAnswerOf (IsDeath (ports_of s))) met.steps
@@ -223,13 +223,13 @@ module _ (laws : PrerequisiteLaws) (s : ServerState) (t : StuckInvariant s) wher
     dies e here =
         let x = met.whose e here in (
           x.2.port ∙ (of_its x.0 x.1).1,
-          ⊎_elim (λ free. absurd (false≢true (sym (quiet (not_dead free) x.0.entry) ∙ x.3))) (λ dead. dead) (either s t.dead n),
+          ⊎_elim (λ free. absurd (false≢true (sym (quiet (not_dead free) x.0.entry) ∙ x.3))) (λ dead. dead) (either s t.served_ports_are_dead n),
         )
 
     -- a loan that was kept is of another request
     crossed : (x y : Lending) → Contains (quarantined_at kept n) x → Contains (loans_of met.held) y → x.request ≢ y.request
     crossed x y here there same =
-        let old = p.stands.kept.whose n x here in
+        let old = p.stands.quarantine_relation.whose n x here in
         let e = loans_in met.held y there in
         let r = met.whose e.0 e.1 in
         let q = at_left EntryRelation book w.book p.stands.book r.0 (of_its r.0 r.1).0 in
@@ -238,29 +238,29 @@ module _ (laws : PrerequisiteLaws) (s : ServerState) (t : StuckInvariant s) wher
 
     are_kept : QuarantineRelation s.ports new.kept z.kept
     are_kept = subst (QuarantineRelation s.ports new.kept) (sym met.kept)
-        (more_kept (port_at n) s.ports s.ports kept new.kept met.held w.kept p.stands.kept
+        (more_kept (port_at n) s.ports s.ports kept new.kept met.held w.kept p.stands.quarantine_relation
         (kept_same laws c mid (port_at n) its low p.settle one ∙ met.loans)
         (kept_other laws c mid (port_at n) its low p.settle one)
-        p.stands.kept.dead dies met.two crossed)
+        p.stands.quarantine_relation.dead dies met.two crossed)
 
-    leaves : (z.rows ≡ w.rows) × ((frame : Frame) → z.owner frame ≡ w.owner frame) × (z.next ≡ w.next)
+    leaves : (z.rows ≡ w.rows) × ((frame : Frame) → z.owner frame ≡ w.owner frame) × (z.next_id ≡ w.next_id)
     leaves = deciding_leaves (port_at n) w met.steps met.own
 
-    owners_then : one.now.table.owners ≡ table.owners
-    owners_then = fates_owners disposition requests its (book_and_loans_of (port_at n) c) one.now one.meets
+    owners_then : one.book_and_loans_after.table.owners ≡ table.owners
+    owners_then = fates_owners disposition requests its (book_and_loans_of (port_at n) c) one.book_and_loans_after one.are_resolved
 
     stands_then : MachineRelation new z
     stands_then = record {
       uses = p.stands.uses;
-      used = p.stands.used;
+      are_uses_of = p.stands.are_uses_of;
       parked = met.parked;
       unparked = λ q alive. ⊎_elim
           (λ (same : q ≡ n). ap met.parked same ∙ none_left (λ dead. alive (ap (probe_result_of s.ports) same ∙ dead)))
           (λ (other : q ≢ n). met.others q other ∙ p.stands.unparked q alive)
           (cases_eq q n);
-      knows = met.knows;
+      driver_relation = met.driver_relation;
       book = met.book;
-      kept = are_kept;
+      quarantine_relation = are_kept;
       rows = leaves.0 ∙ p.stands.rows;
       owner = λ frame. leaves.1 frame ∙ p.stands.owner frame ∙ ap (λ (owners : List (Option ClientId)). get_or owners frame.0 None) (sym owners_then);
       lent = met.lent;
@@ -269,11 +269,11 @@ module _ (laws : PrerequisiteLaws) (s : ServerState) (t : StuckInvariant s) wher
 
     -- ---- its book
 
-    from_then : (e : BookEntry) → Contains one.now.book e → WasIn s.book e
+    from_then : (e : BookEntry) → Contains one.book_and_loans_after.book e → WasIn s.book e
     from_then e here =
         was_more s.book book e p.from ((left laws c mid (port_at n) its low p.settle one).from e here)
 
-    none_here : (e : BookEntry) → Contains one.now.book e → e.entry.port.0 ≡ n → ⊥
+    none_here : (e : BookEntry) → Contains one.book_and_loans_after.book e → e.entry.port.0 ≡ n → ⊥
     none_here e here own =
         let l = left laws c mid (port_at n) its low p.settle one in
         let x = l.from e here in
@@ -282,9 +282,9 @@ module _ (laws : PrerequisiteLaws) (s : ServerState) (t : StuckInvariant s) wher
         (λ free. none_unserved free x.was x.there was_own)
         (λ dead.
         l.gone x.was outcome.PortDead (in_filter (λ (y : BookEntry). is_of_port (port_at n) y.entry) book x.was x.there (eq-eqb x.was.entry.port.0 n was_own)) (ends_dead dead x.was.entry) e here x.id)
-        (either s t.dead n)
+        (either s t.served_ports_are_dead n)
 
-    emptied_then : (q : Port) → q.0 < n + 1 → (e : BookEntry) → Contains one.now.book e → e.entry.port ≢ q
+    emptied_then : (q : Port) → q.0 < n + 1 → (e : BookEntry) → Contains one.book_and_loans_after.book e → e.entry.port ≢ q
     emptied_then q small e here own = ⊎_elim
         (λ (same : q.0 ≡ n). none_here e here (ap (λ (r : Port). r.0) own ∙ same))
         (λ (other : q.0 ≢ n).
@@ -293,14 +293,14 @@ module _ (laws : PrerequisiteLaws) (s : ServerState) (t : StuckInvariant s) wher
         (cases_eq q.0 n)
 
     has_ended : HaveEnded m (n + 1) mid (before ++ its)
-    has_ended = subst (λ (x : ServerState). HaveEnded m (n + 1) x (before ++ its)) (sym one.server) (record {
+    has_ended = subst (λ (x : ServerState). HaveEnded m (n + 1) x (before ++ its)) (sym one.server_is) (record {
       steps = met.steps ++ p.steps;
-      may = laws.basic.may m met.steps p.steps p.may met.may;
+      may = laws.basic.may m met.steps p.steps p.may met.steps_are_enabled;
       stands = subst (MachineRelation new) (sym (laws.basic.joined m met.steps p.steps)) stands_then;
       backed = laws.backed_parts s.device s.device s.device m p.steps met.steps p.backed (met.backed s.device);
       deaths = All-append (IsAnswerOf (IsDeath (ports_of s))) met.steps p.steps its_deaths p.deaths;
-      told = told_then n p.steps met.steps before its p.told met.tells (λ e o here. All-contains (IsResolveStep (port_at n)) met.steps (Answer e o) met.own here);
-      settle = subst MayResolve one.server (settles_on laws c mid (port_at n) its low p.settle one);
+      told = told_then n p.steps met.steps before its p.told met.replies_match (λ e o here. All-contains (IsResolveStep (port_at n)) met.steps (Answer e o) met.own here);
+      settle = subst MayResolve one.server_is (settles_on laws c mid (port_at n) its low p.settle one);
       settings = refl;
       owners = owners_then ∙ p.owners;
       from = from_then;
@@ -308,7 +308,7 @@ module _ (laws : PrerequisiteLaws) (s : ServerState) (t : StuckInvariant s) wher
     })
 
   -- a port beyond the four has no request, and no loan is kept of it: it ends as it is
-  module _ (m : Machine) (n : ℕ) (high : 4 ≤ n) (table : Table) (kept : List (List Lending)) (book : List BookEntry) (before its : List Reply) (mid : ServerState)
+  module _ (m : Machine) (n : ℕ) (high : 4 ≤ n) (table : FrameOwnership) (kept : List (List Lending)) (book : List BookEntry) (before its : List Reply) (mid : ServerState)
       (p : HaveEnded m n (with_all table kept book) before) (one : ResolvesPort (port_at n) its (with_all table kept book) mid) where
     abbrev here : ServerState
     here = with_all table kept book
@@ -316,20 +316,20 @@ module _ (laws : PrerequisiteLaws) (s : ServerState) (t : StuckInvariant s) wher
     none_beyond : (e : BookEntry) → Contains book e → e.entry.port.0 ≢ n
     none_beyond e there own =
         let x = p.from e there in
-        let low = b.few x.was.entry.port.0 (served_one x.was x.there) in
+        let low = b.few_are_served x.was.entry.port.0 (served_one x.was x.there) in
         let same = ap (λ (q : Port). q.0) x.port in
         omega (arith, high, low, same, own)
 
-    meets_none : (its ≡ []) × (one.now ≡ book_and_loans_of (port_at n) here)
-    meets_none = subst (λ (list : List BookEntry). AreResolved (disposition_of None one.revalidation) list its (book_and_loans_of (port_at n) here) one.now)
+    meets_none : (its ≡ []) × (one.book_and_loans_after ≡ book_and_loans_of (port_at n) here)
+    meets_none = subst (λ (list : List BookEntry). AreResolved (disposition_of None one.revalidation) list its (book_and_loans_of (port_at n) here) one.book_and_loans_after)
         (nobody (requests_of (port_at n) book) (λ e there.
-        let x = (its_requests (port_at n) here p.settle.ordered p.settle.accepted).here e there in
+        let x = (its_requests (port_at n) here p.settle.book_is_in_order p.settle.requests_are_accepted).here e there in
         none_beyond e x.0 (ap (λ (q : Port). q.0) x.1)))
-        one.meets
+        one.are_resolved
 
     same_then : mid ≡ here
     same_then =
-        one.server ∙ ap (λ (now : BookAndLoans). with_book_and_loans (port_at n) now here) meets_none.1
+        one.server_is ∙ ap (λ (now : BookAndLoans). with_book_and_loans (port_at n) now here) meets_none.1
         ∙ ap (λ (list : List (List Lending)). with_all table list book) (set_past kept n (quarantined_at kept n) (let four = p.settle.four_kept in omega (arith, four, high)))
 
     beyond_ended : HaveEnded m (n + 1) mid (before ++ its)
@@ -394,7 +394,7 @@ module _ (laws : PrerequisiteLaws) (s : ServerState) (t : StuckInvariant s) wher
     n = with_all new.table new.kept new.book
 
     same_server : new ≡ n
-    same_server = (ended b.machine b.reached b.stands).settings
+    same_server = (ended b.machine b.reached b.machine_relation).settings
 
     -- no request is left
     nobody_left : (m : Machine) → HaveEnded m (length s.ports) new replies → (e : BookEntry) → Contains new.book e → ⊥
@@ -403,30 +403,30 @@ module _ (laws : PrerequisiteLaws) (s : ServerState) (t : StuckInvariant s) wher
         x.emptied e.entry.port (is_listed s.ports e.entry.port.0 (ap (λ (q : Port). is_served (probe_result_of s.ports q.0)) w.port ∙ served_one w.was w.there)) e here refl
 
     nothing_left : (P : BookEntry → Type 0) → All P new.book
-    nothing_left P = All-weaker (Contains new.book) P (λ e here. absurd (nobody_left b.machine (ended b.machine b.reached b.stands) e here)) new.book (All-contains_itself new.book)
+    nothing_left P = All-weaker (Contains new.book) P (λ e here. absurd (nobody_left b.machine (ended b.machine b.reached b.machine_relation) e here)) new.book (All-contains_itself new.book)
 
     stalled_then : StuckInvariant n
     stalled_then =
-        let x = ended b.machine b.reached b.stands in
+        let x = ended b.machine b.reached b.machine_relation in
         record {
-          booked = booked_then s s.grants new.table new.kept new.book b b.rows x.owners x.settle.four_kept x.settle.places (nothing_left (IsAccepted new.table)) x.settle.ordered (nothing_left (RevokedMarkInvariant s.grants))
-              (nothing_left (λ e. e.entry.id.0 ≤ s.last)) (nothing_left (λ e. is_served (probe_result_of s.ports e.entry.port.0) ≡ true)) (after b.machine x.steps) (laws.basic.reached b.machine x.steps b.reached x.may)
+          server_invariant = booked_then s s.grants new.table new.kept new.book b b.rows_are_valid x.owners x.settle.four_kept x.settle.places (nothing_left (IsAccepted new.table)) x.settle.book_is_in_order (nothing_left (RevokedMarkInvariant s.grants))
+              (nothing_left (λ e. e.entry.id.0 ≤ s.last_id)) (nothing_left (λ e. is_served (probe_result_of s.ports e.entry.port.0) ≡ true)) (after b.machine x.steps) (laws.basic.reached b.machine x.steps b.reached x.may)
               (subst (λ (y : ServerState). MachineRelation y (after b.machine x.steps)) same_server x.stands);
-          off = t.off;
-          dead = t.dead;
+          adapter_is_not_on = t.adapter_is_not_on;
+          served_ports_are_dead = t.served_ports_are_dead;
         }
 
     -- ---- the event
 
     module _ (first : JointState Device) (past : List (JointEvent Device DeviceStep)) (leads : LeadsToServer first past s) where
       abbrev old : AbstractState
-      old = (now first past).abstract
+      old = (joint_state_after first past).abstract
 
       reached_old : IsReachable old.machine
       reached_old = laws.basic.history_reached s.wanted first past leads.history
 
       x : HaveEnded old.machine (length s.ports) new replies
-      x = ended old.machine reached_old leads.stands.machine
+      x = ended old.machine reached_old leads.stands.machine_stands_for_it
 
       stands : MachineRelation n (after old.machine x.steps)
       stands = subst (λ (y : ServerState). MachineRelation y (after old.machine x.steps)) same_server x.stands
@@ -435,7 +435,7 @@ module _ (laws : PrerequisiteLaws) (s : ServerState) (t : StuckInvariant s) wher
       same_ports = ports_same old.ports (ports_of s) leads.stands.ports_are
 
       was_never : (port : Port) → old.ports.state port ≢ ReadyState
-      was_never port ready = never_ready s t.dead port.0 (ap (λ (p : Ports). p.state port) (sym leads.stands.ports_are) ∙ ready)
+      was_never port ready = never_ready s t.served_ports_are_dead port.0 (ap (λ (p : Ports). p.state port) (sym leads.stands.ports_are) ∙ ready)
 
       becomes : (port : Port) → IsServiced old.ports (told_by s.device old.ports) (ports_of s) port
       becomes port =
@@ -443,9 +443,9 @@ module _ (laws : PrerequisiteLaws) (s : ServerState) (t : StuckInvariant s) wher
             (λ dead. same),
             (λ alive. (
               record {
-                served = same.0;
-                stuck = (λ dead. absurd (alive (sym same.1 ∙ dead)), λ here. absurd (nowhere port here));
-                keeps = λ unready. (same.2, same.3);
+                served_is_kept = same.0;
+                dead_is_stuck = (λ dead. absurd (alive (sym same.1 ∙ dead)), λ here. absurd (nowhere port here));
+                disk_is_kept = λ unready. (same.2, same.3);
               },
               inl same,
             )),
@@ -456,14 +456,14 @@ module _ (laws : PrerequisiteLaws) (s : ServerState) (t : StuckInvariant s) wher
 
       answers : AnswersService old (told_by s.device old.ports) x.steps replies (record { machine = after old.machine x.steps; ports = ports_of s })
       answers = record {
-        tells = record { answers = x.told.answers; same = x.told.permuted; ordered = x.told.ordered; told = x.told.told };
-        dead = λ e o here is. (answer_told (IsDeath (ports_of s)) x.steps x.deaths e o here).0;
-        unplugs = deaths_unplug_none (ports_of s) x.steps x.deaths (after old.machine x.steps);
-        issues = λ port ready. absurd (never_ready s t.dead port.0 ready);
-        emptied = λ port unready. nobody_waits port;
-        ended = λ port ready. absurd (never_ready s t.dead port.0 ((same_ports port).1 ∙ ready));
-        becomes = becomes;
-        disk = λ port. inl (same_ports port);
+        replies_match = record { answers = x.told.answers; is_permutation = x.told.permuted; ordered = x.told.ordered; replies_are = x.told.told };
+        tells_dead = λ e o here is. (answer_told (IsDeath (ports_of s)) x.steps x.deaths e o here).0;
+        answers_all_unplugged = deaths_unplug_none (ports_of s) x.steps x.deaths (after old.machine x.steps);
+        none_is_due = λ port ready. absurd (never_ready s t.served_ports_are_dead port.0 ready);
+        empty_unless_ready = λ port unready. nobody_waits port;
+        answers_ended = λ port ready. absurd (never_ready s t.served_ports_are_dead port.0 ((same_ports port).1 ∙ ready));
+        port_is_serviced = becomes;
+        shown_disk_was_in_or_came = λ port. inl (same_ports port);
       }
 
       -- what isn't dead isn't served, so that no disk is tried
@@ -476,14 +476,14 @@ module _ (laws : PrerequisiteLaws) (s : ServerState) (t : StuckInvariant s) wher
       }
         where
           is_dead : (port : Port) → old.ports.served port ≡ true → old.ports.state port ≡ Dead
-          is_dead port its = ap (λ (p : Ports). p.state port) leads.stands.ports_are ∙ ap state_of (t.dead port.0 (ap (λ (p : Ports). p.served port) (sym leads.stands.ports_are) ∙ its))
+          is_dead port its = ap (λ (p : Ports). p.state port) leads.stands.ports_are ∙ ap state_of (t.served_ports_are_dead port.0 (ap (λ (p : Ports). p.served port) (sym leads.stands.ports_are) ∙ its))
 
           not_bad : (port : Port) → old.ports.served port ≡ true → HasUnservedDisk old.ports port → ⊥
           not_bad port its (inl foreign) = let y : Dead ≡ Foreign = sym (is_dead port its) ∙ foreign in cc
           not_bad port its (inr (cause, unfit)) = let y : Dead ≡ Unfit cause = sym (is_dead port its) ∙ unfit in cc
 
       event : (h : JointEvent Device DeviceStep) × (h.event.ask ≡ Service) × (h.event.said ≡ Served replies) × LeadsToServer first (h ∷ past) n
-      event = lead_by laws first past s n Service (Served replies) x.steps refl refl leads (holds_off n stalled_then.booked t.dead t.off)
+      event = lead_by laws first past s n Service (Served replies) x.steps refl refl leads (holds_off n stalled_then.server_invariant t.served_ports_are_dead t.adapter_is_not_on)
           x.may (answers_belong (IsDeath (ports_of s)) Service (ports_of s) (λ e o death. tt) x.steps x.deaths) (none_last x.steps (λ id. answers_issue_none (IsDeath (ports_of s)) id x.steps x.deaths))
           (answers_lawful (IsDeath (ports_of s)) old no_evidence (ports_of s) (death_lawful (ports_of s) old no_evidence) x.steps x.deaths)
           answers
@@ -491,18 +491,18 @@ module _ (laws : PrerequisiteLaws) (s : ServerState) (t : StuckInvariant s) wher
           []
           (refl, All-nil (IsAccessForPorts (IsPortAlive old.ports)))
           (λ port. All-nil (LeavesEngine port))
-          (λ port ready. absurd (never_ready s t.dead port.0 ready))
+          (λ port ready. absurd (never_ready s t.served_ports_are_dead port.0 ready))
           (λ port. record {
-            finds = λ ready. absurd (was_never port ready);
-            faults = λ alone. absurd (was_never port alone.ready);
-            probes = λ its none. probes port its;
-            boots = ((λ ready. absurd (was_never port ready)), inl (same_ports port));
-            port_error = never_troubled s t.dead (told_by s.device old.ports) (record { device = s.device; abstract = old }) (ports_of s) s.device port leads.stands.ports_are (never_ready s t.dead port.0);
-            well = λ i. absurd (uninterrupted s.device old.ports port i);
-            heeds = λ ready. absurd (was_never port ready);
+            finds_done = λ ready. absurd (was_never port ready);
+            plain_faults_are_told = λ alone. absurd (was_never port alone.ready);
+            probes_disk = λ its none. probes port its;
+            boots_anew = ((λ ready. absurd (was_never port ready)), inl (same_ports port));
+            loses_no_error = never_troubled s t.served_ports_are_dead (told_by s.device old.ports) (record { device = s.device; abstract = old }) (ports_of s) s.device port leads.stands.ports_are (never_ready s t.served_ports_are_dead port.0);
+            runs_well_anew = λ i. absurd (uninterrupted s.device old.ports port i);
+            handles_evidence = λ ready. absurd (was_never port ready);
           })
           x.backed
           stands
 
     pub stalled_service : ExtendsStuck s new Service (Served replies)
-    stalled_service = subst (λ (y : ServerState). ExtendsStuck s y Service (Served replies)) (sym same_server) (record { stalled = stalled_then; adds = event })
+    stalled_service = subst (λ (y : ServerState). ExtendsStuck s y Service (Served replies)) (sym same_server) (record { stuck_invariant = stalled_then; extends_history = event })

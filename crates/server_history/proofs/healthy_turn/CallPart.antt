@@ -15,26 +15,26 @@ use Rattle.ata_types.specs.declared.request.Reply.{Reply}
 use Rattle.ata_types.specs.declared.request.RequestId.{RequestId}
 use Rattle.adapter.specs.declared.access.DeviceStep.{DeviceStep}
 use Rattle.adapter.specs.declared.command.Operation.TheVariants.{ReadLog}
-use Rattle.refinement.specs.Driven.{GainsNoMove}
+use Rattle.refinement.specs.Fragments.{GainsNoMove}
 use Rattle.refinement.specs.Driver.{IsBacked}
-use Rattle.block_machine.specs.Events.{AllByDevice, AllAnswersLawful, AllMay, AreStepsOfCall, IsByDevice, IsLawfulAnswer, IssuesLast, IsToldBefore, AbstractState, Served, Service, RepliesMatch, answers_of, issues_it}
+use Rattle.block_machine.specs.Events.{AllByDevice, AllAnswersLawful, AllEnabled, AreStepsOfCall, IsByDevice, IsLawfulAnswer, IssuesLast, IsToldBefore, AbstractState, Served, Service, RepliesMatch, answers_of, issues_id}
 use Rattle.block_machine.specs.Histories.{IsReachable}
 use Rattle.block_machine.specs.Expected.{after}
 use Rattle.block_machine.specs.Ports.{Evidence, IsServiced, Ports, SamePort}
 use Rattle.block_machine.specs.State.{Machine, Pending}
-use Rattle.block_machine.specs.Steps.{Step, Again, Answer, Issue}
+use Rattle.block_machine.specs.Steps.{Step, WaitAgain, Answer, Issue}
 use Rattle.block_machine.specs.declared.due.QueueMode.{QueueMode}
-use Rattle.driver_history.specs.Heeding.{OnlyFailedPortsRequeue}
+use Rattle.driver_history.specs.EvidenceHandling.{OnlyFailedPortsRequeue}
 use Rattle.driver_history.specs.Evidence.{IsEvidencedOf}
 use Rattle.driver_history.specs.Histories.{IssuesDue}
 use Rattle.host_boot.specs.TakeOver.{probe_result_of}
 use Rattle.port_control.specs.declared.events.PortEvent.TheVariants.{NoEvent}
-use Rattle.request_queue.specs.Entries.{BookEntry, IsEarlier}
+use Rattle.request_queue.specs.BookEntries.{BookEntry, IsEarlier}
 use Rattle.slots.specs.declared.SlotUse.{SlotUse}
 use Rattle.server_history.specs.Prerequisites.{PrerequisiteLaws}
-use Rattle.server_history.specs.Served.{StepsAnswer, TurnAnswers, HasEnded, HasTurnWithoutError, IsAnsweredIn, AllByDeviceOrIssue, SameSettings, ok_answers_of}
-use Rattle.server_history.specs.Server.{ServerState, MachineRelation, SettledInvariant, mode_in, ports_of, remembered_at, slots_at, state_of, used_for}
-use Rattle.server_history.specs.Turns.{InService, ServesPort, IsOfTurn, LeavesOthers, SimulatesTurn, NamesOnly, joint_state_of, abstract_state_of}
+use Rattle.server_history.specs.IssuingAndAnswering.{StepsAnswer, TurnAnswers, HasEnded, HasTurnWithoutError, IsAnsweredIn, AllByDeviceOrIssue, SameSettings, ok_answers_of}
+use Rattle.server_history.specs.ServerState.{ServerState, MachineRelation, SettledInvariant, mode_in, ports_of, remembered_at, slots_at, state_of, used_for}
+use Rattle.server_history.specs.Turns.{InService, ServicesPort, IsOfTurn, LeavesOthers, SimulatesTurn, NamesOnly, joint_state_of, abstract_state_of}
 use Rattle.server_history.proofs.state.AnswerSteps.{answered_in, ended_stood, issuing_answers, may_parts, no_answer, no_answer_issuing, told_so, with_ok}
 use Rattle.server_history.proofs.state.TurnAccesses.{TurnList, turn_list}
 use Rattle.server_history.proofs.healthy_turn.AnswersAndIssues.{turn_apart, turn_settings, turn_slots}
@@ -47,7 +47,7 @@ use Rattle.server_history.proofs.state.FirstMembers.{nowhere}
 -- What such a turn adds to a machine that stands for the server.
 pub record AddsTurn (port : Port) (replies : List Reply) (old new : ServerState) (m : Machine) : Type 0 where
   pub steps : List Step
-  pub may : AllMay m steps
+  pub may : AllEnabled m steps
   pub stands : MachineRelation new (after m steps)
   pub backed : IsBacked old.device new.device m steps
   pub answers : StepsAnswer (mode_in old port) port replies steps
@@ -81,26 +81,26 @@ of_turn : (P : List Step → Type 0) (mode : QueueMode) (port : Port) (replies :
     → ((step : Step) (base : List Step) → IsByDevice step → P base → P (step ∷ base)) → ((e : Pending) (base : List Step) → Contains b.ended e → P base → P (Answer e Ok ∷ base))
     → ((e : Pending) (base : List Step) → e.request.port ≡ port → P base → P (Issue mode e ∷ base)) → P steps
 of_turn P mode port replies steps b none device answer issue =
-    subst P (sym b.steps_are) (issues_all P mode port device issue b.later (ok_answers_of b.ended ++ b.before) b.last (answers_all P b.ended b.before answer (devices_all P device none b.before b.first)))
+    subst P (sym b.steps_are) (issues_all P mode port device issue b.later (ok_answers_of b.ended ++ b.before) b.others_come_last (answers_all P b.ended b.before answer (devices_all P device none b.before b.device_steps_come_first)))
 
 pub device_own : (port : Port) (step : Step) → IsByDevice step → IsOfTurn port step
 device_own port (Issue mode e) is = absurd is
-device_own port (Again e) is = absurd is
+device_own port (WaitAgain e) is = absurd is
 device_own port (Answer e o) is = absurd is
 device_own port step is = is
 
 device_lawful : (old : AbstractState) (evidence : Evidence) (ports : Ports) (step : Step) (base : List Step) → IsByDevice step → AllAnswersLawful old evidence ports base → AllAnswersLawful old evidence ports (step ∷ base)
-device_lawful old evidence ports (Again e) base is l = absurd is
+device_lawful old evidence ports (WaitAgain e) base is l = absurd is
 device_lawful old evidence ports (Answer e o) base is l = absurd is
 device_lawful old evidence ports step base is l = l
 
 pub device_grounded : (evidence : Evidence) (step : Step) (base : List Step) → IsByDevice step → OnlyFailedPortsRequeue evidence base → OnlyFailedPortsRequeue evidence (step ∷ base)
-device_grounded evidence (Again e) base is g = absurd is
+device_grounded evidence (WaitAgain e) base is g = absurd is
 device_grounded evidence (Answer e o) base is g = absurd is
 device_grounded evidence step base is g = g
 
 -- steps that issue nothing
-pub none_last : (steps : List Step) → ((id : RequestId) → list_any (issues_it id) steps ≡ false) → IssuesLast steps
+pub none_last : (steps : List Step) → ((id : RequestId) → list_any (issues_id id) steps ≡ false) → IssuesLast steps
 none_last [] none = tt
 none_last (step ∷ steps) none = (none_last steps rest, λ id h i. false≢true (sym (rest id) ∙ i))
   where
@@ -108,8 +108,8 @@ none_last (step ∷ steps) none = (none_last steps rest, λ id h i. false≢true
     right true b is = absurd (false≢true (sym is))
     right false b is = is
 
-    rest : (id : RequestId) → list_any (issues_it id) steps ≡ false
-    rest id = right (issues_it id step) (list_any (issues_it id) steps) (none id)
+    rest : (id : RequestId) → list_any (issues_id id) steps ≡ false
+    rest id = right (issues_id id step) (list_any (issues_id id) steps) (none id)
 
 -- ---- what it tells
 
@@ -153,7 +153,7 @@ told_ordered port (e ∷ requests) (p ∷ ended) each order =
 module _ (laws : PrerequisiteLaws) (port : Port) (replies : List Reply) (old new : ServerState) (t : SettledInvariant old) (ready : state_of (probe_result_of old.ports port.0) ≡ ReadyState)
     (turn : HasTurnWithoutError port (slots_at old.slots port.0) replies old.device new.device) (told : TurnAnswers port replies old new turn) where
   low : port.0 < 4
-  low = (ready_found old port.0 t.kept ready).0
+  low = (ready_found old port.0 t.in_call_invariant ready).0
 
   same : SameSettings old new
   same = turn_settings laws port replies old new turn told
@@ -172,12 +172,12 @@ module _ (laws : PrerequisiteLaws) (port : Port) (replies : List Reply) (old new
   others = record {
     grants = ap (λ (n : ServerState). n.grants) same;
     wanted = ap (λ (n : ServerState). n.wanted) same;
-    last = ap (λ (n : ServerState). n.last) same;
+    last_id = ap (λ (n : ServerState). n.last_id) same;
     found = λ q ne. ap (λ (n : ServerState). probe_result_of n.ports q) same;
     remembered = λ q ne. ap (λ (n : ServerState). remembered_at n.remembered q) same;
     modes = λ q ne. ap (λ (n : ServerState). mode_in n (record { 0 = q })) same;
     slots = λ q ne. turn_slots laws port replies old new turn told q ne;
-    book = λ q ne. turn_apart laws port replies old new turn t.kept.ordered told q ne;
+    book = λ q ne. turn_apart laws port replies old new turn t.in_call_invariant.book_is_in_order told q ne;
   }
 
   port_same : SamePort (ports_of old) (ports_of new) port
@@ -189,7 +189,7 @@ module _ (laws : PrerequisiteLaws) (port : Port) (replies : List Reply) (old new
   names : NamesOnly port its
   names = record {
     lost = All-nil (λ q. q ≡ port);
-    gone = All-nil (λ q. q ≡ port);
+    link_changed = All-nil (λ q. q ≡ port);
     failed = All-nil (λ q. q ≡ port);
     fatal = All-nil (λ q. q ≡ port);
     stopped = All-nil (λ q. q ≡ port);
@@ -214,7 +214,7 @@ module _ (laws : PrerequisiteLaws) (port : Port) (replies : List Reply) (old new
     all_steps P none device answer issue = of_turn P mode port replies x.steps b none device answer issue
 
     ended_by : (e : Pending) → Contains b.ended e → (request : BookEntry) × Contains b.requests request × HasEnded port request e
-    ended_by e here = at_right (HasEnded port) b.requests b.ended b.each e here
+    ended_by e here = at_right (HasEnded port) b.requests b.ended b.each_has_ended e here
 
     ended_port : (e : Pending) → Contains b.ended e → e.request.port ≡ port
     ended_port e here = let y = ended_by e here in y.2.entry.port ∙ y.2.port_is
@@ -231,15 +231,15 @@ module _ (laws : PrerequisiteLaws) (port : Port) (replies : List Reply) (old new
         (λ e base here rest. (rest, inr tt))
         (λ e base its_port rest. (rest, inr (ap (ports_of new).state its_port ∙ port_same.1 ∙ ready, ap (ports_of new).mode its_port ∙ mode_same)))
 
-    early_may : AllMay m b.before × AllMay (after m b.before) (ok_answers_of b.ended)
-    early_may = may_parts laws m (ok_answers_of b.ended) b.before (may_parts laws m b.later (ok_answers_of b.ended ++ b.before) (subst (AllMay m) b.steps_are x.may)).0
+    early_may : AllEnabled m b.before × AllEnabled (after m b.before) (ok_answers_of b.ended)
+    early_may = may_parts laws m (ok_answers_of b.ended) b.before (may_parts laws m b.later (ok_answers_of b.ended ++ b.before) (subst (AllEnabled m) b.steps_are x.may)).0
 
     -- who is answered was issued when the turn began, and has ended
     ok_lawful : (e : Pending) → Contains b.ended e → IsLawfulAnswer began its (ports_of new) e Ok
     ok_lawful e here =
         let y = ended_by e here in
-        let l = laws.basic.found_before m.book (after m b.before).book e (laws.basic.spares m b.before b.first).book (ended_stood laws (after m b.before) b.ended early_may.1 e here) in
-        (record { pending = l.0; here = l.1; id_is = ap (λ r. r.id) (sym l.2.request); issued = sym l.2.issued ∙ y.2.issued }, y.2.issued, y.2.touched, y.2.ended)
+        let l = laws.basic.found_before m.book (after m b.before).book e (laws.basic.spares m b.before b.device_steps_come_first).book (ended_stood laws (after m b.before) b.ended early_may.1 e here) in
+        (record { pending = l.0; is_in_book = l.1; id_is = ap (λ r. r.id) (sym l.2.request); issued = sym l.2.issued ∙ y.2.issued }, y.2.issued, y.2.touched, y.2.ended)
 
     lawful : AllAnswersLawful began its (ports_of new) x.steps
     lawful = all_steps (AllAnswersLawful began its (ports_of new)) tt (device_lawful began its (ports_of new)) (λ e base here rest. (rest, ok_lawful e here)) (λ e base its_port rest. rest)
@@ -250,24 +250,24 @@ module _ (laws : PrerequisiteLaws) (port : Port) (replies : List Reply) (old new
     -- each answer is one of these
     only_ok : (e : Pending) (o : Outcome) → Contains x.steps (Answer e o) → Contains b.ended e × (o ≡ Ok)
     only_ok e o here = ⊎_elim
-        (λ later. absurd (no_answer_issuing mode port b.later b.last e o later))
-        (λ rest. ⊎_elim (answered_in b.ended e o) (λ early. absurd (no_answer b.before b.first e o early)) (Contains-append_cases (ok_answers_of b.ended) b.before (Answer e o) rest))
+        (λ later. absurd (no_answer_issuing mode port b.later b.others_come_last e o later))
+        (λ rest. ⊎_elim (answered_in b.ended e o) (λ early. absurd (no_answer b.before b.device_steps_come_first e o early)) (Contains-append_cases (ok_answers_of b.ended) b.before (Answer e o) rest))
         (Contains-append_cases b.later (ok_answers_of b.ended ++ b.before) (Answer e o) (subst (λ (steps : List Step). Contains steps (Answer e o)) b.steps_are here))
 
     never_unplugged : (e : Pending) → Contains x.steps (Answer e Unplugged) → ⊥
     never_unplugged e here = let z : Unplugged ≡ Ok = (only_ok e Unplugged here).1 in absurd cc
 
     answers_are : answers_of x.steps ≡ answers_of (ok_answers_of b.ended ++ b.before)
-    answers_are = ap answers_of b.steps_are ∙ issuing_answers mode port b.later (ok_answers_of b.ended ++ b.before) b.last
+    answers_are = ap answers_of b.steps_are ∙ issuing_answers mode port b.later (ok_answers_of b.ended ++ b.before) b.others_come_last
 
     tells : RepliesMatch x.steps replies
     tells = record {
       answers = map with_ok b.ended;
-      same = subst (IsPermutation (map with_ok b.ended)) (sym answers_are)
-          (subst (λ (list : List (Pending × Outcome)). IsPermutation list (answers_of (ok_answers_of b.ended ++ b.before))) (ap (λ (none : List (Pending × Outcome)). map with_ok b.ended ++ none) (devices_answers b.before b.first) ∙ append-nil (map with_ok b.ended))
+      is_permutation = subst (IsPermutation (map with_ok b.ended)) (sym answers_are)
+          (subst (λ (list : List (Pending × Outcome)). IsPermutation list (answers_of (ok_answers_of b.ended ++ b.before))) (ap (λ (none : List (Pending × Outcome)). map with_ok b.ended ++ none) (devices_answers b.before b.device_steps_come_first) ∙ append-nil (map with_ok b.ended))
           (answered_permuted b.ended b.before));
-      ordered = told_ordered port b.requests b.ended b.each b.ordered;
-      told = b.told ∙ told_so port b.requests b.ended b.each;
+      ordered = told_ordered port b.requests b.ended b.each_has_ended b.ordered;
+      replies_are = b.replies_are ∙ told_so port b.requests b.ended b.each_has_ended;
     }
 
     becomes : IsServiced (ports_of old) its (ports_of new) port
@@ -275,9 +275,9 @@ module _ (laws : PrerequisiteLaws) (port : Port) (replies : List Reply) (old new
       λ dead. port_same,
       λ lives. (
         record {
-          served = port_same.0;
-          stuck = (λ dead. absurd (lives (sym port_same.1 ∙ dead)), λ stuck. absurd (nowhere port stuck));
-          keeps = λ _. (port_same.2, port_same.3);
+          served_is_kept = port_same.0;
+          dead_is_stuck = (λ dead. absurd (lives (sym port_same.1 ∙ dead)), λ stuck. absurd (nowhere port stuck));
+          disk_is_kept = λ _. (port_same.2, port_same.3);
         },
         inl port_same,
       ),
@@ -287,8 +287,8 @@ module _ (laws : PrerequisiteLaws) (port : Port) (replies : List Reply) (old new
     evidenced : IsEvidencedOf Service (Served replies) list.driven.accesses (joint_state_of old m) (ports_of new) new.device its port
     evidenced = record {
       lost = λ here. absurd (nowhere port here);
-      gone_all = λ _ loss. absurd (never_lost laws port replies old new t ready turn list port_same m reached is x.steps x.may b answered loss);
-      gone_only = λ here. absurd (nowhere port here);
+      link_changed_all = λ _ loss. absurd (never_lost laws port replies old new t ready turn list port_same m reached is x.steps x.may b answered loss);
+      link_changed_only = λ here. absurd (nowhere port here);
       failed_all = λ _ failure. absurd (unfailing laws port replies old new t ready turn list port_same m reached is x.steps x.may b answered failure);
       failed_only = λ here. absurd (nowhere port here);
       fatal_all = λ _ fatal. absurd (unfailing laws port replies old new t ready turn list port_same m reached is x.steps x.may b answered (inl fatal));
@@ -302,41 +302,41 @@ module _ (laws : PrerequisiteLaws) (port : Port) (replies : List Reply) (old new
     makes = record {
       steps = x.steps;
       evidence = its;
-      may = x.may;
-      stands = x.stands;
-      backed = x.backed;
-      own = own;
-      belong = belong;
-      last = x.last;
-      names = names;
-      lawful = lawful;
-      owes = grounded;
-      tells = tells;
-      unplugs = record { emptied = λ e other here. absurd (never_unplugged e here); alike = λ e other here. absurd (never_unplugged e here) };
-      becomes = becomes;
-      disk = inl port_same;
-      keeps = inl (port_same.2, port_same.3);
-      issues = λ _. subst (λ (kind : QueueMode). IssuesDue kind x.steps (after m x.steps) port) (sym mode_same) x.issues;
-      evidenced = evidenced;
+      steps_are_enabled = x.may;
+      machine_relation = x.stands;
+      is_backed = x.backed;
+      steps_are_of_turn = own;
+      steps_are_of_call = belong;
+      issues_are_last = x.last;
+      names_only_port = names;
+      answers_are_lawful = lawful;
+      meets_turn_duty = grounded;
+      replies_match = tells;
+      answers_all_unplugged = record { none_is_left = λ e other here. absurd (never_unplugged e here); none_is_told_dead = λ e other here. absurd (never_unplugged e here) };
+      port_is_serviced = becomes;
+      shown_disk_was_in_or_came = inl port_same;
+      disk_is_kept_or_none_waits = inl (port_same.2, port_same.3);
+      issues_due = λ _. subst (λ (kind : QueueMode). IssuesDue kind x.steps (after m x.steps) port) (sym mode_same) x.issues;
+      is_evidenced = evidenced;
       faults = λ told here. absurd (nowhere told here);
-      ties = ties laws port replies old new t ready turn list port_same m reached is x.steps x.may b answered x.backed;
-      finds = λ _. finds laws port replies old new t ready turn list port_same m reached is x.steps x.may b answered;
+      turn_corresponds = ties laws port replies old new t ready turn list port_same m reached is x.steps x.may b answered x.backed;
+      finds_done = λ _. finds laws port replies old new t ready turn list port_same m reached is x.steps x.may b answered;
     }
 
   module _ (adds : (m : Machine) → IsReachable m → MachineRelation old m → AddsTurn port replies old new m)
       (answered : turn.look ≡ NoEvent → (slot : ℕ) (used : SlotUse) → slot < 32 → used_for old.slots port.0 slot ≡ Some used
       → (old.device.port port.0).ci slot ≡ false → (old.device.port port.0).sact slot ≡ false → IsAnsweredIn used.id replies)
       (silent : (q : ℕ) → state_of (probe_result_of old.ports q) ≢ Dead → GainsNoMove q ReadLog old.device new.device) where
-    pub serves : ServesPort port replies old new
+    pub serves : ServicesPort port replies old new
     serves = record {
-      does = inl (turn, told);
-      part = record {
+      does_turn = inl (turn, told);
+      is_port_turn = record {
         accesses = list.driven.accesses;
-        does = list.driven.all;
-        of = list.of;
-        own = list.own;
-        others = others;
-        silent = λ q other lives. silent q lives;
-        makes = λ m reached is. makes m reached is (adds m reached is) answered;
+        accesses_are_done = list.driven.all_are_done;
+        accesses_are_of_port = list.of;
+        accesses_are_drivers_own = list.own;
+        leaves_others = others;
+        others_get_no_log = λ q other lives. silent q lives;
+        simulates_turn = λ m reached is. makes m reached is (adds m reached is) answered;
       };
     }

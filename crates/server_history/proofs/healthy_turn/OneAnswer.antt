@@ -17,15 +17,15 @@ use Rattle.block_machine.specs.Histories.{IsReachable}
 use Rattle.block_machine.specs.State.{Machine, Pending}
 use Rattle.block_machine.specs.Steps.{Answer, HoldsFrames, after_step, is_lent_to, unlend}
 use Rattle.server_history.proofs.state.ListMembers.{contains_cases}
-use Rattle.refinement.specs.Driven.{known}
-use Rattle.refinement.specs.Driver.{ForgetsAtMost, HasNoSlot, DriverState, parking}
-use Rattle.refinement.specs.Slots.{Free, Serves, SlotStates, put, IsDropped, IsEnded, IsOver, ServesRequest}
-use Rattle.dma_frames.specs.Table.{Table, lent_to, LendsOnly}
+use Rattle.refinement.specs.Fragments.{driver_state_of}
+use Rattle.refinement.specs.Driver.{ForgetsAtMost, HasNoSlot, DriverState, with_slot_parked}
+use Rattle.refinement.specs.Slots.{Free, Serves, SlotStates, set_slot_state, IsDropped, IsEnded, IsOver, ServesRequest}
+use Rattle.dma_frames.specs.FrameTables.{FrameOwnership, lent_to, LendsOnly}
 use Rattle.host_boot.specs.TakeOver.{probe_result_of}
-use Rattle.request_queue.specs.Entries.{BookEntry, IsAccepted, without_entry}
-use Rattle.request_queue.specs.Machine.{BookRelation, EntryRelation}
-use Rattle.server_history.specs.Served.{AnswersOne, HasEnded}
-use Rattle.server_history.specs.Server.{ServerState, InCallInvariant, MachineRelation, mode_at, slots_at, state_of, usable_slots_of, with_slot, used_for, RevokedMarkInvariant}
+use Rattle.request_queue.specs.BookEntries.{BookEntry, IsAccepted, without_entry}
+use Rattle.request_queue.specs.BookRelation.{BookRelation, EntryRelation}
+use Rattle.server_history.specs.IssuingAndAnswering.{AnswersOne, HasEnded}
+use Rattle.server_history.specs.ServerState.{ServerState, InCallInvariant, MachineRelation, mode_at, slots_at, state_of, usable_slots_of, with_slot, used_for, RevokedMarkInvariant}
 use Rattle.server_history.specs.Prerequisites.{PrerequisiteLaws}
 use Rattle.server_history.proofs.state.HistorySteps.{kept_then}
 use Rattle.server_history.proofs.state.PlacedSlots.{freed_was, placed_four, placed_has, placed_uses}
@@ -34,13 +34,13 @@ use Rattle.server_history.proofs.state.PortSlots.{IsServedBy, its_mode, used_low
 -- ---- loans
 
 -- the frames of the request given back, in the machine and in the table
-pub given_back : PrerequisiteLaws → (m : Machine) (e : BookEntry) (x : Pending) (old new : Table) → IsReachable m → HoldsFrames m x → EntryRelation e x → ((f : Frame) → m.lent f ≡ lent_to old f)
+pub given_back : PrerequisiteLaws → (m : Machine) (e : BookEntry) (x : Pending) (old new : FrameOwnership) → IsReachable m → HoldsFrames m x → EntryRelation e x → ((f : Frame) → m.lent f ≡ lent_to old f)
     → All (λ f. lent_to old f ≡ Some e.entry.id) e.frames → LendsOnly old new e.frames None → (f : Frame) → unlend x.request.id m.lent f ≡ lent_to new f
 given_back laws m e x old new reached lives entry same lent lends f = by (m.lent f) refl
   where
     -- the frame is another's, or nobody's
     left : (o : Option RequestId) → m.lent f ≡ o → (Some e.entry.id ≡ o → ⊥) → lent_to new f ≡ o
-    left o is ne = lends.others f (λ there. ne (sym (All-contains (λ (y : Frame). lent_to old y ≡ Some e.entry.id) e.frames f lent there) ∙ sym (same f) ∙ is)) ∙ sym (same f) ∙ is
+    left o is ne = lends.others_are_kept f (λ there. ne (sym (All-contains (λ (y : Frame). lent_to old y ≡ Some e.entry.id) e.frames f lent there) ∙ sym (same f) ∙ is)) ∙ sym (same f) ∙ is
 
     seen : (o : Option RequestId) → m.lent f ≡ o → unlend x.request.id m.lent f ≡ cond (is_lent_to x.request.id o) None o
     seen o is = ap (λ (y : Option RequestId). cond (is_lent_to x.request.id y) None y) is
@@ -55,14 +55,14 @@ given_back laws m e x old new reached lives entry same lent lends f = by (m.lent
             let place = laws.living.own_frame m f x reached lives (is ∙ ap Some mine) in
             let there : Contains x.request.asked.frames.items f = (place.0, place.1, get_or_default x.request.asked.frames.items place.0 f _ place.1 ∙ place.2) in
             seen (Some o) is ∙ cond-true (o.0 == x.request.id.0) None (Some o) q
-            ∙ sym (All-contains (λ (y : Frame). lent_to new y ≡ None) e.frames f lends.these (subst (λ (fs : List Frame). Contains fs f) entry.frames there))
+            ∙ sym (All-contains (λ (y : Frame). lent_to new y ≡ None) e.frames f lends.these_are_lent (subst (λ (fs : List Frame). Contains fs f) entry.frames there))
         held false q =
             seen (Some o) is ∙ ap (λ (b : Bool). cond b None (Some o)) q
             ∙ sym (left (Some o) is (λ z. let w : e.entry.id ≡ o = (let v : Some e.entry.id ≡ Some o = z in cc) in
             false≢true (sym q ∙ eq-eqb o.0 x.request.id.0 (ap (λ (i : RequestId). i.0) (sym w ∙ sym entry.id)))))
 
 -- what is parked last is forgotten
-forgets_one : (uses : SlotStates) (parked : ℕ → List RequestId) (d : Device) (port slot : ℕ) (id : RequestId) → ForgetsAtMost id (parking (known uses parked d) port slot id).parked parked
+forgets_one : (uses : SlotStates) (parked : ℕ → List RequestId) (d : Device) (port slot : ℕ) (id : RequestId) → ForgetsAtMost id (with_slot_parked (driver_state_of uses parked d) port slot id).parked parked
 unfolding changed
 forgets_one uses parked d port slot id q other =
     elim (eqb_tells q port) [
@@ -95,14 +95,14 @@ module _ (laws : PrerequisiteLaws) (s new : ServerState) (port : Port) (e : Book
   low = (ready_found s port.0 k ready).0
 
   started : (s.device.port port.0).st ≡ true
-  started = ((k.behind port.0 low).runs ready).st
+  started = ((k.port_invariant port.0 low).engine_runs ready).st
 
   was_accepted : IsAccepted s.table e
-  was_accepted = All-contains (IsAccepted s.table) s.book e k.accepted one.here
+  was_accepted = All-contains (IsAccepted s.table) s.book e k.requests_are_accepted one.is_in_book
 
   module _ (m : Machine) (reached : IsReachable m) (is : MachineRelation s m) where
     serves : is.uses port.0 slot ≡ Serves id
-    serves = serves_used s m port.0 is ready slot one.used one.served ∙ ap Serves one.id_is
+    serves = serves_used s m port.0 is ready slot one.used one.slot_use_is ∙ ap Serves one.id_is
 
     abbrev r : IsServedBy s m port.0 slot id
     r = served_request s m port.0 slot is ready id serves
@@ -121,7 +121,7 @@ module _ (laws : PrerequisiteLaws) (s new : ServerState) (port : Port) (e : Book
         (stage_over s.device.memory (s.device.port port.0) port.0 slot done x.command x.places x.stage over)
 
     same : r.request ≡ e
-    same = laws.one s.book r.request e k.ordered r.there one.here r.id_is
+    same = laws.one s.book r.request e k.book_is_in_order r.there one.is_in_book r.id_is
 
     entry : EntryRelation e done
     entry = subst (λ (y : BookEntry). EntryRelation y done) same r.entry
@@ -130,26 +130,26 @@ module _ (laws : PrerequisiteLaws) (s new : ServerState) (port : Port) (e : Book
     answered = after_step m (Answer done outcome.Ok)
 
     abbrev taken : DriverState
-    taken = parking (known is.uses is.parked s.device) port.0 slot id
+    taken = with_slot_parked (driver_state_of is.uses is.parked s.device) port.0 slot id
 
     no_slot : HasNoSlot taken.uses done.request.id
-    no_slot = subst (HasNoSlot taken.uses) (sym x.id_is) (laws.slots.parked_frees (known is.uses is.parked s.device) port.0 slot id is.knows.agrees.apart serves)
+    no_slot = subst (HasNoSlot taken.uses) (sym x.id_is) (laws.slots.parked_frees (driver_state_of is.uses is.parked s.device) port.0 slot id is.driver_relation.state_relation.serve_apart serves)
 
     forgets : ForgetsAtMost done.request.id taken.parked is.parked
     forgets = subst (λ (i : RequestId). ForgetsAtMost i taken.parked is.parked) (sym x.id_is) (forgets_one is.uses is.parked s.device port.0 slot id)
 
     stands : MachineRelation left answered
     stands = record {
-      uses = put is.uses port.0 slot Free;
-      used = placed_uses s.slots port.0 slot None (let l = low in let f = k.four in omega (arith, l, f)) (let h = (k.slots port.0 low).places in let small = one.small in omega (arith, h, small)) laws s.ports is.uses is.used;
+      uses = set_slot_state is.uses port.0 slot Free;
+      are_uses_of = placed_uses s.slots port.0 slot None (let l = low in let f = k.four_slots in omega (arith, l, f)) (let h = (k.slots port.0 low).places in let small = one.slot_is_below_32 in omega (arith, h, small)) laws s.ports is.uses is.are_uses_of;
       parked = is.parked;
       unparked = is.unparked;
-      knows = laws.slots.answered_agrees taken m done outcome.Ok is.parked reached (laws.slots.parked_agrees (known is.uses is.parked s.device) m is.knows port.0 slot over id serves) r.here refl no_slot forgets;
+      driver_relation = laws.slots.answered_agrees taken m done outcome.Ok is.parked reached (laws.slots.parked_agrees (driver_state_of is.uses is.parked s.device) m is.driver_relation port.0 slot over id serves) r.here refl no_slot forgets;
       book = subst (λ (i : RequestId). BookRelation (without_entry i s.book) answered.book) x.id_is (laws.answers s.book m done outcome.Ok is.book);
-      kept = is.kept;
+      quarantine_relation = is.quarantine_relation;
       rows = is.rows;
-      owner = λ f. is.owner f ∙ sym (ap (λ (owners : List (Option ClientId)). get_or owners f.0 None) one.lent.owners);
-      lent = given_back laws m e done s.table new.table reached (inl r.here) entry is.lent was_accepted.lent one.lent;
+      owner = λ f. is.owner f ∙ sym (ap (λ (owners : List (Option ClientId)). get_or owners f.0 None) one.lends_only.owners_are_kept);
+      lent = given_back laws m e done s.table new.table reached (inl r.here) entry is.lent was_accepted.frames_are_lent one.lends_only;
       next = is.next;
     }
 
@@ -164,7 +164,7 @@ module _ (laws : PrerequisiteLaws) (s new : ServerState) (port : Port) (e : Book
         ended = ended.ended;
         touched = ended.touched;
       };
-      stands = subst (λ (n : ServerState). MachineRelation n answered) (sym one.server) stands;
+      stands = subst (λ (n : ServerState). MachineRelation n answered) (sym one.server_is) stands;
     }
 
   -- ---- what the server keeps
@@ -177,33 +177,33 @@ module _ (laws : PrerequisiteLaws) (s new : ServerState) (port : Port) (e : Book
 
   pub answer_kept : InCallInvariant new
   answer_kept =
-      let a = answer_one k.machine k.reached k.stands in
-      subst InCallInvariant (sym one.server)
-      (kept_then s s.device s.grants new.table (with_slot s.slots port.0 slot None) (without_entry id s.book) s.last k k.rows
-      k.on (record { telling = refl; size = refl; cap = refl; pi = refl }) k.behind one.lent.owners
-      (placed_four s.ports s.modes s.slots port.0 slot None k.four low slot_low few k.slots)
-      (placed_has s.ports s.modes s.slots port.0 slot None k.four low slot_low few k.slots)
-      (λ q n used h is there same. k.kinds q n used h (freed_was s.slots port.0 slot in_list in_places q.0 n used is) ((laws.left s.book id h).0 there).0 same)
-      (λ q n used is. k.commands q n used (freed_was s.slots port.0 slot in_list in_places q n used is))
+      let a = answer_one k.machine k.reached k.machine_relation in
+      subst InCallInvariant (sym one.server_is)
+      (kept_then s s.device s.grants new.table (with_slot s.slots port.0 slot None) (without_entry id s.book) s.last_id k k.rows_are_valid
+      k.adapter_is_on (record { telling = refl; size = refl; cap = refl; pi = refl }) k.port_invariant one.lends_only.owners_are_kept
+      (placed_four s.ports s.modes s.slots port.0 slot None k.four_slots low slot_low few k.slots)
+      (placed_has s.ports s.modes s.slots port.0 slot None k.four_slots low slot_low few k.slots)
+      (λ q n used h is there same. k.slots_queue_as_asked q n used h (freed_was s.slots port.0 slot in_list in_places q.0 n used is) ((laws.left s.book id h).0 there).0 same)
+      (λ q n used is. k.slots_store_commands q n used (freed_was s.slots port.0 slot in_list in_places q n used is))
       (λ q n used is plain.
-      let a = k.alone q n used (freed_was s.slots port.0 slot in_list in_places q n used is) plain in
+      let a = k.plain_stands_alone q n used (freed_was s.slots port.0 slot in_list in_places q n used is) plain in
       (a.0, λ other ne. still_none q other (a.1 other ne)))
-      (laws.still_answered s.table new.table s.book e one.here one.lent k.accepted)
-      (laws.fewer s.book id k.ordered)
-      (left_each (RevokedMarkInvariant s.grants) k.marked)
-      (left_each (λ y. y.entry.id.0 ≤ s.last) k.handed_out)
-      (left_each (λ y. state_of (probe_result_of s.ports y.entry.port.0) ≡ ReadyState) k.ready)
+      (laws.still_answered s.table new.table s.book e one.is_in_book one.lends_only k.requests_are_accepted)
+      (laws.fewer s.book id k.book_is_in_order)
+      (left_each (RevokedMarkInvariant s.grants) k.revoked_marks_agree)
+      (left_each (λ y. y.entry.id.0 ≤ s.last_id) k.ids_were_handed_out)
+      (left_each (λ y. state_of (probe_result_of s.ports y.entry.port.0) ≡ ReadyState) k.requests_are_of_ready_ports)
       (after_step k.machine (Answer a.done outcome.Ok)) (laws.basic.reached k.machine (Answer a.done outcome.Ok ∷ []) k.reached (tt, (a.here, tt)))
-      (subst (λ (n : ServerState). MachineRelation n (after_step k.machine (Answer a.done outcome.Ok))) one.server a.stands))
+      (subst (λ (n : ServerState). MachineRelation n (after_step k.machine (Answer a.done outcome.Ok))) one.server_is a.stands))
     where
       slot_low : slot < usable_slots_of (probe_result_of s.ports port.0) (mode_at s.modes port.0)
-      slot_low = used_low s port.0 slot one.used k low one.served
+      slot_low = used_low s port.0 slot one.used k low one.slot_use_is
 
       in_list : port.0 < length s.slots
-      in_list = let f = k.four in let l = low in omega (arith, f, l)
+      in_list = let f = k.four_slots in let l = low in omega (arith, f, l)
 
       in_places : slot < length (slots_at s.slots port.0).places
-      in_places = let p = (k.slots port.0 low).places in let t = one.small in omega (arith, p, t)
+      in_places = let p = (k.slots port.0 low).places in let t = one.slot_is_below_32 in omega (arith, p, t)
 
       -- what wasn't used isn't now
       still_none : (q n : ℕ) → used_for s.slots q n ≡ None → used_for (with_slot s.slots port.0 slot None) q n ≡ None

@@ -12,13 +12,13 @@ use Rattle.hba_regs.specs.Bits.{bit}
 use Rattle.adapter.specs.Commands.{is_queued}
 use Rattle.adapter.specs.Device.{Device}
 use Rattle.adapter.specs.declared.command.Operation.TheVariants.{ReadLog}
-use Rattle.refinement.specs.Driven.{AnyUse, IsDrivenBy, IsSimulated, GainsNoMove}
+use Rattle.refinement.specs.Fragments.{AnyUse, IsDrivenBy, IsSimulated, GainsNoMove}
 use Rattle.refinement.specs.Driver.{IsBacked}
-use Rattle.refinement.specs.Slots.{IsOver, Serves, ServesRequest, Stage}
+use Rattle.refinement.specs.Slots.{IsOver, Serves, ServesRequest, IsInSomeStage}
 use Rattle.server_history.proofs.state.FollowedAccesses.{followed_adds}
 use Rattle.server_history.specs.Laws.AccessPurpose.{Finding, Looking, Serving}
 use Rattle.server_history.proofs.state.DrivenAccesses.{by_none}
-use Rattle.block_machine.specs.Events.{AllByDevice, AllMay, issues_it}
+use Rattle.block_machine.specs.Events.{AllByDevice, AllEnabled, issues_id}
 use Rattle.block_machine.specs.Histories.{IsReachable}
 use Rattle.block_machine.specs.Expected.{after}
 use Rattle.block_machine.specs.State.{Machine, Pending}
@@ -30,17 +30,17 @@ use Rattle.host_boot.specs.declared.ProbeResult.TheVariants.{Ready}
 use Rattle.driver_history.specs.Histories.{IssuesDue}
 use Rattle.identify.specs.declared.DiskInfo.{DiskInfo}
 use Rattle.commands.specs.Masks.{ReadsDone, SeesClear}
-use Rattle.port_control.specs.Looks.{IsLooking, LooksAt}
-use Rattle.port_control.specs.Services.{IsService}
+use Rattle.port_control.specs.PortEvents.{IsEventAccess, TakesEvent}
+use Rattle.port_control.specs.ServiceAccesses.{IsServiceAccess}
 use Rattle.port_control.specs.declared.events.PortEvent.TheVariants.{NoEvent}
-use Rattle.request_queue.specs.Entries.{BookEntry, asks_of, due_ids}
-use Rattle.slots.specs.Uses.{PortSlots}
+use Rattle.request_queue.specs.BookEntries.{BookEntry, unanswered_of, due_ids}
+use Rattle.slots.specs.SlotUses.{PortSlots}
 use Rattle.slots.specs.declared.SlotUse.{SlotUse}
 use Rattle.server_history.specs.Prerequisites.{PrerequisiteLaws}
 use Rattle.commands.specs.Batches.{IsBatchAccess}
-use Rattle.server_history.specs.Served.{AnswersDone, AnswersEach, AnswersOne, IsEmptyMask, HasTurnWithoutError, IsMaskOf, AllByDeviceOrIssue, IsAnsweredIn, ok_answers_of, done_reply, is_used}
-use Rattle.server_history.specs.Turns.{ServesPort}
-use Rattle.server_history.specs.Server.{ServerState, InCallInvariant, MachineRelation, SettledInvariant, mode_in, slots_at, state_of, used_for, with_slot}
+use Rattle.server_history.specs.IssuingAndAnswering.{AnswersDone, AnswersEach, AnswersOne, IsEmptyMask, HasTurnWithoutError, IsMaskOf, AllByDeviceOrIssue, IsAnsweredIn, ok_answers_of, done_reply, is_used}
+use Rattle.server_history.specs.Turns.{ServicesPort}
+use Rattle.server_history.specs.ServerState.{ServerState, InCallInvariant, MachineRelation, SettledInvariant, mode_in, slots_at, state_of, used_for, with_slot}
 use Rattle.server_history.proofs.healthy_turn.OneAnswer.{answer_kept}
 use Rattle.server_history.proofs.state.DueRequests.{none_issued}
 use Rattle.server_history.proofs.state.TurnAccesses.{bit_zero}
@@ -58,32 +58,32 @@ use Rattle.server_history.proofs.state.PortSlots.{CommandsAreOver, ready_found, 
 use Rattle.server_history.proofs.state.FirstMembers.{nowhere, first_here}
 
 -- accesses of a look, and of finding a transfer done, serve ports
-pub looks_serve : PrerequisiteLaws → (port : Port) (old new : Device) → IsSimulated (IsLooking port) AnyUse old new → IsSimulated IsService AnyUse old new
+pub looks_serve : PrerequisiteLaws → (port : Port) (old new : Device) → IsSimulated (IsEventAccess port) AnyUse old new → IsSimulated IsServiceAccess AnyUse old new
 looks_serve laws port old new followed = (laws.looking.fragments.wider (Looking port) Serving (λ uses. uses) (laws.looking.looking_service port) (λ uses any. any) old new followed).followed
 
-pub finds_serve : PrerequisiteLaws → (port : Port) (mask done : ℕ) (old new : Device) → ReadsDone port mask done old new → IsSimulated IsService AnyUse old new
+pub finds_serve : PrerequisiteLaws → (port : Port) (mask done : ℕ) (old new : Device) → ReadsDone port mask done old new → IsSimulated IsServiceAccess AnyUse old new
 finds_serve laws port mask done old new finds = (laws.looking.fragments.wider (Finding port) Serving (λ uses. uses) (finding_serves port) (λ uses any. any) old new (laws.finding_followed port mask done old new finds)).followed
 
 -- one stretch, and then another
-serves_then : PrerequisiteLaws → (old mid new : Device) → IsSimulated IsService AnyUse old mid → IsSimulated IsService AnyUse mid new → IsSimulated IsService AnyUse old new
+serves_then : PrerequisiteLaws → (old mid new : Device) → IsSimulated IsServiceAccess AnyUse old mid → IsSimulated IsServiceAccess AnyUse mid new → IsSimulated IsServiceAccess AnyUse old new
 serves_then laws old mid new a b = (laws.looking.fragments.both Serving Serving (λ uses. uses) (λ uses. uses) (λ access is. is) (λ uses any. any) old mid new a b).followed
 
 -- answers issue nothing
-pub answers_issue_none : (id : RequestId) (ended : List Pending) → list_any (issues_it id) (ok_answers_of ended) ≡ false
+pub answers_issue_none : (id : RequestId) (ended : List Pending) → list_any (issues_id id) (ok_answers_of ended) ≡ false
 answers_issue_none id [] = refl
-answers_issue_none id (e ∷ ended) = any_append (issues_it id) (ok_answers_of ended) (Answer e Ok ∷ []) ∙ ap (λ (b : Bool). b || false) (answers_issue_none id ended)
+answers_issue_none id (e ∷ ended) = any_append (issues_id id) (ok_answers_of ended) (Answer e Ok ∷ []) ∙ ap (λ (b : Bool). b || false) (answers_issue_none id ended)
 
 -- the steps of a stretch in which nobody is answered
-pub followed_steps : PrerequisiteLaws → (s : ServerState) (new : Device) → IsSimulated IsService AnyUse s.device new → (m : Machine) → IsReachable m → MachineRelation s m
-    → (steps : List Step) × AllMay m steps × MachineRelation (record s { device = new }) (after m steps) × IsBacked s.device new m steps × AllByDevice steps
+pub followed_steps : PrerequisiteLaws → (s : ServerState) (new : Device) → IsSimulated IsServiceAccess AnyUse s.device new → (m : Machine) → IsReachable m → MachineRelation s m
+    → (steps : List Step) × AllEnabled m steps × MachineRelation (record s { device = new }) (after m steps) × IsBacked s.device new m steps × AllByDevice steps
 followed_steps laws s new followed m reached is =
-    let x = (followed_adds laws followed is.uses is.parked tt).adds m reached is.knows in
-    (x.0, x.1, machine_on laws s new m x.0 is x.3.only x.2, x.3.backed, x.3.only)
+    let x = (followed_adds laws followed is.uses is.parked tt).simulates m reached is.driver_relation in
+    (x.0, x.1, machine_on laws s new m x.0 is x.3.only x.2, x.3.is_backed, x.3.only)
 
-nobody_answered : PrerequisiteLaws → (s : ServerState) (new : Device) (port : Port) → SettledInvariant s → state_of (probe_result_of s.ports port.0) ≡ ReadyState → (turn : HasTurnWithoutError port (slots_at s.slots port.0) [] s.device new) → IsSimulated IsService AnyUse s.device new
+nobody_answered : PrerequisiteLaws → (s : ServerState) (new : Device) (port : Port) → SettledInvariant s → state_of (probe_result_of s.ports port.0) ≡ ReadyState → (turn : HasTurnWithoutError port (slots_at s.slots port.0) [] s.device new) → IsSimulated IsServiceAccess AnyUse s.device new
     → ((q : ℕ) → state_of (probe_result_of s.ports q) ≢ Dead → GainsNoMove q ReadLog s.device new)
     → (turn.look ≡ NoEvent → (slot : ℕ) (used : SlotUse) → slot < 32 → used_for s.slots port.0 slot ≡ Some used → (s.device.port port.0).ci slot ≡ false → (s.device.port port.0).sact slot ≡ false → ⊥)
-    → ServesPort port [] s (record s { device = new })
+    → ServicesPort port [] s (record s { device = new })
 nobody_answered laws s new port settled ready turn followed silent never =
     serves laws port [] s (record s { device = new }) settled ready turn (inl (refl, refl))
     (λ m reached is.
@@ -95,18 +95,18 @@ nobody_answered laws s new port settled ready turn followed silent never =
       backed = x.3;
       answers = record {
         requests = [];
-        told = refl;
+        replies_are = refl;
         ordered = λ i j d lt below. absurd (omega (arith, lt, below));
         ended = [];
-        each = tt;
+        each_has_ended = tt;
         later = [];
         before = x.0;
         steps_are = refl;
-        first = x.4;
-        last = tt;
+        device_steps_come_first = x.4;
+        others_come_last = tt;
       };
       last = devices_last x.0 x.4;
-      issues = none_issued (record s { device = new }) (after m x.0) x.2 x.0 (λ id. devices_issue_none id x.0 x.4) (mode_in s port) port (settled.issued port);
+      issues = none_issued (record s { device = new }) (after m x.0) x.2 x.0 (λ id. devices_issue_none id x.0 x.4) (mode_in s port) port (settled.nothing_is_due port);
     })
     (λ calm slot used small its ci sact. absurd (never calm slot used small its ci sact))
     silent
@@ -128,16 +128,16 @@ module _ (s : ServerState) (port : Port) (k : InCallInvariant s) (ready : state_
       found = ready_found s port.0 k ready
 
       x : ServesRequest k.machine s.device.memory (s.device.port port.0) port.0 slot used.id
-      x = served_by s k.machine port.0 slot k.stands used.id (serves_used s k.machine port.0 k.stands ready slot used its)
+      x = served_by s k.machine port.0 slot k.machine_relation used.id (serves_used s k.machine port.0 k.machine_relation ready slot used its)
 
-      by : Stage s.device.memory (s.device.port port.0) port.0 slot x.pending x.command x.places → IsOver (s.device.port port.0) slot
+      by : IsInSomeStage s.device.memory (s.device.port port.0) port.0 slot x.pending x.command x.places → IsOver (s.device.port port.0) slot
       by (inl w) = absurd (false≢true (sym ci ∙ w.issued))
-      by (inr (inl t)) = absurd (never_both (s.device.port port.0).st (is_queued x.command.operation) _ _ ((k.behind port.0 found.0).runs ready).st t.issued t.sact ci sact)
+      by (inr (inl t)) = absurd (never_both (s.device.port port.0).st (is_queued x.command.operation) _ _ ((k.port_invariant port.0 found.0).engine_runs ready).st t.issued t.sact ci sact)
       by (inr (inr (inl e))) = record { issued = e.issued; free = e.free }
       by (inr (inr (inr d))) = record { issued = d.issued; free = d.free }
 
   -- and they are clear after a look
-  still_clear : PrerequisiteLaws → (seen : Device) → IsDrivenBy (IsLooking port) s.device seen → (used : SlotUse) → used_for s.slots port.0 slot ≡ Some used → (s.device.port port.0).ci slot ≡ false
+  still_clear : PrerequisiteLaws → (seen : Device) → IsDrivenBy (IsEventAccess port) s.device seen → (used : SlotUse) → used_for s.slots port.0 slot ≡ Some used → (s.device.port port.0).ci slot ≡ false
       → (s.device.port port.0).sact slot ≡ false → ((seen.port port.0).ci slot ≡ false) × ((seen.port port.0).sact slot ≡ false)
   still_clear laws seen driven used its ci sact = (
     (still_over laws port slot s.device seen driven (clear_over used its ci sact)).issued,
@@ -152,13 +152,13 @@ same_some is = cc
 -- an answer that frees a slot, or leaves it
 module _ (port : Port) (e : BookEntry) (old mid : ServerState) (one : AnswersOne port e old mid) (k : InCallInvariant old) (low : port.0 < 4) where
   in_list : port.0 < length old.slots
-  in_list = let f = k.four in omega (arith, low, f)
+  in_list = let f = k.four_slots in omega (arith, low, f)
 
   in_places : one.slot < length (slots_at old.slots port.0).places
-  in_places = let p = (k.slots port.0 low).places in let small = one.small in omega (arith, p, small)
+  in_places = let p = (k.slots port.0 low).places in let small = one.slot_is_below_32 in omega (arith, p, small)
 
   slots_are : mid.slots ≡ with_slot old.slots port.0 one.slot None
-  slots_are = ap (λ (n : ServerState). n.slots) one.server
+  slots_are = ap (λ (n : ServerState). n.slots) one.server_is
 
   -- what another slot is used for
   left_used : (slot : ℕ) → slot ≢ one.slot → used_for mid.slots port.0 slot ≡ used_for old.slots port.0 slot
@@ -176,10 +176,10 @@ module _ (laws : PrerequisiteLaws) (port : Port) (low : port.0 < 4) (done : ℕ)
       let z : None ≡ Some used = sym (free slot small is) ∙ ap (λ (n : ServerState). used_for n.slots port.0 slot) none ∙ its in absurd cc
   done_told (e ∷ requests) old new k ready over (mid, one, clear, more) free slot used small is its = ⊎_elim
       (λ (same : slot ≡ one.slot).
-      let one_is : Some used ≡ Some one.used = sym its ∙ ap (used_for old.slots port.0) same ∙ one.served in
+      let one_is : Some used ≡ Some one.used = sym its ∙ ap (used_for old.slots port.0) same ∙ one.slot_use_is in
       (e, first_here e requests, sym one.id_is ∙ sym (ap (λ (u : SlotUse). u.id) (same_some one_is))))
       (λ (other : slot ≢ one.slot).
-      let rest = done_told requests mid new (answer_kept laws old mid port e k ready one (over one.slot one.small clear)) (ready_on laws port done e old mid one ready) (over_on laws port done e old mid one over) more free
+      let rest = done_told requests mid new (answer_kept laws old mid port e k ready one (over one.slot one.slot_is_below_32 clear)) (ready_on laws port done e old mid one ready) (over_on laws port done e old mid one over) more free
       slot used small is (left_used port e old mid one k low slot other ∙ its) in
       (rest.0, contains_there e requests rest.0 rest.1, rest.2))
       (cases_eq slot one.slot)
@@ -189,9 +189,9 @@ module _ (laws : PrerequisiteLaws) (port : Port) (low : port.0 < 4) (done : ℕ)
       → (e : BookEntry) → Contains requests e → (slot : ℕ) × (slot < 32) × (bit done slot ≡ true) × ((used : SlotUse) × (used_for old.slots port.0 slot ≡ Some used) × (used.id ≡ e.entry.id))
   told_done [] old new k ready over none e here = absurd (nowhere e here)
   told_done (first ∷ requests) old new k ready over (mid, one, clear, more) e here = ⊎_elim
-      (λ (same : e ≡ first). (one.slot, one.small, clear, (one.used, one.served, one.id_is ∙ ap (λ (x : BookEntry). x.entry.id) (sym same))))
+      (λ (same : e ≡ first). (one.slot, one.slot_is_below_32, clear, (one.used, one.slot_use_is, one.id_is ∙ ap (λ (x : BookEntry). x.entry.id) (sym same))))
       (λ (there : Contains requests e).
-      let rest = told_done requests mid new (answer_kept laws old mid port first k ready one (over one.slot one.small clear)) (ready_on laws port done first old mid one ready) (over_on laws port done first old mid one over) more e there in
+      let rest = told_done requests mid new (answer_kept laws old mid port first k ready one (over one.slot one.slot_is_below_32 clear)) (ready_on laws port done first old mid one ready) (over_on laws port done first old mid one over) more e there in
       ⊎_elim
       (λ (same : rest.0 ≡ one.slot). let z : None ≡ Some rest.3.0 = sym (now_free port first old mid one k low) ∙ ap (used_for mid.slots port.0) (sym same) ∙ rest.3.1 in absurd cc)
       (λ (other : rest.0 ≢ one.slot). (rest.0, rest.1, rest.2, (rest.3.0, sym (left_used port first old mid one k low rest.0 other) ∙ rest.3.1, rest.3.2)))
@@ -200,9 +200,9 @@ module _ (laws : PrerequisiteLaws) (port : Port) (low : port.0 < 4) (done : ℕ)
 
 -- ---- the whole
 
-module _ (s : ServerState) (seen : Device) (port : Port) (t : SettledInvariant s) (ready : state_of (probe_result_of s.ports port.0) ≡ ReadyState) (looks : IsSimulated (IsLooking port) AnyUse s.device seen) where
+module _ (s : ServerState) (seen : Device) (port : Port) (t : SettledInvariant s) (ready : state_of (probe_result_of s.ports port.0) ≡ ReadyState) (looks : IsSimulated (IsEventAccess port) AnyUse s.device seen) where
   abbrev k : InCallInvariant s
-  k = t.kept
+  k = t.in_call_invariant
 
   low : port.0 < 4
   low = (ready_found s port.0 k ready).0
@@ -211,17 +211,17 @@ module _ (s : ServerState) (seen : Device) (port : Port) (t : SettledInvariant s
   seen_silent : PrerequisiteLaws → (q : ℕ) → state_of (probe_result_of s.ports q) ≢ Dead → GainsNoMove q ReadLog s.device seen
   seen_silent laws q lives = looking_silent s seen port k laws looks q ReadLog refl (λ dead. lives (ap state_of dead))
 
-  module _ (l : LooksAt port NoEvent s.device seen) where
+  module _ (l : TakesEvent port NoEvent s.device seen) where
     -- no slot is used
-    pub idle : PrerequisiteLaws → IsMaskOf (slots_at s.slots port.0) 0 → ServesPort port [] s (record s { device = seen })
+    pub idle : PrerequisiteLaws → IsMaskOf (slots_at s.slots port.0) 0 → ServicesPort port [] s (record s { device = seen })
     idle laws its =
         nobody_answered laws s seen port t ready
         (record {
           look = NoEvent;
           seen = seen;
           looks = l;
-          quiet = refl;
-          checked = record { mask = 0; its = its; idle = λ _. (refl, refl); checks = λ some. absurd (some (λ slot small. bit_zero slot)) };
+          look_is_no_event = refl;
+          checked = record { mask = 0; is_mask_of = its; idle = λ _. (refl, refl); checks = λ some. absurd (some (λ slot small. bit_zero slot)) };
         })
         (looks_serve laws port s.device seen looks)
         (seen_silent laws)
@@ -242,17 +242,17 @@ module _ (s : ServerState) (seen : Device) (port : Port) (t : SettledInvariant s
           (finding_silent (record s { device = seen }) new port seen_kept ready laws mask done reads q ReadLog refl (λ dead. lives (ap state_of dead)))
 
       -- none of what it has issued was found done
-      pub unfinished : (new : Device) (done : ℕ) → ReadsDone port mask done seen new → SeesClear port mask done seen → IsEmptyMask done → ServesPort port [] s (record s { device = new })
+      pub unfinished : (new : Device) (done : ℕ) → ReadsDone port mask done seen new → SeesClear port mask done seen → IsEmptyMask done → ServicesPort port [] s (record s { device = new })
       unfinished new done reads sees none =
           nobody_answered laws s new port t ready
           (record {
             look = NoEvent;
             seen = seen;
             looks = l;
-            quiet = refl;
+            look_is_no_event = refl;
             checked = record {
               mask = mask;
-              its = its;
+              is_mask_of = its;
               idle = λ none. absurd (some none);
               checks = λ _. record {
                 done = done;
@@ -267,7 +267,7 @@ module _ (s : ServerState) (seen : Device) (port : Port) (t : SettledInvariant s
           (serves_then laws s.device seen new (looks_serve laws port s.device seen looks) (finds_serve laws port mask done seen new reads))
           (found_silent new done reads)
           (λ calm slot used small is ci sact.
-          let c = still_clear s port k ready slot laws seen looks.driven used is ci sact in
+          let c = still_clear s port k ready slot laws seen looks.is_driven used is ci sact in
           false≢true (sym (none slot small) ∙ sees slot small (asked slot used small is) c.0 c.1))
 
       -- what was found done was answered
@@ -276,7 +276,7 @@ module _ (s : ServerState) (seen : Device) (port : Port) (t : SettledInvariant s
         abbrev from : ServerState
         from = record s { device = found }
 
-        served : IsSimulated IsService AnyUse s.device found
+        served : IsSimulated IsServiceAccess AnyUse s.device found
         served = serves_then laws s.device seen found (looks_serve laws port s.device seen looks) (finds_serve laws port mask done seen found reads)
 
         found_kept : InCallInvariant from
@@ -286,17 +286,17 @@ module _ (s : ServerState) (seen : Device) (port : Port) (t : SettledInvariant s
         over = found_over (record s { device = seen }) found port seen_kept ready laws mask done reads its
 
         mid_kept : InCallInvariant a.mid
-        mid_kept = answers_kept laws port done a.requests from a.mid found_kept ready over a.each
+        mid_kept = answers_kept laws port done a.requests from a.mid found_kept ready over a.answers_each
 
         mid_device : a.mid.device ≡ found
-        mid_device = ap (λ (n : ServerState). n.device) (answers_settings laws port done a.requests from a.mid a.each)
+        mid_device = ap (λ (n : ServerState). n.device) (answers_settings laws port done a.requests from a.mid a.answers_each)
 
         abbrev ids : List RequestId
-        ids = due_ids (mode_in a.mid port) port (asks_of a.mid.book)
+        ids = due_ids (mode_in a.mid port) port (unanswered_of a.mid.book)
 
         -- it takes commands as it did
         mode_is : mode_in a.mid port ≡ mode_in s port
-        mode_is = ap (λ (n : ServerState). mode_in n port) (answers_settings laws port done a.requests from a.mid a.each)
+        mode_is = ap (λ (n : ServerState). mode_in n port) (answers_settings laws port done a.requests from a.mid a.answers_each)
 
         turn_adds : (m : Machine) → IsReachable m → MachineRelation s m → AddsTurn port replies s new m
         turn_adds m reached is = record {
@@ -306,31 +306,31 @@ module _ (s : ServerState) (seen : Device) (port : Port) (t : SettledInvariant s
           backed = laws.backed_parts s.device a.mid.device new.device m base z.steps base_backed z.backed;
           answers = record {
             requests = a.requests;
-            told = a.told;
+            replies_are = a.replies_are;
             ordered = a.ordered;
             ended = y.ended;
-            each = y.each;
+            each_has_ended = y.each;
             later = z.steps;
             before = x.0;
             steps_are = refl;
-            first = x.4;
-            last = subst (λ (mode : QueueMode). AllByDeviceOrIssue mode port z.steps) mode_is z.only;
+            device_steps_come_first = x.4;
+            others_come_last = subst (λ (mode : QueueMode). AllByDeviceOrIssue mode port z.steps) mode_is z.only;
           };
           last = last_on (mode_in a.mid port) port z.steps base z.only z.last (none_last base none_in_base) (λ id late early. false≢true (sym (none_in_base id) ∙ early));
           issues = subst (λ (mode : QueueMode). IssuesDue mode (z.steps ++ base) (after m (z.steps ++ base)) port) mode_is (subst (λ (n : Machine). IssuesDue (mode_in a.mid port) (z.steps ++ base) n port) (sym (laws.basic.joined m z.steps base))
               (dues_carried laws (mode_in a.mid port) z.steps (z.steps ++ base) (after (after m base) z.steps) (after (after m base) z.steps) port refl
-              (λ u here own. sym (any_append (issues_it u.id) z.steps base ∙ ap (λ (b : Bool). list_any (issues_it u.id) z.steps || b) (none_in_base u.id) ∙ or_none (list_any (issues_it u.id) z.steps)))
+              (λ u here own. sym (any_append (issues_id u.id) z.steps base ∙ ap (λ (b : Bool). list_any (issues_id u.id) z.steps || b) (none_in_base u.id) ∙ or_none (list_any (issues_id u.id) z.steps)))
               (dues laws port a.mid new mid_kept a.issued (after m base) z port (λ ne. absurd (ne refl)))));
         }
           where
-            x : (steps : List Step) × AllMay m steps × MachineRelation from (after m steps) × IsBacked s.device found m steps × AllByDevice steps
+            x : (steps : List Step) × AllEnabled m steps × MachineRelation from (after m steps) × IsBacked s.device found m steps × AllByDevice steps
             x = followed_steps laws s found served m reached is
 
             reached_x : IsReachable (after m x.0)
             reached_x = laws.basic.reached m x.0 reached x.1
 
             y : AreAnswered port a.requests from a.mid (after m x.0)
-            y = each_answered laws port done a.requests from a.mid found_kept ready over a.each (after m x.0) reached_x x.2
+            y = each_answered laws port done a.requests from a.mid found_kept ready over a.answers_each (after m x.0) reached_x x.2
 
             base : List Step
             base = ok_answers_of y.ended ++ x.0
@@ -338,14 +338,14 @@ module _ (s : ServerState) (seen : Device) (port : Port) (t : SettledInvariant s
             base_is : after m base ≡ after (after m x.0) (ok_answers_of y.ended)
             base_is = laws.basic.joined m (ok_answers_of y.ended) x.0
 
-            base_may : AllMay m base
+            base_may : AllEnabled m base
             base_may = laws.basic.may m (ok_answers_of y.ended) x.0 x.1 y.may
 
             base_backed : IsBacked s.device a.mid.device m base
             base_backed = laws.backed_parts s.device found a.mid.device m x.0 (ok_answers_of y.ended) x.3 y.backed
 
-            none_in_base : (id : RequestId) → list_any (issues_it id) base ≡ false
-            none_in_base id = any_append (issues_it id) (ok_answers_of y.ended) x.0 ∙ ap (λ (b : Bool). b || list_any (issues_it id) x.0) (answers_issue_none id y.ended) ∙ devices_issue_none id x.0 x.4
+            none_in_base : (id : RequestId) → list_any (issues_id id) base ≡ false
+            none_in_base id = any_append (issues_id id) (ok_answers_of y.ended) x.0 ∙ ap (λ (b : Bool). b || list_any (issues_id id) x.0) (answers_issue_none id y.ended) ∙ devices_issue_none id x.0 x.4
 
             z : AreIssued port ids a.mid new (after m base)
             z = each_issued laws port ids a.mid new mid_kept a.issued (after m base) (laws.basic.reached m base reached base_may) (subst (MachineRelation a.mid) (sym base_is) y.stands)
@@ -355,17 +355,17 @@ module _ (s : ServerState) (seen : Device) (port : Port) (t : SettledInvariant s
 
         -- a request is told exactly if its slot was found done
         told_of : (e : BookEntry) → Contains a.requests e → IsAnsweredIn e.entry.id replies
-        told_of e here = (done_reply e, subst (λ (list : List Reply). Contains list (done_reply e)) (sym a.told) (into_map done_reply a.requests e here), refl)
+        told_of e here = (done_reply e, subst (λ (list : List Reply). Contains list (done_reply e)) (sym a.replies_are) (into_map done_reply a.requests e here), refl)
 
         exactly : (slot : ℕ) (used : SlotUse) → slot < 32 → used_for s.slots port.0 slot ≡ Some used → bit done slot ≡ true ↔ IsAnsweredIn used.id replies
         exactly slot used small is = (
           (λ found_done.
-              let e = done_told laws port low done a.requests from a.mid found_kept ready over a.each a.free slot used small found_done is in
+              let e = done_told laws port low done a.requests from a.mid found_kept ready over a.answers_each a.done_slots_are_free slot used small found_done is in
               let w = told_of e.0 e.1 in
               (w.0, w.1, w.2 ∙ e.2)),
           (λ w.
-              let r = map_in done_reply a.requests w.0 (subst (λ (list : List Reply). Contains list w.0) a.told w.1) in
-              let d = told_done laws port low done a.requests from a.mid found_kept ready over a.each r.0 r.1 in
+              let r = map_in done_reply a.requests w.0 (subst (λ (list : List Reply). Contains list w.0) a.replies_are w.1) in
+              let d = told_done laws port low done a.requests from a.mid found_kept ready over a.answers_each r.0 r.1 in
               let same : d.0 ≡ slot = one_slot d.0 d.3.0 d.3.1 slot used is (d.3.2 ∙ sym (ap (λ (x : Reply). x.id) r.2) ∙ w.2) in
               subst (λ (n : ℕ). bit done n ≡ true) same d.2),
         )
@@ -373,27 +373,27 @@ module _ (s : ServerState) (seen : Device) (port : Port) (t : SettledInvariant s
             -- a request has one slot
             one_slot : (a : ℕ) (x : SlotUse) → used_for s.slots port.0 a ≡ Some x → (b : ℕ) (y : SlotUse) → used_for s.slots port.0 b ≡ Some y → x.id ≡ y.id → a ≡ b
             one_slot a x ax b y by same =
-                (k.stands.knows.agrees.apart port.0 a port.0 b x.id
-                (serves_used s k.machine port.0 k.stands ready a x ax) (serves_used s k.machine port.0 k.stands ready b y by ∙ ap Serves (sym same))).1
+                (k.machine_relation.driver_relation.state_relation.serve_apart port.0 a port.0 b x.id
+                (serves_used s k.machine port.0 k.machine_relation ready a x ax) (serves_used s k.machine port.0 k.machine_relation ready b y by ∙ ap Serves (sym same))).1
 
         -- no page of the log comes in all that but on dead ports
         whole_silent : (q : ℕ) → state_of (probe_result_of s.ports q) ≢ Dead → GainsNoMove q ReadLog s.device new.device
         whole_silent q lives =
             silent_more q ReadLog s.device found new.device (found_silent found done reads q lives)
             (subst (λ (d : Device). GainsNoMove q ReadLog d new.device) mid_device
-            (each_silent laws port ids a.mid new mid_kept a.issued q ReadLog refl (λ dead. lives (ap (λ (n : ServerState). state_of (probe_result_of n.ports q)) (sym (answers_settings laws port done a.requests from a.mid a.each)) ∙ ap state_of dead))))
+            (each_silent laws port ids a.mid new mid_kept a.issued q ReadLog refl (λ dead. lives (ap (λ (n : ServerState). state_of (probe_result_of n.ports q)) (sym (answers_settings laws port done a.requests from a.mid a.answers_each)) ∙ ap state_of dead))))
 
-        pub finished : ServesPort port replies s new
+        pub finished : ServicesPort port replies s new
         finished =
             serves laws port replies s new t ready
             (record {
               look = NoEvent;
               seen = seen;
               looks = l;
-              quiet = refl;
+              look_is_no_event = refl;
               checked = record {
                 mask = mask;
-                its = its;
+                is_mask_of = its;
                 idle = λ none. absurd (some none);
                 checks = λ _. record {
                   done = done;
@@ -408,6 +408,6 @@ module _ (s : ServerState) (seen : Device) (port : Port) (t : SettledInvariant s
             (inr (some, a))
             turn_adds
             (λ calm slot used small is ci sact.
-            let c = still_clear s port k ready slot laws seen looks.driven used is ci sact in
+            let c = still_clear s port k ready slot laws seen looks.is_driven used is ci sact in
             (exactly slot used small is).0 (sees slot small (asked slot used small is) c.0 c.1))
             whole_silent

@@ -15,10 +15,10 @@ use Rattle.hba_regs.specs.declared.reg.Reg.TheVariants.{Px}
 use Rattle.hba_regs.specs.declared.reg.PortReg.TheVariants.{Ci, Sact}
 use Rattle.adapter.specs.Access.{Reads}
 use Rattle.adapter.specs.Device.{Device}
-use Rattle.refinement.specs.Driven.{TapeGrows, IsDrivenBy}
+use Rattle.refinement.specs.Fragments.{TapeGrows, IsDrivenBy}
 use Rattle.refinement.specs.Driver.{IsBacked}
-use Rattle.refinement.specs.Slots.{IsEmptySlot, RelatesSlot, Serves, ServesRequest, Stage, SlotState}
-use Rattle.block_machine.specs.Events.{AllMay, AnswersEnded, changes_disk}
+use Rattle.refinement.specs.Slots.{IsEmptySlot, RelatesSlot, Serves, ServesRequest, IsInSomeStage, SlotState}
+use Rattle.block_machine.specs.Events.{AllEnabled, AnswersEnded, changes_disk}
 use Rattle.block_machine.specs.Histories.{IsReachable}
 use Rattle.block_machine.specs.Expected.{after}
 use Rattle.block_machine.specs.Ports.{Evidence, IsStoppedOrStuck, SamePort}
@@ -26,20 +26,20 @@ use Rattle.block_machine.specs.State.{Pending, Machine}
 use Rattle.block_machine.specs.Steps.{Step, Answer}
 use Rattle.block_machine.specs.declared.due.QueueMode.{QueueMode}
 use Rattle.server_history.proofs.state.ListMembers.{into_map, map_in}
-use Rattle.driver_history.specs.Heeding.{ServesReady, tells_fault}
+use Rattle.driver_history.specs.EvidenceHandling.{ServicesReadyPort, tells_fault}
 use Rattle.driver_history.specs.Evidence.{ShowsFailure, ShowsLoss}
 use Rattle.driver_history.specs.Histories.{FindsDone, HasUnservedDisk, IsAnsweredOk, IsIssuedOn}
-use Rattle.driver_history.specs.Trace.{ReadsCiAndSact}
+use Rattle.driver_history.specs.AccessTrace.{ReadsCiAndSact}
 use Rattle.host_boot.specs.TakeOver.{probe_result_of}
-use Rattle.port_control.specs.Looks.{IsLooking}
+use Rattle.port_control.specs.PortEvents.{IsEventAccess}
 use Rattle.port_control.specs.declared.events.PortEvent.TheVariants.{LinkChanged, NoEvent}
 use Rattle.slots.specs.declared.SlotUse.{SlotUse}
 use Rattle.server_history.specs.Prerequisites.{PrerequisiteLaws}
-use Rattle.server_history.specs.Served.{StepsAnswer, PollsSlots, HasEnded, HasTurnWithoutError, IsAnsweredIn, IsMaskOf, ok_answers_of, done_reply, is_used}
+use Rattle.server_history.specs.IssuingAndAnswering.{StepsAnswer, PollsSlots, HasEnded, HasTurnWithoutError, IsAnsweredIn, IsMaskOf, ok_answers_of, done_reply, is_used}
 use Rattle.server_history.proofs.any_turn.TurnSteps.{counts_none}
 use Rattle.server_history.proofs.any_turn.UnusedSlotBits.{unused_clear}
 use Rattle.server_history.specs.Turns.{FindsDoneInTurn, InService, TurnCorresponds, joint_state_of, abstract_state_of}
-use Rattle.server_history.specs.Server.{ServerState, InCallInvariant, MachineRelation, SettledInvariant, mode_in, ports_of, slots_at, state_of, used_for}
+use Rattle.server_history.specs.ServerState.{ServerState, InCallInvariant, MachineRelation, SettledInvariant, mode_in, ports_of, slots_at, state_of, used_for}
 use Rattle.server_history.proofs.state.AnswerSteps.{answered_in, ended_stood, in_answered, may_parts, no_answer, no_answer_issuing}
 use Rattle.server_history.proofs.state.TurnAccesses.{TurnList, look_does, look_list}
 use Rattle.server_history.proofs.any_turn.ToldTrouble.{no_change, not_missing}
@@ -65,12 +65,12 @@ tells_none q (step ∷ steps) told = tells_none q steps (λ x o here. told x o (
 
 module _ (laws : PrerequisiteLaws) (port : Port) (replies : List Reply) (old new : ServerState) (t : SettledInvariant old) (ready : state_of (probe_result_of old.ports port.0) ≡ ReadyState)
     (turn : HasTurnWithoutError port (slots_at old.slots port.0) replies old.device new.device) (list : TurnList port (slots_at old.slots port.0) replies old.device new.device turn)
-    (same : SamePort (ports_of old) (ports_of new) port) (m : Machine) (reached : IsReachable m) (at : MachineRelation old m) (steps : List Step) (may : AllMay m steps)
+    (same : SamePort (ports_of old) (ports_of new) port) (m : Machine) (reached : IsReachable m) (at : MachineRelation old m) (steps : List Step) (may : AllEnabled m steps)
     (b : StepsAnswer (mode_in old port) port replies steps)
     (answered : turn.look ≡ NoEvent → (slot : ℕ) (used : SlotUse) → slot < 32 → used_for old.slots port.0 slot ≡ Some used
     → (old.device.port port.0).ci slot ≡ false → (old.device.port port.0).sact slot ≡ false → IsAnsweredIn used.id replies) where
   abbrev kept : InCallInvariant old
-  kept = t.kept
+  kept = t.in_call_invariant
 
   low : port.0 < 4
   low = (ready_found old port.0 kept ready).0
@@ -89,41 +89,41 @@ module _ (laws : PrerequisiteLaws) (port : Port) (replies : List Reply) (old new
   -- who is answered in the turn is one of these
   turn_ended : (e : Pending) (o : Outcome) → Contains steps (Answer e o) → Contains b.ended e × (o ≡ Ok)
   turn_ended e o here = ⊎_elim
-      (λ later. absurd (no_answer_issuing takes port b.later b.last e o later))
+      (λ later. absurd (no_answer_issuing takes port b.later b.others_come_last e o later))
       (λ rest. ⊎_elim
       (λ told. answered_in b.ended e o told)
-      (λ early. absurd (no_answer b.before b.first e o early))
+      (λ early. absurd (no_answer b.before b.device_steps_come_first e o early))
       (Contains-append_cases (ok_answers_of b.ended) b.before (Answer e o) rest))
       (Contains-append_cases b.later (ok_answers_of b.ended ++ b.before) (Answer e o) (subst (λ (list : List Step). Contains list (Answer e o)) b.steps_are here))
 
   has_slot : (e : Pending) → IsIssuedOn port m e → HasSlot old port e.request.id
-  has_slot e own = issued_has old m port at kept ready e own.here own.port_is own.issued
+  has_slot e own = issued_has old m port at kept ready e own.is_in_book own.port_is own.issued
 
   -- one that had ended was issued
   ended_on : (e : Pending) → Contains m.book e → e.request.port ≡ port → e.ended ≡ true → IsIssuedOn port m e
-  ended_on e there own ended = record { here = there; port_is = own; issued = laws.basic.ended_issued m e reached there ended }
+  ended_on e there own ended = record { is_in_book = there; port_is = own; issued = laws.basic.ended_issued m e reached there ended }
 
   -- and its command's bits are clear
   ended_clear : (e : Pending) → (own : IsIssuedOn port m e) → e.ended ≡ true → ((old.device.port port.0).ci (has_slot e own).slot ≡ false) × ((old.device.port port.0).sact (has_slot e own).slot ≡ false)
   ended_clear e own ended =
       let h = has_slot e own in
       let slot : at.uses port.0 h.slot ≡ Serves e.request.id = serves_used old m port.0 at ready h.slot h.used h.used_is ∙ ap Serves h.id_is in
-      let clear = laws.slots.ended_clear at.uses m old.device port h.slot e reached at.knows.agrees (inl (own.here, own.issued)) ended slot in
+      let clear = laws.slots.ended_clear at.uses m old.device port h.slot e reached at.driver_relation.state_relation (inl (own.is_in_book, own.issued)) ended slot in
       (clear.0.over.issued, clear.0.sact)
 
-  early_may : AllMay m b.before × AllMay (after m b.before) (ok_answers_of b.ended)
-  early_may = may_parts laws m (ok_answers_of b.ended) b.before (may_parts laws m b.later (ok_answers_of b.ended ++ b.before) (subst (AllMay m) b.steps_are may)).0
+  early_may : AllEnabled m b.before × AllEnabled (after m b.before) (ok_answers_of b.ended)
+  early_may = may_parts laws m (ok_answers_of b.ended) b.before (may_parts laws m b.later (ok_answers_of b.ended ++ b.before) (subst (AllEnabled m) b.steps_are may)).0
 
   -- who is told is answered, and who is answered is told
   module _ (e : Pending) (own : IsIssuedOn port m e) where
     told_answered : IsAnsweredIn (has_slot e own).used.id replies → IsAnsweredOk e steps
     told_answered told =
-        let r = map_in done_reply b.requests told.0 (subst (λ (list : List Reply). Contains list told.0) b.told told.1) in
-        let d = at_left (HasEnded port) b.requests b.ended b.each r.0 r.1 in
+        let r = map_in done_reply b.requests told.0 (subst (λ (list : List Reply). Contains list told.0) b.replies_are told.1) in
+        let d = at_left (HasEnded port) b.requests b.ended b.each_has_ended r.0 r.1 in
         let id_is : d.0.request.id ≡ e.request.id = d.2.entry.id ∙ sym (ap (λ (y : Reply). y.id) r.2) ∙ told.2 ∙ (has_slot e own).id_is in
         let w = ended_stood laws (after m b.before) b.ended early_may.1 d.0 d.1 in
-        let l = laws.basic.found_before m.book (after m b.before).book d.0 (laws.basic.spares m b.before b.first).book w in
-        let one : e ≡ l.0 = one_of e l.0 own.here l.1 (ap (λ (i : RequestId). i.0) (sym id_is ∙ ap (λ r. r.id) l.2.request)) in (
+        let l = laws.basic.found_before m.book (after m b.before).book d.0 (laws.basic.spares m b.before b.device_steps_come_first).book w in
+        let one : e ≡ l.0 = one_of e l.0 own.is_in_book l.1 (ap (λ (i : RequestId). i.0) (sym id_is ∙ ap (λ r. r.id) l.2.request)) in (
           d.0,
           l.2.request ∙ ap (λ (y : Pending). y.request) (sym one),
           subst (λ (steps : List Step). Contains steps (Answer d.0 Ok)) (sym b.steps_are)
@@ -132,9 +132,9 @@ module _ (laws : PrerequisiteLaws) (port : Port) (replies : List Reply) (old new
 
     answered_told : IsAnsweredOk e steps → IsAnsweredIn (has_slot e own).used.id replies
     answered_told ok =
-        let r = at_right (HasEnded port) b.requests b.ended b.each ok.0 (turn_ended ok.0 Ok ok.2).0 in (
+        let r = at_right (HasEnded port) b.requests b.ended b.each_has_ended ok.0 (turn_ended ok.0 Ok ok.2).0 in (
           done_reply r.0,
-          subst (λ (list : List Reply). Contains list (done_reply r.0)) (sym b.told) (into_map done_reply b.requests r.0 r.1),
+          subst (λ (list : List Reply). Contains list (done_reply r.0)) (sym b.replies_are) (into_map done_reply b.requests r.0 r.1),
           sym r.2.entry.id ∙ ap (λ q. q.id) ok.1 ∙ sym (has_slot e own).id_is,
         )
 
@@ -159,7 +159,7 @@ module _ (laws : PrerequisiteLaws) (port : Port) (replies : List Reply) (old new
       abbrev k : PollsSlots port (slots_at old.slots port.0) read.0 replies turn.seen new.device
       k = read.2.0
 
-      looks : IsDrivenBy (IsLooking port) old.device turn.seen
+      looks : IsDrivenBy (IsEventAccess port) old.device turn.seen
       looks = laws.looking.looks_driven port turn.look old.device turn.seen turn.looks
 
       masks_read : (mid : Device) × Reads (Px port Ci) k.reads.issued turn.seen mid × Reads (Px port Sact) k.reads.active mid k.read
@@ -177,7 +177,7 @@ module _ (laws : PrerequisiteLaws) (port : Port) (replies : List Reply) (old new
         asked = read.1 h.slot h.small ∙ ap is_used h.used_is
 
         tells : bit k.done h.slot ≡ (not (bit k.reads.issued h.slot) && not (bit k.reads.active h.slot))
-        tells = k.reads.tells h.slot h.small ∙ ap (λ (y : Bool). y && not (bit k.reads.issued h.slot) && not (bit k.reads.active h.slot)) asked
+        tells = k.reads.done_is h.slot h.small ∙ ap (λ (y : Bool). y && not (bit k.reads.issued h.slot) && not (bit k.reads.active h.slot)) asked
 
         at_slot : IsAnsweredOk other steps ↔ AreClear h.slot
         at_slot = (
@@ -198,27 +198,27 @@ module _ (laws : PrerequisiteLaws) (port : Port) (replies : List Reply) (old new
               let same : other.request.id ≡ y.0.id = one_said laws old kept m at port.0 slot y.0 other.request.id ready y.1 says in
               let there = serves_used old m port.0 at ready slot y.0 y.1 ∙ ap Serves (sym same) in
               let here = serves_used old m port.0 at ready h.slot h.used h.used_is ∙ ap Serves h.id_is in
-              absurd (apart (at.knows.agrees.apart port.0 slot port.0 h.slot other.request.id there here).1))
+              absurd (apart (at.driver_relation.state_relation.serve_apart port.0 slot port.0 h.slot other.request.id there here).1))
               (λ none. none)
               (used_or_not (used_for old.slots port.0 slot))
 
           free : IsEmptySlot (old.device.port port.0) slot
-          free = subst (λ (u : SlotState). RelatesSlot m old.device.memory old.device.tape (old.device.port port.0) port.0 slot u) (free_unused old m port.0 at ready slot unused) (at.knows.agrees.slot port.0 slot)
+          free = subst (λ (u : SlotState). RelatesSlot m old.device.memory old.device.tape (old.device.port port.0) port.0 slot u) (free_unused old m port.0 at ready slot unused) (at.driver_relation.state_relation.relates_slots port.0 slot)
 
           has_ended : other.ended ≡ true
           has_ended = ap (λ (y : Pending). y.ended) (sym its_pending) ∙ by says.stage
             where
               its_pending : says.pending ≡ other
-              its_pending = one_of says.pending other (still_booked old m port.0 at ready says.pending says.moves says.port_is).0 own.here (ap (λ (i : RequestId). i.0) says.id_is)
+              its_pending = one_of says.pending other (still_booked old m port.0 at ready says.pending says.may_still_move says.port_is).0 own.is_in_book (ap (λ (i : RequestId). i.0) says.id_is)
 
-              by : Stage old.device.memory (old.device.port port.0) port.0 slot says.pending says.command says.places → says.pending.ended ≡ true
+              by : IsInSomeStage old.device.memory (old.device.port port.0) port.0 slot says.pending says.command says.places → says.pending.ended ≡ true
               by (inl waits) = absurd (false≢true (sym free.issued ∙ waits.issued))
               by (inr (inl taken)) = let z : None ≡ Some taken.command = sym free.free ∙ taken.taken in absurd cc
               by (inr (inr (inl ended))) = ended.ended
-              by (inr (inr (inr dropped))) = absurd (false≢true (sym dropped.stopped ∙ ((kept.behind port.0 low).runs ready).st))
+              by (inr (inr (inr dropped))) = absurd (false≢true (sym dropped.stopped ∙ ((kept.port_invariant port.0 low).engine_runs ready).st))
 
           clear_there : AreClear slot
-          clear_there = both_clear laws port slot k.reads.issued k.reads.active old.device turn.seen masks_read.0 k.read says.placed.slot_below looks masks_read.1 masks_read.2
+          clear_there = both_clear laws port slot k.reads.issued k.reads.active old.device turn.seen masks_read.0 k.read says.list_is_in_place.slot_below looks masks_read.1 masks_read.2
               (record { issued = free.issued; free = free.free }) free.unarmed
 
           apart_too : IsAnsweredOk other steps ↔ AreClear slot
@@ -245,26 +245,26 @@ module _ (laws : PrerequisiteLaws) (port : Port) (replies : List Reply) (old new
   -- ---- what is owed to it
 
   pub finds : (e : Pending) → IsIssuedOn port m e → FindsDoneInTurn port list.driven.accesses old m steps
-  finds e own = found_by_masks turn.quiet e own
+  finds e own = found_by_masks turn.look_is_no_event e own
 
   undue : (old.device.port port.0).link_due ≡ false
-  undue = ((kept.behind port.0 low).runs ready).recorded.linked
+  undue = ((kept.port_invariant port.0 low).engine_runs ready).faults_are_recorded.no_link_is_due
 
   -- no failure was shown
   pub unfailing : ShowsFailure (old.device.port port.0) → ⊥
-  unfailing = never_failed laws port (slots_at old.slots port.0) replies (joint_state_of old m) new.device turn kept.on turn.quiet
+  unfailing = never_failed laws port (slots_at old.slots port.0) replies (joint_state_of old m) new.device turn kept.adapter_is_on turn.look_is_no_event
 
   not_lost : turn.look ≢ LinkChanged
-  not_lost lost = let z : NoEvent ≡ LinkChanged = sym turn.quiet ∙ lost in cc
+  not_lost lost = let z : NoEvent ≡ LinkChanged = sym turn.look_is_no_event ∙ lost in cc
 
   later : TapeGrows turn.seen new.device
-  later = let over = later_driven laws port (slots_at old.slots port.0) replies (joint_state_of old m) new.device turn kept.on turn.quiet in grows_over laws over.accesses turn.seen new.device over.all
+  later = let over = later_driven laws port (slots_at old.slots port.0) replies (joint_state_of old m) new.device turn kept.adapter_is_on turn.look_is_no_event in grows_over laws over.accesses turn.seen new.device over.all_are_done
 
   -- nor was a loss
   pub never_lost : ShowsLoss port old.device new.device → ⊥
   never_lost loss = ⊎_elim
-      (no_change laws port turn.look old.device turn.seen turn.looks kept.on not_lost)
-      (λ (out : _ × _). not_missing laws port turn.look old.device turn.seen turn.looks kept.on not_lost new.device later undue out.0 out.1)
+      (no_change laws port turn.look old.device turn.seen turn.looks kept.adapter_is_on not_lost)
+      (λ (out : _ × _). not_missing laws port turn.look old.device turn.seen turn.looks kept.adapter_is_on not_lost new.device later undue out.0 out.1)
       loss
 
   module _ (backed : IsBacked old.device new.device m steps) where
@@ -281,37 +281,37 @@ module _ (laws : PrerequisiteLaws) (port : Port) (replies : List Reply) (old new
     -- the look saw a device, so a disk was in when the turn began, or one came before the look
     had : (m.present port ≡ true) ⊎ (list_any (changes_disk port) steps ≡ true)
     had =
-        let accesses = look_list port turn.looks.causes turn.looks.own turn.looks.status in
+        let accesses = look_list port turn.looks.causes turn.looks.port_mask turn.looks.status in
         let does = look_does port turn.look old.device turn.seen turn.looks in
         had_disk laws port old turn.seen new.device m accesses does
-        (laws.recovery.own_on port.0 accesses old.device turn.seen does ((kept.behind port.0 low).own ready) (shows_device laws port old.device turn.seen turn.look turn.looks kept.on not_lost))
+        (laws.recovery.own_on port.0 accesses old.device turn.seen does ((kept.port_invariant port.0 low).has_disk_if_shown ready) (shows_device laws port old.device turn.seen turn.look turn.looks kept.adapter_is_on not_lost))
         at later steps backed
 
-    serves_ready : ServesReady (abstract_state_of old m) its steps (record { machine = after m steps; ports = ports_of new }) port
+    serves_ready : ServicesReadyPort (abstract_state_of old m) its steps (record { machine = after m steps; ports = ports_of new }) port
     serves_ready = record {
-      ended = heeded turn.quiet;
-      emptied = λ gone. absurd (nowhere port gone);
-      told = λ gone. absurd (nowhere port gone);
-      interrupts = λ port_error. absurd (⊎_elim (nowhere port) (nowhere port) port_error);
-      anew = λ port_error. absurd (⊎_elim (nowhere port) (nowhere port) port_error);
-      single = let none = counts_none (tells_fault port) steps (tells_none port steps (λ e o here. (turn_ended e o here).1)) in omega (arith, none);
-      fatal = λ here. absurd (nowhere port here);
-      disk = λ shows. had;
-      calm = inr (record { same = same; told = λ e o here own. inl (turn_ended e o here).1; uninterrupted = uninterrupted });
+      answers_ended = heeded turn.look_is_no_event;
+      none_is_left = λ gone. absurd (nowhere port gone);
+      others_are_told_alike = λ gone. absurd (nowhere port gone);
+      is_interrupted = λ port_error. absurd (⊎_elim (nowhere port) (nowhere port) port_error);
+      none_stays_issued = λ port_error. absurd (⊎_elim (nowhere port) (nowhere port) port_error);
+      one_fault_at_most = let none = counts_none (tells_fault port) steps (tells_none port steps (λ e o here. (turn_ended e o here).1)) in omega (arith, none);
+      fatal_tells_no_fault = λ here. absurd (nowhere port here);
+      shown_disk_was_in_or_came = λ shows. had;
+      is_left_alone_if_calm = inr (record { port_is_same = same; only_ok_is_told = λ e o here own. inl (turn_ended e o here).1; is_not_interrupted = uninterrupted });
     }
 
     pub ties : TurnCorresponds InService port replies list.driven.accesses old new m its steps
     ties = record {
-      finds = λ is e own. finding turn.quiet e own;
-      faults = λ alone. absurd (unfailing (inr alone.shows.fault));
-      probes = λ served coming. record {
+      finds_done = λ is e own. finding turn.look_is_no_event e own;
+      plain_faults_are_told = λ alone. absurd (unfailing (inr alone.shows_only_tfes.tfes_is_set));
+      probes_disk = λ served coming. record {
         shown = λ absent det. absurd (not_absent absent);
         absent = λ absent det fresh. absurd (not_absent absent);
         missing = λ bad. absurd (not_bad bad);
         changed = λ bad. absurd (not_bad bad);
       };
-      boots = (λ is port_error. absurd (⊎_elim (λ fatal. unfailing (inl fatal)) never_lost port_error), inl same);
-      port_error = trouble_shown laws port (slots_at old.slots port.0) replies (joint_state_of old m) new.device turn kept.on turn.quiet its (ports_of new);
-      well = λ i. absurd (uninterrupted i);
-      heeds = λ is. serves_ready;
+      boots_anew = (λ is port_error. absurd (⊎_elim (λ fatal. unfailing (inl fatal)) never_lost port_error), inl same);
+      loses_no_error = trouble_shown laws port (slots_at old.slots port.0) replies (joint_state_of old m) new.device turn kept.adapter_is_on turn.look_is_no_event its (ports_of new);
+      runs_well_anew = λ i. absurd (uninterrupted i);
+      handles_evidence = λ is. serves_ready;
     }

@@ -19,23 +19,23 @@ use Rattle.ata_types.specs.declared.request.Op.TheVariants.{Read, Write, Trim, F
 use Rattle.ata_types.specs.declared.request.Request.{Request}
 use Rattle.ata_types.specs.declared.request.RequestId.{RequestId}
 use Rattle.adapter.specs.Device.{Device}
-use Rattle.block_machine.specs.Confined.{IsGranted, WasAccepted}
+use Rattle.block_machine.specs.Confinement.{IsGranted, WasAccepted}
 use Rattle.block_machine.specs.Events as events
 use Rattle.block_machine.specs.Histories.{JointState, IsReachable}
-use Rattle.block_machine.specs.Refusals.{Situation, IsAcceptable}
-use Rattle.block_machine.specs.Rules.{IsAllowedCount, IsNamed, Names, frame_count_for}
+use Rattle.block_machine.specs.Refusals.{AdmissionContext, IsAcceptable}
+use Rattle.block_machine.specs.Rules.{IsAllowedCount, IsNamed, HasGrantName, frame_count_for}
 use Rattle.block_machine.specs.State as machine
 use Rattle.block_machine.specs.State.{Machine, block_of}
 use Rattle.block_machine.specs.Steps as steps
 use Rattle.block_machine.specs.Steps.{HoldsFrames, MayAccept, Step, newly_accepted}
-use Rattle.dma_frames.specs.Table.{Table, owner_of, lent_to, LendsOnly}
+use Rattle.dma_frames.specs.FrameTables.{FrameOwnership, owner_of, lent_to, LendsOnly}
 use Rattle.host_boot.specs.TakeOver.{probe_result_of}
-use Rattle.request_queue.specs.Entries.{IsAccepted, entry_count_of_client}
-use Rattle.request_queue.specs.Machine.{EntryRelation}
-use Rattle.server_history.specs.Served.{accepted_as}
+use Rattle.request_queue.specs.BookEntries.{IsAccepted, entry_count_of_client}
+use Rattle.request_queue.specs.BookRelation.{EntryRelation}
+use Rattle.server_history.specs.IssuingAndAnswering.{accepted_as}
 use Rattle.block_machine.specs.Expected.{IsValidRow, after}
-use Rattle.server_history.specs.Server.{ServerState, InCallInvariant, MachineRelation, ports_of, admission_context, state_of}
-use Rattle.server_history.specs.Basics.{FrameHolderLaws}
+use Rattle.server_history.specs.ServerState.{ServerState, InCallInvariant, MachineRelation, ports_of, admission_context, state_of}
+use Rattle.server_history.specs.BasicLaws.{FrameHolderLaws}
 use Rattle.server_history.specs.Prerequisites.{PrerequisiteLaws}
 use Rattle.server_history.proofs.plain_calls.RefusalsAndBytes.{situation_is}
 
@@ -67,18 +67,18 @@ was_granted : FrameHolderLaws → (start : Machine) (history : List Step) (r : m
 was_granted laws start [] r was = absurd was
 was_granted laws start (step ∷ past) r (inl came) =
     let g = laws.granted (after start past) r came.1 in
-    record { row = g.row; named = ((laws.shrunk start past).0 g.row g.named.0, g.named.1); port = g.port; right = g.right; covered = g.covered }
+    record { row = g.row; is_named = ((laws.shrunk start past).0 g.row g.is_named.0, g.is_named.1); row_port_is = g.row_port_is; op_is_allowed = g.op_is_allowed; sectors_are_covered = g.sectors_are_covered }
 was_granted laws start (step ∷ past) r (inr was) = was_granted laws start past r was
 
 -- so an unanswered request is on the port of the row that it names
-pub on_its_port : FrameHolderLaws → (m : Machine) → IsReachable m → (e : machine.Pending) → Contains m.book e → (row : GrantRow) → Contains m.rows row → Names e.request.asked.client e.request.asked.grant row
+pub on_its_port : FrameHolderLaws → (m : Machine) → IsReachable m → (e : machine.Pending) → Contains m.book e → (row : GrantRow) → Contains m.rows row → HasGrantName e.request.asked.client e.request.asked.grant row
     → e.request.port ≡ row.port
 on_its_port laws m reached e here row there named =
-    let was = laws.lived reached.first reached.past e reached.starts reached.legal (subst (λ (n : Machine). HoldsFrames n e) reached.is (inl here)) in
-    let g = was_granted laws reached.first reached.past e.request was in
-    let at_first : IsReachable reached.first = record { first = reached.first; past = []; starts = reached.starts; legal = tt; is = refl } in
-    let at_start = (laws.shrunk reached.first reached.past).0 row (subst (λ (n : Machine). Contains n.rows row) reached.is there) in
-    g.port ∙ ap (λ (x : GrantRow). x.port) (laws.one_row reached.first e.request.asked.client e.request.asked.grant g.row row at_first g.named.0 g.named.1 at_start named)
+    let was = laws.lived reached.initial_machine reached.steps_since e reached.is_initial reached.is_legal (subst (λ (n : Machine). HoldsFrames n e) reached.leads_to_machine (inl here)) in
+    let g = was_granted laws reached.initial_machine reached.steps_since e.request was in
+    let at_first : IsReachable reached.initial_machine = record { initial_machine = reached.initial_machine; steps_since = []; is_initial = reached.is_initial; is_legal = tt; leads_to_machine = refl } in
+    let at_start = (laws.shrunk reached.initial_machine reached.steps_since).0 row (subst (λ (n : Machine). Contains n.rows row) reached.leads_to_machine there) in
+    g.row_port_is ∙ ap (λ (x : GrantRow). x.port) (laws.one_row reached.initial_machine e.request.asked.client e.request.asked.grant g.row row at_first g.is_named.0 g.is_named.1 at_start named)
 
 module _ (s : ServerState) (r : Request) (acc : IsAcceptable (admission_context s) r) (row : GrantRow) (named : IsNamed s.grants r row) (port : Port) (port_is : row.port ≡ port) where
   -- its port is ready
@@ -100,12 +100,12 @@ module _ (s : ServerState) (r : Request) (acc : IsAcceptable (admission_context 
       free (Some id) is =
           absurd (acc (Rule (Frames (FrameLent i))) (get_or r.frames.items i d, slice_get-get_or r.frames.items i d small, subst (λ (o : Option RequestId). IsSome o) (sym is) refl))
 
-  module _ (id : RequestId) (id_is : id.0 ≡ s.last + 1) where
+  module _ (id : RequestId) (id_is : id.0 ≡ s.last_id + 1) where
     -- ---- it is new to the machine
 
     -- what a machine has of it
     abbrev pub request_in : Machine → machine.Accepted
-    request_in m = record { id = id; port = port; asked = r; held = block_of m.memory r.frames.items }
+    request_in m = record { id = id; port = port; asked = r; held_blocks = block_of m.memory r.frames.items }
 
     pub entry_in : (m : Machine) → EntryRelation (accepted_as port r id) (newly_accepted (request_in m))
     entry_in m = record { id = refl; client = refl; grant = refl; port = refl; op = refl; range = refl; frames = refl; issued = refl; issues = refl; age = refl }
@@ -114,13 +114,13 @@ module _ (s : ServerState) (r : Request) (acc : IsAcceptable (admission_context 
       abbrev at : JointState Device
       at = record { device = s.device; abstract = record { machine = m; ports = ports_of s } }
 
-      allowed : IsAcceptable (events.situation_of at.abstract) r
-      allowed = subst (λ (x : Situation). IsAcceptable x r) (sym (situation_is laws s at (record { device_is = refl; ports_are = refl; machine = is }))) acc
+      allowed : IsAcceptable (events.admission_context_of at.abstract) r
+      allowed = subst (λ (x : AdmissionContext). IsAcceptable x r) (sym (situation_is laws s at (record { device_is = refl; ports_are = refl; machine_stands_for_it = is }))) acc
 
       pub is_new : MayAccept m (request_in m)
       is_new = record {
         id = id_is ∙ sym is.next;
-        id_left = ⊎_elim (λ (low : m.next < 2 ^ 64). low) (λ high. absurd (allowed IdsSpent high)) (cases_lt m.next (2 ^ 64));
+        id_left = ⊎_elim (λ (low : m.next_id < 2 ^ 64). low) (λ high. absurd (allowed IdsSpent high)) (cases_lt m.next_id (2 ^ 64));
         unbroken = λ rule broken. allowed (Rule rule) broken;
         port = λ other there.
             let here = subst (λ (rows : List GrantRow). Contains rows row) (sym is.rows) named.0 in
@@ -133,13 +133,13 @@ module _ (s : ServerState) (r : Request) (acc : IsAcceptable (admission_context 
 
     module _ (laws : PrerequisiteLaws) (k : InCallInvariant s) where
       granted : IsGranted k.machine.rows (request_in k.machine)
-      granted = laws.living.granted k.machine (request_in k.machine) (is_new laws k.machine k.reached k.stands)
+      granted = laws.living.granted k.machine (request_in k.machine) (is_new laws k.machine k.reached k.machine_relation)
 
       there : Contains s.grants granted.row
-      there = subst (λ (rows : List GrantRow). Contains rows granted.row) k.stands.rows granted.named.0
+      there = subst (λ (rows : List GrantRow). Contains rows granted.row) k.machine_relation.rows granted.is_named.0
 
       row_is : IsValidRow granted.row
-      row_is = All-contains IsValidRow s.grants granted.row k.rows there
+      row_is = All-contains IsValidRow s.grants granted.row k.rows_are_valid there
 
       count : IsAllowedCount r.op r.count
       count = count_is r.op r.count (λ other. acc (Rule BadCount) other)
@@ -147,7 +147,7 @@ module _ (s : ServerState) (r : Request) (acc : IsAcceptable (admission_context 
       -- a grant's sectors are below 2^48
       below : r.op ≢ Flush → r.first.0 + r.count ≤ 2 ^ 48
       below other =
-          let covers = granted.covered other in
+          let covers = granted.sectors_are_covered other in
           let last = row_is.below in
           omega (arith, covers.1, last)
 
@@ -164,15 +164,15 @@ module _ (s : ServerState) (r : Request) (acc : IsAcceptable (admission_context 
             slice_get-get_or r.frames.items j d small,
           )
 
-      pub is_accepted : (table : Table) → LendsOnly s.table table r.frames.items (Some id) → IsAccepted table (accepted_as port r id)
+      pub is_accepted : (table : FrameOwnership) → LendsOnly s.table table r.frames.items (Some id) → IsAccepted table (accepted_as port r id)
       is_accepted table lends = record {
-        client_from = subst (λ (c : ClientId). 1 ≤ c.0) granted.named.1.0 row_is.client.0;
-        client_to = subst (λ (c : ClientId). c.0 ≤ 8) granted.named.1.0 row_is.client.1;
-        sectors = count;
-        below = below;
-        frames = ⊎_elim (λ (same : length r.frames.items ≡ frame_count_for r.op r.count). same) (λ other. absurd (acc (Rule FrameCount) other)) (cases_eq (length r.frames.items) (frame_count_for r.op r.count));
-        clients = λ i d small. (k.owners (get_or r.frames.items i d) r.client (own i d small)).0;
-        own = λ i d small. ap (λ (owners : List (Option ClientId)). get_or owners (get_or r.frames.items i d).0 None) lends.owners ∙ own i d small;
-        apart = apart;
-        lent = lends.these;
+        client_from = subst (λ (c : ClientId). 1 ≤ c.0) granted.is_named.1.0 row_is.client.0;
+        client_to = subst (λ (c : ClientId). c.0 ≤ 8) granted.is_named.1.0 row_is.client.1;
+        count_is_allowed = count;
+        range_is_below_2_48 = below;
+        frame_count_is = ⊎_elim (λ (same : length r.frames.items ≡ frame_count_for r.op r.count). same) (λ other. absurd (acc (Rule FrameCount) other)) (cases_eq (length r.frames.items) (frame_count_for r.op r.count));
+        frames_are_clients = λ i d small. (k.owned_frames_are_clients (get_or r.frames.items i d) r.client (own i d small)).0;
+        frames_are_own = λ i d small. ap (λ (owners : List (Option ClientId)). get_or owners (get_or r.frames.items i d).0 None) lends.owners_are_kept ∙ own i d small;
+        frames_are_distinct = apart;
+        frames_are_lent = lends.these_are_lent;
       }

@@ -13,26 +13,26 @@ use Rattle.ata_types.specs.declared.request.Request.{Request}
 use Rattle.ata_types.specs.declared.request.RequestId.{RequestId}
 use Rattle.adapter.specs.Device.{Device}
 use Rattle.adapter.specs.declared.access.DeviceStep.{DeviceStep}
-use Rattle.block_machine.specs.Due.{NoneDue, is_plain, of_port}
+use Rattle.block_machine.specs.DueRequests.{NoneDue, is_plain, requests_of_port}
 use Rattle.block_machine.specs.Events as events
-use Rattle.block_machine.specs.Events.{Submit, Submitted, NoneDueWhereReady, issues_it}
-use Rattle.block_machine.specs.Histories.{JointState, JointEvent, IsReachable, now}
+use Rattle.block_machine.specs.Events.{Submit, Submitted, NoneDueWhereReady, issues_id}
+use Rattle.block_machine.specs.Histories.{JointState, JointEvent, IsReachable, joint_state_after}
 use Rattle.block_machine.specs.Expected.{after}
 use Rattle.block_machine.specs.Ports.{SamePorts}
-use Rattle.block_machine.specs.Refusals.{Situation, IsAcceptable}
+use Rattle.block_machine.specs.Refusals.{AdmissionContext, IsAcceptable}
 use Rattle.block_machine.specs.Rules.{IsNamed}
 use Rattle.block_machine.specs.State as machine
 use Rattle.block_machine.specs.State.{Machine}
 use Rattle.block_machine.specs.Steps.{Step, Accept, MayAccept, after_step, lend}
 use Rattle.block_machine.specs.declared.due.Unanswered.{Unanswered}
 use Rattle.server_history.proofs.state.ListMembers.{append_in, contains_there, some_in}
-use Rattle.refinement.specs.Driven.{IsDrivenBy, known}
-use Rattle.dma_frames.specs.Table.{Table, lent_to, LendsOnly}
+use Rattle.refinement.specs.Fragments.{IsDrivenBy, driver_state_of}
+use Rattle.dma_frames.specs.FrameTables.{FrameOwnership, lent_to, LendsOnly}
 use Rattle.host_boot.specs.TakeOver.{probe_result_of}
 use Rattle.host_boot.specs.declared.ProbeResult.{ProbeResult}
-use Rattle.request_queue.specs.Entries.{BookEntry, IsAccepted, IsEarlier, asks, asks_of, due_ids}
+use Rattle.request_queue.specs.BookEntries.{BookEntry, IsAccepted, IsEarlier, as_unanswered, unanswered_of, due_ids}
 use Rattle.driver_history.specs.Histories.{IssuesDue, IsIssuingAccess}
-use Rattle.driver_history.specs.Trace.{ClearsNoError, LeavesEngine}
+use Rattle.driver_history.specs.AccessTrace.{ClearsNoError, LeavesEngine}
 use Rattle.refinement.specs.Links.{DoesNotWrite}
 use Rattle.hba_regs.specs.declared.reg.Reg.TheVariants.{Ghc, Px}
 use Rattle.hba_regs.specs.declared.reg.PortReg.TheVariants.{Ci, Sact}
@@ -42,8 +42,8 @@ use Rattle.adapter.specs.Access.Access.{Loading, Reading, Storing, Writing}
 use Rattle.server_history.specs.Prerequisites.{PrerequisiteLaws}
 use Rattle.server_history.specs.Histories.{ExtendsSettled, LeadsToServer}
 use Rattle.commands.specs.Batches.{IsBatchAccess}
-use Rattle.server_history.specs.Served.{Accepts, IssuesAll, accepted_as, with_accepted}
-use Rattle.server_history.specs.Server.{ServerState, InCallInvariant, MachineRelation, SettledInvariant, mode_in, ports_of, admission_context, state_of, used_for, RevokedMarkInvariant}
+use Rattle.server_history.specs.IssuingAndAnswering.{Accepts, IssuesAll, accepted_as, with_accepted}
+use Rattle.server_history.specs.ServerState.{ServerState, InCallInvariant, MachineRelation, SettledInvariant, mode_in, ports_of, admission_context, state_of, used_for, RevokedMarkInvariant}
 use Rattle.slots.specs.declared.SlotUse.{SlotUse}
 use Rattle.block_machine.specs.declared.due.QueueMode.{QueueMode}
 use Rattle.server_history.proofs.state.DueRequests.{none_due}
@@ -68,8 +68,8 @@ issuing_spares_host port (Reading r v) here = absurd here
 
 pub issuing_clears_none : (port other : Port) (access : Access) → IsBatchAccess port access → ClearsNoError other access
 issuing_clears_none port other (Writing r v) here = record {
-  is = λ q. absurd (⊎_elim (λ (is : r ≡ Px port Sact). let z : Px port Sact ≡ Px other register.Is = sym is ∙ q in absurd cc) (λ (is : r ≡ Px port Ci). let z : Px port Ci ≡ Px other register.Is = sym is ∙ q in absurd cc) here);
-  serr = λ q. absurd (⊎_elim (λ (is : r ≡ Px port Sact). let z : Px port Sact ≡ Px other register.Serr = sym is ∙ q in absurd cc) (λ (is : r ≡ Px port Ci). let z : Px port Ci ≡ Px other register.Serr = sym is ∙ q in absurd cc) here);
+  pxis_trouble_is_kept = λ q. absurd (⊎_elim (λ (is : r ≡ Px port Sact). let z : Px port Sact ≡ Px other register.Is = sym is ∙ q in absurd cc) (λ (is : r ≡ Px port Ci). let z : Px port Ci ≡ Px other register.Is = sym is ∙ q in absurd cc) here);
+  serr_trouble_is_kept = λ q. absurd (⊎_elim (λ (is : r ≡ Px port Sact). let z : Px port Sact ≡ Px other register.Serr = sym is ∙ q in absurd cc) (λ (is : r ≡ Px port Ci). let z : Px port Ci ≡ Px other register.Serr = sym is ∙ q in absurd cc) here);
 }
 issuing_clears_none port other (Storing at bytes) here = tt
 issuing_clears_none port other (Loading at bytes) here = absurd here
@@ -84,7 +84,7 @@ any_in p (y ∷ ys) h = ⊎_elim
     (λ later. let r = any_in p ys later in (r.0, contains_there y ys r.0 r.1, r.2))
     (or_cases (p y) (list_any p ys) h)
 
-lends_alike : (a : machine.Accepted) (lent : Frame → Option RequestId) (old new : Table) → ((f : Frame) → lent f ≡ lent_to old f) → LendsOnly old new a.asked.frames.items (Some a.id) → (f : Frame) → lend a lent f ≡ lent_to new f
+lends_alike : (a : machine.Accepted) (lent : Frame → Option RequestId) (old new : FrameOwnership) → ((f : Frame) → lent f ≡ lent_to old f) → LendsOnly old new a.asked.frames.items (Some a.id) → (f : Frame) → lend a lent f ≡ lent_to new f
 lends_alike a lent old new alike lends f = by (list_any (λ g. g.0 == f.0) a.asked.frames.items) refl
   where
     frames : List Frame
@@ -95,21 +95,21 @@ lends_alike a lent old new alike lends f = by (list_any (λ g. g.0 == f.0) a.ask
         let x = any_in (λ (g : Frame). g.0 == f.0) frames is in
         let same : x.0 ≡ f = ap (λ (n : ℕ). record { 0 = n }) (eqb-true x.0.0 f.0 x.2) in
         cond-true (list_any (λ g. g.0 == f.0) frames) (Some a.id) (lent f) is
-        ∙ sym (All-contains (λ g. lent_to new g ≡ Some a.id) frames f lends.these (subst (λ (g : Frame). Contains frames g) same x.1))
+        ∙ sym (All-contains (λ g. lent_to new g ≡ Some a.id) frames f lends.these_are_lent (subst (λ (g : Frame). Contains frames g) same x.1))
     by false is =
         cond-false (list_any (λ g. g.0 == f.0) frames) (Some a.id) (lent f) is
-        ∙ alike f ∙ sym (lends.others f (λ here. false≢true (sym is ∙ some_in (λ (g : Frame). g.0 == f.0) frames f here (eq-eqb f.0 f.0 refl))))
+        ∙ alike f ∙ sym (lends.others_are_kept f (λ here. false≢true (sym is ∙ some_in (λ (g : Frame). g.0 == f.0) frames f here (eq-eqb f.0 f.0 refl))))
 
 -- ---- the server with one more
 
 -- the others' own requests are as many where one of another port goes last
-own_longer : (q : Port) (book : List BookEntry) (e : BookEntry) → e.entry.port ≢ q → of_port q (asks_of (book ++ e ∷ [])) ≡ of_port q (asks_of book)
-own_longer q [] e other = cond-false (e.entry.port.0 == q.0) (asks e.entry ∷ []) [] (ne_eqb e.entry.port.0 q.0 (λ same. other (ap (λ (n : ℕ). record { 0 = n }) same)))
+own_longer : (q : Port) (book : List BookEntry) (e : BookEntry) → e.entry.port ≢ q → requests_of_port q (unanswered_of (book ++ e ∷ [])) ≡ requests_of_port q (unanswered_of book)
+own_longer q [] e other = cond-false (e.entry.port.0 == q.0) (as_unanswered e.entry ∷ []) [] (ne_eqb e.entry.port.0 q.0 (λ same. other (ap (λ (n : ℕ). record { 0 = n }) same)))
 own_longer q (x ∷ book) e other =
-    ap (λ (us : List Unanswered). cond (x.entry.port.0 == q.0) (asks x.entry ∷ us) us) (own_longer q book e other)
+    ap (λ (us : List Unanswered). cond (x.entry.port.0 == q.0) (as_unanswered x.entry ∷ us) us) (own_longer q book e other)
 
 module _ (laws : PrerequisiteLaws) (s : ServerState) (k : InCallInvariant s) (r : Request) (acc : IsAcceptable (admission_context s) r) (row : GrantRow) (named : IsNamed s.grants r row) (port : Port) (port_is : row.port ≡ port)
-    (id : RequestId) (id_is : id.0 ≡ s.last + 1) (table : Table) (lends : LendsOnly s.table table r.frames.items (Some id)) where
+    (id : RequestId) (id_is : id.0 ≡ s.last_id + 1) (table : FrameOwnership) (lends : LendsOnly s.table table r.frames.items (Some id)) where
   abbrev e : BookEntry
   e = accepted_as port r id
 
@@ -123,12 +123,12 @@ module _ (laws : PrerequisiteLaws) (s : ServerState) (k : InCallInvariant s) (r 
   its = is_accepted s r acc row named port port_is id id_is laws k table lends
 
   earlier : All (λ x. IsEarlier x e) s.book
-  earlier i d small = let h = k.handed_out i d small in omega (arith, h, id_is)
+  earlier i d small = let h = k.ids_were_handed_out i d small in omega (arith, h, id_is)
 
   accepted : All (IsAccepted table) (s.book ++ e ∷ [])
   accepted =
       All-push (IsAccepted table) s.book e
-      (laws.still_lent s.table table s.book r.frames.items (Some id) lends (unlent s r acc row named port port_is) k.accepted) its
+      (laws.still_lent s.table table s.book r.frames.items (Some id) lends (unlent s r acc row named port port_is) k.requests_are_accepted) its
 
   module _ (m : Machine) (was : IsReachable m) (is : MachineRelation s m) where
     abbrev request : machine.Accepted
@@ -146,14 +146,14 @@ module _ (laws : PrerequisiteLaws) (s : ServerState) (k : InCallInvariant s) (r 
     stands_next : MachineRelation more next
     stands_next = record {
       uses = is.uses;
-      used = is.used;
+      are_uses_of = is.are_uses_of;
       parked = is.parked;
       unparked = is.unparked;
-      knows = laws.slots.accepted_agrees (known is.uses is.parked s.device) m request is.knows;
+      driver_relation = laws.slots.accepted_agrees (driver_state_of is.uses is.parked s.device) m request is.driver_relation;
       book = laws.accepts s.book m e request is.book (entry_in s r acc row named port port_is id id_is m);
-      kept = is.kept;
+      quarantine_relation = is.quarantine_relation;
       rows = is.rows;
-      owner = λ f. is.owner f ∙ sym (ap (λ (owners : List (Option ClientId)). slice_index_or owners f.0 None) lends.owners);
+      owner = λ f. is.owner f ∙ sym (ap (λ (owners : List (Option ClientId)). slice_index_or owners f.0 None) lends.owners_are_kept);
       lent = lends_alike request m.lent s.table table is.lent lends;
       next = let n = is.next in omega (arith, n);
     }
@@ -161,11 +161,11 @@ module _ (laws : PrerequisiteLaws) (s : ServerState) (k : InCallInvariant s) (r 
   -- each used slot's command is of its request's kind still: the new request has no slot
   kinds_then : (q : Port) (slot : ℕ) (used : SlotUse) (h : BookEntry) → used_for s.slots q.0 slot ≡ Some used → Contains (s.book ++ e ∷ []) h → h.entry.id ≡ used.id → used.queued ≡ not (is_plain (mode_in s q) h.entry.op)
   kinds_then q slot used h is there same = ⊎_elim
-      (λ (old : Contains s.book h). k.kinds q slot used h is old same)
+      (λ (old : Contains s.book h). k.slots_queue_as_asked q slot used h is old same)
       (λ (new : h ≡ e).
       let ready = used_ready s q.0 slot used k is in
-      let x = served_request s k.machine q.0 slot k.stands ready used.id (serves_used s k.machine q.0 k.stands ready slot used is) in
-      let low = All-contains (λ (y : BookEntry). y.entry.id.0 ≤ s.last) s.book x.request k.handed_out x.there in
+      let x = served_request s k.machine q.0 slot k.machine_relation ready used.id (serves_used s k.machine q.0 k.machine_relation ready slot used is) in
+      let low = All-contains (λ (y : BookEntry). y.entry.id.0 ≤ s.last_id) s.book x.request k.ids_were_handed_out x.there in
       let its : x.request.entry.id.0 ≡ id.0 = ap (λ (i : RequestId). i.0) (x.id_is ∙ sym same ∙ ap (λ (y : BookEntry). y.entry.id) new) in
       absurd (omega (arith, low, its, id_is)))
       (append_in s.book e h there)
@@ -175,22 +175,22 @@ module _ (laws : PrerequisiteLaws) (s : ServerState) (k : InCallInvariant s) (r 
   its_mark = record { tells = (λ plain. (row, named.0, named.1), λ has. refl); waiting = λ waits. refl }
 
   pub accept_kept : InCallInvariant more
-  accept_kept = kept_then s s.device s.grants table s.slots (s.book ++ e ∷ []) (s.last + 1) k k.rows k.on (record { telling = refl; size = refl; cap = refl; pi = refl }) k.behind lends.owners k.four k.slots kinds_then k.commands k.alone accepted
-      (laws.longer s.book e k.ordered earlier (refl, refl, refl, refl) its.client_from its.client_to (has_room s r acc row named port port_is))
-      (All-push (RevokedMarkInvariant s.grants) s.book e k.marked its_mark)
-      (All-push (λ (x : BookEntry). x.entry.id.0 ≤ s.last + 1) s.book e (All-weaker (λ (x : BookEntry). x.entry.id.0 ≤ s.last) (λ (x : BookEntry). x.entry.id.0 ≤ s.last + 1) (λ x low. omega (arith, low)) s.book k.handed_out) (omega (arith, id_is)))
-      (All-push (λ (x : BookEntry). state_of (probe_result_of s.ports x.entry.port.0) ≡ ReadyState) s.book e k.ready ready)
-      (next k.machine k.reached k.stands) (reached_next k.machine k.reached k.stands) (stands_next k.machine k.reached k.stands)
+  accept_kept = kept_then s s.device s.grants table s.slots (s.book ++ e ∷ []) (s.last_id + 1) k k.rows_are_valid k.adapter_is_on (record { telling = refl; size = refl; cap = refl; pi = refl }) k.port_invariant lends.owners_are_kept k.four_slots k.slots kinds_then k.slots_store_commands k.plain_stands_alone accepted
+      (laws.longer s.book e k.book_is_in_order earlier (refl, refl, refl, refl) its.client_from its.client_to (has_room s r acc row named port port_is))
+      (All-push (RevokedMarkInvariant s.grants) s.book e k.revoked_marks_agree its_mark)
+      (All-push (λ (x : BookEntry). x.entry.id.0 ≤ s.last_id + 1) s.book e (All-weaker (λ (x : BookEntry). x.entry.id.0 ≤ s.last_id) (λ (x : BookEntry). x.entry.id.0 ≤ s.last_id + 1) (λ x low. omega (arith, low)) s.book k.ids_were_handed_out) (omega (arith, id_is)))
+      (All-push (λ (x : BookEntry). state_of (probe_result_of s.ports x.entry.port.0) ≡ ReadyState) s.book e k.requests_are_of_ready_ports ready)
+      (next k.machine k.reached k.machine_relation) (reached_next k.machine k.reached k.machine_relation) (stands_next k.machine k.reached k.machine_relation)
 
   -- ---- the event
 
-  module _ (none : (other : Port) → NoneDue (mode_in s other) (asks_of s.book) other) (new : ServerState) (issues : IssuesAll port more new) where
+  module _ (none : (other : Port) → NoneDue (mode_in s other) (unanswered_of s.book) other) (new : ServerState) (issues : IssuesAll port more new) where
     abbrev ids : List RequestId
-    ids = due_ids (mode_in s port) port (asks_of more.book)
+    ids = due_ids (mode_in s port) port (unanswered_of more.book)
 
-    none_other : (other : Port) → other ≢ port → NoneDue (mode_in s other) (asks_of more.book) other
+    none_other : (other : Port) → other ≢ port → NoneDue (mode_in s other) (unanswered_of more.book) other
     none_other other ne u own due =
-        none other u own ((laws.same_due (mode_in s other) other (asks_of more.book) (asks_of s.book) u (own_longer other s.book e (λ same. ne (sym same))) own).0 due)
+        none other u own ((laws.same_due (mode_in s other) other (unanswered_of more.book) (unanswered_of s.book) u (own_longer other s.book e (λ same. ne (sym same))) own).0 due)
 
     settles : SettledInvariant new
     settles = settled laws port more new accept_kept none_other issues
@@ -207,7 +207,7 @@ module _ (laws : PrerequisiteLaws) (s : ServerState) (k : InCallInvariant s) (r 
     pub event : (first : JointState Device) (past : List (JointEvent Device DeviceStep)) → LeadsToServer first past s
         → (h : JointEvent Device DeviceStep) × (h.event.ask ≡ Submit r) × (h.event.said ≡ Submitted (Ok id)) × LeadsToServer first (h ∷ past) new
     event first past leads =
-        lead_by laws first past s new (Submit r) (Submitted (Ok id)) (x.steps ++ early) (ap (λ (n : ServerState). n.wanted) same) (ap ports_of same) leads (holding new settles.kept)
+        lead_by laws first past s new (Submit r) (Submitted (Ok id)) (x.steps ++ early) (ap (λ (n : ServerState). n.wanted) same) (ap ports_of same) leads (holding new settles.in_call_invariant)
         (laws.basic.may m x.steps early (tt, fresh m was is) x.may)
         (belong_on mode port {D = DeviceStep} (Submit r) (ports_of new) (λ p own. (its_ready p own, its_mode p own)) x.steps early x.only (tt, inr refl))
         (last_on mode port x.steps early x.only x.last (tt, λ other h i. false≢true h) (λ other i j. false≢true j))
@@ -215,15 +215,15 @@ module _ (laws : PrerequisiteLaws) (s : ServerState) (k : InCallInvariant s) (r 
         (allowed, (asked, accepts_on mode port x.steps early x.only, refl), same_ports_are, all_issued)
         tt
         driven.accesses
-        (driven.all, (row, its_row, All-weaker (IsBatchAccess port) (IsIssuingAccess row.port) (λ access here. subst (λ (p : Port). IsIssuingAccess p access) (sym port_is) (issuing_is port port_low access here)) driven.accesses driven.only))
-        (λ other. All-weaker (IsBatchAccess port) (LeavesEngine other) (issuing_leaves laws port other) driven.accesses driven.only)
+        (driven.all_are_done, (row, its_row, All-weaker (IsBatchAccess port) (IsIssuingAccess row.port) (λ access here. subst (λ (p : Port). IsIssuingAccess p access) (sym port_is) (issuing_is port port_low access here)) driven.accesses driven.accesses_are_of_kind))
+        (λ other. All-weaker (IsBatchAccess port) (LeavesEngine other) (issuing_leaves laws port other) driven.accesses driven.accesses_are_of_kind)
         (λ other is_ready. due_now other)
-        (λ other. record { finds = tt; faults = tt; probes = tt; boots = tt; port_error = laws.calls.ordinary other (with_device s.device old) new.device driven.accesses (told_by s.device old.abstract.ports) (ports_of new) k.on driven.all (All-weaker (IsBatchAccess port) (DoesNotWrite Ghc) (issuing_spares_host port) driven.accesses driven.only) (All-weaker (IsBatchAccess port) (ClearsNoError other) (issuing_clears_none port other) driven.accesses driven.only); well = λ i. absurd (uninterrupted s.device old.abstract.ports other i); heeds = uninterrupted s.device old.abstract.ports other })
+        (λ other. record { finds_done = tt; plain_faults_are_told = tt; probes_disk = tt; boots_anew = tt; loses_no_error = laws.calls.ordinary other (with_device s.device old) new.device driven.accesses (told_by s.device old.abstract.ports) (ports_of new) k.adapter_is_on driven.all_are_done (All-weaker (IsBatchAccess port) (DoesNotWrite Ghc) (issuing_spares_host port) driven.accesses driven.accesses_are_of_kind) (All-weaker (IsBatchAccess port) (ClearsNoError other) (issuing_clears_none port other) driven.accesses driven.accesses_are_of_kind); runs_well_anew = λ i. absurd (uninterrupted s.device old.abstract.ports other i); handles_evidence = uninterrupted s.device old.abstract.ports other })
         (laws.backed_parts s.device s.device new.device m early x.steps (laws.backed_own s.device m (Accept asked) (λ no. no)) x.backed)
         stands
       where
         old : JointState Device
-        old = now first past
+        old = joint_state_after first past
 
         m : Machine
         m = old.abstract.machine
@@ -232,7 +232,7 @@ module _ (laws : PrerequisiteLaws) (s : ServerState) (k : InCallInvariant s) (r 
         was = reached laws first past s leads
 
         is : MachineRelation s m
-        is = leads.stands.machine
+        is = leads.stands.machine_stands_for_it
 
         asked : machine.Accepted
         asked = request m was is
@@ -258,8 +258,8 @@ module _ (laws : PrerequisiteLaws) (s : ServerState) (k : InCallInvariant s) (r 
         its_ready : (p : machine.Pending) → p.request.port ≡ port → (ports_of new).state p.request.port ≡ ReadyState
         its_ready p own = ap (λ (q : Port). state_of (probe_result_of new.ports q.0)) own ∙ ap (λ (found : List ProbeResult). state_of (probe_result_of found port.0)) ports_same_too ∙ ready
 
-        allowed : IsAcceptable (events.situation_of old.abstract) r
-        allowed = subst (λ (y : Situation). IsAcceptable y r) (sym (situation_is laws s old leads.stands)) acc
+        allowed : IsAcceptable (events.admission_context_of old.abstract) r
+        allowed = subst (λ (y : AdmissionContext). IsAcceptable y r) (sym (situation_is laws s old leads.stands)) acc
 
         its_row : IsNamed m.rows r row
         its_row = subst (λ (rows : List GrantRow). IsNamed rows r row) (sym is.rows) named
@@ -268,7 +268,7 @@ module _ (laws : PrerequisiteLaws) (s : ServerState) (k : InCallInvariant s) (r 
         same_ports_are = ports_same old.abstract.ports (ports_of new) (leads.stands.ports_are ∙ sym (ap ports_of same))
 
         all_issued : NoneDueWhereReady (record { machine = after m (x.steps ++ early); ports = ports_of new })
-        all_issued other on = none_due new (after m (x.steps ++ early)) stands (mode_in new other) other (settles.issued other)
+        all_issued other on = none_due new (after m (x.steps ++ early)) stands (mode_in new other) other (settles.nothing_is_due other)
 
         mode_is : (other : Port) → mode_in new other ≡ mode_in s other
         mode_is other = ap (λ (n : ServerState). mode_in n other) same
@@ -278,11 +278,11 @@ module _ (laws : PrerequisiteLaws) (s : ServerState) (k : InCallInvariant s) (r 
             subst (λ (takes : QueueMode). IssuesDue takes (x.steps ++ early) (after m (x.steps ++ early)) other) (sym (mode_is other))
             (subst (λ (n : Machine). IssuesDue (mode_in s other) (x.steps ++ early) n other) (sym (laws.basic.joined m x.steps early))
             (dues_carried laws (mode_in s other) x.steps (x.steps ++ early) (after (next m was is) x.steps) (after (next m was is) x.steps) other refl
-            (λ u here own. sym (any_append (issues_it u.id) x.steps early ∙ or_none (list_any (issues_it u.id) x.steps)))
+            (λ u here own. sym (any_append (issues_id u.id) x.steps early ∙ or_none (list_any (issues_id u.id) x.steps)))
             (dues laws port more new accept_kept issues (next m was is) x other (none_other other))))
 
 pub acceptance : PrerequisiteLaws → (s new : ServerState) (port : Port) (r : Request) (id : RequestId) → SettledInvariant s → IsAcceptable (admission_context s) r → Accepts port r id s new → ExtendsSettled s new (Submit r) (Submitted (Ok id))
 acceptance laws s new port r id k acc a = record {
-  settled = settles laws s k.kept r acc a.row a.named port a.port_is id a.id_is a.table a.lent k.issued new a.issued;
-  adds = event laws s k.kept r acc a.row a.named port a.port_is id a.id_is a.table a.lent k.issued new a.issued;
+  settled_invariant = settles laws s k.in_call_invariant r acc a.row a.named port a.port_is id a.id_is a.table a.lends_only k.nothing_is_due new a.issued;
+  extends_history = event laws s k.in_call_invariant r acc a.row a.named port a.port_is id a.id_is a.table a.lends_only k.nothing_is_due new a.issued;
 }

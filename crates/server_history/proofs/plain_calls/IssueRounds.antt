@@ -8,26 +8,26 @@ use Rattle.ata_types.specs.declared.Port.{Port}
 use Rattle.ata_types.specs.declared.request.RequestId.{RequestId}
 use Rattle.ata_types.specs.declared.PortState.TheVariants.{Dead}
 use Rattle.adapter.specs.declared.command.Operation.{Operation}
-use Rattle.refinement.specs.Driven.{IsDrivenBy, GainsNoMove}
+use Rattle.refinement.specs.Fragments.{IsDrivenBy, GainsNoMove}
 use Rattle.refinement.specs.Slots.{op_of}
 use Rattle.refinement.specs.Driver.{IsBacked}
 use Rattle.server_history.proofs.state.DrivenAccesses.{by_none}
-use Rattle.block_machine.specs.Due.{AreAllDueInOrder, IsDue, NoneDue, due_of, mark_issued, of_port, with_issued}
-use Rattle.block_machine.specs.Events.{AbstractCall, AbstractState, AllByDevice, AllAnswersLawful, AllMay, AreStepsOfCall, IsIssuedIn, IsByServer, IssuesLast, accepts_of, handles, issues_it}
+use Rattle.block_machine.specs.DueRequests.{AreAllDueInOrder, IsDue, NoneDue, due_of, mark_issued, requests_of_port, with_issued}
+use Rattle.block_machine.specs.Events.{AbstractCall, AbstractState, AllByDevice, AllAnswersLawful, AllEnabled, AreStepsOfCall, IsIssuedIn, IsByServer, IssuesLast, accepts_of, handles_id, issues_id}
 use Rattle.block_machine.specs.Histories.{IsReachable}
 use Rattle.block_machine.specs.Expected.{after}
 use Rattle.block_machine.specs.Ports.{Ports, Evidence}
 use Rattle.block_machine.specs.State.{Machine, Pending, unanswered}
-use Rattle.block_machine.specs.Steps.{Step, Accept, Again, Answer, Issue}
+use Rattle.block_machine.specs.Steps.{Step, Accept, WaitAgain, Answer, Issue}
 use Rattle.block_machine.specs.declared.due.QueueMode.{QueueMode}
 use Rattle.block_machine.specs.declared.due.Unanswered.{Unanswered}
 use Rattle.server_history.proofs.state.ListMembers.{contains_cases, contains_here, contains_there, into_map, map_in}
 use Rattle.driver_history.specs.Histories.{IssuesDue, with_issue_undone}
 use Rattle.commands.specs.Batches.{IsBatchAccess, PlacedTask, issues_of}
-use Rattle.request_queue.specs.Entries.{BookEntry, BookIsInOrder, IsWaiting, asks, asks_of, due_ids}
+use Rattle.request_queue.specs.BookEntries.{BookEntry, BookIsInOrder, IsWaiting, as_unanswered, unanswered_of, due_ids}
 use Rattle.server_history.specs.Prerequisites.{PrerequisiteLaws}
-use Rattle.server_history.specs.Served.{AllByDeviceOrIssue, IssuesAll, IssuesTogetherIfAny, PutsInSlot, PutsInSlots}
-use Rattle.server_history.specs.Server.{ServerState, InCallInvariant, MachineRelation, SettledInvariant, mode_at, mode_in, no_slots, slots_at}
+use Rattle.server_history.specs.IssuingAndAnswering.{AllByDeviceOrIssue, IssuesAll, IssuesTogetherIfAny, PutsInSlot, PutsInSlots}
+use Rattle.server_history.specs.ServerState.{ServerState, InCallInvariant, MachineRelation, SettledInvariant, mode_at, mode_in, no_slots, slots_at}
 use Rattle.server_history.proofs.state.DueRequests.{same_book}
 use Rattle.server_history.proofs.state.DeviceSteps.{devices_last, not_handled}
 use Rattle.server_history.proofs.plain_calls.IssuedTogether.{AreIssuedTogether, HaveIds, issued_together, together_kept, together_silent}
@@ -44,7 +44,7 @@ not_true true is = absurd (false≢true is)
 -- ---- steps
 
 -- the device's steps issue nothing
-pub devices_issue_none : (id : RequestId) (steps : List Step) → AllByDevice steps → list_any (issues_it id) steps ≡ false
+pub devices_issue_none : (id : RequestId) (steps : List Step) → AllByDevice steps → list_any (issues_id id) steps ≡ false
 devices_issue_none id [] all = refl
 devices_issue_none id (Issue its e ∷ steps) all = absurd all.1
 devices_issue_none id (step ∷ steps) all = devices_issue_none id steps all.0
@@ -62,13 +62,13 @@ or_none true = refl
 or_none false = refl
 
 pub issued_parts : (id : RequestId) (late early : List Step) → IsIssuedIn id (late ++ early) → IsIssuedIn id late ⊎ IsIssuedIn id early
-issued_parts id late early i = or_cases _ _ (sym (any_append (issues_it id) late early) ∙ i)
+issued_parts id late early i = or_cases _ _ (sym (any_append (issues_id id) late early) ∙ i)
 
 pub issued_late : (id : RequestId) (late early : List Step) → IsIssuedIn id late → IsIssuedIn id (late ++ early)
-issued_late id late early i = any_append (issues_it id) late early ∙ or_left _ _ i
+issued_late id late early i = any_append (issues_id id) late early ∙ or_left _ _ i
 
 pub issued_early : (id : RequestId) (late early : List Step) → IsIssuedIn id early → IsIssuedIn id (late ++ early)
-issued_early id late early i = any_append (issues_it id) late early ∙ or_right _ _ i
+issued_early id late early i = any_append (issues_id id) late early ∙ or_right _ _ i
 
 devices_only : (mode : QueueMode) (port : Port) (steps : List Step) → AllByDevice steps → AllByDeviceOrIssue mode port steps
 devices_only mode port [] all = tt
@@ -100,14 +100,14 @@ module _ (mode : QueueMode) (port : Port) where
       rest (Issue its e) only = only.2
       rest step only = only.1
 
-      issues : (step : Step) → AllByDeviceOrIssue mode port (step ∷ late) → (id : RequestId) → handles id step ≡ true → issues_it id step ≡ true
+      issues : (step : Step) → AllByDeviceOrIssue mode port (step ∷ late) → (id : RequestId) → handles_id id step ≡ true → issues_id id step ≡ true
       issues (Issue its e) only id h = h
       issues step only id h = absurd (not_handled id step only.0 h)
 
   pub lawful_on : (old : AbstractState) (evidence : Evidence) (ports : Ports) (late early : List Step) → AllByDeviceOrIssue mode port late → AllAnswersLawful old evidence ports early → AllAnswersLawful old evidence ports (late ++ early)
   lawful_on old evidence ports [] early only l = l
   lawful_on old evidence ports (Issue its e ∷ late) early only l = lawful_on old evidence ports late early only.2 l
-  lawful_on old evidence ports (Again e ∷ late) early only l = absurd only.0
+  lawful_on old evidence ports (WaitAgain e ∷ late) early only l = absurd only.0
   lawful_on old evidence ports (Answer e o ∷ late) early only l = absurd only.0
   lawful_on old evidence ports (step ∷ late) early only l = lawful_on old evidence ports late early only.1 l
 
@@ -122,7 +122,7 @@ module _ (mode : QueueMode) (port : Port) where
 -- These requests are issued by such steps from the machine, after which it stands for the new server.
 pub record AreIssued (port : Port) (ids : List RequestId) (old new : ServerState) (m : Machine) : Type 0 where
   pub steps : List Step
-  pub may : AllMay m steps
+  pub may : AllEnabled m steps
   pub backed : IsBacked old.device new.device m steps
   pub stands : MachineRelation new (after m steps)
   pub only : AllByDeviceOrIssue (mode_in old port) port steps
@@ -142,7 +142,7 @@ pub record ArePutInSlots (port : Port) (ids : List RequestId) (old new : ServerS
 
 pub are_put : (port : Port) (ids : List RequestId) (old new : ServerState) → IssuesTogetherIfAny port ids old new → ArePutInSlots port ids old new
 are_put port [] old new none = record { tasks = []; taken = old; puts = refl; server = none ∙ ap (λ (n : ServerState). record old { device = n.device }) (sym none) }
-are_put port (id ∷ ids) old new issues = record { tasks = issues.tasks; taken = issues.taken; puts = issues.puts; server = issues.server }
+are_put port (id ∷ ids) old new issues = record { tasks = issues.tasks; taken = issues.taken; puts = issues.puts; server = issues.server_is }
 
 module _ (laws : PrerequisiteLaws) (port : Port) where
   -- ---- the issues of requests
@@ -253,54 +253,54 @@ module _ (laws : PrerequisiteLaws) (port : Port) where
   with_each (id ∷ ids) book = with_each ids (with_issued id book)
 
   -- what one that is put in a slot leaves of what is asked
-  put_asks : (old mid : ServerState) (id : RequestId) (t : PlacedTask) → PutsInSlot port id t old mid → asks_of mid.book ≡ with_issued id (asks_of old.book)
-  put_asks old mid id t one = ap (λ (n : ServerState). asks_of n.book) one.server ∙ laws.asks_issued old.book id
+  put_asks : (old mid : ServerState) (id : RequestId) (t : PlacedTask) → PutsInSlot port id t old mid → unanswered_of mid.book ≡ with_issued id (unanswered_of old.book)
+  put_asks old mid id t one = ap (λ (n : ServerState). unanswered_of n.book) one.server_is ∙ laws.asks_issued old.book id
 
-  puts_asks : (ids : List RequestId) (tasks : List PlacedTask) (old new : ServerState) → PutsInSlots port ids tasks old new → asks_of new.book ≡ with_each ids (asks_of old.book)
-  puts_asks [] [] old new none = ap (λ (n : ServerState). asks_of n.book) none
+  puts_asks : (ids : List RequestId) (tasks : List PlacedTask) (old new : ServerState) → PutsInSlots port ids tasks old new → unanswered_of new.book ≡ with_each ids (unanswered_of old.book)
+  puts_asks [] [] old new none = ap (λ (n : ServerState). unanswered_of n.book) none
   puts_asks (id ∷ ids) (t ∷ tasks) old new (mid, one, more) = puts_asks ids tasks mid new more ∙ ap (with_each ids) (put_asks old mid id t one)
   puts_asks [] (t ∷ tasks) old new puts = absurd puts
   puts_asks (id ∷ ids) [] old new puts = absurd puts
 
-  each_asks : (ids : List RequestId) (old new : ServerState) → IssuesTogetherIfAny port ids old new → asks_of new.book ≡ with_each ids (asks_of old.book)
+  each_asks : (ids : List RequestId) (old new : ServerState) → IssuesTogetherIfAny port ids old new → unanswered_of new.book ≡ with_each ids (unanswered_of old.book)
   each_asks ids old new issues =
       let x : ArePutInSlots port ids old new = are_put port ids old new issues in
-      ap (λ (n : ServerState). asks_of n.book) x.server ∙ puts_asks ids x.tasks old x.taken x.puts
+      ap (λ (n : ServerState). unanswered_of n.book) x.server ∙ puts_asks ids x.tasks old x.taken x.puts
 
   -- once all that were due are issued, none is
-  puts_done : (mode : QueueMode) (ids : List RequestId) (tasks : List PlacedTask) (old new : ServerState) → PutsInSlots port ids tasks old new → AreAllDueInOrder mode port ids (asks_of old.book) → NoneDue mode (asks_of new.book) port
-  puts_done mode [] [] old new none turns = subst (λ (n : ServerState). NoneDue mode (asks_of n.book) port) (sym none) turns
+  puts_done : (mode : QueueMode) (ids : List RequestId) (tasks : List PlacedTask) (old new : ServerState) → PutsInSlots port ids tasks old new → AreAllDueInOrder mode port ids (unanswered_of old.book) → NoneDue mode (unanswered_of new.book) port
+  puts_done mode [] [] old new none turns = subst (λ (n : ServerState). NoneDue mode (unanswered_of n.book) port) (sym none) turns
   puts_done mode (id ∷ ids) (t ∷ tasks) old new (mid, one, more) turns =
       puts_done mode ids tasks mid new more (subst (AreAllDueInOrder mode port ids) (sym (put_asks old mid id t one)) turns.1)
   puts_done mode [] (t ∷ tasks) old new puts turns = absurd puts
   puts_done mode (id ∷ ids) [] old new puts turns = absurd puts
 
-  pub each_done : (mode : QueueMode) (ids : List RequestId) (old new : ServerState) → IssuesTogetherIfAny port ids old new → AreAllDueInOrder mode port ids (asks_of old.book) → NoneDue mode (asks_of new.book) port
+  pub each_done : (mode : QueueMode) (ids : List RequestId) (old new : ServerState) → IssuesTogetherIfAny port ids old new → AreAllDueInOrder mode port ids (unanswered_of old.book) → NoneDue mode (unanswered_of new.book) port
   each_done mode ids old new issues turns =
       let x : ArePutInSlots port ids old new = are_put port ids old new issues in
-      subst (λ (n : ServerState). NoneDue mode (asks_of n.book) port) (sym x.server) (puts_done mode ids x.tasks old x.taken x.puts turns)
+      subst (λ (n : ServerState). NoneDue mode (unanswered_of n.book) port) (sym x.server) (puts_done mode ids x.tasks old x.taken x.puts turns)
 
   -- requests of another port are as they were
-  puts_apart : (ids : List RequestId) (tasks : List PlacedTask) (old new : ServerState) → BookIsInOrder old.book → PutsInSlots port ids tasks old new → (other : Port) → other ≢ port → of_port other (asks_of new.book) ≡ of_port other (asks_of old.book)
-  puts_apart [] [] old new order none other ne = ap (λ (n : ServerState). of_port other (asks_of n.book)) none
+  puts_apart : (ids : List RequestId) (tasks : List PlacedTask) (old new : ServerState) → BookIsInOrder old.book → PutsInSlots port ids tasks old new → (other : Port) → other ≢ port → requests_of_port other (unanswered_of new.book) ≡ requests_of_port other (unanswered_of old.book)
+  puts_apart [] [] old new order none other ne = ap (λ (n : ServerState). requests_of_port other (unanswered_of n.book)) none
   puts_apart (first ∷ ids) (t ∷ tasks) old new order (mid, one, more) other ne =
-      puts_apart ids tasks mid new (subst (λ (n : ServerState). BookIsInOrder n.book) (sym one.server) (laws.issued old.book first order (subst (λ (id : RequestId). IsWaiting id old.book) one.id_is (laws.waits (mode_in old port) old.book (asks one.request.entry) one.due)))) more other ne
-      ∙ ap (of_port other) (put_asks old mid first t one ∙ ap (λ (id : RequestId). with_issued id (asks_of old.book)) (sym one.id_is))
-      ∙ laws.issued_apart other (asks_of old.book) (asks one.request.entry) (laws.asked old.book order) (into_map (λ (y : BookEntry). asks y.entry) old.book one.request one.here)
+      puts_apart ids tasks mid new (subst (λ (n : ServerState). BookIsInOrder n.book) (sym one.server_is) (laws.issued old.book first order (subst (λ (id : RequestId). IsWaiting id old.book) one.id_is (laws.waits (mode_in old port) old.book (as_unanswered one.request.entry) one.due)))) more other ne
+      ∙ ap (requests_of_port other) (put_asks old mid first t one ∙ ap (λ (id : RequestId). with_issued id (unanswered_of old.book)) (sym one.id_is))
+      ∙ laws.issued_apart other (unanswered_of old.book) (as_unanswered one.request.entry) (laws.asked old.book order) (into_map (λ (y : BookEntry). as_unanswered y.entry) old.book one.request one.is_in_book)
       (λ same. ne (sym same ∙ one.port_is))
   puts_apart [] (t ∷ tasks) old new order puts other ne = absurd puts
   puts_apart (id ∷ ids) [] old new order puts other ne = absurd puts
 
-  pub each_apart : (ids : List RequestId) (old new : ServerState) → BookIsInOrder old.book → IssuesTogetherIfAny port ids old new → (other : Port) → other ≢ port → of_port other (asks_of new.book) ≡ of_port other (asks_of old.book)
+  pub each_apart : (ids : List RequestId) (old new : ServerState) → BookIsInOrder old.book → IssuesTogetherIfAny port ids old new → (other : Port) → other ≢ port → requests_of_port other (unanswered_of new.book) ≡ requests_of_port other (unanswered_of old.book)
   each_apart ids old new order issues other ne =
       let x : ArePutInSlots port ids old new = are_put port ids old new issues in
-      ap (λ (n : ServerState). of_port other (asks_of n.book)) x.server ∙ puts_apart ids x.tasks old x.taken order x.puts other ne
+      ap (λ (n : ServerState). requests_of_port other (unanswered_of n.book)) x.server ∙ puts_apart ids x.tasks old x.taken order x.puts other ne
 
   -- and so are the slots of another port
   puts_slots : (ids : List RequestId) (tasks : List PlacedTask) (old new : ServerState) → PutsInSlots port ids tasks old new → (other : ℕ) → other ≢ port.0 → slots_at new.slots other ≡ slots_at old.slots other
   puts_slots [] [] old new none other ne = ap (λ (n : ServerState). slots_at n.slots other) none
   puts_slots (id ∷ ids) (t ∷ tasks) old new (mid, one, more) other ne =
-      puts_slots ids tasks mid new more other ne ∙ ap (λ (n : ServerState). slots_at n.slots other) one.server ∙ get_or-set_other old.slots port.0 other _ no_slots ne
+      puts_slots ids tasks mid new more other ne ∙ ap (λ (n : ServerState). slots_at n.slots other) one.server_is ∙ get_or-set_other old.slots port.0 other _ no_slots ne
   puts_slots [] (t ∷ tasks) old new puts other ne = absurd puts
   puts_slots (id ∷ ids) [] old new puts other ne = absurd puts
 
@@ -309,28 +309,28 @@ module _ (laws : PrerequisiteLaws) (port : Port) where
       let x : ArePutInSlots port ids old new = are_put port ids old new issues in
       ap (λ (n : ServerState). slots_at n.slots other) x.server ∙ puts_slots ids x.tasks old x.taken x.puts other ne
 
-  pub settled : (old new : ServerState) → InCallInvariant old → ((other : Port) → other ≢ port → NoneDue (mode_in old other) (asks_of old.book) other) → IssuesAll port old new → SettledInvariant new
+  pub settled : (old new : ServerState) → InCallInvariant old → ((other : Port) → other ≢ port → NoneDue (mode_in old other) (unanswered_of old.book) other) → IssuesAll port old new → SettledInvariant new
   settled old new k none issues = record {
-    kept = each_kept ids old new k issues;
-    issued = λ other. subst (λ (modes : List QueueMode). NoneDue (mode_at modes other.0) (asks_of new.book) other) (sym (each_modes ids old new issues)) (⊎_elim
+    in_call_invariant = each_kept ids old new k issues;
+    nothing_is_due = λ other. subst (λ (modes : List QueueMode). NoneDue (mode_at modes other.0) (unanswered_of new.book) other) (sym (each_modes ids old new issues)) (⊎_elim
         (λ (same : other.0 ≡ port.0).
-        subst (λ (q : Port). NoneDue (mode_in old q) (asks_of new.book) q) (ap (λ (n : ℕ). record { 0 = n }) (sym same))
-        (each_done (mode_in old port) ids old new issues (laws.in_turn (mode_in old port) port (asks_of old.book) (laws.asked old.book k.ordered))))
+        subst (λ (q : Port). NoneDue (mode_in old q) (unanswered_of new.book) q) (ap (λ (n : ℕ). record { 0 = n }) (sym same))
+        (each_done (mode_in old port) ids old new issues (laws.in_turn (mode_in old port) port (unanswered_of old.book) (laws.asked old.book k.book_is_in_order))))
         (λ (ne : other.0 ≢ port.0).
         let apart : other ≢ port = λ same. ne (ap (λ (p : Port). p.0) same) in
         λ r own is_due. none other apart r own
-        ((laws.same_due (mode_in old other) other (asks_of new.book) (asks_of old.book) r (each_apart ids old new k.ordered issues other apart) own).0 is_due))
+        ((laws.same_due (mode_in old other) other (unanswered_of new.book) (unanswered_of old.book) r (each_apart ids old new k.book_is_in_order issues other apart) own).0 is_due))
         (cases_eq other.0 port.0));
   }
     where
       ids : List RequestId
-      ids = due_ids (mode_in old port) port (asks_of old.book)
+      ids = due_ids (mode_in old port) port (unanswered_of old.book)
 
   -- ---- what was due is what was issued
 
   -- as it was, were none of them issued
   abbrev mark : List Step → Unanswered → Unanswered
-  mark steps r = if list_any (issues_it r.id) steps then record r { issued = false } else r
+  mark steps r = if list_any (issues_id r.id) steps then record r { issued = false } else r
 
   abbrev mark_each : List RequestId → Unanswered → Unanswered
   mark_each [] r = r
@@ -372,11 +372,11 @@ module _ (laws : PrerequisiteLaws) (port : Port) where
       (λ (one : (mark_each ids r ≡ r) × (Contains ids r.id → ⊥)).
       ap (mark steps) one.0 ∙ ⊎_elim
       (λ (issued : IsIssuedIn r.id steps). absurd (one.1 (named r.id issued)))
-      (λ (none : list_any (issues_it r.id) steps ≡ false). cond-false (list_any (issues_it r.id) steps) (record r { issued = false }) r none)
-      (cases_Bool (list_any (issues_it r.id) steps)))
+      (λ (none : list_any (issues_id r.id) steps ≡ false). cond-false (list_any (issues_id r.id) steps) (record r { issued = false }) r none)
+      (cases_Bool (list_any (issues_id r.id) steps)))
       (λ (one : (mark_each ids r ≡ record r { issued = true }) × Contains ids r.id).
       let here : record r { issued = false } ≡ r = (λ i. record r { issued = sym (waits one.1) i }) in
-      ap (mark steps) one.0 ∙ cond-true (list_any (issues_it r.id) steps) (record r { issued = false }) (record r { issued = true }) (all r.id one.1) ∙ here)
+      ap (mark steps) one.0 ∙ cond-true (list_any (issues_id r.id) steps) (record r { issued = false }) (record r { issued = true }) (all r.id one.1) ∙ here)
       (each_mark ids r)
 
   unmarked_all : (f g : Unanswered → Unanswered) (xs : List Unanswered) → ((r : Unanswered) → Contains xs r → f (g r) ≡ r) → map f (map g xs) ≡ xs
@@ -384,38 +384,38 @@ module _ (laws : PrerequisiteLaws) (port : Port) where
   unmarked_all f g (x ∷ xs) each =
       ap (λ (y : Unanswered). y ∷ map f (map g xs)) (each x (first_here x xs)) ∙ ap (λ (ys : List Unanswered). x ∷ ys) (unmarked_all f g xs (λ r here. each r (contains_there x xs r here)))
 
-  module _ (old new : ServerState) (k : InCallInvariant old) (issues : IssuesAll port old new) (m : Machine) (x : AreIssued port (due_ids (mode_in old port) port (asks_of old.book)) old new m) where
+  module _ (old new : ServerState) (k : InCallInvariant old) (issues : IssuesAll port old new) (m : Machine) (x : AreIssued port (due_ids (mode_in old port) port (unanswered_of old.book)) old new m) where
     abbrev ids : List RequestId
-    ids = due_ids (mode_in old port) port (asks_of old.book)
+    ids = due_ids (mode_in old port) port (unanswered_of old.book)
 
     -- a request of the book whose id is among these is due, and of the port
-    is_due : (r : Unanswered) → Contains (asks_of old.book) r → Contains ids r.id → IsDue (mode_in old port) (asks_of old.book) r × (r.port ≡ port)
+    is_due : (r : Unanswered) → Contains (unanswered_of old.book) r → Contains ids r.id → IsDue (mode_in old port) (unanswered_of old.book) r × (r.port ≡ port)
     is_due r here there =
-        let y = map_in (λ (u : Unanswered). u.id) (due_of (mode_in old port) port (asks_of old.book)) r.id there in
-        let own : y.0.port ≡ port = laws.own (mode_in old port) port (asks_of old.book) y.0 y.1 in
-        let its : IsDue (mode_in old port) (asks_of old.book) y.0 = (laws.exact (mode_in old port) port (asks_of old.book) y.0 own).0 y.1 in
-        let a = map_in (λ (e : BookEntry). asks e.entry) old.book r here in
-        let b = map_in (λ (e : BookEntry). asks e.entry) old.book y.0 its.here in
-        let one : a.0 ≡ b.0 = laws.one old.book a.0 b.0 k.ordered a.1 b.1 (sym (ap (λ (u : Unanswered). u.id) a.2) ∙ y.2 ∙ ap (λ (u : Unanswered). u.id) b.2) in
-        let same : y.0 ≡ r = b.2 ∙ ap (λ (e : BookEntry). asks e.entry) (sym one) ∙ sym a.2 in
-        (subst (IsDue (mode_in old port) (asks_of old.book)) same its, ap (λ (u : Unanswered). u.port) (sym same) ∙ own)
+        let y = map_in (λ (u : Unanswered). u.id) (due_of (mode_in old port) port (unanswered_of old.book)) r.id there in
+        let own : y.0.port ≡ port = laws.own (mode_in old port) port (unanswered_of old.book) y.0 y.1 in
+        let its : IsDue (mode_in old port) (unanswered_of old.book) y.0 = (laws.exact (mode_in old port) port (unanswered_of old.book) y.0 own).0 y.1 in
+        let a = map_in (λ (e : BookEntry). as_unanswered e.entry) old.book r here in
+        let b = map_in (λ (e : BookEntry). as_unanswered e.entry) old.book y.0 its.is_in_book in
+        let one : a.0 ≡ b.0 = laws.one old.book a.0 b.0 k.book_is_in_order a.1 b.1 (sym (ap (λ (u : Unanswered). u.id) a.2) ∙ y.2 ∙ ap (λ (u : Unanswered). u.id) b.2) in
+        let same : y.0 ≡ r = b.2 ∙ ap (λ (e : BookEntry). as_unanswered e.entry) (sym one) ∙ sym a.2 in
+        (subst (IsDue (mode_in old port) (unanswered_of old.book)) same its, ap (λ (u : Unanswered). u.port) (sym same) ∙ own)
 
-    was : with_issue_undone x.steps (map unanswered (after m x.steps).book) ≡ asks_of old.book
+    was : with_issue_undone x.steps (map unanswered (after m x.steps).book) ≡ unanswered_of old.book
     was =
-        ap (map (mark x.steps)) (same_book new.book (after m x.steps).book x.stands.book ∙ each_asks ids old new issues ∙ each_marks ids (asks_of old.book))
-        ∙ unmarked_all (mark x.steps) (mark_each ids) (asks_of old.book)
-        (λ r here. unmarked ids x.steps r x.named x.all (λ there. not_true r.issued (and_parts _ _ (is_due r here there).0.clear).0))
+        ap (map (mark x.steps)) (same_book new.book (after m x.steps).book x.stands.book ∙ each_asks ids old new issues ∙ each_marks ids (unanswered_of old.book))
+        ∙ unmarked_all (mark x.steps) (mark_each ids) (unanswered_of old.book)
+        (λ r here. unmarked ids x.steps r x.named x.all (λ there. not_true r.issued (and_parts _ _ (is_due r here there).0.nothing_blocks).0))
 
-    pub dues : (q : Port) → (q ≢ port → NoneDue (mode_in old q) (asks_of old.book) q) → IssuesDue (mode_in old q) x.steps (after m x.steps) q
+    pub dues : (q : Port) → (q ≢ port → NoneDue (mode_in old q) (unanswered_of old.book) q) → IssuesDue (mode_in old q) x.steps (after m x.steps) q
     dues q none = subst (λ (us : List Unanswered). (r : Unanswered) → Contains us r → r.port ≡ q → IsIssuedIn r.id x.steps ↔ IsDue (mode_in old q) us r) (sym was) exact
       where
-        exact : (r : Unanswered) → Contains (asks_of old.book) r → r.port ≡ q → IsIssuedIn r.id x.steps ↔ IsDue (mode_in old q) (asks_of old.book) r
+        exact : (r : Unanswered) → Contains (unanswered_of old.book) r → r.port ≡ q → IsIssuedIn r.id x.steps ↔ IsDue (mode_in old q) (unanswered_of old.book) r
         exact r here own = (
-          (λ issued. let d = is_due r here (x.named r.id issued) in subst (λ (z : Port). IsDue (mode_in old z) (asks_of old.book) r) (sym d.1 ∙ own) d.0),
+          (λ issued. let d = is_due r here (x.named r.id issued) in subst (λ (z : Port). IsDue (mode_in old z) (unanswered_of old.book) r) (sym d.1 ∙ own) d.0),
           (λ its. ⊎_elim
               (λ (same : q.0 ≡ port.0).
               let update_if_id : r.port ≡ port = own ∙ ap (λ (n : ℕ). record { 0 = n }) same in
-              x.all r.id (into_map (λ (u : Unanswered). u.id) (due_of (mode_in old port) port (asks_of old.book)) r ((laws.exact (mode_in old port) port (asks_of old.book) r update_if_id).1 (subst (λ (z : Port). IsDue (mode_in old z) (asks_of old.book) r) (ap (λ (n : ℕ). record { 0 = n }) same) its))))
+              x.all r.id (into_map (λ (u : Unanswered). u.id) (due_of (mode_in old port) port (unanswered_of old.book)) r ((laws.exact (mode_in old port) port (unanswered_of old.book) r update_if_id).1 (subst (λ (z : Port). IsDue (mode_in old z) (unanswered_of old.book) r) (ap (λ (n : ℕ). record { 0 = n }) same) its))))
               (λ (ne : q.0 ≢ port.0). absurd (none (λ same. ne (ap (λ (p : Port). p.0) same)) r own its))
               (cases_eq q.0 port.0)),
         )
@@ -423,56 +423,56 @@ module _ (laws : PrerequisiteLaws) (port : Port) where
 -- ---- what is due of a port, after more steps
 
 -- the requests of the port among these
-own_in : (q : Port) (xs : List Unanswered) (r : Unanswered) → Contains (of_port q xs) r → Contains xs r × (r.port ≡ q)
+own_in : (q : Port) (xs : List Unanswered) (r : Unanswered) → Contains (requests_of_port q xs) r → Contains xs r × (r.port ≡ q)
 own_in q [] r here = absurd (nowhere r here)
 own_in q (x ∷ xs) r here = ⊎_elim
     (λ (its : (x.port.0 == q.0) ≡ true). ⊎_elim
     (λ (same : r ≡ x). (contains_here x xs r same, ap (λ (u : Unanswered). u.port) same ∙ ap (λ (n : ℕ). record { 0 = n }) (eqb-true x.port.0 q.0 its)))
-    (λ (later : Contains (of_port q xs) r). let rest = own_in q xs r later in (contains_there x xs r rest.0, rest.1))
-    (contains_cases x (of_port q xs) r (subst (λ (us : List Unanswered). Contains us r) (cond-true (x.port.0 == q.0) (x ∷ of_port q xs) (of_port q xs) its) here)))
+    (λ (later : Contains (requests_of_port q xs) r). let rest = own_in q xs r later in (contains_there x xs r rest.0, rest.1))
+    (contains_cases x (requests_of_port q xs) r (subst (λ (us : List Unanswered). Contains us r) (cond-true (x.port.0 == q.0) (x ∷ requests_of_port q xs) (requests_of_port q xs) its) here)))
     (λ (other : (x.port.0 == q.0) ≡ false).
-    let rest = own_in q xs r (subst (λ (us : List Unanswered). Contains us r) (cond-false (x.port.0 == q.0) (x ∷ of_port q xs) (of_port q xs) other) here) in
+    let rest = own_in q xs r (subst (λ (us : List Unanswered). Contains us r) (cond-false (x.port.0 == q.0) (x ∷ requests_of_port q xs) (requests_of_port q xs) other) here) in
     (contains_there x xs r rest.0, rest.1))
     (cases_Bool (x.port.0 == q.0))
 
-in_own : (q : Port) (xs : List Unanswered) (r : Unanswered) → Contains xs r → r.port ≡ q → Contains (of_port q xs) r
+in_own : (q : Port) (xs : List Unanswered) (r : Unanswered) → Contains xs r → r.port ≡ q → Contains (requests_of_port q xs) r
 in_own q [] r here own = absurd (nowhere r here)
 in_own q (x ∷ xs) r here own = ⊎_elim
-    (λ (its : (x.port.0 == q.0) ≡ true). subst (λ (us : List Unanswered). Contains us r) (sym (cond-true (x.port.0 == q.0) (x ∷ of_port q xs) (of_port q xs) its)) (⊎_elim
-    (λ (same : r ≡ x). contains_here x (of_port q xs) r same)
-    (λ (later : Contains xs r). contains_there x (of_port q xs) r (in_own q xs r later own))
+    (λ (its : (x.port.0 == q.0) ≡ true). subst (λ (us : List Unanswered). Contains us r) (sym (cond-true (x.port.0 == q.0) (x ∷ requests_of_port q xs) (requests_of_port q xs) its)) (⊎_elim
+    (λ (same : r ≡ x). contains_here x (requests_of_port q xs) r same)
+    (λ (later : Contains xs r). contains_there x (requests_of_port q xs) r (in_own q xs r later own))
     (contains_cases x xs r here)))
-    (λ (other : (x.port.0 == q.0) ≡ false). subst (λ (us : List Unanswered). Contains us r) (sym (cond-false (x.port.0 == q.0) (x ∷ of_port q xs) (of_port q xs) other)) (⊎_elim
+    (λ (other : (x.port.0 == q.0) ≡ false). subst (λ (us : List Unanswered). Contains us r) (sym (cond-false (x.port.0 == q.0) (x ∷ requests_of_port q xs) (requests_of_port q xs) other)) (⊎_elim
     (λ (same : r ≡ x). absurd (false≢true (sym other ∙ eq-eqb x.port.0 q.0 (ap (λ (u : Unanswered). u.port.0) (sym same) ∙ ap (λ (p : Port). p.0) own))))
     (λ (later : Contains xs r). in_own q xs r later own)
     (contains_cases x xs r here)))
     (cases_Bool (x.port.0 == q.0))
 
 -- what leaves each one's port leaves which are the port's
-own_map : (q : Port) (f : Unanswered → Unanswered) → ((r : Unanswered) → (f r).port ≡ r.port) → (xs : List Unanswered) → of_port q (map f xs) ≡ map f (of_port q xs)
+own_map : (q : Port) (f : Unanswered → Unanswered) → ((r : Unanswered) → (f r).port ≡ r.port) → (xs : List Unanswered) → requests_of_port q (map f xs) ≡ map f (requests_of_port q xs)
 own_map q f keeps [] = refl
 own_map q f keeps (x ∷ xs) = ⊎_elim
     (λ (its : (x.port.0 == q.0) ≡ true).
-    cond-true ((f x).port.0 == q.0) (f x ∷ of_port q (map f xs)) (of_port q (map f xs)) (ap (λ (p : Port). p.0 == q.0) (keeps x) ∙ its)
-    ∙ ap (λ (us : List Unanswered). f x ∷ us) (own_map q f keeps xs) ∙ ap (map f) (sym (cond-true (x.port.0 == q.0) (x ∷ of_port q xs) (of_port q xs) its)))
+    cond-true ((f x).port.0 == q.0) (f x ∷ requests_of_port q (map f xs)) (requests_of_port q (map f xs)) (ap (λ (p : Port). p.0 == q.0) (keeps x) ∙ its)
+    ∙ ap (λ (us : List Unanswered). f x ∷ us) (own_map q f keeps xs) ∙ ap (map f) (sym (cond-true (x.port.0 == q.0) (x ∷ requests_of_port q xs) (requests_of_port q xs) its)))
     (λ (other : (x.port.0 == q.0) ≡ false).
-    cond-false ((f x).port.0 == q.0) (f x ∷ of_port q (map f xs)) (of_port q (map f xs)) (ap (λ (p : Port). p.0 == q.0) (keeps x) ∙ other)
-    ∙ own_map q f keeps xs ∙ ap (map f) (sym (cond-false (x.port.0 == q.0) (x ∷ of_port q xs) (of_port q xs) other)))
+    cond-false ((f x).port.0 == q.0) (f x ∷ requests_of_port q (map f xs)) (requests_of_port q (map f xs)) (ap (λ (p : Port). p.0 == q.0) (keeps x) ∙ other)
+    ∙ own_map q f keeps xs ∙ ap (map f) (sym (cond-false (x.port.0 == q.0) (x ∷ requests_of_port q xs) (requests_of_port q xs) other)))
     (cases_Bool (x.port.0 == q.0))
 
 map_alike : (f g : Unanswered → Unanswered) (xs : List Unanswered) → ((r : Unanswered) → Contains xs r → f r ≡ g r) → map f xs ≡ map g xs
 map_alike f g [] each = refl
 map_alike f g (x ∷ xs) each = ap (λ (y : Unanswered). y ∷ map f xs) (each x (first_here x xs)) ∙ ap (λ (ys : List Unanswered). g x ∷ ys) (map_alike f g xs (λ r here. each r (contains_there x xs r here)))
 
-mark_port : (steps : List Step) (r : Unanswered) → (if list_any (issues_it r.id) steps then record r { issued = false } else r).port ≡ r.port
-mark_port steps r = by (list_any (issues_it r.id) steps)
+mark_port : (steps : List Step) (r : Unanswered) → (if list_any (issues_id r.id) steps then record r { issued = false } else r).port ≡ r.port
+mark_port steps r = by (list_any (issues_id r.id) steps)
   where
     by : (b : Bool) → (if b then record r { issued = false } else r).port ≡ r.port
     by true = refl
     by false = refl
 
-mark_id : (steps : List Step) (r : Unanswered) → (if list_any (issues_it r.id) steps then record r { issued = false } else r).id ≡ r.id
-mark_id steps r = by (list_any (issues_it r.id) steps)
+mark_id : (steps : List Step) (r : Unanswered) → (if list_any (issues_id r.id) steps then record r { issued = false } else r).id ≡ r.id
+mark_id steps r = by (list_any (issues_id r.id) steps)
   where
     by : (b : Bool) → (if b then record r { issued = false } else r).id ≡ r.id
     by true = refl
@@ -480,8 +480,8 @@ mark_id steps r = by (list_any (issues_it r.id) steps)
 
 -- Where the port's requests are the same in two machines, and the same of them are issued in two lists of steps, what is due once the others
 -- are undone is the same.
-pub dues_carried : PrerequisiteLaws → (mode : QueueMode) → (one other : List Step) (m n : Machine) (q : Port) → of_port q (map unanswered m.book) ≡ of_port q (map unanswered n.book)
-    → ((r : Unanswered) → Contains (map unanswered m.book) r → r.port ≡ q → list_any (issues_it r.id) one ≡ list_any (issues_it r.id) other)
+pub dues_carried : PrerequisiteLaws → (mode : QueueMode) → (one other : List Step) (m n : Machine) (q : Port) → requests_of_port q (map unanswered m.book) ≡ requests_of_port q (map unanswered n.book)
+    → ((r : Unanswered) → Contains (map unanswered m.book) r → r.port ≡ q → list_any (issues_id r.id) one ≡ list_any (issues_id r.id) other)
     → IssuesDue mode one m q → IssuesDue mode other n q
 dues_carried laws mode one other m n q same alike dues r here own = (
   (λ issued. (laws.same_due mode q a b r marks own).0 (was.0 (id_alike ∙ issued))),
@@ -494,15 +494,15 @@ dues_carried laws mode one other m n q same alike dues r here own = (
     b : List Unanswered
     b = with_issue_undone other (map unanswered n.book)
 
-    own_alike : (x : Unanswered) → Contains (of_port q (map unanswered m.book)) x → (if list_any (issues_it x.id) one then record x { issued = false } else x) ≡ (if list_any (issues_it x.id) other then record x { issued = false } else x)
+    own_alike : (x : Unanswered) → Contains (requests_of_port q (map unanswered m.book)) x → (if list_any (issues_id x.id) one then record x { issued = false } else x) ≡ (if list_any (issues_id x.id) other then record x { issued = false } else x)
     own_alike x there =
         let w = own_in q (map unanswered m.book) x there in
         ap (λ (c : Bool). if c then record x { issued = false } else x) (alike x w.0 w.1)
 
-    marks : of_port q a ≡ of_port q b
+    marks : requests_of_port q a ≡ requests_of_port q b
     marks =
-        own_map q _ (mark_port one) (map unanswered m.book) ∙ map_alike _ _ (of_port q (map unanswered m.book)) own_alike
-        ∙ ap (map (λ (x : Unanswered). if list_any (issues_it x.id) other then record x { issued = false } else x)) same ∙ sym (own_map q _ (mark_port other) (map unanswered n.book))
+        own_map q _ (mark_port one) (map unanswered m.book) ∙ map_alike _ _ (requests_of_port q (map unanswered m.book)) own_alike
+        ∙ ap (map (λ (x : Unanswered). if list_any (issues_id x.id) other then record x { issued = false } else x)) same ∙ sym (own_map q _ (mark_port other) (map unanswered n.book))
 
     there_too : Contains a r
     there_too = (own_in q a r (subst (λ (us : List Unanswered). Contains us r) (sym marks) (in_own q b r here own))).0
@@ -510,9 +510,9 @@ dues_carried laws mode one other m n q same alike dues r here own = (
     was : IsIssuedIn r.id one ↔ IsDue mode a r
     was = dues r there_too own
 
-    id_alike : list_any (issues_it r.id) one ≡ list_any (issues_it r.id) other
+    id_alike : list_any (issues_id r.id) one ≡ list_any (issues_id r.id) other
     id_alike =
         let x = map_in _ (map unanswered m.book) r there_too in
         let id_is : r.id ≡ x.0.id = ap (λ (u : Unanswered). u.id) x.2 ∙ mark_id one x.0 in
         let port_is : x.0.port ≡ q = sym (mark_port one x.0) ∙ sym (ap (λ (u : Unanswered). u.port) x.2) ∙ own in
-        ap (λ (i : RequestId). list_any (issues_it i) one) id_is ∙ alike x.0 x.1 port_is ∙ ap (λ (i : RequestId). list_any (issues_it i) other) (sym id_is)
+        ap (λ (i : RequestId). list_any (issues_id i) one) id_is ∙ alike x.0 x.1 port_is ∙ ap (λ (i : RequestId). list_any (issues_id i) other) (sym id_is)

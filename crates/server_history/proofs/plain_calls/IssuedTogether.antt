@@ -16,12 +16,12 @@ use Rattle.adapter.specs.Access.Access.{Reading, Writing, Loading, Storing}
 use Rattle.adapter.specs.Commands.{is_queued}
 use Rattle.adapter.specs.declared.command.Operation.{Operation}
 use Rattle.adapter.specs.declared.command.Operation.TheVariants.{Identify}
-use Rattle.block_machine.specs.Due.{IsDue, is_plain}
-use Rattle.block_machine.specs.Events.{AllByDevice, AllMay}
+use Rattle.block_machine.specs.DueRequests.{IsDue, is_plain}
+use Rattle.block_machine.specs.Events.{AllByDevice, AllEnabled}
 use Rattle.block_machine.specs.Histories.{IsReachable}
 use Rattle.block_machine.specs.Expected.{after}
 use Rattle.block_machine.specs.State.{Machine, Pending, unanswered}
-use Rattle.block_machine.specs.Steps.{Step, Issue, May, after_step}
+use Rattle.block_machine.specs.Steps.{Step, Issue, IsEnabled, after_step}
 use Rattle.block_machine.specs.declared.due.QueueMode.{QueueMode}
 use Rattle.block_machine.specs.declared.due.Unanswered.{Unanswered}
 use Rattle.commands.specs.Batches.{IsBatchAccess, IssuesBatchAtEnd, MayServeBatch, PlacedTask, issues_of, with_serving_batch}
@@ -30,21 +30,21 @@ use Rattle.commands.specs.declared.ncq.Task.{Task}
 use Rattle.host_boot.specs.TakeOver.{probe_result_of}
 use Rattle.host_boot.specs.declared.ProbeResult.{ProbeResult}
 use Rattle.host_boot.specs.declared.ProbeResult.TheVariants.{Unready}
-use Rattle.port_control.specs.Services.{IsService}
+use Rattle.port_control.specs.ServiceAccesses.{IsServiceAccess}
 use Rattle.refinement.specs.Acts.{ActsReach, DriverSlots, driver_state}
-use Rattle.refinement.specs.Driven.{IsDrivenBy, GainsNoMove, SparesOtherPorts}
+use Rattle.refinement.specs.Fragments.{IsDrivenBy, GainsNoMove, SparesOtherPorts}
 use Rattle.refinement.specs.Driver.{EndsInSteps, IsBacked}
 use Rattle.refinement.specs.Links.{DoesNotWrite}
-use Rattle.refinement.specs.Readying.{IsStored}
+use Rattle.refinement.specs.ReadySlots.{IsStored}
 use Rattle.refinement.specs.Relation.{port_at}
-use Rattle.refinement.specs.Slots.{Serves, op_of, put}
-use Rattle.refinement.specs.Spares.{SparesBook}
-use Rattle.request_queue.specs.Entries.{BookEntry, asks_of, issue, update_if_id}
-use Rattle.request_queue.specs.Machine.{BookRelation, EntryRelation}
+use Rattle.refinement.specs.Slots.{Serves, op_of, set_slot_state}
+use Rattle.refinement.specs.SparedBook.{SparesBook}
+use Rattle.request_queue.specs.BookEntries.{BookEntry, unanswered_of, issued_entry, update_if_id}
+use Rattle.request_queue.specs.BookRelation.{BookRelation, EntryRelation}
 use Rattle.slots.specs.declared.SlotUse.{SlotUse}
 use Rattle.server_history.specs.Prerequisites.{PrerequisiteLaws}
-use Rattle.server_history.specs.Served.{IssuesTogether, PutsInSlot, PutsInSlots, task_of, use_for}
-use Rattle.server_history.specs.Server.{HasStoredCommand, InCallInvariant, IsUsedAs, MachineRelation, PortInvariant, QuarantineRelation, RevokedMarkInvariant, ServerState, mode_in, state_of, used_for, with_slot}
+use Rattle.server_history.specs.IssuingAndAnswering.{IssuesTogether, PutsInSlot, PutsInSlots, task_of, use_for}
+use Rattle.server_history.specs.ServerState.{HasStoredCommand, InCallInvariant, IsUsedAs, MachineRelation, PortInvariant, QuarantineRelation, RevokedMarkInvariant, ServerState, mode_in, state_of, used_for, with_slot}
 use Rattle.server_history.proofs.plain_calls.Looks.{behind_served}
 use Rattle.server_history.proofs.plain_calls.RequestsInSlots.{BookAndSlotsInvariant, book_and_slots, put_head, put_keeps, put_ready, put_slot_placed, put_usable, puts_free, puts_keep, puts_ready, puts_settings, puts_used}
 use Rattle.server_history.proofs.state.DrivenAccesses.{driven_as}
@@ -72,7 +72,7 @@ HaveIds port ids requests = AllZip (λ id e. (e.request.id ≡ id) × (e.request
 pub record AreTheRequests (port : Port) (mode : QueueMode) (ids : List RequestId) (tasks : List PlacedTask) (m : Machine) (requests : List Pending) : Type 0 where
   pub ids_are : HaveIds port ids requests
   pub tasks_are : AllZip (λ t e. IsTaskOf port t.slot t.task t.frames mode e) tasks requests
-  pub may : AllMay m (issues_of mode requests)
+  pub may : AllEnabled m (issues_of mode requests)
 
 module _ (laws : PrerequisiteLaws) (s mid : ServerState) (port : Port) (id : RequestId) (t : PlacedTask) (k : BookAndSlotsInvariant s) (one : PutsInSlot port id t s mid) (m : Machine) (is : BookAgrees s m) where
   abbrev request : BookEntry
@@ -82,7 +82,7 @@ module _ (laws : PrerequisiteLaws) (s mid : ServerState) (port : Port) (id : Req
   takes = mode_in s port
 
   x : (its : Pending) × Contains m.book its × EntryRelation request its
-  x = at_left EntryRelation s.book m.book is.book request one.here
+  x = at_left EntryRelation s.book m.book is.book request one.is_in_book
 
   abbrev its : Pending
   its = x.0
@@ -96,16 +96,16 @@ module _ (laws : PrerequisiteLaws) (s mid : ServerState) (port : Port) (id : Req
   due : IsDue takes (map unanswered m.book) (unanswered its)
   due =
       let B : List Unanswered → Type 0 = λ book. IsDue takes book (unanswered its) in
-      let R : Unanswered → Type 0 = λ r. IsDue takes (asks_of s.book) r in
+      let R : Unanswered → Type 0 = λ r. IsDue takes (unanswered_of s.book) r in
       subst B (sym (same_book s.book m.book is.book)) (subst R (sym (asked_alike request its x.2)) one.due)
 
-  may : May m (Issue takes its)
+  may : IsEnabled m (Issue takes its)
   may = (
     x.1,
     due,
     (λ other here own. not_dead s port.0 (put_ready laws s mid port id t k one) (ap (λ (q : Port). probe_result_of s.ports q.0) (sym (own ∙ its_port)) ∙ is.kept.dead other here)),
-    (let mark = All-contains (RevokedMarkInvariant s.grants) s.book request k.marked one.here in
-        unmarked_has m request its x.2 (tells_of m.rows s.grants request.entry is.rows mark.tells) (mark.waiting (not_true request.entry.issued (and_parts _ _ one.due.clear).0))),
+    (let mark = All-contains (RevokedMarkInvariant s.grants) s.book request k.marked one.is_in_book in
+        unmarked_has m request its x.2 (tells_of m.rows s.grants request.entry is.rows mark.tells) (mark.waiting (not_true request.entry.issued (and_parts _ _ one.due.nothing_blocks).0))),
   )
 
   its_task : IsTaskOf port t.slot t.task t.frames takes its
@@ -114,19 +114,19 @@ module _ (laws : PrerequisiteLaws) (s mid : ServerState) (port : Port) (id : Req
       let F : List Frame → Type 0 = λ frames. IsTaskOf port t.slot (task_of takes request) frames takes its in
       subst T (sym one.task_is) (subst F (sym one.frames_are) (record {
         port_is = its_port;
-        operation = x.2.op;
-        first = ap (λ r. r.first) x.2.range;
-        count = ap (λ r. r.count) x.2.range;
+        operation_is = x.2.op;
+        first_is = ap (λ r. r.first) x.2.range;
+        count_is = ap (λ r. r.count) x.2.range;
         frames_are = x.2.frames;
-        kind = refl;
-        usable = put_usable laws s mid port id t k one;
-        head = λ plain. put_head laws s mid port id t k one (not_false (is_plain takes request.entry.op) plain);
+        queued_is = refl;
+        slot_is_usable = put_usable laws s mid port id t k one;
+        plain_in_slot_0 = λ plain. put_head laws s mid port id t k one (not_false (is_plain takes request.entry.op) plain);
       }))
 
   -- the machine has the book then
   agrees : BookAgrees mid (after_step m (Issue takes its))
-  agrees = subst (λ (n : ServerState). BookAgrees n (after_step m (Issue takes its))) (sym one.server) (record {
-    book = subst (λ (i : RequestId). BookRelation (map (update_if_id i issue) s.book) (after_step m (Issue takes its)).book) its_id (laws.issues s.book m takes its is.book);
+  agrees = subst (λ (n : ServerState). BookAgrees n (after_step m (Issue takes its))) (sym one.server_is) (record {
+    book = subst (λ (i : RequestId). BookRelation (map (update_if_id i issued_entry) s.book) (after_step m (Issue takes its)).book) its_id (laws.issues s.book m takes its is.book);
     kept = is.kept;
     rows = is.rows;
   })
@@ -137,8 +137,8 @@ module _ (laws : PrerequisiteLaws) (port : Port) where
   requests_of_tasks mode [] [] s new k none same m is = ([], record { ids_are = tt; tasks_are = tt; may = tt })
   requests_of_tasks mode (id ∷ ids) (t ∷ tasks) s new k (mid, one, more) same m is =
       let P : Pending = its laws s mid port id t k one m is in
-      let first : May m (Issue mode P) = subst (λ (q : QueueMode). May m (Issue q P)) same (may laws s mid port id t k one m is) in
-      let later = requests_of_tasks mode ids tasks mid new (put_keeps laws s mid port id t k one) more (ap (λ (n : ServerState). mode_in n port) one.server ∙ same) (after_step m (Issue mode P))
+      let first : IsEnabled m (Issue mode P) = subst (λ (q : QueueMode). IsEnabled m (Issue q P)) same (may laws s mid port id t k one m is) in
+      let later = requests_of_tasks mode ids tasks mid new (put_keeps laws s mid port id t k one) more (ap (λ (n : ServerState). mode_in n port) one.server_is ∙ same) (after_step m (Issue mode P))
       (subst (λ (q : QueueMode). BookAgrees mid (after_step m (Issue q P))) same (agrees laws s mid port id t k one m is)) in (
         P ∷ later.0,
         record {
@@ -159,8 +159,8 @@ module _ (laws : PrerequisiteLaws) (port : Port) where
   issues_book mode (id ∷ ids) (t ∷ tasks) s new (mid, one, more) (e ∷ requests) are m is =
       subst (λ (n : Machine). BookRelation new.book n.book) (sym (laws.basic.joined m (issues_of mode requests) (Issue mode e ∷ [])))
       (issues_book mode ids tasks mid new more requests are.1 (after_step m (Issue mode e))
-      (subst (λ (n : ServerState). BookRelation n.book (after_step m (Issue mode e)).book) (sym one.server)
-      (subst (λ (i : RequestId). BookRelation (map (update_if_id i issue) s.book) (after_step m (Issue mode e)).book) are.0.0 (laws.issues s.book m mode e is))))
+      (subst (λ (n : ServerState). BookRelation n.book (after_step m (Issue mode e)).book) (sym one.server_is)
+      (subst (λ (i : RequestId). BookRelation (map (update_if_id i issued_entry) s.book) (after_step m (Issue mode e)).book) are.0.0 (laws.issues s.book m mode e is))))
   issues_book mode [] tasks s new puts (e ∷ requests) are m is = absurd are
   issues_book mode (id ∷ ids) tasks s new puts [] are m is = absurd are
   issues_book mode [] (t ∷ tasks) s new puts requests are m is = absurd puts
@@ -172,8 +172,8 @@ module _ (laws : PrerequisiteLaws) (port : Port) where
   issues_uses found [] [] s new k none [] are slots was = λ q n. subst (λ (c : ServerState). IsUsedAs (probe_result_of found q) (used_for c.slots q n) (slots.uses q n)) (sym none) (was q n)
   issues_uses found (id ∷ ids) (t ∷ tasks) s new k (mid, one, more) (e ∷ requests) are slots was =
       issues_uses found ids tasks mid new (put_keeps laws s mid port id t k one) more requests are.1 (with_serving port t.slot e.request.id slots)
-      (subst (λ (c : ServerState). (q n : ℕ) → IsUsedAs (probe_result_of found q) (used_for c.slots q n) (put slots.uses port.0 t.slot (Serves e.request.id) q n)) (sym one.server)
-      (subst (λ (i : RequestId). (q n : ℕ) → IsUsedAs (probe_result_of found q) (used_for (with_slot s.slots port.0 t.slot (Some (use_for (mode_in s port) one.request))) q n) (put slots.uses port.0 t.slot (Serves i) q n)) (one.id_is ∙ sym are.0.0)
+      (subst (λ (c : ServerState). (q n : ℕ) → IsUsedAs (probe_result_of found q) (used_for c.slots q n) (set_slot_state slots.uses port.0 t.slot (Serves e.request.id) q n)) (sym one.server_is)
+      (subst (λ (i : RequestId). (q n : ℕ) → IsUsedAs (probe_result_of found q) (used_for (with_slot s.slots port.0 t.slot (Some (use_for (mode_in s port) one.request))) q n) (set_slot_state slots.uses port.0 t.slot (Serves i) q n)) (one.id_is ∙ sym are.0.0)
       (put_slot_placed laws s mid port id t k one found slots.uses was)))
   issues_uses found [] tasks s new k puts (e ∷ requests) are slots was = absurd are
   issues_uses found (id ∷ ids) tasks s new k puts [] are slots was = absurd are
@@ -191,7 +191,7 @@ record SameButBook (old new : Machine) : Type 0 where
   pub rows : new.rows ≡ old.rows
   pub owner : new.owner ≡ old.owner
   pub lent : new.lent ≡ old.lent
-  pub next : new.next ≡ old.next
+  pub next : new.next_id ≡ old.next_id
 
 issues_leave : PrerequisiteLaws → (mode : QueueMode) (requests : List Pending) (m : Machine) → SameButBook m (after m (issues_of mode requests))
 issues_leave laws mode [] m = record { kept = refl; rows = refl; owner = refl; lent = refl; next = refl }
@@ -208,7 +208,7 @@ pub record AreIssuedTogether (port : Port) (ids : List RequestId) (old new : Ser
   pub ids_are : HaveIds port ids requests
   pub steps : List Step
   pub only : AllByDevice steps
-  pub may : AllMay m (issues_of (mode_in old port) requests ++ steps)
+  pub may : AllEnabled m (issues_of (mode_in old port) requests ++ steps)
   pub backed : IsBacked old.device new.device m (issues_of (mode_in old port) requests ++ steps)
   pub stands : MachineRelation new (after m (issues_of (mode_in old port) requests ++ steps))
 
@@ -255,7 +255,7 @@ module _ (laws : PrerequisiteLaws) (s new : ServerState) (port : Port) (first : 
   settings = puts_settings laws port all_ids tasks s i.taken i.puts
 
   new_is : new ≡ later
-  new_is = i.server ∙ ap (λ (n : ServerState). record n { device = new.device }) settings
+  new_is = i.server_is ∙ ap (λ (n : ServerState). record n { device = new.device }) settings
 
   book_then : BookAndSlotsInvariant (record s { slots = i.taken.slots; book = i.taken.book })
   book_then = subst BookAndSlotsInvariant settings (puts_keep laws port all_ids tasks s i.taken book_was i.puts)
@@ -271,7 +271,7 @@ module _ (laws : PrerequisiteLaws) (s new : ServerState) (port : Port) (first : 
 
   module _ (m : Machine) (reached : IsReachable m) (is : MachineRelation s m) where
     found : (requests : List Pending) × AreTheRequests port (mode_in s port) all_ids tasks m requests
-    found = requests_of_tasks laws port (mode_in s port) all_ids tasks s i.taken book_was i.puts refl m (record { book = is.book; kept = is.kept; rows = is.rows })
+    found = requests_of_tasks laws port (mode_in s port) all_ids tasks s i.taken book_was i.puts refl m (record { book = is.book; kept = is.quarantine_relation; rows = is.rows })
 
     abbrev requests : List Pending
     requests = found.0
@@ -281,15 +281,15 @@ module _ (laws : PrerequisiteLaws) (s new : ServerState) (port : Port) (first : 
 
     serves : MayServeBatch port tasks (mode_in s port) requests its_slots m
     serves = record {
-      free = All-weaker (λ t. used_for s.slots port.0 t.slot ≡ None) (λ t. is.uses port.0 t.slot ≡ _) (λ t none. free_unused s m port.0 is ready t.slot none) tasks free;
-      may = found.1.may;
+      slots_are_free = All-weaker (λ t. used_for s.slots port.0 t.slot ≡ None) (λ t. is.uses port.0 t.slot ≡ _) (λ t none. free_unused s m port.0 is ready t.slot none) tasks free;
+      may_be_issued = found.1.may;
     }
 
     abbrev slots_then : DriverSlots
     slots_then = with_serving_batch port tasks requests its_slots
 
     ends : EndsInSteps (driver_state its_slots s.device) m (issues_of (mode_in s port) requests) (driver_state slots_then new.device)
-    ends = laws.issuing_ends port tasks (mode_in s port) requests s.device new.device its_slots m i.issued.issues found.1.tasks_are reached is.knows serves
+    ends = laws.issuing_ends port tasks (mode_in s port) requests s.device new.device its_slots m i.issued.issues found.1.tasks_are reached is.driver_relation serves
 
     spares : SparesBook m (after m ends.steps)
     spares = laws.basic.spares m ends.steps ends.only
@@ -303,13 +303,13 @@ module _ (laws : PrerequisiteLaws) (s new : ServerState) (port : Port) (first : 
     stands : MachineRelation later (after m (own ++ ends.steps))
     stands = record {
       uses = slots_then.uses;
-      used = issues_uses laws port s.ports all_ids tasks s i.taken book_was i.puts requests found.1.ids_are its_slots is.used;
+      are_uses_of = issues_uses laws port s.ports all_ids tasks s i.taken book_was i.puts requests found.1.ids_are its_slots is.are_uses_of;
       parked = slots_then.parked;
       unparked = λ q alive. ap (λ (of : ℕ → List RequestId). of q) (parked_same laws port tasks requests its_slots) ∙ is.unparked q alive;
-      knows = ends.knows;
+      driver_relation = ends.driver_relation;
       book = subst (λ (n : Machine). BookRelation i.taken.book n.book) (sym (laws.basic.joined m own ends.steps))
           (issues_book laws port (mode_in s port) all_ids tasks s i.taken i.puts requests found.1.ids_are (after m ends.steps) (book_on s.book m.book (after m ends.steps).book spares.book is.book));
-      kept = subst (QuarantineRelation s.ports s.kept) (sym leaves.kept) (still_kept laws s.ports s.kept m.kept (after m ends.steps).kept spares.kept is.kept);
+      quarantine_relation = subst (QuarantineRelation s.ports s.kept) (sym leaves.kept) (still_kept laws s.ports s.kept m.kept (after m ends.steps).kept spares.kept is.quarantine_relation);
       rows = leaves.rows ∙ spares.rows ∙ is.rows;
       owner = λ frame. ap (λ f. f frame) (leaves.owner ∙ spares.owner) ∙ is.owner frame;
       lent = λ frame. ap (λ f. f frame) (leaves.lent ∙ spares.lent) ∙ is.lent frame;
@@ -322,51 +322,51 @@ module _ (laws : PrerequisiteLaws) (s new : ServerState) (port : Port) (first : 
       ids_are = found.1.ids_are;
       steps = ends.steps;
       only = ends.only;
-      may = ends.may;
-      backed = ends.backed;
+      may = ends.steps_are_enabled;
+      backed = ends.is_backed;
       stands = subst (λ (n : ServerState). MachineRelation n (after m (own ++ ends.steps))) (sym new_is) stands;
     }
 
   -- in that no data comes for a command of the driver's own but on dead ports
   pub together_silent : (q : ℕ) (o : Operation) → op_of o ≡ None → probe_result_of s.ports q ≢ Unready Dead → GainsNoMove q o s.device new.device
   together_silent q o own_op other =
-      laws.issuing_silent port tasks (mode_in s port) (requests k.machine k.reached k.stands) s.device new.device (its_slots k.machine k.reached k.stands) k.machine i.issued.issues (found k.machine k.reached k.stands).1.tasks_are
-      k.reached k.stands.knows (serves k.machine k.reached k.stands) q o own_op
-      (not_own (probe_result_of s.ports q) (used_for s.slots q 0) (k.stands.uses q 0) o other (k.stands.used q 0))
+      laws.issuing_silent port tasks (mode_in s port) (requests k.machine k.reached k.machine_relation) s.device new.device (its_slots k.machine k.reached k.machine_relation) k.machine i.issued.issues (found k.machine k.reached k.machine_relation).1.tasks_are
+      k.reached k.machine_relation.driver_relation (serves k.machine k.reached k.machine_relation) q o own_op
+      (not_own (probe_result_of s.ports q) (used_for s.slots q 0) (k.machine_relation.uses q 0) o other (k.machine_relation.are_uses_of q 0))
 
-  served : IsDrivenBy IsService s.device new.device
-  served = driven_as (IsBatchAccess port) IsService s.device new.device (issuing_serves port) i.issued.issues.driven
+  served : IsDrivenBy IsServiceAccess s.device new.device
+  served = driven_as (IsBatchAccess port) IsServiceAccess s.device new.device (issuing_serves port) i.issued.issues.driven
 
   -- the acts that do it
-  comes : ActsReach i.issued.issues.driven.accesses (driver_state (its_slots k.machine k.reached k.stands) s.device) k.machine (driver_state (slots_then k.machine k.reached k.stands) new.device)
-      (IssuesBatchAtEnd port tasks (mode_in s port) (requests k.machine k.reached k.stands) k.stands.uses)
-  comes = i.issued.issues.comes (mode_in s port) (requests k.machine k.reached k.stands) (found k.machine k.reached k.stands).1.tasks_are (its_slots k.machine k.reached k.stands) k.machine k.reached k.stands.knows (serves k.machine k.reached k.stands)
+  comes : ActsReach i.issued.issues.driven.accesses (driver_state (its_slots k.machine k.reached k.machine_relation) s.device) k.machine (driver_state (slots_then k.machine k.reached k.machine_relation) new.device)
+      (IssuesBatchAtEnd port tasks (mode_in s port) (requests k.machine k.reached k.machine_relation) k.machine_relation.uses)
+  comes = i.issued.issues.machine_follows (mode_in s port) (requests k.machine k.reached k.machine_relation) (found k.machine k.reached k.machine_relation).1.tasks_are (its_slots k.machine k.reached k.machine_relation) k.machine k.reached k.machine_relation.driver_relation (serves k.machine k.reached k.machine_relation)
 
   -- what stands behind each port still does
   behind : (q : ℕ) → q < 4 → PortInvariant s.wanted s.ports q new.device
   behind =
       behind_served laws s new.device port k ready served
-      (λ q small other. laws.looks.other_left port q s.device new.device other k.on (driven_as (IsBatchAccess port) (SparesOtherPorts port) s.device new.device (laws.issuing_of port) i.issued.issues.driven))
+      (λ q small other. laws.looks.other_left port q s.device new.device other k.adapter_is_on (driven_as (IsBatchAccess port) (SparesOtherPorts port) s.device new.device (laws.issuing_of port) i.issued.issues.driven))
       (λ q other. together_silent q Identify refl other)
       (λ q.
-      laws.port_error.halts_acts (port_at q) comes.acts (driver_state (its_slots k.machine k.reached k.stands) s.device) (driver_state (slots_then k.machine k.reached k.stands) new.device) k.machine k.reached k.stands.knows comes.done
+      laws.port_error.halts_acts (port_at q) comes.acts (driver_state (its_slots k.machine k.reached k.machine_relation) s.device) (driver_state (slots_then k.machine k.reached k.machine_relation) new.device) k.machine k.reached k.machine_relation.driver_relation comes.acts_are_done
       (subst (All (DoesNotWrite (Px (port_at q) Cmd))) (sym comes.accesses_are)
-      (All-weaker (IsBatchAccess port) (DoesNotWrite (Px (port_at q) Cmd)) (issuing_commands port (port_at q)) i.issued.issues.driven.accesses i.issued.issues.driven.only)))
+      (All-weaker (IsBatchAccess port) (DoesNotWrite (Px (port_at q) Cmd)) (issuing_commands port (port_at q)) i.issued.issues.driven.accesses i.issued.issues.driven.accesses_are_of_kind)))
 
   -- each slot's bytes say its command
   commands_then : (q n : ℕ) (used : SlotUse) → used_for i.taken.slots q n ≡ Some used → HasStoredCommand used.queued new.device q n
   commands_then q n used is = ⊎_elim
       (λ (was : (used_for s.slots q n ≡ Some used) × ((t : PlacedTask) → Contains tasks t → AreApart port.0 t.slot q n)).
       let there = used_there s q n used k was.0 in
-      let h = k.commands q n used was.0 in
+      let h = k.slots_store_commands q n used was.0 in
       record {
         command = h.command;
         places = h.places;
-        stored = laws.slots.stored (port_at q) n h.command h.places comes.acts (driver_state (its_slots k.machine k.reached k.stands) s.device) _ k.machine k.reached k.stands.knows comes.done
+        stored = laws.slots.stored (port_at q) n h.command h.places comes.acts (driver_state (its_slots k.machine k.reached k.machine_relation) s.device) _ k.machine k.reached k.machine_relation.driver_relation comes.acts_are_done
             (λ a d small.
-            batch_leaves_stored laws port (port_at q) tasks n low there.0 there.1 (λ t here. (All-contains (λ (x : PlacedTask). x.slot < 32) tasks t i.issued.issues.small here, was.1 t here)) _
-            (subst (All (IsBatchAccess port)) (sym comes.accesses_are) i.issued.issues.driven.only a d small)
-            (subst (All (IsOfBatch port tasks)) (sym comes.accesses_are) (of_batch port i.issued.issues.queued tasks i.issued.issues.driven.accesses i.issued.issues.order) a d small)) k.on h.stored;
+            batch_leaves_stored laws port (port_at q) tasks n low there.0 there.1 (λ t here. (All-contains (λ (x : PlacedTask). x.slot < 32) tasks t i.issued.issues.slots_in_range here, was.1 t here)) _
+            (subst (All (IsBatchAccess port)) (sym comes.accesses_are) i.issued.issues.driven.accesses_are_of_kind a d small)
+            (subst (All (IsOfBatch port tasks)) (sym comes.accesses_are) (of_batch port i.issued.issues.queued tasks i.issued.issues.driven.accesses i.issued.issues.order) a d small)) k.adapter_is_on h.stored;
         kind = h.kind;
       })
       (λ (its : (q ≡ port.0) × ((t : PlacedTask) × Contains tasks t × (t.slot ≡ n) × (t.task.queued ≡ used.queued))).
@@ -379,16 +379,16 @@ module _ (laws : PrerequisiteLaws) (s new : ServerState) (port : Port) (first : 
     where
       kind_of : (t : PlacedTask) → Contains tasks t → is_queued (task_operation t.task.queued t.task.op) ≡ t.task.queued
       kind_of t here =
-          let x = at_left (λ t e. IsTaskOf port t.slot t.task t.frames (mode_in s port) e) tasks (requests k.machine k.reached k.stands) (found k.machine k.reached k.stands).1.tasks_are t here in
-          queued_is t.task.queued (mode_in s port) t.task.op x.2.kind
+          let x = at_left (λ t e. IsTaskOf port t.slot t.task t.frames (mode_in s port) e) tasks (requests k.machine k.reached k.machine_relation) (found k.machine k.reached k.machine_relation).1.tasks_are t here in
+          queued_is t.task.queued (mode_in s port) t.task.op x.2.queued_is
 
   -- the server keeps what it keeps
   pub together_kept : InCallInvariant new
   together_kept =
-      let x = issued_together k.machine k.reached k.stands in
+      let x = issued_together k.machine k.reached k.machine_relation in
       subst InCallInvariant (sym new_is)
-      (kept_then s new.device s.grants s.table i.taken.slots i.taken.book s.last k k.rows
-      (laws.looking.services_on s.device new.device k.on served) (laws.looking.services_same s.device new.device served) behind refl
+      (kept_then s new.device s.grants s.table i.taken.slots i.taken.book s.last_id k k.rows_are_valid
+      (laws.looking.services_on s.device new.device k.adapter_is_on served) (laws.looking.services_same s.device new.device served) behind refl
       book_then.four book_then.slots book_then.kinds commands_then book_then.alone book_then.accepted book_then.ordered book_then.marked book_then.handed_out book_then.ready
       (after k.machine (issues_of (mode_in s port) x.requests ++ x.steps)) (laws.basic.reached k.machine (issues_of (mode_in s port) x.requests ++ x.steps) k.reached x.may)
       (subst (λ (n : ServerState). MachineRelation n (after k.machine (issues_of (mode_in s port) x.requests ++ x.steps))) new_is x.stands))

@@ -6,18 +6,18 @@ use Rattle.std.proofs.lemmas.List.Elements.{All-append, All-cons, All-contains, 
 use Rattle.ata_types.specs.declared.Port.{Port}
 use Rattle.ata_types.specs.declared.PortState.TheVariants.{Ready as ReadyState}
 use Rattle.ata_types.specs.declared.request.RequestId.{RequestId}
-use Rattle.block_machine.specs.Due.{IsDue, is_plain}
-use Rattle.command_table.specs.Written.{IsUnused}
+use Rattle.block_machine.specs.DueRequests.{IsDue, is_plain}
+use Rattle.command_table.specs.TableStores.{IsUnused}
 use Rattle.commands.specs.Batches.{PlacedTask}
 use Rattle.host_boot.specs.TakeOver.{probe_result_of}
-use Rattle.refinement.specs.Driven.{RelatesWith}
+use Rattle.refinement.specs.Fragments.{RelatesWith}
 use Rattle.refinement.specs.Slots.{Free}
-use Rattle.request_queue.specs.Entries.{BookEntry, asks, asks_of}
-use Rattle.slots.specs.Uses.{IsLowestFree, IsTaken}
+use Rattle.request_queue.specs.BookEntries.{BookEntry, as_unanswered, unanswered_of}
+use Rattle.slots.specs.SlotUses.{IsLowestFree, IsTaken}
 use Rattle.slots.specs.declared.SlotUse.{SlotUse}
 use Rattle.server_history.specs.Prerequisites.{PrerequisiteLaws}
-use Rattle.server_history.specs.Served.{ChangesSlotsAndBook, FindsSlotFor, PutsInSlots}
-use Rattle.server_history.specs.Server.{InCallInvariant, ServerState, mode_in, slots_at, state_of, used_for}
+use Rattle.server_history.specs.IssuingAndAnswering.{ChangesSlotsAndBook, FindsSlotFor, PutsInSlots}
+use Rattle.server_history.specs.ServerState.{InCallInvariant, ServerState, mode_in, slots_at, state_of, used_for}
 use Rattle.server_history.proofs.plain_calls.RequestsInSlots.{BookAndSlotsInvariant, IsUsedFor, book_and_slots, due_ready, lowest_head, lowest_small, lowest_usable, never_full, none_beside, puts_free, puts_keep, puts_settings, puts_there, puts_still_used}
 use Rattle.server_history.proofs.state.FirstMembers.{first_here}
 use Rattle.server_history.proofs.state.PortSlots.{free_unused, its_mode, used_or_not}
@@ -49,9 +49,9 @@ module _ (laws : PrerequisiteLaws) (s mid : ServerState) (port : Port) (ids : Li
   pub leaves_in_order : ChangesSlotsAndBook s mid
   leaves_in_order =
       let then_is = subst BookAndSlotsInvariant settings now in
-      record { settings = settings; four = then_is.four; slots = then_is.slots; ordered = then_is.ordered; accepted = then_is.accepted }
+      record { settings = settings; four_slots = then_is.four; slots = then_is.slots; book_is_in_order = then_is.ordered; requests_are_accepted = then_is.accepted }
 
-  module _ (request : BookEntry) (here : Contains mid.book request) (port_is : request.entry.port ≡ port) (due : IsDue (mode_in mid port) (asks_of mid.book) (asks request.entry)) where
+  module _ (request : BookEntry) (here : Contains mid.book request) (port_is : request.entry.port ≡ port) (due : IsDue (mode_in mid port) (unanswered_of mid.book) (as_unanswered request.entry)) where
     mode_same : mode_in mid port ≡ mode_in s port
     mode_same = ap (λ (n : ServerState). mode_in n port) settings
 
@@ -86,18 +86,18 @@ module _ (laws : PrerequisiteLaws) (s mid : ServerState) (port : Port) (ids : Li
     pub may_take : (slot : ℕ) → IsLowestFree (slots_at mid.slots port.0) slot → FindsSlotFor s port tasks request slot
     may_take slot lowest = record {
       usable = small;
-      small = lowest_small mid port now request here port_is due slot lowest;
-      there = (let few = (its_mode s port.0 k (was.modes port.0 ready).0).1 in omega (arith, few, small));
-      head = λ plain. lowest_head mid port now request here port_is due slot lowest (ap (λ m. is_plain m request.entry.op) mode_same ∙ plain);
-      own = λ (t, there, its).
+      slot_is_below_32 = lowest_small mid port now request here port_is due slot lowest;
+      slot_exists = (let few = (its_mode s port.0 k (was.modes port.0 ready).0).1 in omega (arith, few, small));
+      plain_is_in_slot_0 = λ plain. lowest_head mid port now request here port_is due slot lowest (ap (λ m. is_plain m request.entry.op) mode_same ∙ plain);
+      is_none_of_tasks = λ (t, there, its).
           let u = All-contains (IsUsedFor port mid) tasks t used there in
           let z : None ≡ Some u.0 = sym lowest.1 ∙ ap (λ (n : ℕ). used_for mid.slots port.0 n) (sym its) ∙ u.1 in cc;
       agreed = λ t its. (
-        k.stands.uses,
-        All-append (λ x. k.stands.uses port.0 x.slot ≡ Free) tasks (t ∷ [])
-            (All-weaker (λ x. used_for s.slots port.0 x.slot ≡ None) (λ x. k.stands.uses port.0 x.slot ≡ Free) (λ x none. free_unused s k.machine port.0 k.stands ready x.slot none) tasks (puts_free laws port ids tasks s mid was puts))
-            (All-cons (λ x. k.stands.uses port.0 x.slot ≡ Free) t [] (free_unused s k.machine port.0 k.stands ready t.slot (ap (λ (n : ℕ). used_for s.slots port.0 n) its ∙ unused)) (All-nil (λ x. k.stands.uses port.0 x.slot ≡ Free))),
-        record { machine = k.machine; parked = k.stands.parked; reached = k.reached; knows = k.stands.knows },
+        k.machine_relation.uses,
+        All-append (λ x. k.machine_relation.uses port.0 x.slot ≡ Free) tasks (t ∷ [])
+            (All-weaker (λ x. used_for s.slots port.0 x.slot ≡ None) (λ x. k.machine_relation.uses port.0 x.slot ≡ Free) (λ x none. free_unused s k.machine port.0 k.machine_relation ready x.slot none) tasks (puts_free laws port ids tasks s mid was puts))
+            (All-cons (λ x. k.machine_relation.uses port.0 x.slot ≡ Free) t [] (free_unused s k.machine port.0 k.machine_relation ready t.slot (ap (λ (n : ℕ). used_for s.slots port.0 n) its ∙ unused)) (All-nil (λ x. k.machine_relation.uses port.0 x.slot ≡ Free))),
+        record { machine = k.machine; parked = k.machine_relation.parked; reached = k.reached; driver_relation = k.machine_relation.driver_relation },
       );
     }
       where
@@ -109,7 +109,7 @@ module _ (laws : PrerequisiteLaws) (s mid : ServerState) (port : Port) (ids : Li
 
 -- ---- after none
 
-module _ (laws : PrerequisiteLaws) (s : ServerState) (request : BookEntry) (k : InCallInvariant s) (here : Contains s.book request) (due : IsDue (mode_in s request.entry.port) (asks_of s.book) (asks request.entry)) where
+module _ (laws : PrerequisiteLaws) (s : ServerState) (request : BookEntry) (k : InCallInvariant s) (here : Contains s.book request) (due : IsDue (mode_in s request.entry.port) (unanswered_of s.book) (as_unanswered request.entry)) where
   abbrev its_port : Port
   its_port = request.entry.port
 
@@ -120,10 +120,10 @@ module _ (laws : PrerequisiteLaws) (s : ServerState) (request : BookEntry) (k : 
       → (slot < (mode_in s its_port).usable) × (slot < 32) × (slot ≤ s.device.cap / 256 % 32) × (is_plain (mode_in s its_port) request.entry.op ≡ true → slot ≡ 0) × RelatesWith (IsUnused its_port.0 slot) s.device
   due_may slot lowest = (
     may.usable,
-    may.small,
-    may.there,
-    may.head,
-    (k.stands.uses, free_unused s k.machine its_port.0 k.stands (due_ready s its_port (book_and_slots laws s k) request here refl due) slot lowest.1, record { machine = k.machine; parked = k.stands.parked; reached = k.reached; knows = k.stands.knows }),
+    may.slot_is_below_32,
+    may.slot_exists,
+    may.plain_is_in_slot_0,
+    (k.machine_relation.uses, free_unused s k.machine its_port.0 k.machine_relation (due_ready s its_port (book_and_slots laws s k) request here refl due) slot lowest.1, record { machine = k.machine; parked = k.machine_relation.parked; reached = k.reached; driver_relation = k.machine_relation.driver_relation }),
   )
     where
       may : FindsSlotFor s its_port [] request slot

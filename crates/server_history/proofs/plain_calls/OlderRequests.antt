@@ -9,43 +9,43 @@ use Rattle.ata_types.specs.declared.request.Op.TheVariants.{Flush, Read, Trim, W
 use Rattle.ata_types.specs.declared.request.RequestId.{RequestId}
 use Rattle.adapter.specs.Commands.{Meaning}
 use Rattle.adapter.specs.Device.{DevicePort, FetchedCommand}
-use Rattle.refinement.specs.Driven.{known}
-use Rattle.refinement.specs.Slots.{MeansRequest, Progress, ServesRequest, Stage}
-use Rattle.block_machine.specs.Due.{NoneDue, is_plain}
+use Rattle.refinement.specs.Fragments.{driver_state_of}
+use Rattle.refinement.specs.Slots.{MeansRequest, TouchedAsMoved, ServesRequest, IsInSomeStage}
+use Rattle.block_machine.specs.DueRequests.{NoneDue, is_plain}
 use Rattle.block_machine.specs.State.{Machine, Pending}
-use Rattle.block_machine.specs.Steps.{Age, after_step, older}
+use Rattle.block_machine.specs.Steps.{Age, after_step, aged_pending}
 use Rattle.block_machine.specs.declared.due.Unanswered.{Unanswered}
 use Rattle.server_history.proofs.state.ListMembers.{into_map, map_in}
 use Rattle.host_boot.specs.TakeOver.{probe_result_of}
-use Rattle.request_queue.specs.Entries as entries
-use Rattle.request_queue.specs.Entries.{BookEntry}
+use Rattle.request_queue.specs.BookEntries as entries
+use Rattle.request_queue.specs.BookEntries.{BookEntry}
 use Rattle.request_queue.specs.declared.PendingRequest.{PendingRequest}
 use Rattle.server_history.specs.Prerequisites.{PrerequisiteLaws}
-use Rattle.server_history.specs.Server.{ServerState, InCallInvariant, MachineRelation, SettledInvariant, mode_in, state_of, RevokedMarkInvariant}
+use Rattle.server_history.specs.ServerState.{ServerState, InCallInvariant, MachineRelation, SettledInvariant, mode_in, state_of, RevokedMarkInvariant}
 use Rattle.server_history.specs.Turns.{a_tick_older, is_ready}
 use Rattle.server_history.proofs.state.RevokedMarks.{older_marked}
 
 -- ---- one request
 
 -- but for its age, the request is what it was
-pub older_by : (P : Pending → Type 0) (ready : Port → Bool) (e : Pending) → P e → P (record e { age = suc e.age }) → P (older ready e)
+pub older_by : (P : Pending → Type 0) (ready : Port → Bool) (e : Pending) → P e → P (record e { age = suc e.age }) → P (aged_pending ready e)
 older_by P ready e same other = by (e.issued && ready e.request.port)
   where
     by : (b : Bool) → P (if b then record e { age = suc e.age } else e)
     by true = other
     by false = same
 
-pub older_request : (ready : Port → Bool) (e : Pending) → (older ready e).request ≡ e.request
+pub older_request : (ready : Port → Bool) (e : Pending) → (aged_pending ready e).request ≡ e.request
 older_request ready e = older_by (λ x. x.request ≡ e.request) ready e refl refl
 
-pub older_issued : (ready : Port → Bool) (e : Pending) → (older ready e).issued ≡ e.issued
+pub older_issued : (ready : Port → Bool) (e : Pending) → (aged_pending ready e).issued ≡ e.issued
 older_issued ready e = older_by (λ x. x.issued ≡ e.issued) ready e refl refl
 
-pub older_ended : (ready : Port → Bool) (e : Pending) → (older ready e).ended ≡ e.ended
+pub older_ended : (ready : Port → Bool) (e : Pending) → (aged_pending ready e).ended ≡ e.ended
 older_ended ready e = older_by (λ x. x.ended ≡ e.ended) ready e refl refl
 
 -- and so it is in the book
-pub entry_by : (P : PendingRequest → Type 0) (ready : Port → Bool) (r : PendingRequest) → P r → ((age : ℕ) → P (record r { age = age })) → P (entries.older_entry ready r)
+pub entry_by : (P : PendingRequest → Type 0) (ready : Port → Bool) (r : PendingRequest) → P r → ((age : ℕ) → P (record r { age = age })) → P (entries.aged_entry ready r)
 entry_by P ready r same other = by (r.issued && ready r.port)
   where
     by : (b : Bool) → P (if b then record r { age = min (suc r.age) 3 } else r)
@@ -55,13 +55,13 @@ entry_by P ready r same other = by (r.issued && ready r.port)
 -- ---- its slot
 
 module _ (memory : ℕ → ℕ) (p : DevicePort) (port slot : ℕ) where
-  progress_on : (op : Op) (e : Pending) (age : ℕ) (t : FetchedCommand) → Progress op memory port e t → Progress op memory port (record e { age = age }) t
+  progress_on : (op : Op) (e : Pending) (age : ℕ) (t : FetchedCommand) → TouchedAsMoved op memory port e t → TouchedAsMoved op memory port (record e { age = age }) t
   progress_on Read e age t x = x
   progress_on Write e age t x = x
   progress_on Trim e age t x = x
   progress_on Flush e age t x = x
 
-  stage_on : (e : Pending) (age : ℕ) (c : Meaning) (places : List ℕ) → Stage memory p port slot e c places → Stage memory p port slot (record e { age = age }) c places
+  stage_on : (e : Pending) (age : ℕ) (c : Meaning) (places : List ℕ) → IsInSomeStage memory p port slot e c places → IsInSomeStage memory p port slot (record e { age = age }) c places
   stage_on e age c places (inl w) = inl (record { started = w.started; issued = w.issued; free = w.free; sact = w.sact; block = w.block; untouched = w.untouched; unended = w.unended })
   stage_on e age c places (inr (inl t)) = inr (inl (record {
     command = t.command;
@@ -81,30 +81,30 @@ module _ (memory : ℕ → ℕ) (p : DevicePort) (port slot : ℕ) where
   pub serves_on : (m : Machine) (ready : Port → Bool) (id : RequestId) → ServesRequest m memory p port slot id → ServesRequest (after_step m (Age ready)) memory p port slot id
   serves_on m ready id x = ⊎_elim
       (λ here. record {
-        pending = older ready x.pending;
-        moves = inl (into_map (older ready) m.book x.pending here.0, older_issued ready x.pending ∙ here.1);
+        pending = aged_pending ready x.pending;
+        may_still_move = inl (into_map (aged_pending ready) m.book x.pending here.0, older_issued ready x.pending ∙ here.1);
         id_is = ap (λ r. r.id) (older_request ready x.pending) ∙ x.id_is;
         port_is = ap (λ r. r.port.0) (older_request ready x.pending) ∙ x.port_is;
-        placed = x.placed;
+        list_is_in_place = x.list_is_in_place;
         command = x.command;
         places = x.places;
-        told = x.told;
+        slot_decodes_to = x.slot_decodes_to;
         means = older_by (λ e. MeansRequest port slot e.request x.command x.places) ready x.pending x.means x.means;
-        stage = older_by (λ e. Stage memory p port slot e x.command x.places) ready x.pending x.stage (stage_on x.pending (suc x.pending.age) x.command x.places x.stage);
+        stage = older_by (λ e. IsInSomeStage memory p port slot e x.command x.places) ready x.pending x.stage (stage_on x.pending (suc x.pending.age) x.command x.places x.stage);
       })
       (λ kept. record {
         pending = x.pending;
-        moves = inr kept;
+        may_still_move = inr kept;
         id_is = x.id_is;
         port_is = x.port_is;
-        placed = x.placed;
+        list_is_in_place = x.list_is_in_place;
         command = x.command;
         places = x.places;
-        told = x.told;
+        slot_decodes_to = x.slot_decodes_to;
         means = x.means;
         stage = x.stage;
       })
-      x.moves
+      x.may_still_move
 
 -- ---- the server
 
@@ -115,12 +115,12 @@ module _ (laws : PrerequisiteLaws) (s : ServerState) where
   pub older_stands : (m : Machine) → MachineRelation s m → MachineRelation (a_tick_older s) (after_step m (Age ready))
   older_stands m is = record {
     uses = is.uses;
-    used = is.used;
+    are_uses_of = is.are_uses_of;
     parked = is.parked;
     unparked = is.unparked;
-    knows = laws.ages.agrees (known is.uses is.parked s.device) m ready is.knows;
+    driver_relation = laws.ages.agrees (driver_state_of is.uses is.parked s.device) m ready is.driver_relation;
     book = laws.ages.book s.book m ready is.book;
-    kept = is.kept;
+    quarantine_relation = is.quarantine_relation;
     rows = is.rows;
     owner = is.owner;
     lent = is.lent;
@@ -128,47 +128,47 @@ module _ (laws : PrerequisiteLaws) (s : ServerState) where
   }
 
   -- who is in the book then was in it
-  was_held : (e : BookEntry) → Contains (a_tick_older s).book e → (o : BookEntry) × Contains s.book o × (e ≡ record o { entry = entries.older_entry ready o.entry })
-  was_held e here = map_in (λ (x : BookEntry). record x { entry = entries.older_entry ready x.entry }) s.book e here
+  was_held : (e : BookEntry) → Contains (a_tick_older s).book e → (o : BookEntry) × Contains s.book o × (e ≡ record o { entry = entries.aged_entry ready o.entry })
+  was_held e here = map_in (λ (x : BookEntry). record x { entry = entries.aged_entry ready x.entry }) s.book e here
 
   still_all : (P : BookEntry → Type 0) → ((e : BookEntry) (age : ℕ) → P e → P (record e { entry = record (e.entry) { age = age } })) → All P s.book → All P (a_tick_older s).book
-  still_all P keeps all = All-map P (λ (x : BookEntry). record x { entry = entries.older_entry ready x.entry }) s.book
+  still_all P keeps all = All-map P (λ (x : BookEntry). record x { entry = entries.aged_entry ready x.entry }) s.book
       (λ k d lt. entry_by (λ r. P (record (get_or s.book k d) { entry = r })) ready (get_or s.book k d).entry (all k d lt) (λ age. keeps (get_or s.book k d) age (all k d lt)))
 
   pub older_settled : SettledInvariant s → SettledInvariant (a_tick_older s)
   older_settled settled = record {
-    kept = record {
-      on = k.on;
-      room = k.room;
-      there = k.there;
-      behind = k.behind;
-      four = k.four;
+    in_call_invariant = record {
+      adapter_is_on = k.adapter_is_on;
+      driver_memory_fits = k.driver_memory_fits;
+      served_ports_exist = k.served_ports_exist;
+      port_invariant = k.port_invariant;
+      four_slots = k.four_slots;
       four_modes = k.four_modes;
       four_remembered = k.four_remembered;
       four_kept = k.four_kept;
       few_kept = k.few_kept;
       modes = k.modes;
       slots = k.slots;
-      kinds = λ port slot used e its here id.
+      slots_queue_as_asked = λ port slot used e its here id.
           let w = was_held e here in
           let same_id = ap (λ (x : BookEntry). x.entry.id) w.2 ∙ entry_by (λ r. r.id ≡ w.0.entry.id) ready w.0.entry refl (λ age. refl) in
           let same_op = ap (λ (x : BookEntry). x.entry.op) w.2 ∙ entry_by (λ r. r.op ≡ w.0.entry.op) ready w.0.entry refl (λ age. refl) in
-          k.kinds port slot used w.0 its w.1 (sym same_id ∙ id) ∙ ap (λ (op : Op). not (is_plain (mode_in s port) op)) (sym same_op);
-      commands = k.commands;
-      alone = k.alone;
-      rows = k.rows;
-      owners = k.owners;
-      accepted = laws.ages.accepted s.table s.book ready k.accepted;
-      ordered = laws.ages.ordered s.book ready k.ordered;
-      marked = still_all (RevokedMarkInvariant s.grants) (older_marked s.grants) k.marked;
-      handed_out = still_all (λ e. e.entry.id.0 ≤ s.last) (λ e age x. x) k.handed_out;
-      ready = still_all (λ e. state_of (probe_result_of s.ports e.entry.port.0) ≡ ReadyState) (λ e age x. x) k.ready;
+          k.slots_queue_as_asked port slot used w.0 its w.1 (sym same_id ∙ id) ∙ ap (λ (op : Op). not (is_plain (mode_in s port) op)) (sym same_op);
+      slots_store_commands = k.slots_store_commands;
+      plain_stands_alone = k.plain_stands_alone;
+      rows_are_valid = k.rows_are_valid;
+      owned_frames_are_clients = k.owned_frames_are_clients;
+      requests_are_accepted = laws.ages.accepted s.table s.book ready k.requests_are_accepted;
+      book_is_in_order = laws.ages.ordered s.book ready k.book_is_in_order;
+      revoked_marks_agree = still_all (RevokedMarkInvariant s.grants) (older_marked s.grants) k.revoked_marks_agree;
+      ids_were_handed_out = still_all (λ e. e.entry.id.0 ≤ s.last_id) (λ e age x. x) k.ids_were_handed_out;
+      requests_are_of_ready_ports = still_all (λ e. state_of (probe_result_of s.ports e.entry.port.0) ≡ ReadyState) (λ e age x. x) k.requests_are_of_ready_ports;
       machine = after_step k.machine (Age ready);
       reached = laws.basic.reached k.machine (Age ready ∷ []) k.reached (tt, tt);
-      stands = older_stands k.machine k.stands;
+      machine_relation = older_stands k.machine k.machine_relation;
     };
-    issued = λ port. subst (λ (us : List Unanswered). NoneDue (mode_in s port) us port) (sym (laws.ages.asks s.book ready)) (settled.issued port);
+    nothing_is_due = λ port. subst (λ (us : List Unanswered). NoneDue (mode_in s port) us port) (sym (laws.ages.asks s.book ready)) (settled.nothing_is_due port);
   }
     where
       k : InCallInvariant s
-      k = settled.kept
+      k = settled.in_call_invariant

@@ -11,44 +11,44 @@ use Rattle.ata_types.specs.declared.request.Request.{Request}
 use Rattle.ata_types.specs.declared.request.RequestId.{RequestId}
 use Rattle.adapter.specs.Access.{Access, Does, Loads, Stores}
 use Rattle.adapter.specs.Access.Access.{Loading, Reading, Storing, Writing}
-use Rattle.adapter.specs.Asked.{Asked}
+use Rattle.adapter.specs.ToldSteps.{DoesOrFailsStep}
 use Rattle.adapter.specs.Device.{Device}
 use Rattle.adapter.specs.Rules.{IsUnowned, IsStable}
 use Rattle.adapter.specs.Steps.{Steps}
 use Rattle.adapter.specs.declared.access.DeviceStep.{DeviceStep}
 use Rattle.adapter.specs.declared.command.Operation.TheVariants.{Identify}
-use Rattle.refinement.specs.Driven.{IsDrivenBy, GainsNoMove, known}
+use Rattle.refinement.specs.Fragments.{IsDrivenBy, GainsNoMove, driver_state_of}
 use Rattle.refinement.specs.Driver.{EndsInStep}
 use Rattle.refinement.specs.Links.{SameAdapter, DoesNotWrite}
 use Rattle.hba_regs.specs.declared.reg.PortReg.TheVariants.{Cmd}
 use Rattle.hba_regs.specs.declared.reg.Reg.TheVariants.{Ghc, Px}
-use Rattle.refinement.specs.Spares.{SparesBook}
+use Rattle.refinement.specs.SparedBook.{SparesBook}
 use Rattle.server_history.proofs.state.DrivenAccesses.{by_one}
-use Rattle.block_machine.specs.Events.{AbstractCall, Submit, StoreAt, LoadAt, Service, Tick, Reset, RevokeOf, State, AllMay, Device as Told, CallResult, Submitted, Shown, Stepped, IsAnswered, AbstractState, WasRevoked}
+use Rattle.block_machine.specs.Events.{AbstractCall, Submit, StoreAt, LoadAt, Service, Tick, Reset, RevokeOf, State, AllEnabled, Device as Told, CallResult, Submitted, Shown, Stepped, IsAnswered, AbstractState, WasRevoked}
 use Rattle.block_machine.specs.Rules.{HasRow}
-use Rattle.block_machine.specs.Histories.{JointState, JointEvent, IsReachable, now}
+use Rattle.block_machine.specs.Histories.{JointState, JointEvent, IsReachable, joint_state_after}
 use Rattle.block_machine.specs.Expected.{after}
 use Rattle.block_machine.specs.Ports.{Evidence, Ports}
-use Rattle.block_machine.specs.Refusals.{Situation, IsFirstMemFault, IsFirstRefusal, MayAccessFrame}
+use Rattle.block_machine.specs.Refusals.{AdmissionContext, IsFirstMemFault, IsFirstRefusal, MayAccessFrame}
 use Rattle.block_machine.specs.State.{Machine}
 use Rattle.block_machine.specs.Steps.{Step, Load, Store}
 use Rattle.block_machine.specs.Events as events
 use Rattle.ata_types.specs.declared.PortState.TheVariants.{Ready as ReadyState}
-use Rattle.dma_frames.specs.Table.{owner_of, lent_to}
+use Rattle.dma_frames.specs.FrameTables.{owner_of, lent_to}
 use Rattle.host_boot.specs.TakeOver.{probe_result_of}
 use Rattle.host_boot.specs.declared.ProbeResult.TheVariants.{Unready}
 use Rattle.ata_types.specs.declared.PortState.TheVariants.{Dead}
 use Rattle.ata_types.specs.declared.memory.TheConstants.{DRIVER_BYTES, DRIVER_FRAMES}
-use Rattle.port_control.specs.Services.{IsService}
+use Rattle.port_control.specs.ServiceAccesses.{IsServiceAccess}
 use Rattle.server_history.specs.Prerequisites.{PrerequisiteLaws}
-use Rattle.driver_history.specs.Heeding.{OnlyFailedPortsRequeueIn}
+use Rattle.driver_history.specs.EvidenceHandling.{OnlyFailedPortsRequeueIn}
 use Rattle.driver_history.specs.Histories.{ExplainsAccesses, IssuesAllDue, IssuesDue, LosesNoPortError, PortCorresponds}
-use Rattle.driver_history.specs.Trace.{ClearsNoError, LeavesEngine}
+use Rattle.driver_history.specs.AccessTrace.{ClearsNoError, LeavesEngine}
 use Rattle.server_history.specs.Histories.{ExtendsSettled, ExtendsHistory, LeadsToServer, ServerRelation, load_said, store_said}
-use Rattle.server_history.specs.Server.{HasStoredCommand, ServerState, InCallInvariant, MachineRelation, PortInvariant, SettledInvariant, OwnedFramesAreClients, mode_in, ports_of, admission_context, used_for}
+use Rattle.server_history.specs.ServerState.{HasStoredCommand, ServerState, InCallInvariant, MachineRelation, PortInvariant, SettledInvariant, OwnedFramesAreClients, mode_in, ports_of, admission_context, used_for}
 use Rattle.slots.specs.declared.SlotUse.{SlotUse}
 use Rattle.refinement.specs.Relation.{port_at}
-use Rattle.refinement.specs.Places.{IsTableByte}
+use Rattle.refinement.specs.MemoryLayout.{IsTableByte}
 use Rattle.server_history.proofs.state.StoredCommands.{service_leaves_stored}
 use Rattle.server_history.proofs.state.DueRequests.{none_issued}
 use Rattle.server_history.proofs.state.DeviceSteps.{devices_belong, devices_last, devices_lawful, devices_transfer}
@@ -61,7 +61,7 @@ use Rattle.server_history.proofs.state.PortSlots.{not_own, used_there}
 -- ---- what a history leads to
 
 module _ (laws : PrerequisiteLaws) (first : JointState Device) (past : List (JointEvent Device DeviceStep)) (s : ServerState) (leads : LeadsToServer first past s) where
-  pub reached : IsReachable (now first past).abstract.machine
+  pub reached : IsReachable (joint_state_after first past).abstract.machine
   reached = laws.basic.history_reached s.wanted first past leads.history
 
 -- what holds of the server's owners and loans holds of the machine's
@@ -115,37 +115,37 @@ Parts s new ask said steps accesses = (m : AbstractState) → m.ports ≡ ports_
 
 module _ (laws : PrerequisiteLaws) where
   -- what a request meets is what it meets in the machine
-  pub situation_is : (s : ServerState) (old : JointState Device) → ServerRelation old s → events.situation_of old.abstract ≡ admission_context s
+  pub situation_is : (s : ServerState) (old : JointState Device) → ServerRelation old s → events.admission_context_of old.abstract ≡ admission_context s
   situation_is s old at = λ i. record {
-    rows = at.machine.rows i;
-    owner = λ frame. at.machine.owner frame i;
-    lent = λ frame. at.machine.lent frame i;
+    rows = at.machine_stands_for_it.rows i;
+    owner = λ frame. at.machine_stands_for_it.owner frame i;
+    lent = λ frame. at.machine_stands_for_it.lent frame i;
     state = ap (λ (ports : Ports). ports.state) at.ports_are i;
     sectors = ap (λ (ports : Ports). ports.sectors) at.ports_are i;
     trims = ap (λ (ports : Ports). ports.trims) at.ports_are i;
-    unanswered = λ client. laws.counts s.book old.abstract.machine.book client at.machine.book i;
-    next = at.machine.next i;
+    unanswered = λ client. laws.counts s.book old.abstract.machine.book client at.machine_stands_for_it.book i;
+    next_id = at.machine_stands_for_it.next i;
   }
 
   -- the machine of a load is that of the device's steps
   pub load_ends : (s : ServerState) (new : Device) (client : ClientId) (frame : Frame) (offset : ℕ) (bytes : List ℕ) → MayAccessFrame (owner_of s.table) (lent_to s.table) client frame offset (length bytes)
       → Loads (4096 * frame.0 + offset) bytes s.device new → (m : Machine) → IsReachable m → (is : MachineRelation s m)
-      → (x : EndsInStep (known is.uses is.parked s.device) m (Load client frame offset bytes) (known is.uses is.parked new)) × MachineRelation (record s { device = new }) (after m (Load client frame offset bytes ∷ x.steps))
+      → (x : EndsInStep (driver_state_of is.uses is.parked s.device) m (Load client frame offset bytes) (driver_state_of is.uses is.parked new)) × MachineRelation (record s { device = new }) (after m (Load client frame offset bytes ∷ x.steps))
   load_ends s new client frame offset bytes opens loads m r is =
-      let x : EndsInStep (known is.uses is.parked s.device) m (Load client frame offset bytes) (known is.uses is.parked new) =
-      laws.client_loads (known is.uses is.parked s.device) m client frame offset bytes new r is.knows (as_told s m is (λ owner lent. MayAccessFrame owner lent client frame offset (length bytes)) opens) loads in
-      (x, machine_with laws s new m (after m (Load client frame offset bytes ∷ x.steps)) is (laws.basic.spares m x.steps x.only) x.knows)
+      let x : EndsInStep (driver_state_of is.uses is.parked s.device) m (Load client frame offset bytes) (driver_state_of is.uses is.parked new) =
+      laws.client_loads (driver_state_of is.uses is.parked s.device) m client frame offset bytes new r is.driver_relation (as_told s m is (λ owner lent. MayAccessFrame owner lent client frame offset (length bytes)) opens) loads in
+      (x, machine_with laws s new m (after m (Load client frame offset bytes ∷ x.steps)) is (laws.basic.spares m x.steps x.only) x.driver_relation)
 
   pub store_ends : (s : ServerState) (new : Device) (client : ClientId) (frame : Frame) (offset : ℕ) (bytes : List ℕ) → MayAccessFrame (owner_of s.table) (lent_to s.table) client frame offset (length bytes)
       → Stores (4096 * frame.0 + offset) bytes s.device new → (m : Machine) → IsReachable m → (is : MachineRelation s m)
-      → (x : EndsInStep (known is.uses is.parked s.device) m (Store client frame offset bytes) (known is.uses is.parked new)) × MachineRelation (record s { device = new }) (after m (Store client frame offset bytes ∷ x.steps))
+      → (x : EndsInStep (driver_state_of is.uses is.parked s.device) m (Store client frame offset bytes) (driver_state_of is.uses is.parked new)) × MachineRelation (record s { device = new }) (after m (Store client frame offset bytes ∷ x.steps))
   store_ends s new client frame offset bytes opens stores m r is =
-      let x : EndsInStep (known is.uses is.parked s.device) m (Store client frame offset bytes) (known is.uses is.parked new) =
-      laws.client_stores (known is.uses is.parked s.device) m client frame offset bytes new r is.knows (as_told s m is (λ owner lent. MayAccessFrame owner lent client frame offset (length bytes)) opens) stores in
+      let x : EndsInStep (driver_state_of is.uses is.parked s.device) m (Store client frame offset bytes) (driver_state_of is.uses is.parked new) =
+      laws.client_stores (driver_state_of is.uses is.parked s.device) m client frame offset bytes new r is.driver_relation (as_told s m is (λ owner lent. MayAccessFrame owner lent client frame offset (length bytes)) opens) stores in
       let spares : SparesBook m (after m x.steps) = laws.basic.spares m x.steps x.only in (
         x,
         machine_with laws s new m (after m (Store client frame offset bytes ∷ x.steps)) is
-            (record { rows = spares.rows; owner = spares.owner; lent = spares.lent; next = spares.next; book = spares.book; kept = spares.kept }) x.knows,
+            (record { rows = spares.rows; owner = spares.owner; lent = spares.lent; next = spares.next; book = spares.book; kept = spares.kept }) x.driver_relation,
       )
 
   -- ---- calls that do nothing
@@ -168,55 +168,55 @@ module _ (laws : PrerequisiteLaws) where
       → Parts s s.device ask said [] []
       → ExtendsHistory s s ask said
   nothing_event s ask said goes came answered issues parts first past leads =
-      let old : JointState Device = now first past in
+      let old : JointState Device = joint_state_after first past in
       lead_by laws first past s s ask said [] refl refl leads goes.holds tt tt tt tt (answered old leads.stands (told_by s.device old.abstract.ports)) (none_grounded ask (told_by s.device old.abstract.ports)) [] (came old.abstract)
-      (λ port. All-nil (LeavesEngine port)) (issues old (reached laws first past s leads) leads.stands) (parts old.abstract leads.stands.ports_are) (laws.backed_none s.device old.abstract.machine) leads.stands.machine
+      (λ port. All-nil (LeavesEngine port)) (issues old (reached laws first past s leads) leads.stands) (parts old.abstract leads.stands.ports_are) (laws.backed_none s.device old.abstract.machine) leads.stands.machine_stands_for_it
 
   module _ (s : ServerState) (goes : GoesTo s s.device) where
     pub undone_event : (step : DeviceStep) → ExtendsHistory s s (Told step) (Stepped false)
     undone_event step =
         nothing_event s (Told step) (Stepped false) goes (λ m. (refl, refl))
         (λ old at evidence. (refl, ports_same old.abstract.ports (ports_of s) at.ports_are)) (λ old was at port. tt)
-        (λ m are port. record { finds = tt; faults = tt; probes = tt; boots = tt; port_error = goes.port_error m are port; well = λ i. absurd (uninterrupted s.device m.ports port i); heeds = uninterrupted s.device m.ports port })
+        (λ m are port. record { finds_done = tt; plain_faults_are_told = tt; probes_disk = tt; boots_anew = tt; loses_no_error = goes.port_error m are port; runs_well_anew = λ i. absurd (uninterrupted s.device m.ports port i); handles_evidence = uninterrupted s.device m.ports port })
 
     pub state_event : (port : Port) → ExtendsHistory s s (State port) (Shown ((ports_of s).state port))
     state_event port =
         nothing_event s (State port) (Shown ((ports_of s).state port)) goes (λ m. (refl, refl))
         (λ old at evidence. (ap (λ (ports : Ports). ports.state port) (sym at.ports_are), refl, ports_same old.abstract.ports (ports_of s) at.ports_are)) (λ old was at q. tt)
-        (λ m are q. record { finds = tt; faults = tt; probes = tt; boots = tt; port_error = goes.port_error m are q; well = λ i. absurd (uninterrupted s.device m.ports q i); heeds = uninterrupted s.device m.ports q })
+        (λ m are q. record { finds_done = tt; plain_faults_are_told = tt; probes_disk = tt; boots_anew = tt; loses_no_error = goes.port_error m are q; runs_well_anew = λ i. absurd (uninterrupted s.device m.ports q i); handles_evidence = uninterrupted s.device m.ports q })
 
     pub store_refused_event : (client : ClientId) (frame : Frame) (offset : ℕ) (bytes : List ℕ) (fault : MemFault)
         → IsFirstMemFault (owner_of s.table) (lent_to s.table) client frame offset (length bytes) fault → ExtendsHistory s s (StoreAt client frame offset bytes) (store_said (Err fault))
     store_refused_event client frame offset bytes fault is =
         nothing_event s (StoreAt client frame offset bytes) (store_said (Err fault)) goes (λ m. (refl, refl))
-        (λ old at evidence. (ports_same old.abstract.ports (ports_of s) at.ports_are, as_told s old.abstract.machine at.machine (λ owner lent. IsFirstMemFault owner lent client frame offset (length bytes) fault) is, refl))
+        (λ old at evidence. (ports_same old.abstract.ports (ports_of s) at.ports_are, as_told s old.abstract.machine at.machine_stands_for_it (λ owner lent. IsFirstMemFault owner lent client frame offset (length bytes) fault) is, refl))
         (λ old was at port. tt)
-        (λ m are port. record { finds = tt; faults = tt; probes = tt; boots = tt; port_error = goes.port_error m are port; well = λ i. absurd (uninterrupted s.device m.ports port i); heeds = uninterrupted s.device m.ports port })
+        (λ m are port. record { finds_done = tt; plain_faults_are_told = tt; probes_disk = tt; boots_anew = tt; loses_no_error = goes.port_error m are port; runs_well_anew = λ i. absurd (uninterrupted s.device m.ports port i); handles_evidence = uninterrupted s.device m.ports port })
 
     pub load_refused_event : (client : ClientId) (frame : Frame) (offset count : ℕ) (bytes : List ℕ) (fault : MemFault)
         → IsFirstMemFault (owner_of s.table) (lent_to s.table) client frame offset count fault → ExtendsHistory s s (LoadAt client frame offset count) (load_said (Err fault) bytes)
     load_refused_event client frame offset count bytes fault is =
         nothing_event s (LoadAt client frame offset count) (load_said (Err fault) bytes) goes (λ m. (refl, refl))
-        (λ old at evidence. (ports_same old.abstract.ports (ports_of s) at.ports_are, as_told s old.abstract.machine at.machine (λ owner lent. IsFirstMemFault owner lent client frame offset count fault) is, refl))
+        (λ old at evidence. (ports_same old.abstract.ports (ports_of s) at.ports_are, as_told s old.abstract.machine at.machine_stands_for_it (λ owner lent. IsFirstMemFault owner lent client frame offset count fault) is, refl))
         (λ old was at port. tt)
-        (λ m are port. record { finds = tt; faults = tt; probes = tt; boots = tt; port_error = goes.port_error m are port; well = λ i. absurd (uninterrupted s.device m.ports port i); heeds = uninterrupted s.device m.ports port })
+        (λ m are port. record { finds_done = tt; plain_faults_are_told = tt; probes_disk = tt; boots_anew = tt; loses_no_error = goes.port_error m are port; runs_well_anew = λ i. absurd (uninterrupted s.device m.ports port i); handles_evidence = uninterrupted s.device m.ports port })
 
     -- where nothing is due on a ready port
     pub submit_refused_event : (r : Request) (refusal : Refusal) → IsFirstRefusal (admission_context s) r refusal
         → ((m : Machine) → MachineRelation s m → (port : Port) → (ports_of s).state port ≡ ReadyState → IssuesDue (mode_in s port) [] m port) → ExtendsHistory s s (Submit r) (Submitted (Err refusal))
     submit_refused_event r refusal is undue =
         nothing_event s (Submit r) (Submitted (Err refusal)) goes (λ m. (refl, refl))
-        (λ old at evidence. (subst (λ (x : Situation). IsFirstRefusal x r refusal) (sym (situation_is s old at)) is, refl, ports_same old.abstract.ports (ports_of s) at.ports_are))
-        (λ old was at port ready. undue old.abstract.machine at.machine port ready)
-        (λ m are port. record { finds = tt; faults = tt; probes = tt; boots = tt; port_error = goes.port_error m are port; well = λ i. absurd (uninterrupted s.device m.ports port i); heeds = uninterrupted s.device m.ports port })
+        (λ old at evidence. (subst (λ (x : AdmissionContext). IsFirstRefusal x r refusal) (sym (situation_is s old at)) is, refl, ports_same old.abstract.ports (ports_of s) at.ports_are))
+        (λ old was at port ready. undue old.abstract.machine at.machine_stands_for_it port ready)
+        (λ m are port. record { finds_done = tt; plain_faults_are_told = tt; probes_disk = tt; boots_anew = tt; loses_no_error = goes.port_error m are port; runs_well_anew = λ i. absurd (uninterrupted s.device m.ports port i); handles_evidence = uninterrupted s.device m.ports port })
 
     pub revoke_refused_event : (client : ClientId) (number : ℕ) → (HasRow client number s.grants → ⊥)
         → ((m : Machine) → MachineRelation s m → (port : Port) → (ports_of s).state port ≡ ReadyState → IssuesDue (mode_in s port) [] m port) → ExtendsHistory s s (RevokeOf client number) (WasRevoked None)
     revoke_refused_event client number none undue =
         nothing_event s (RevokeOf client number) (WasRevoked None) goes (λ m. (refl, refl))
-        (λ old at evidence. (λ has. none (subst (HasRow client number) at.machine.rows has), refl, ports_same old.abstract.ports (ports_of s) at.ports_are))
-        (λ old was at port ready. undue old.abstract.machine at.machine port ready)
-        (λ m are port. record { finds = tt; faults = tt; probes = tt; boots = tt; port_error = goes.port_error m are port; well = λ i. absurd (uninterrupted s.device m.ports port i); heeds = uninterrupted s.device m.ports port })
+        (λ old at evidence. (λ has. none (subst (HasRow client number) at.machine_stands_for_it.rows has), refl, ports_same old.abstract.ports (ports_of s) at.ports_are))
+        (λ old was at port ready. undue old.abstract.machine at.machine_stands_for_it port ready)
+        (λ m are port. record { finds_done = tt; plain_faults_are_told = tt; probes_disk = tt; boots_anew = tt; loses_no_error = goes.port_error m are port; runs_well_anew = λ i. absurd (uninterrupted s.device m.ports port i); handles_evidence = uninterrupted s.device m.ports port })
 
   -- ---- calls that lead to another device
 
@@ -224,12 +224,12 @@ module _ (laws : PrerequisiteLaws) where
     abbrev then_is : ServerState
     then_is = record s { device = new }
 
-    pub device_event : (step : DeviceStep) → Asked step s.device new → Steps s.device new → ExtendsHistory s (record s { device = new }) (Told step) (Stepped true)
+    pub device_event : (step : DeviceStep) → DoesOrFailsStep step s.device new → Steps s.device new → ExtendsHistory s (record s { device = new }) (Told step) (Stepped true)
     device_event step asked moves first past leads =
-        let old : JointState Device = now first past in
+        let old : JointState Device = joint_state_after first past in
         let at : ServerRelation old s = leads.stands in
-        let m = at.machine in
-        let x = (laws.basic.device_adds (known m.uses m.parked s.device) new moves).adds old.abstract.machine (reached laws first past s leads) m.knows in
+        let m = at.machine_stands_for_it in
+        let x = (laws.basic.device_adds (driver_state_of m.uses m.parked s.device) new moves).simulates old.abstract.machine (reached laws first past s leads) m.driver_relation in
         let steps : List Step = x.0 in
         lead_by laws first past s then_is (Told step) (Stepped true) steps refl refl leads goes.holds x.1 (devices_belong (Told step) (ports_of s) steps x.3.only) (devices_last steps x.3.only)
         (devices_lawful old.abstract no_evidence (ports_of s) steps x.3.only)
@@ -239,46 +239,46 @@ module _ (laws : PrerequisiteLaws) where
         (refl, asked)
         (λ port. All-nil (LeavesEngine port))
         (λ port. tt)
-        (λ port. record { finds = tt; faults = tt; probes = tt; boots = tt; port_error = goes.port_error old.abstract at.ports_are port; well = λ i. absurd (uninterrupted s.device old.abstract.ports port i); heeds = uninterrupted s.device old.abstract.ports port })
-        x.3.backed
+        (λ port. record { finds_done = tt; plain_faults_are_told = tt; probes_disk = tt; boots_anew = tt; loses_no_error = goes.port_error old.abstract at.ports_are port; runs_well_anew = λ i. absurd (uninterrupted s.device old.abstract.ports port i); handles_evidence = uninterrupted s.device old.abstract.ports port })
+        x.3.is_backed
         (machine_on laws s new old.abstract.machine steps m x.3.only x.2)
 
     module _ (client : ClientId) (frame : Frame) (offset : ℕ) (bytes : List ℕ) (opens : MayAccessFrame (owner_of s.table) (lent_to s.table) client frame offset (length bytes)) where
       pub load_event : Loads (4096 * frame.0 + offset) bytes s.device new → ExtendsHistory s (record s { device = new }) (LoadAt client frame offset (length bytes)) (load_said (Ok tt) bytes)
       load_event loads first past leads =
-          let old : JointState Device = now first past in
+          let old : JointState Device = joint_state_after first past in
           let at : ServerRelation old s = leads.stands in
-          let x = load_ends s new client frame offset bytes opens loads old.abstract.machine (reached laws first past s leads) at.machine in
+          let x = load_ends s new client frame offset bytes opens loads old.abstract.machine (reached laws first past s leads) at.machine_stands_for_it in
           lead_by laws first past s then_is (LoadAt client frame offset (length bytes)) (load_said (Ok tt) bytes) (Load client frame offset bytes ∷ x.0.steps) refl refl leads goes.holds
-          x.0.may (devices_belong {D = DeviceStep} (LoadAt client frame offset (length bytes)) (ports_of s) x.0.steps x.0.only, inr (refl, refl, refl, refl))
+          x.0.steps_are_enabled (devices_belong {D = DeviceStep} (LoadAt client frame offset (length bytes)) (ports_of s) x.0.steps x.0.only, inr (refl, refl, refl, refl))
           (devices_last x.0.steps x.0.only, λ id h i. false≢true h)
           (devices_lawful old.abstract no_evidence (ports_of s) x.0.steps x.0.only)
-          (ports_same old.abstract.ports (ports_of s) at.ports_are, as_told s old.abstract.machine at.machine (λ owner lent. MayAccessFrame owner lent client frame offset (length bytes)) opens, ap (λ (rest : List (List ℕ)). bytes ∷ rest) (devices_transfer x.0.steps x.0.only))
+          (ports_same old.abstract.ports (ports_of s) at.ports_are, as_told s old.abstract.machine at.machine_stands_for_it (λ owner lent. MayAccessFrame owner lent client frame offset (length bytes)) opens, ap (λ (rest : List (List ℕ)). bytes ∷ rest) (devices_transfer x.0.steps x.0.only))
           tt
           (Loading (4096 * frame.0 + offset) bytes ∷ [])
           ((new, loads, refl), refl)
           (λ port. All-cons (LeavesEngine port) (Loading (4096 * frame.0 + offset) bytes) [] (tt, tt) (All-nil (LeavesEngine port)))
           (λ port. tt)
-          (λ port. record { finds = tt; faults = tt; probes = tt; boots = tt; port_error = goes.port_error old.abstract at.ports_are port; well = λ i. absurd (uninterrupted s.device old.abstract.ports port i); heeds = uninterrupted s.device old.abstract.ports port })
-          x.0.backed x.1
+          (λ port. record { finds_done = tt; plain_faults_are_told = tt; probes_disk = tt; boots_anew = tt; loses_no_error = goes.port_error old.abstract at.ports_are port; runs_well_anew = λ i. absurd (uninterrupted s.device old.abstract.ports port i); handles_evidence = uninterrupted s.device old.abstract.ports port })
+          x.0.is_backed x.1
 
       pub store_event : Stores (4096 * frame.0 + offset) bytes s.device new → ExtendsHistory s (record s { device = new }) (StoreAt client frame offset bytes) (store_said (Ok tt))
       store_event stores first past leads =
-          let old : JointState Device = now first past in
+          let old : JointState Device = joint_state_after first past in
           let at : ServerRelation old s = leads.stands in
-          let x = store_ends s new client frame offset bytes opens stores old.abstract.machine (reached laws first past s leads) at.machine in
+          let x = store_ends s new client frame offset bytes opens stores old.abstract.machine (reached laws first past s leads) at.machine_stands_for_it in
           lead_by laws first past s then_is (StoreAt client frame offset bytes) (store_said (Ok tt)) (Store client frame offset bytes ∷ x.0.steps) refl refl leads goes.holds
-          x.0.may (devices_belong {D = DeviceStep} (StoreAt client frame offset bytes) (ports_of s) x.0.steps x.0.only, inr (refl, refl, refl, refl))
+          x.0.steps_are_enabled (devices_belong {D = DeviceStep} (StoreAt client frame offset bytes) (ports_of s) x.0.steps x.0.only, inr (refl, refl, refl, refl))
           (devices_last x.0.steps x.0.only, λ id h i. false≢true h)
           (devices_lawful old.abstract no_evidence (ports_of s) x.0.steps x.0.only)
-          (ports_same old.abstract.ports (ports_of s) at.ports_are, as_told s old.abstract.machine at.machine (λ owner lent. MayAccessFrame owner lent client frame offset (length bytes)) opens, ap (λ (rest : List (List ℕ)). bytes ∷ rest) (devices_transfer x.0.steps x.0.only))
+          (ports_same old.abstract.ports (ports_of s) at.ports_are, as_told s old.abstract.machine at.machine_stands_for_it (λ owner lent. MayAccessFrame owner lent client frame offset (length bytes)) opens, ap (λ (rest : List (List ℕ)). bytes ∷ rest) (devices_transfer x.0.steps x.0.only))
           tt
           (Storing (4096 * frame.0 + offset) bytes ∷ [])
           ((new, stores, refl), refl)
           (λ port. All-cons (LeavesEngine port) (Storing (4096 * frame.0 + offset) bytes) [] (tt, tt) (All-nil (LeavesEngine port)))
           (λ port. tt)
-          (λ port. record { finds = tt; faults = tt; probes = tt; boots = tt; port_error = goes.port_error old.abstract at.ports_are port; well = λ i. absurd (uninterrupted s.device old.abstract.ports port i); heeds = uninterrupted s.device old.abstract.ports port })
-          x.0.backed x.1
+          (λ port. record { finds_done = tt; plain_faults_are_told = tt; probes_disk = tt; boots_anew = tt; loses_no_error = goes.port_error old.abstract at.ports_are port; runs_well_anew = λ i. absurd (uninterrupted s.device old.abstract.ports port i); handles_evidence = uninterrupted s.device old.abstract.ports port })
+          x.0.is_backed x.1
 
   -- ---- clients' bytes
 
@@ -289,7 +289,7 @@ module _ (laws : PrerequisiteLaws) where
   pub open_free : (s : ServerState) (client : ClientId) (frame : Frame) (offset count : ℕ) → OwnedFramesAreClients s.table s.device.size → (m : Machine) → IsReachable m → MachineRelation s m
       → MayAccessFrame (owner_of s.table) (lent_to s.table) client frame offset count → IsStable (IsUnowned (4096 * frame.0 + offset) count) s.device
   open_free s client frame offset count owners m was is opens =
-      laws.client_bytes_free is.uses m s.device was is.knows.agrees client frame offset count (owners frame client (open_owned (owner_of s.table) (lent_to s.table) client frame offset count opens)).1
+      laws.client_bytes_free is.uses m s.device was is.driver_relation.state_relation client frame offset count (owners frame client (open_owned (owner_of s.table) (lent_to s.table) client frame offset count opens)).1
       (as_told s m is (λ owner lent. MayAccessFrame owner lent client frame offset count) opens)
 
 -- ---- a server whose adapter is on
@@ -298,20 +298,20 @@ module _ (laws : PrerequisiteLaws) where
   -- ---- trouble that isn't lost
 
   untroubled : (s : ServerState) → InCallInvariant s → (m : AbstractState) (port : Port) → LosesNoPortError (told_by s.device m.ports) (still s m) (ports_of s) s.device port
-  untroubled s k m port = laws.calls.ordinary port (still s m) s.device [] (told_by s.device m.ports) (ports_of s) k.on refl (All-nil (DoesNotWrite Ghc)) (All-nil (ClearsNoError port))
+  untroubled s k m port = laws.calls.ordinary port (still s m) s.device [] (told_by s.device m.ports) (ports_of s) k.adapter_is_on refl (All-nil (DoesNotWrite Ghc)) (All-nil (ClearsNoError port))
 
   one_untroubled : (s : ServerState) → InCallInvariant s → (new : Device) (access : Access) → IsOfBytes access → Does access s.device new → (m : AbstractState) (port : Port)
       → LosesNoPortError (told_by s.device m.ports) (still s m) (ports_of s) new port
   one_untroubled s k new access its does m port =
-      laws.calls.ordinary port (still s m) new (access ∷ []) (told_by s.device m.ports) (ports_of s) k.on (new, does, refl)
+      laws.calls.ordinary port (still s m) new (access ∷ []) (told_by s.device m.ports) (ports_of s) k.adapter_is_on (new, does, refl)
       (All-cons (DoesNotWrite Ghc) access [] (bytes_spare_host access its) (All-nil (DoesNotWrite Ghc)))
       (All-cons (ClearsNoError port) access [] (bytes_clear_none port access its) (All-nil (ClearsNoError port)))
 
   -- ---- accesses of bytes
 
   module _ (s : ServerState) (k : InCallInvariant s) (new : Device) (access : Access) (its : IsOfBytes access) (above : StoresAbove access) (does : Does access s.device new) where
-    served : IsDrivenBy IsService s.device new
-    served = by_one IsService access s.device new (bytes_serve access its) does
+    served : IsDrivenBy IsServiceAccess s.device new
+    served = by_one IsServiceAccess access s.device new (bytes_serve access its) does
 
     same : SameAdapter s.device new
     same = laws.looks.access_same access s.device new does
@@ -319,96 +319,96 @@ module _ (laws : PrerequisiteLaws) where
     silent : (port : ℕ) → probe_result_of s.ports port ≢ Unready Dead → GainsNoMove port Identify s.device new
     silent port other =
         let grows = laws.looks.tape.access_grows access s.device new does in
-        let none = not_own (probe_result_of s.ports port) (used_for s.slots port 0) (k.stands.uses port 0) Identify other (k.stands.used port 0) in
-        (grows.0, grows.1, laws.slots.page_asked k.stands.uses k.machine access s.device new port Identify grows.0 k.reached k.stands.knows.agrees does grows.1 refl (λ own. absurd (none own)))
+        let none = not_own (probe_result_of s.ports port) (used_for s.slots port 0) (k.machine_relation.uses port 0) Identify other (k.machine_relation.are_uses_of port 0) in
+        (grows.0, grows.1, laws.slots.page_asked k.machine_relation.uses k.machine access s.device new port Identify grows.0 k.reached k.machine_relation.driver_relation.state_relation does grows.1 refl (λ own. absurd (none own)))
 
     ports_on : (port : ℕ) → port < 4 → PortInvariant s.wanted s.ports port new
     ports_on port below =
-        port_on laws s.wanted s.ports port s.device new same k.on served (λ unready. bytes_leave laws access s.device new its k.on does port) (silent port)
-        (laws.port_error.halts_access k.stands.uses k.machine (port_at port) access s.device new k.reached k.stands.knows.agrees (bytes_spare_commands (port_at port) access its) does) (k.behind port below)
+        port_on laws s.wanted s.ports port s.device new same k.adapter_is_on served (λ unready. bytes_leave laws access s.device new its k.adapter_is_on does port) (silent port)
+        (laws.port_error.halts_access k.machine_relation.uses k.machine (port_at port) access s.device new k.reached k.machine_relation.driver_relation.state_relation (bytes_spare_commands (port_at port) access its) does) (k.port_invariant port below)
 
     -- what is stored for slots stays
     commands_on : (port slot : ℕ) (used : SlotUse) → used_for s.slots port slot ≡ Some used → HasStoredCommand used.queued new port slot
     commands_on port slot used is =
         let t = used_there s port slot used k is in
-        let h = k.commands port slot used is in
+        let h = k.slots_store_commands port slot used is in
         let leaves = service_leaves_stored laws (port_at port) slot access (bytes_serve access its) (λ at bytes place e table from to. above_table port slot place t.0 t.1 table (let a = above at bytes e in omega (arith, a, from))) in
         record {
           command = h.command;
           places = h.places;
-          stored = laws.slots.stored_access k.stands.uses k.machine (port_at port) slot h.command h.places access s.device new k.reached k.stands.knows.agrees k.on.no_reset leaves.start leaves.list leaves.table does h.stored;
+          stored = laws.slots.stored_access k.machine_relation.uses k.machine (port_at port) slot h.command h.places access s.device new k.reached k.machine_relation.driver_relation.state_relation k.adapter_is_on.no_reset leaves.st_is_not_cleared leaves.clb_is_not_written leaves.table_is_not_stored_to does h.stored;
           kind = h.kind;
         }
 
     -- a machine that spares the book
-    kept_with : (steps : List Step) → AllMay k.machine steps → MachineRelation (record s { device = new }) (after k.machine steps) → InCallInvariant (record s { device = new })
-    kept_with steps may stands = kept_on laws s new k (laws.looking.services_on s.device new k.on served) same ports_on commands_on steps may stands
+    kept_with : (steps : List Step) → AllEnabled k.machine steps → MachineRelation (record s { device = new }) (after k.machine steps) → InCallInvariant (record s { device = new })
+    kept_with steps may stands = kept_on laws s new k (laws.looking.services_on s.device new k.adapter_is_on served) same ports_on commands_on steps may stands
 
   -- ---- the device's steps
 
   pub device_kept : (s : ServerState) (new : Device) → InCallInvariant s → Steps s.device new → InCallInvariant (record s { device = new })
   device_kept s new k steps =
-      let x = (laws.basic.device_adds (known k.stands.uses k.stands.parked s.device) new steps).adds k.machine k.reached k.stands.knows in
+      let x = (laws.basic.device_adds (driver_state_of k.machine_relation.uses k.machine_relation.parked s.device) new steps).simulates k.machine k.reached k.machine_relation.driver_relation in
       kept_with s k new (Loading 0 []) tt (loads_above 0 []) (none_loaded s.device new steps) x.0 x.1
-      (machine_on laws s new k.machine x.0 k.stands x.3.only x.2)
+      (machine_on laws s new k.machine x.0 k.machine_relation x.3.only x.2)
 
   -- ---- events
 
   pub stays : (s : ServerState) → InCallInvariant s → GoesTo s s.device
   stays s k = record { holds = holding s k; port_error = λ m are port. untroubled s k m port }
 
-  pub device_adds_event : (s : ServerState) (new : Device) (step : DeviceStep) → SettledInvariant s → Asked step s.device new → Steps s.device new
+  pub device_adds_event : (s : ServerState) (new : Device) (step : DeviceStep) → SettledInvariant s → DoesOrFailsStep step s.device new → Steps s.device new
       → ExtendsSettled s (record s { device = new }) (Told step) (Stepped true)
   device_adds_event s new step k asked moves = record {
-    settled = record { kept = device_kept s new k.kept moves; issued = k.issued };
-    adds = device_event laws s new (record {
-      holds = holding (record s { device = new }) (device_kept s new k.kept moves);
-      port_error = λ m are port. laws.calls.ordinary_steps port (still s m) new (told_by s.device m.ports) (ports_of s) k.kept.on moves;
+    settled_invariant = record { in_call_invariant = device_kept s new k.in_call_invariant moves; nothing_is_due = k.nothing_is_due };
+    extends_history = device_event laws s new (record {
+      holds = holding (record s { device = new }) (device_kept s new k.in_call_invariant moves);
+      port_error = λ m are port. laws.calls.ordinary_steps port (still s m) new (told_by s.device m.ports) (ports_of s) k.in_call_invariant.adapter_is_on moves;
     }) step asked moves;
   }
 
   pub undone_adds : (s : ServerState) (step : DeviceStep) → SettledInvariant s → ExtendsSettled s s (Told step) (Stepped false)
-  undone_adds s step k = record { settled = k; adds = undone_event laws s (stays s k.kept) step }
+  undone_adds s step k = record { settled_invariant = k; extends_history = undone_event laws s (stays s k.in_call_invariant) step }
 
   pub state_adds : (s : ServerState) (port : Port) → SettledInvariant s → ExtendsSettled s s (State port) (Shown ((ports_of s).state port))
-  state_adds s port k = record { settled = k; adds = state_event laws s (stays s k.kept) port }
+  state_adds s port k = record { settled_invariant = k; extends_history = state_event laws s (stays s k.in_call_invariant) port }
 
   pub store_refused : (s : ServerState) (client : ClientId) (frame : Frame) (offset : ℕ) (bytes : List ℕ) (fault : MemFault) → SettledInvariant s
       → IsFirstMemFault (owner_of s.table) (lent_to s.table) client frame offset (length bytes) fault → ExtendsSettled s s (StoreAt client frame offset bytes) (store_said (Err fault))
-  store_refused s client frame offset bytes fault k is = record { settled = k; adds = store_refused_event laws s (stays s k.kept) client frame offset bytes fault is }
+  store_refused s client frame offset bytes fault k is = record { settled_invariant = k; extends_history = store_refused_event laws s (stays s k.in_call_invariant) client frame offset bytes fault is }
 
   pub load_refused : (s : ServerState) (client : ClientId) (frame : Frame) (offset count : ℕ) (bytes : List ℕ) (fault : MemFault) → SettledInvariant s
       → IsFirstMemFault (owner_of s.table) (lent_to s.table) client frame offset count fault → ExtendsSettled s s (LoadAt client frame offset count) (load_said (Err fault) bytes)
-  load_refused s client frame offset count bytes fault k is = record { settled = k; adds = load_refused_event laws s (stays s k.kept) client frame offset count bytes fault is }
+  load_refused s client frame offset count bytes fault k is = record { settled_invariant = k; extends_history = load_refused_event laws s (stays s k.in_call_invariant) client frame offset count bytes fault is }
 
   pub revoke_refused : (s : ServerState) (client : ClientId) (number : ℕ) → SettledInvariant s → (HasRow client number s.grants → ⊥) → ExtendsSettled s s (RevokeOf client number) (WasRevoked None)
   revoke_refused s client number k none = record {
-    settled = k;
-    adds = revoke_refused_event laws s (stays s k.kept) client number none (λ m at port ready. none_issued s m at [] (λ id. refl) (mode_in s port) port (k.issued port));
+    settled_invariant = k;
+    extends_history = revoke_refused_event laws s (stays s k.in_call_invariant) client number none (λ m at port ready. none_issued s m at [] (λ id. refl) (mode_in s port) port (k.nothing_is_due port));
   }
 
   pub submit_refused : (s : ServerState) (r : Request) (refusal : Refusal) → SettledInvariant s → IsFirstRefusal (admission_context s) r refusal → ExtendsSettled s s (Submit r) (Submitted (Err refusal))
   submit_refused s r refusal k is = record {
-    settled = k;
-    adds = submit_refused_event laws s (stays s k.kept) r refusal is (λ m at port ready. none_issued s m at [] (λ id. refl) (mode_in s port) port (k.issued port));
+    settled_invariant = k;
+    extends_history = submit_refused_event laws s (stays s k.in_call_invariant) r refusal is (λ m at port ready. none_issued s m at [] (λ id. refl) (mode_in s port) port (k.nothing_is_due port));
   }
 
   module _ (s : ServerState) (new : Device) (client : ClientId) (frame : Frame) (offset : ℕ) (bytes : List ℕ) (t : SettledInvariant s) (opens : MayAccessFrame (owner_of s.table) (lent_to s.table) client frame offset (length bytes)) where
     abbrev k : InCallInvariant s
-    k = t.kept
+    k = t.in_call_invariant
 
     pub load_kept : Loads (4096 * frame.0 + offset) bytes s.device new → InCallInvariant (record s { device = new })
     load_kept loads =
-        let x = load_ends laws s new client frame offset bytes opens loads k.machine k.reached k.stands in
-        kept_with s k new (Loading (4096 * frame.0 + offset) bytes) tt (loads_above (4096 * frame.0 + offset) bytes) loads (Load client frame offset bytes ∷ x.0.steps) x.0.may x.1
+        let x = load_ends laws s new client frame offset bytes opens loads k.machine k.reached k.machine_relation in
+        kept_with s k new (Loading (4096 * frame.0 + offset) bytes) tt (loads_above (4096 * frame.0 + offset) bytes) loads (Load client frame offset bytes ∷ x.0.steps) x.0.steps_are_enabled x.1
 
     pub store_kept : Stores (4096 * frame.0 + offset) bytes s.device new → InCallInvariant (record s { device = new })
     store_kept stores =
-        let x = store_ends laws s new client frame offset bytes opens stores k.machine k.reached k.stands in
-        kept_with s k new (Storing (4096 * frame.0 + offset) bytes) tt above stores (Store client frame offset bytes ∷ x.0.steps) x.0.may x.1
+        let x = store_ends laws s new client frame offset bytes opens stores k.machine k.reached k.machine_relation in
+        kept_with s k new (Storing (4096 * frame.0 + offset) bytes) tt above stores (Store client frame offset bytes ∷ x.0.steps) x.0.steps_are_enabled x.1
       where
         owned : (DRIVER_FRAMES ≤ frame.0) × (4096 * frame.0 + 4096 ≤ s.device.size)
-        owned = k.owners frame client (open_owned laws (owner_of s.table) (lent_to s.table) client frame offset (length bytes) opens)
+        owned = k.owned_frames_are_clients frame client (open_owned laws (owner_of s.table) (lent_to s.table) client frame offset (length bytes) opens)
 
         above : StoresAbove (Storing (4096 * frame.0 + offset) bytes)
         above at stored is =
@@ -421,14 +421,14 @@ module _ (laws : PrerequisiteLaws) where
 
     pub load_adds : Loads (4096 * frame.0 + offset) bytes s.device new → ExtendsSettled s (record s { device = new }) (LoadAt client frame offset (length bytes)) (load_said (Ok tt) bytes)
     load_adds loads = record {
-      settled = record { kept = load_kept loads; issued = t.issued };
-      adds = load_event laws s new (goes (load_kept loads) (Loading (4096 * frame.0 + offset) bytes) tt loads) client frame offset bytes opens loads;
+      settled_invariant = record { in_call_invariant = load_kept loads; nothing_is_due = t.nothing_is_due };
+      extends_history = load_event laws s new (goes (load_kept loads) (Loading (4096 * frame.0 + offset) bytes) tt loads) client frame offset bytes opens loads;
     }
 
     pub store_adds : Stores (4096 * frame.0 + offset) bytes s.device new → ExtendsSettled s (record s { device = new }) (StoreAt client frame offset bytes) (store_said (Ok tt))
     store_adds stores = record {
-      settled = record { kept = store_kept stores; issued = t.issued };
-      adds = store_event laws s new (goes (store_kept stores) (Storing (4096 * frame.0 + offset) bytes) tt stores) client frame offset bytes opens stores;
+      settled_invariant = record { in_call_invariant = store_kept stores; nothing_is_due = t.nothing_is_due };
+      extends_history = store_event laws s new (goes (store_kept stores) (Storing (4096 * frame.0 + offset) bytes) tt stores) client frame offset bytes opens stores;
     }
 
   -- of so many bytes

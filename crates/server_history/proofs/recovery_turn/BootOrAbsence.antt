@@ -3,9 +3,9 @@ use Rattle.std.proofs.Common.{◌≡◌, ◌⊎◌, refl, inl, inr, ⊎_elim}
 use Rattle.ata_types.specs.declared.Port.{Port}
 use Rattle.ata_types.specs.declared.PortState.TheVariants.{Absent}
 use Rattle.adapter.specs.Device.{Device}
-use Rattle.refinement.specs.Driven.{IsSimulated}
+use Rattle.refinement.specs.Fragments.{IsSimulated}
 use Rattle.refinement.specs.Driver.{AllFree}
-use Rattle.host_boot.specs.Again.{RebootsPort, IsCapPiOrBootAccess}
+use Rattle.host_boot.specs.Reboots.{RebootsPort, IsCapPiOrBootAccess}
 use Rattle.host_boot.specs.declared.Booted.{Booted}
 use Rattle.host_boot.specs.declared.ProbeResult.{ProbeResult}
 use Rattle.host_boot.specs.declared.ProbeResult.TheVariants.{Unready}

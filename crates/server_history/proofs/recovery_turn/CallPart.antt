@@ -7,12 +7,12 @@ use Rattle.ata_types.specs.declared.request.Reply.{Reply}
 use Rattle.adapter.specs.Device.{Device}
 use Rattle.adapter.specs.declared.access.DeviceStep.{DeviceStep}
 use Rattle.refinement.specs.Acts.{Act}
-use Rattle.refinement.specs.Driven.{AnyUse, IsSimulated}
+use Rattle.refinement.specs.Fragments.{AnyUse, IsSimulated}
 use Rattle.block_machine.specs.declared.due.Unanswered.{Unanswered}
 use Rattle.server_history.proofs.state.ListMembers.{map_in}
 use Rattle.std.specs.List.{Contains}
 use Rattle.server_history.proofs.dispositions.MetFates.{nobody}
-use Rattle.block_machine.specs.Due.{due_of, IsDue, NoneDue, of_port}
+use Rattle.block_machine.specs.DueRequests.{due_of, IsDue, NoneDue, requests_of_port}
 use Rattle.block_machine.specs.Events.{AreStepsOfCall}
 use Rattle.block_machine.specs.Histories.{IsReachable}
 use Rattle.block_machine.specs.State.{Machine}
@@ -20,13 +20,13 @@ use Rattle.block_machine.specs.declared.due.QueueMode.{QueueMode}
 use Rattle.host_boot.specs.TakeOver.{probe_result_of}
 use Rattle.host_boot.specs.declared.ProbeResult.TheVariants.{Ready}
 use Rattle.identify.specs.declared.DiskInfo.{DiskInfo}
-use Rattle.port_control.specs.Looks.{IsLooking}
-use Rattle.request_queue.specs.Entries.{BookEntry, asks, asks_of, due_ids}
+use Rattle.port_control.specs.PortEvents.{IsEventAccess}
+use Rattle.request_queue.specs.BookEntries.{BookEntry, as_unanswered, unanswered_of, due_ids}
 use Rattle.server_history.specs.Prerequisites.{PrerequisiteLaws}
 use Rattle.server_history.specs.ErrorHandling.{HasResolved, HandlesPortError}
 use Rattle.port_control.specs.declared.events.PortError.TheVariants.{TimedOut}
-use Rattle.server_history.specs.Server.{InCallInvariant, MachineRelation, SettledInvariant, ServerState, mode_in, ports_of, state_of}
-use Rattle.server_history.specs.Turns.{IsPortTurn, InRestart, InService, SimulatesTurn, MeetsTurnDuty, ServesPort, TurnCorresponds, Turn, ask_of_turn}
+use Rattle.server_history.specs.ServerState.{InCallInvariant, MachineRelation, SettledInvariant, ServerState, mode_in, ports_of, state_of}
+use Rattle.server_history.specs.Turns.{IsPortTurn, InRestart, InService, SimulatesTurn, MeetsTurnDuty, ServicesPort, TurnCorresponds, Turn, ask_of_turn}
 use Rattle.server_history.proofs.recovery_turn.TurnAsCall.{heeds_trouble, ties_recovered}
 use Rattle.server_history.proofs.recovery_turn.DecidedSteps.{DecidesTurn, recovered_decides}
 use Rattle.server_history.proofs.recovery_turn.TurnEvidence.{IsEvident, evident}
@@ -39,12 +39,12 @@ use Rattle.server_history.proofs.plain_calls.IssueRounds.{each_apart, each_setti
 use Rattle.server_history.proofs.state.PortSlots.{of_ready, ready_found}
 
 -- where nobody looked, it is as after a look without accesses
-pub unlooked : (port : Port) (old seen : Device) → seen ≡ old → IsSimulated (IsLooking port) AnyUse old seen
-unlooked port old seen same = subst (IsSimulated (IsLooking port) AnyUse old) (sym same) (record {
-  driven = record { accesses = []; all = refl; only = All-nil (IsLooking port) };
-  comes = λ s m reached knows any. record {
+pub unlooked : (port : Port) (old seen : Device) → seen ≡ old → IsSimulated (IsEventAccess port) AnyUse old seen
+unlooked port old seen same = subst (IsSimulated (IsEventAccess port) AnyUse old) (sym same) (record {
+  is_driven = record { accesses = []; all_are_done = refl; accesses_are_of_kind = All-nil (IsEventAccess port) };
+  acts_reach = λ s m reached knows any. record {
     acts = [];
-    done = refl;
+    acts_are_done = refl;
     accesses_are = refl;
     tells = record { only = tt; kept = λ q issues arms. All-nil (λ (act : Act). act.later.uses q.0 ≡ s.uses q.0) };
   };
@@ -52,29 +52,29 @@ unlooked port old seen same = subst (IsSimulated (IsLooking port) AnyUse old) (s
 
 -- once its requests met their fates, the server keeps what it keeps
 pub goes_on : PrerequisiteLaws → (port : Port) (later : List Reply) (old new : ServerState) → InCallInvariant old → state_of (probe_result_of old.ports port.0) ≡ ReadyState → (a : HasResolved port later old new)
-    → IsSimulated (IsLooking port) AnyUse old.device a.error_handled.seen → InCallInvariant new
+    → IsSimulated (IsEventAccess port) AnyUse old.device a.error_handled.seen → InCallInvariant new
 goes_on laws port later old new k ready a looks =
-    let f = adds_fates laws port later old new k ready a looks k.machine k.reached k.stands in
+    let f = adds_fates laws port later old new k ready a looks k.machine k.reached k.machine_relation in
     recovered_kept laws port later old new k ready a looks _ (laws.basic.reached k.machine _ k.reached f.may) f.stands
 
 -- nothing is due on a port that isn't ready, of which no request is unanswered
-pub none_due_unready : (s : ServerState) → InCallInvariant s → (port : Port) → state_of (probe_result_of s.ports port.0) ≢ ReadyState → (mode : QueueMode) → NoneDue mode (asks_of s.book) port
+pub none_due_unready : (s : ServerState) → InCallInvariant s → (port : Port) → state_of (probe_result_of s.ports port.0) ≢ ReadyState → (mode : QueueMode) → NoneDue mode (unanswered_of s.book) port
 none_due_unready s k port unready mode r own due =
-    let y = map_in (λ (x : BookEntry). asks x.entry) s.book r due.here in
+    let y = map_in (λ (x : BookEntry). as_unanswered x.entry) s.book r due.is_in_book in
     unready (ap (λ (q : Port). state_of (probe_result_of s.ports q.0)) (sym own ∙ ap (λ (u : Unanswered). u.port) y.2) ∙ of_ready s k y.0 y.1)
 
-pub unready_undue : PrerequisiteLaws → (s : ServerState) → InCallInvariant s → (port : Port) → ((info : DiskInfo) → probe_result_of s.ports port.0 ≡ Ready info → ⊥) → due_ids (mode_in s port) port (asks_of s.book) ≡ []
-unready_undue laws s k port unready = ap (map (λ (r : Unanswered). r.id)) (nobody (due_of (mode_in s port) port (asks_of s.book)) none)
+pub unready_undue : PrerequisiteLaws → (s : ServerState) → InCallInvariant s → (port : Port) → ((info : DiskInfo) → probe_result_of s.ports port.0 ≡ Ready info → ⊥) → due_ids (mode_in s port) port (unanswered_of s.book) ≡ []
+unready_undue laws s k port unready = ap (map (λ (r : Unanswered). r.id)) (nobody (due_of (mode_in s port) port (unanswered_of s.book)) none)
   where
-    none : (r : Unanswered) → Contains (due_of (mode_in s port) port (asks_of s.book)) r → ⊥
+    none : (r : Unanswered) → Contains (due_of (mode_in s port) port (unanswered_of s.book)) r → ⊥
     none r here =
-        let own = laws.own (mode_in s port) port (asks_of s.book) r here in
-        none_due_unready s k port (λ ready. let found = (ready_found s port.0 k ready).1 in unready found.0 found.1) (mode_in s port) r own ((laws.exact (mode_in s port) port (asks_of s.book) r own).0 here)
+        let own = laws.own (mode_in s port) port (unanswered_of s.book) r here in
+        none_due_unready s k port (λ ready. let found = (ready_found s port.0 k ready).1 in unready found.0 found.1) (mode_in s port) r own ((laws.exact (mode_in s port) port (unanswered_of s.book) r own).0 here)
 
 module _ (laws : PrerequisiteLaws) (port : Port) (replies : List Reply) (old new : ServerState) (t : SettledInvariant old) (ready : state_of (probe_result_of old.ports port.0) ≡ ReadyState)
-    (r : HandlesPortError port replies old new) (looks : IsSimulated (IsLooking port) AnyUse old.device r.settled.error_handled.seen) where
+    (r : HandlesPortError port replies old new) (looks : IsSimulated (IsEventAccess port) AnyUse old.device r.settled.error_handled.seen) where
   abbrev k : InCallInvariant old
-  k = t.kept
+  k = t.in_call_invariant
 
   kept : InCallInvariant r.mid
   kept = goes_on laws port r.later old r.mid k ready r.settled looks
@@ -92,42 +92,42 @@ module _ (laws : PrerequisiteLaws) (port : Port) (replies : List Reply) (old new
     makes turn belong owes ties = record {
       steps = d.steps;
       evidence = evidence_by r.settled;
-      may = d.may;
-      stands = d.stands;
-      backed = d.backed;
-      own = d.own;
-      belong = belong;
-      last = d.last;
-      names = e.names;
-      lawful = d.lawful;
-      owes = owes;
-      tells = d.tells;
-      unplugs = d.unplugs;
-      becomes = e.becomes;
-      disk = inr (e.had m is d.steps d.backed);
-      keeps = d.keeps;
-      issues = d.issues;
-      evidenced = e.evidenced (ask_of_turn turn) m;
+      steps_are_enabled = d.may;
+      machine_relation = d.stands;
+      is_backed = d.backed;
+      steps_are_of_turn = d.own;
+      steps_are_of_call = belong;
+      issues_are_last = d.last;
+      names_only_port = e.names;
+      answers_are_lawful = d.lawful;
+      meets_turn_duty = owes;
+      replies_match = d.tells;
+      answers_all_unplugged = d.unplugs;
+      port_is_serviced = e.becomes;
+      shown_disk_was_in_or_came = inr (e.had m is d.steps d.backed);
+      disk_is_kept_or_none_waits = d.keeps;
+      issues_due = d.issues;
+      is_evidenced = e.evidenced (ask_of_turn turn) m;
       faults = e.faults;
-      finds = λ _ x issued. found_by_masks laws port replies old new k ready r looks kept e m reached is d;
-      ties = ties;
+      finds_done = λ _ x issued. found_by_masks laws port replies old new k ready r looks kept e m reached is d;
+      turn_corresponds = ties;
     }
 
   has_part : (turn : Turn) → ((m : Machine) → IsReachable m → MachineRelation old m → SimulatesTurn turn port replies e.accesses old new m) → IsPortTurn turn port replies old new
   has_part turn made = record {
     accesses = e.accesses;
-    does = e.does;
-    of = e.of;
-    own = e.own;
-    others = e.others;
-    silent = e.silent;
-    makes = made;
+    accesses_are_done = e.does;
+    accesses_are_of_port = e.of;
+    accesses_are_drivers_own = e.own;
+    leaves_others = e.others;
+    others_get_no_log = e.silent;
+    simulates_turn = made;
   }
 
-  pub recovered : r.settled.error_handled.port_error ≢ TimedOut → ServesPort port replies old new
+  pub recovered : r.settled.error_handled.port_error ≢ TimedOut → ServicesPort port replies old new
   recovered unhung = record {
-    does = inr (r, unhung);
-    part = has_part InService (λ m reached is.
+    does_turn = inr (r, unhung);
+    is_port_turn = has_part InService (λ m reached is.
         let its = d m reached is in
         makes m reached is InService its.belong (its.grounded unhung) (ties_recovered laws port replies old new k ready r looks kept e m reached is its unhung));
   }
@@ -139,13 +139,13 @@ module _ (laws : PrerequisiteLaws) (port : Port) (replies : List Reply) (old new
       (heeds_trouble laws port replies old new k ready r looks kept e m reached is its))
 
   -- nothing is due on another port, as before
-  none_other : (other : Port) → other ≢ port → NoneDue (mode_in r.mid other) (asks_of r.mid.book) other
+  none_other : (other : Port) → other ≢ port → NoneDue (mode_in r.mid other) (unanswered_of r.mid.book) other
   none_other other ne u its due =
-      let ids = due_ids (mode_in r.mid port) port (asks_of r.mid.book) in
+      let ids = due_ids (mode_in r.mid port) port (unanswered_of r.mid.book) in
       let number : other.0 ≢ port.0 = λ same. ne (ap (λ (n : ℕ). record { 0 = n }) same) in
       let mode_is : mode_in r.mid other ≡ mode_in old other = sym (ap (λ (n : ServerState). mode_in n other) (each_settings laws port ids r.mid new r.issued)) ∙ e.others.modes other.0 number in
-      let book_is : of_port other (asks_of r.mid.book) ≡ of_port other (asks_of old.book) = sym (each_apart laws port ids r.mid new kept.ordered r.issued other ne) ∙ e.others.book other ne in
-      t.issued other u its ((laws.same_due (mode_in old other) other (asks_of r.mid.book) (asks_of old.book) u book_is its).0 (subst (λ (mode : QueueMode). IsDue mode (asks_of r.mid.book) u) mode_is due))
+      let book_is : requests_of_port other (unanswered_of r.mid.book) ≡ requests_of_port other (unanswered_of old.book) = sym (each_apart laws port ids r.mid new kept.book_is_in_order r.issued other ne) ∙ e.others.book other ne in
+      t.nothing_is_due other u its ((laws.same_due (mode_in old other) other (unanswered_of r.mid.book) (unanswered_of old.book) u book_is its).0 (subst (λ (mode : QueueMode). IsDue mode (unanswered_of r.mid.book) u) mode_is due))
 
   pub settles : SettledInvariant new
   settles = settled laws port r.mid new kept none_other r.issued

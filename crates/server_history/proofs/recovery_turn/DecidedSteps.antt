@@ -13,19 +13,19 @@ use Rattle.ata_types.specs.declared.request.Outcome.TheVariants as outcome
 use Rattle.ata_types.specs.declared.request.Reply.{Reply}
 use Rattle.ata_types.specs.declared.request.RequestId.{RequestId}
 use Rattle.adapter.specs.declared.access.DeviceStep.{DeviceStep}
-use Rattle.refinement.specs.Driven.{AnyUse, IsSimulated}
+use Rattle.refinement.specs.Fragments.{AnyUse, IsSimulated}
 use Rattle.refinement.specs.Driver.{IsBacked}
-use Rattle.block_machine.specs.Events.{AllByDevice, AllAnswersLawful, AllMay, AreStepsOfCall, EndsUndone, IsIssuedIn, IsLawfulAnswer, IssuesLast, IsToldBefore, AbstractState, Service, RepliesMatch, AnswersAllUnplugged, WasIssued, answers_of, issues_it, reply_of, IsReadyAgain}
+use Rattle.block_machine.specs.Events.{AllByDevice, AllAnswersLawful, AllEnabled, AreStepsOfCall, EndsUndone, IsIssuedIn, IsLawfulAnswer, IssuesLast, IsToldBefore, AbstractState, Service, RepliesMatch, AnswersAllUnplugged, WasIssued, answers_of, issues_id, reply_of, IsReadyAgain}
 use Rattle.block_machine.specs.Histories.{IsReachable}
 use Rattle.block_machine.specs.Expected.{after}
 use Rattle.block_machine.specs.Ports.{Evidence, Ports, SameDisk}
 use Rattle.block_machine.specs.State.{Machine, Pending}
-use Rattle.block_machine.specs.Steps.{Step, Again, Answer, Issue}
+use Rattle.block_machine.specs.Steps.{Step, WaitAgain, Answer, Issue}
 use Rattle.block_machine.specs.declared.due.QueueMode.{QueueMode}
 use Rattle.block_machine.specs.declared.due.Unanswered.{Unanswered}
 use Rattle.server_history.proofs.state.ListMembers.{contains_here, map_in, in_filter}
-use Rattle.block_machine.specs.Due.{due_of}
-use Rattle.driver_history.specs.Heeding.{OnlyFailedPortsRequeue, ToldOkOr}
+use Rattle.block_machine.specs.DueRequests.{due_of}
+use Rattle.driver_history.specs.EvidenceHandling.{OnlyFailedPortsRequeue, ToldOkOr}
 use Rattle.driver_history.specs.Histories.{IssuesDue}
 use Rattle.driver_history.specs.PortInvariants.{HasNoUnanswered}
 use Rattle.identify.specs.declared.error_log.FailedSlot.{FailedSlot}
@@ -35,23 +35,23 @@ use Rattle.host_boot.specs.TakeOver.{probe_result_of}
 use Rattle.host_boot.specs.declared.ProbeResult.{ProbeResult}
 use Rattle.host_boot.specs.declared.ProbeResult.TheVariants.{Unserved, Ready, Unready}
 use Rattle.identify.specs.declared.DiskInfo.{DiskInfo}
-use Rattle.port_control.specs.Looks.{IsLooking}
+use Rattle.port_control.specs.PortEvents.{IsEventAccess}
 use Rattle.port_control.specs.declared.events.PortError.{PortError}
 use Rattle.port_control.specs.declared.events.PortError.TheVariants.{FatalError, TaskFileError, TimedOut, LinkChanged}
-use Rattle.request_queue.specs.Entries.{BookEntry, asks, asks_of, due_ids, is_of_port}
+use Rattle.request_queue.specs.BookEntries.{BookEntry, as_unanswered, unanswered_of, due_ids, is_of_port}
 use Rattle.request_queue.specs.Dispositions.{disposition_of}
-use Rattle.request_queue.specs.Machine.{EntryRelation}
+use Rattle.request_queue.specs.BookRelation.{EntryRelation}
 use Rattle.request_queue.specs.declared.PendingRequest.{PendingRequest}
 use Rattle.request_queue.specs.declared.disposition.FailedRequest.{FailedRequest}
 use Rattle.request_queue.specs.declared.disposition.Disposition.TheVariants.{Complete}
 use Rattle.request_queue.specs.declared.disposition.Revalidation.{Revalidation}
 use Rattle.request_queue.specs.declared.disposition.Revalidation.TheVariants.{SameDisk as Same, DiskLost, Dead as NoEnd}
-use Rattle.slots.specs.Uses.{PortSlots, use_at}
+use Rattle.slots.specs.SlotUses.{PortSlots, use_at}
 use Rattle.slots.specs.declared.SlotUse.{SlotUse}
 use Rattle.server_history.specs.Prerequisites.{PrerequisiteLaws}
 use Rattle.server_history.specs.ErrorHandling.{IsFailedRequest, IsRevalidation, HasResolved, HandlesPortError, book_and_loans_of, requests_of}
-use Rattle.server_history.specs.Served.{HasEnded, ok_answers_of, done_reply}
-use Rattle.server_history.specs.Server.{InCallInvariant, MachineRelation, ServerState, last_disk_in, last_disk_of, mode_in, ports_of, remembered_at, last_sectors_of, last_serial_of, slots_at, state_of}
+use Rattle.server_history.specs.IssuingAndAnswering.{HasEnded, ok_answers_of, done_reply}
+use Rattle.server_history.specs.ServerState.{InCallInvariant, MachineRelation, ServerState, last_disk_in, last_disk_of, mode_in, ports_of, remembered_at, last_sectors_of, last_serial_of, slots_at, state_of}
 use Rattle.server_history.specs.Turns.{IsOfTurn, abstract_state_of}
 use Rattle.server_history.proofs.state.AnswerSteps.{answered_in, ended_stood, issuing_answers, may_parts, no_answer, no_answer_issuing, told_so, with_ok}
 use Rattle.server_history.proofs.any_turn.ToldTrouble.{given_up, lost_or_not}
@@ -75,9 +75,9 @@ use Rattle.server_history.proofs.state.FirstMembers.{first_here}
 pub record DecidesTurn (port : Port) (replies : List Reply) (old new : ServerState) (r : HandlesPortError port replies old new) (evidence : Evidence) (m : Machine) : Type 0 where
   pub steps : List Step
   pub dispositions : AddsFates port r.later old r.mid r.settled m
-  pub issuing : AreIssued port (due_ids (mode_in r.mid port) port (asks_of r.mid.book)) r.mid new (after m (until_issues dispositions))
+  pub issuing : AreIssued port (due_ids (mode_in r.mid port) port (unanswered_of r.mid.book)) r.mid new (after m (until_issues dispositions))
   pub steps_are : steps ≡ issuing.steps ++ until_issues dispositions
-  pub may : AllMay m steps
+  pub may : AllEnabled m steps
   pub stands : MachineRelation new (after m steps)
   pub backed : IsBacked old.device new.device m steps
   pub own : All (IsOfTurn port) steps
@@ -110,7 +110,7 @@ failed_used slots (Some its) failed x (used, at, names) is =
     (its.slot.0, used, at, ap (λ (f : FailedRequest). f.id) (sym same))
 
 module _ (laws : PrerequisiteLaws) (port : Port) (replies : List Reply) (old new : ServerState) (k : InCallInvariant old) (ready : state_of (probe_result_of old.ports port.0) ≡ ReadyState) (r : HandlesPortError port replies old new)
-    (looks : IsSimulated (IsLooking port) AnyUse old.device r.settled.error_handled.seen) (k_mid : InCallInvariant r.mid) where
+    (looks : IsSimulated (IsEventAccess port) AnyUse old.device r.settled.error_handled.seen) (k_mid : InCallInvariant r.mid) where
   abbrev a : HasResolved port r.later old r.mid
   a = r.settled
 
@@ -121,7 +121,7 @@ module _ (laws : PrerequisiteLaws) (port : Port) (replies : List Reply) (old new
   evidence = evidence_by a
 
   abbrev ids : List RequestId
-  ids = due_ids (mode_in r.mid port) port (asks_of r.mid.book)
+  ids = due_ids (mode_in r.mid port) port (unanswered_of r.mid.book)
 
   low : port.0 < 4
   low = (ready_found old port.0 k ready).0
@@ -136,10 +136,10 @@ module _ (laws : PrerequisiteLaws) (port : Port) (replies : List Reply) (old new
   -- ---- what the port is
 
   found_mid : probe_result_of r.mid.ports port.0 ≡ a.found
-  found_mid = ap (λ (s : ServerState). probe_result_of s.ports port.0) a.server ∙ get_or-set_same a.mid.ports port.0 a.found Unserved (let f = (ready_found a.mid port.0 k_then then_ready).1 in in_ports a.mid.ports port.0 f.0 f.1)
+  found_mid = ap (λ (s : ServerState). probe_result_of s.ports port.0) a.server_is ∙ get_or-set_same a.mid.ports port.0 a.found Unserved (let f = (ready_found a.mid port.0 k_then then_ready).1 in in_ports a.mid.ports port.0 f.0 f.1)
 
-  remembered_mid : remembered_at r.mid.remembered port.0 ≡ Some a.was
-  remembered_mid = ap (λ (s : ServerState). remembered_at s.remembered port.0) a.server ∙ get_or-set_same a.mid.remembered port.0 (Some a.was) None (let f = k_then.four_remembered in let l = low in omega (arith, f, l))
+  remembered_mid : remembered_at r.mid.remembered port.0 ≡ Some a.disk_before
+  remembered_mid = ap (λ (s : ServerState). remembered_at s.remembered port.0) a.server_is ∙ get_or-set_same a.mid.remembered port.0 (Some a.disk_before) None (let f = k_then.four_remembered in let l = low in omega (arith, f, l))
 
   new_settings : new ≡ record r.mid { device = new.device; slots = new.slots; book = new.book }
   new_settings = each_settings laws port ids r.mid new r.issued
@@ -153,14 +153,14 @@ module _ (laws : PrerequisiteLaws) (port : Port) (replies : List Reply) (old new
   mode_new : mode_in new port ≡ mode_in r.mid port
   mode_new = ap (λ (ports : Ports). ports.mode port) ports_same
 
-  disk_new : last_disk_in new port ≡ last_disk_of a.found (Some a.was)
+  disk_new : last_disk_in new port ≡ last_disk_of a.found (Some a.disk_before)
   disk_new = ap (λ (s : ServerState). last_disk_in s port) new_settings ∙ ap (λ (f : ProbeResult). last_disk_of f (remembered_at r.mid.remembered port.0)) found_mid ∙ ap (last_disk_of a.found) remembered_mid
 
-  disk_old : last_disk_in old port ≡ Some a.was
+  disk_old : last_disk_in old port ≡ Some a.disk_before
   disk_old = ap (λ (f : ProbeResult). last_disk_of f (remembered_at old.remembered port.0)) a.ready
 
   -- the disk is the same, where the one that was found is
-  same_disk : (info : DiskInfo) → last_disk_of a.found (Some a.was) ≡ Some info → info.serial ≡ a.was.serial → info.sectors ≡ a.was.sectors → SameDisk (ports_of old) (ports_of new) port
+  same_disk : (info : DiskInfo) → last_disk_of a.found (Some a.disk_before) ≡ Some info → info.serial ≡ a.disk_before.serial → info.sectors ≡ a.disk_before.sectors → SameDisk (ports_of old) (ports_of new) port
   same_disk info is serial sectors = (
     ap last_serial_of (disk_new ∙ is) ∙ serial ∙ sym (ap last_serial_of disk_old),
     ap last_sectors_of (disk_new ∙ is) ∙ sectors ∙ sym (ap last_sectors_of disk_old),
@@ -171,14 +171,14 @@ module _ (laws : PrerequisiteLaws) (port : Port) (replies : List Reply) (old new
 
   -- the same disk
   module _ (is : a.revalidation ≡ Same) where
-    info : (info : DiskInfo) × (a.found ≡ Ready info) × ((info.serial ≡ a.was.serial) × (info.sectors ≡ a.was.sectors))
-    info = (subst (IsRevalidation a.error_handled.port_error a.was a.found) is a.expects).1
+    info : (info : DiskInfo) × (a.found ≡ Ready info) × ((info.serial ≡ a.disk_before.serial) × (info.sectors ≡ a.disk_before.sectors))
+    info = (subst (IsRevalidation a.error_handled.port_error a.disk_before a.found) is a.is_revalidation).1
 
     same_ready : (ports_of new).state port ≡ ReadyState
     same_ready = state_new ∙ ap state_of info.1
 
     same_shown : SameDisk (ports_of old) (ports_of new) port
-    same_shown = same_disk info.0 (ap (λ (f : ProbeResult). last_disk_of f (Some a.was)) info.1) info.2.0 info.2.1
+    same_shown = same_disk info.0 (ap (λ (f : ProbeResult). last_disk_of f (Some a.disk_before)) info.1) info.2.0 info.2.1
 
     same_stopped : Contains evidence.stopped port
     same_stopped = stopped_named port a.error_handled.result.next (λ stuck. let z : Ready info.0 ≡ Unready Dead = sym info.1 ∙ (no_way stuck).0 in absurd cc)
@@ -186,7 +186,7 @@ module _ (laws : PrerequisiteLaws) (port : Port) (replies : List Reply) (old new
   -- another one
   module _ (is : a.revalidation ≡ DiskLost) where
     other_stopped : Contains evidence.stopped port
-    other_stopped = stopped_named port a.error_handled.result.next (λ stuck. (subst (IsRevalidation a.error_handled.port_error a.was a.found) is a.expects).0 (no_way stuck).0)
+    other_stopped = stopped_named port a.error_handled.result.next (λ stuck. (subst (IsRevalidation a.error_handled.port_error a.disk_before a.found) is a.is_revalidation).0 (no_way stuck).0)
 
     other_lost : Contains evidence.lost port
     other_lost = subst (λ (p : Revalidation). Contains (lost_of port p) port) (sym is) (first_here port [])
@@ -194,7 +194,7 @@ module _ (laws : PrerequisiteLaws) (port : Port) (replies : List Reply) (old new
   -- but on the same disk, no request of it is left
   none_stays : a.revalidation ≢ Same → (x : BookEntry) → Contains r.mid.book x → x.entry.port ≢ port
   none_stays other x here own =
-      let w = none_left laws (disposition_of a.failed a.revalidation) (other_ends a.failed a.revalidation other) its r.later (book_and_loans_of port a.mid) a.now a.meets x (subst (λ (s : ServerState). Contains s.book x) a.server here) in
+      let w = none_left laws (disposition_of a.failed a.revalidation) (other_ends a.failed a.revalidation other) its r.later (book_and_loans_of port a.mid) a.book_and_loans_after a.are_resolved x (subst (λ (s : ServerState). Contains s.book x) a.server_is here) in
       w.1 (in_filter (λ (y : BookEntry). is_of_port port y.entry) a.mid.book x w.0 (eq-eqb x.entry.port.0 port.0 (ap (λ (q : Port). q.0) own)))
 
   -- ---- who is named
@@ -202,12 +202,12 @@ module _ (laws : PrerequisiteLaws) (port : Port) (replies : List Reply) (old new
   -- nobody, unless a command had failed
   pub nobody : a.error_handled.port_error ≢ TaskFileError → a.failed ≡ None
   nobody other =
-      let none = (given_up a.error_handled.port_error port a.error_handled.outstanding a.error_handled.queued a.error_handled.result a.error_handled.handling.accesses a.mid.device a.device a.error_handled.tells other).0 in
-      subst (λ (f : Option FailedSlot). IsFailedRequest (slots_at a.mid.slots port.0) f a.failed) none a.names
+      let none = (given_up a.error_handled.port_error port a.error_handled.outstanding a.error_handled.queued a.error_handled.result a.error_handled.handling.accesses a.mid.device a.device a.error_handled.tells_error_handling other).0 in
+      subst (λ (f : Option FailedSlot). IsFailedRequest (slots_at a.mid.slots port.0) f a.failed) none a.failed_request_is
 
   -- where its disk was lost, no request goes on as on the same disk
   not_same : a.error_handled.port_error ≡ LinkChanged → a.revalidation ≢ Same
-  not_same lost same = (subst (IsRevalidation a.error_handled.port_error a.was a.found) same a.expects).0 lost
+  not_same lost same = (subst (IsRevalidation a.error_handled.port_error a.disk_before a.found) same a.is_revalidation).0 lost
 
   -- the port failed, unless its disk was lost, or a request is hung
   pub failed_named : a.error_handled.port_error ≢ TimedOut → a.error_handled.port_error ≢ LinkChanged → Contains evidence.failed port
@@ -221,7 +221,7 @@ module _ (laws : PrerequisiteLaws) (port : Port) (replies : List Reply) (old new
 
   -- a dead port
   dead_state : a.revalidation ≡ NoEnd → (ports_of new).state port ≡ Dead
-  dead_state is = state_new ∙ ap state_of (subst (IsRevalidation a.error_handled.port_error a.was a.found) is a.expects)
+  dead_state is = state_new ∙ ap state_of (subst (IsRevalidation a.error_handled.port_error a.disk_before a.found) is a.is_revalidation)
 
   -- a request that met its fate was in the book
   of_its : (e : BookEntry) → Contains its e → Contains a.mid.book e × (e.entry.port ≡ port)
@@ -250,16 +250,16 @@ module _ (laws : PrerequisiteLaws) (port : Port) (replies : List Reply) (old new
 
     was_issued : (e : BookEntry) → Contains a.mid.book e → e.entry.issued ≡ true → WasIssued m e.entry.id
     was_issued e here issued =
-        let there = (answered_left laws port a.error_handled.done a.error_handled.requests _ a.mid a.error_handled.each e here).0 in
+        let there = (answered_left laws port a.error_handled.done a.error_handled.requests _ a.mid a.error_handled.answers_each e here).0 in
         let p = at_left EntryRelation old.book m.book is.book e there in
-        record { pending = p.0; here = p.1; id_is = p.2.id; issued = p.2.issued ∙ issued }
+        record { pending = p.0; is_in_book = p.1; id_is = p.2.id; issued = p.2.issued ∙ issued }
 
     -- the one that failed was issued
     failed_issued : (x : FailedRequest) → a.failed ≡ Some x → (e : BookEntry) → Contains a.mid.book e → x.id.0 ≡ e.entry.id.0 → e.entry.issued ≡ true
     failed_issued x some e here same =
-        let u = failed_used (slots_at a.mid.slots port.0) a.error_handled.result.failed a.failed x a.names some in
-        let s = served_request a.mid k_then.machine port.0 u.0 k_then.stands then_ready u.1.id (serves_used a.mid k_then.machine port.0 k_then.stands then_ready u.0 u.1 u.2) in
-        let one : s.request ≡ e = laws.one a.mid.book s.request e k_then.ordered s.there here (s.id_is ∙ sym u.3 ∙ ap (λ (n : ℕ). record { 0 = n }) same) in
+        let u = failed_used (slots_at a.mid.slots port.0) a.error_handled.result.failed a.failed x a.failed_request_is some in
+        let s = served_request a.mid k_then.machine port.0 u.0 k_then.machine_relation then_ready u.1.id (serves_used a.mid k_then.machine port.0 k_then.machine_relation then_ready u.0 u.1 u.2) in
+        let one : s.request ≡ e = laws.one a.mid.book s.request e k_then.book_is_in_order s.there here (s.id_is ∙ sym u.3 ∙ ap (λ (n : ℕ). record { 0 = n }) same) in
         subst (λ (y : BookEntry). y.entry.issued ≡ true) one (sym s.entry.issued ∙ s.issued)
 
     -- ---- answers
@@ -303,10 +303,10 @@ module _ (laws : PrerequisiteLaws) (port : Port) (replies : List Reply) (old new
         by (inr (inr (inr (inl x)))) = subst (IsLawfulAnswer began evidence (ports_of new) e) (sym x.1) (ap (ports_of new).state its_port ∙ dead_state x.0)
         by (inr (inr (inr (inr x)))) = subst (IsLawfulAnswer began evidence (ports_of new) e) (sym x.3) (inr (goes_on x.0))
 
-    again_same : (e : Pending) → Contains f.dispositions (Again e) → (a.revalidation ≡ Same) × (e.request.port ≡ port)
+    again_same : (e : Pending) → Contains f.dispositions (WaitAgain e) → (a.revalidation ≡ Same) × (e.request.port ≡ port)
     again_same e here = let w = f.again e here in (why_again a.failed a.revalidation w.0.entry w.3, w.2.port ∙ (of_its w.0 w.1).1)
 
-    early_may : AllMay m f.first × AllMay (after m f.first) (ok_answers_of f.ended)
+    early_may : AllEnabled m f.first × AllEnabled (after m f.first) (ok_answers_of f.ended)
     early_may = may_parts laws m (ok_answers_of f.ended) f.first (may_parts laws m f.middle (ok_answers_of f.ended ++ f.first) (may_parts laws m f.dispositions (f.middle ++ (ok_answers_of f.ended ++ f.first)) f.may).0).0
 
     ended_by : (e : Pending) → Contains f.ended e → (request : BookEntry) × Contains a.error_handled.requests request × HasEnded port request e
@@ -320,7 +320,7 @@ module _ (laws : PrerequisiteLaws) (port : Port) (replies : List Reply) (old new
     ok_lawful e here =
         let y = ended_by e here in
         let l = laws.basic.found_before m.book (after m f.first).book e (laws.basic.spares m f.first f.first_only).book (ended_stood laws (after m f.first) f.ended early_may.1 e here) in
-        (record { pending = l.0; here = l.1; id_is = ap (λ r. r.id) (sym l.2.request); issued = sym l.2.issued ∙ y.2.issued }, y.2.issued, y.2.touched, y.2.ended)
+        (record { pending = l.0; is_in_book = l.1; id_is = ap (λ r. r.id) (sym l.2.request); issued = sym l.2.issued ∙ y.2.issued }, y.2.issued, y.2.touched, y.2.ended)
 
     lawful : AllAnswersLawful began evidence (ports_of new) (z.steps ++ base)
     lawful =
@@ -330,7 +330,7 @@ module _ (laws : PrerequisiteLaws) (port : Port) (replies : List Reply) (old new
         (lawful_join began evidence (ports_of new) f.middle (ok_answers_of f.ended ++ f.first) (devices_lawful began evidence (ports_of new) f.middle f.middle_only)
         (answers_all (AllAnswersLawful began evidence (ports_of new)) f.ended f.first (λ e steps here l. (l, ok_lawful e here)) (devices_lawful began evidence (ports_of new) f.first f.first_only))))
 
-    again_failed : a.error_handled.port_error ≢ TimedOut → (e : Pending) → Contains f.dispositions (Again e) → Contains evidence.failed port
+    again_failed : a.error_handled.port_error ≢ TimedOut → (e : Pending) → Contains f.dispositions (WaitAgain e) → Contains evidence.failed port
     again_failed unhung e here = ⊎_elim (λ lost. absurd (not_same lost (again_same e here).0)) (failed_named unhung) (lost_or_not a.error_handled.port_error)
 
     answer_failed : a.error_handled.port_error ≢ TimedOut → (e : Pending) (o : Outcome) → Contains f.dispositions (Answer e o) → RestsOnFailure o → Contains evidence.failed port
@@ -372,10 +372,10 @@ module _ (laws : PrerequisiteLaws) (port : Port) (replies : List Reply) (old new
     -- what is issued is of a ready port
     issued_ready : (id : RequestId) → IsIssuedIn id z.steps → (ports_of new).state port ≡ ReadyState
     issued_ready id issued =
-        let y = map_in (λ (u : Unanswered). u.id) (due_of (mode_in r.mid port) port (asks_of r.mid.book)) id (z.named id issued) in
-        let at : y.0.port ≡ port = laws.own (mode_in r.mid port) port (asks_of r.mid.book) y.0 y.1 in
-        let due = (laws.exact (mode_in r.mid port) port (asks_of r.mid.book) y.0 at).0 y.1 in
-        let e = map_in (λ (x : BookEntry). asks x.entry) r.mid.book y.0 due.here in
+        let y = map_in (λ (u : Unanswered). u.id) (due_of (mode_in r.mid port) port (unanswered_of r.mid.book)) id (z.named id issued) in
+        let at : y.0.port ≡ port = laws.own (mode_in r.mid port) port (unanswered_of r.mid.book) y.0 y.1 in
+        let due = (laws.exact (mode_in r.mid port) port (unanswered_of r.mid.book) y.0 at).0 y.1 in
+        let e = map_in (λ (x : BookEntry). as_unanswered x.entry) r.mid.book y.0 due.is_in_book in
         ap (λ (ports : Ports). ports.state port) ports_same ∙ ap (λ (q : Port). state_of (probe_result_of r.mid.ports q.0)) (sym (ap (λ (u : Unanswered). u.port) (sym e.2) ∙ at)) ∙ of_ready r.mid k_mid e.0 e.1
 
     belong : AreStepsOfCall {D = DeviceStep} Service (ports_of new) (z.steps ++ base)
@@ -385,11 +385,11 @@ module _ (laws : PrerequisiteLaws) (port : Port) (replies : List Reply) (old new
         (belong_join Service (ports_of new) f.middle (ok_answers_of f.ended ++ f.first) (devices_belong {D = DeviceStep} Service (ports_of new) f.middle f.middle_only)
         (answers_all (AreStepsOfCall {D = DeviceStep} Service (ports_of new)) f.ended f.first (λ e rest here b. (b, inr tt)) (devices_belong {D = DeviceStep} Service (ports_of new) f.first f.first_only))))
 
-    none_in_base : (id : RequestId) → list_any (issues_it id) base ≡ false
+    none_in_base : (id : RequestId) → list_any (issues_id id) base ≡ false
     none_in_base id =
-        any_append (issues_it id) f.dispositions (f.middle ++ (ok_answers_of f.ended ++ f.first)) ∙ ap (λ (b : Bool). b || list_any (issues_it id) (f.middle ++ (ok_answers_of f.ended ++ f.first))) (deciding_issues_none port id f.dispositions f.own)
-        ∙ any_append (issues_it id) f.middle (ok_answers_of f.ended ++ f.first) ∙ ap (λ (b : Bool). b || list_any (issues_it id) (ok_answers_of f.ended ++ f.first)) (devices_issue_none id f.middle f.middle_only)
-        ∙ any_append (issues_it id) (ok_answers_of f.ended) f.first ∙ ap (λ (b : Bool). b || list_any (issues_it id) f.first) (answers_issue_none id f.ended) ∙ devices_issue_none id f.first f.first_only
+        any_append (issues_id id) f.dispositions (f.middle ++ (ok_answers_of f.ended ++ f.first)) ∙ ap (λ (b : Bool). b || list_any (issues_id id) (f.middle ++ (ok_answers_of f.ended ++ f.first))) (deciding_issues_none port id f.dispositions f.own)
+        ∙ any_append (issues_id id) f.middle (ok_answers_of f.ended ++ f.first) ∙ ap (λ (b : Bool). b || list_any (issues_id id) (ok_answers_of f.ended ++ f.first)) (devices_issue_none id f.middle f.middle_only)
+        ∙ any_append (issues_id id) (ok_answers_of f.ended) f.first ∙ ap (λ (b : Bool). b || list_any (issues_id id) f.first) (answers_issue_none id f.ended) ∙ devices_issue_none id f.first f.first_only
 
     last : IssuesLast (z.steps ++ base)
     last = last_on (mode_in r.mid port) port z.steps base z.only z.last (none_last base none_in_base) (λ id late early. false≢true (sym (none_in_base id) ∙ early))
@@ -397,7 +397,7 @@ module _ (laws : PrerequisiteLaws) (port : Port) (replies : List Reply) (old new
     issues : IssuesDue (mode_in new port) (z.steps ++ base) (after m (z.steps ++ base)) port
     issues = subst (λ (mode : QueueMode). IssuesDue mode (z.steps ++ base) (after m (z.steps ++ base)) port) (sym mode_new) (subst (λ (n : Machine). IssuesDue (mode_in r.mid port) (z.steps ++ base) n port) (sym all_is)
         (dues_carried laws (mode_in r.mid port) z.steps (z.steps ++ base) (after (after m base) z.steps) (after (after m base) z.steps) port refl
-        (λ u here its_own. sym (any_append (issues_it u.id) z.steps base ∙ ap (λ (b : Bool). list_any (issues_it u.id) z.steps || b) (none_in_base u.id) ∙ or_none (list_any (issues_it u.id) z.steps)))
+        (λ u here its_own. sym (any_append (issues_id u.id) z.steps base ∙ ap (λ (b : Bool). list_any (issues_id u.id) z.steps || b) (none_in_base u.id) ∙ or_none (list_any (issues_id u.id) z.steps)))
         (dues laws port r.mid new k_mid r.issued (after m base) z port (λ ne. absurd (ne refl)))))
 
     -- ---- what it tells
@@ -406,7 +406,7 @@ module _ (laws : PrerequisiteLaws) (port : Port) (replies : List Reply) (old new
     told = map with_ok f.ended ++ f.tells.answers
 
     told_fate : (x : Pending × Outcome) → Contains f.tells.answers x → Contains f.dispositions (Answer x.0 x.1)
-    told_fate x here = answers_there f.dispositions x (Contains-permutation f.tells.answers (answers_of f.dispositions) x f.tells.same here)
+    told_fate x here = answers_there f.dispositions x (Contains-permutation f.tells.answers (answers_of f.dispositions) x f.tells.is_permutation here)
 
     ended_of : AreOfPort port (map with_ok f.ended)
     ended_of = All-map (λ (x : Pending × Outcome). x.0.request.port ≡ port) with_ok f.ended (All-weaker (Contains f.ended) (λ e. e.request.port ≡ port) ended_port f.ended (All-contains_itself f.ended))
@@ -422,15 +422,15 @@ module _ (laws : PrerequisiteLaws) (port : Port) (replies : List Reply) (old new
         let e = map_in with_ok f.ended x here in
         let d = ended_by e.0 e.1 in
         let w = f.answered y.0 y.1 (told_fate y there) in
-        (answered_left laws port a.error_handled.done a.error_handled.requests _ a.mid a.error_handled.each w.0 (of_its w.0 w.1).0).1 d.0 d.1
+        (answered_left laws port a.error_handled.done a.error_handled.requests _ a.mid a.error_handled.answers_each w.0 (of_its w.0 w.1).0).1 d.0 d.1
         (ap (λ (n : ℕ). record { 0 = n }) (ap (λ (i : RequestId). i.0) (sym w.2.id) ∙ sym same ∙ ap (λ (q : Pending × Outcome). q.0.request.id.0) e.2 ∙ ap (λ (i : RequestId). i.0) d.2.entry.id)))
 
     replies_are : map done_reply a.error_handled.requests ++ r.later ≡ map reply_of (map with_ok f.ended ++ f.tells.answers)
-    replies_are = ap (λ (list : List Reply). list ++ r.later) (told_so port a.error_handled.requests f.ended f.each) ∙ ap (λ (list : List Reply). map reply_of (map with_ok f.ended) ++ list) f.tells.told
+    replies_are = ap (λ (list : List Reply). list ++ r.later) (told_so port a.error_handled.requests f.ended f.each) ∙ ap (λ (list : List Reply). map reply_of (map with_ok f.ended) ++ list) f.tells.replies_are
         ∙ sym (map-append reply_of (map with_ok f.ended) f.tells.answers)
 
     in_order : (list : List (Pending × Outcome)) × IsPermutation list (map with_ok f.ended ++ f.tells.answers) × AllPairs IsToldBefore list × (replies ≡ map reply_of list)
-    in_order = told_in_order port (map with_ok f.ended ++ f.tells.answers) replies (subst (IsPermutation replies) replies_are r.told) r.ordered (All-append (λ x. x.0.request.port ≡ port) (map with_ok f.ended) f.tells.answers ended_of fates_of) apart
+    in_order = told_in_order port (map with_ok f.ended ++ f.tells.answers) replies (subst (IsPermutation replies) replies_are r.replies_are) r.ordered (All-append (λ x. x.0.request.port ≡ port) (map with_ok f.ended) f.tells.answers ended_of fates_of) apart
 
     none_first : map with_ok f.ended ++ answers_of f.first ≡ map with_ok f.ended
     none_first = ap (λ (none : List (Pending × Outcome)). map with_ok f.ended ++ none) (devices_answers f.first f.first_only) ∙ append-nil (map with_ok f.ended)
@@ -442,14 +442,14 @@ module _ (laws : PrerequisiteLaws) (port : Port) (replies : List Reply) (old new
     all_told : IsPermutation (map with_ok f.ended ++ f.tells.answers) (answers_of (z.steps ++ base))
     all_told = subst (IsPermutation (map with_ok f.ended ++ f.tells.answers)) (sym answers_are)
         (IsPermutation-trans _ _ _ (IsPermutation-append_comm (map with_ok f.ended) f.tells.answers)
-        (IsPermutation-append _ _ _ _ f.tells.same (subst (λ (list : List (Pending × Outcome)). IsPermutation list (answers_of (ok_answers_of f.ended ++ f.first))) none_first (answered_permuted f.ended f.first))))
+        (IsPermutation-append _ _ _ _ f.tells.is_permutation (subst (λ (list : List (Pending × Outcome)). IsPermutation list (answers_of (ok_answers_of f.ended ++ f.first))) none_first (answered_permuted f.ended f.first))))
 
     tells : RepliesMatch (z.steps ++ base) replies
     tells = record {
       answers = in_order.0;
-      same = IsPermutation-trans in_order.0 (map with_ok f.ended ++ f.tells.answers) (answers_of (z.steps ++ base)) in_order.1 all_told;
+      is_permutation = IsPermutation-trans in_order.0 (map with_ok f.ended ++ f.tells.answers) (answers_of (z.steps ++ base)) in_order.1 all_told;
       ordered = in_order.2;
-      told = in_order.3;
+      replies_are = in_order.3;
     }
 
     -- ---- who is told that the disk has gone
@@ -560,8 +560,8 @@ module _ (laws : PrerequisiteLaws) (port : Port) (replies : List Reply) (old new
 
     unplugs : AnswersAllUnplugged (z.steps ++ base) (after m (z.steps ++ base))
     unplugs = record {
-      emptied = λ e other here there same. let w = unplugged_why e here in none_waits (disk_lost w.0) other there (same ∙ w.1);
-      alike = λ e other here there same. let y : DiskLost ≡ NoEnd = sym (unplugged_why e here).0 ∙ dead_why other there in absurd cc;
+      none_is_left = λ e other here there same. let w = unplugged_why e here in none_waits (disk_lost w.0) other there (same ∙ w.1);
+      none_is_told_dead = λ e other here there same. let y : DiskLost ≡ NoEnd = sym (unplugged_why e here).0 ∙ dead_why other there in absurd cc;
     }
 
     keeps : SameDisk (ports_of old) (ports_of new) port ⊎ HasNoUnanswered (after m (z.steps ++ base)) port
@@ -570,7 +570,7 @@ module _ (laws : PrerequisiteLaws) (port : Port) (replies : List Reply) (old new
         by : (p : Revalidation) → a.revalidation ≡ p → SameDisk (ports_of old) (ports_of new) port ⊎ HasNoUnanswered (after m (z.steps ++ base)) port
         by Same x = inl (same_shown x)
         by DiskLost x = inr (none_waits (disk_lost x))
-        by NoEnd x = inl (same_disk a.was (ap (λ (found : ProbeResult). last_disk_of found (Some a.was)) (subst (IsRevalidation a.error_handled.port_error a.was a.found) x a.expects)) refl refl)
+        by NoEnd x = inl (same_disk a.disk_before (ap (λ (found : ProbeResult). last_disk_of found (Some a.disk_before)) (subst (IsRevalidation a.error_handled.port_error a.disk_before a.found) x a.is_revalidation)) refl refl)
 
     pub decides_turn : DecidesTurn port replies old new r evidence m
     decides_turn = record {
@@ -600,7 +600,7 @@ module _ (laws : PrerequisiteLaws) (port : Port) (replies : List Reply) (old new
 
 -- So it is from each machine that stands for the server.
 pub recovered_decides : PrerequisiteLaws → (port : Port) (replies : List Reply) (old new : ServerState) → InCallInvariant old → state_of (probe_result_of old.ports port.0) ≡ ReadyState → (r : HandlesPortError port replies old new)
-    → IsSimulated (IsLooking port) AnyUse old.device r.settled.error_handled.seen → InCallInvariant r.mid → (m : Machine) → IsReachable m → MachineRelation old m
+    → IsSimulated (IsEventAccess port) AnyUse old.device r.settled.error_handled.seen → InCallInvariant r.mid → (m : Machine) → IsReachable m → MachineRelation old m
     → DecidesTurn port replies old new r (evidence_by r.settled) m
 recovered_decides laws port replies old new k ready r looks k_mid m reached is =
     decides_turn laws port replies old new k ready r looks k_mid m reached is (adds_fates laws port r.later old r.mid k ready r.settled looks m reached is)

@@ -15,27 +15,27 @@ use Rattle.hba_regs.specs.declared.reg.PortReg.TheVariants.{Ci, Sact}
 use Rattle.adapter.specs.Access.{Access, Reads}
 use Rattle.adapter.specs.Access.Access.{Reading}
 use Rattle.adapter.specs.Device.{Device}
-use Rattle.refinement.specs.Driven.{AnyUse, IsSimulated}
+use Rattle.refinement.specs.Fragments.{AnyUse, IsSimulated}
 use Rattle.refinement.specs.Slots.{Serves, ServesRequest}
-use Rattle.block_machine.specs.Events.{AllMay, AnswersEnded}
+use Rattle.block_machine.specs.Events.{AllEnabled, AnswersEnded}
 use Rattle.block_machine.specs.Histories.{IsReachable}
 use Rattle.block_machine.specs.Expected.{after}
 use Rattle.block_machine.specs.State.{Machine, Pending}
 use Rattle.block_machine.specs.Steps.{Step, Answer}
 use Rattle.server_history.proofs.state.ListMembers.{contains_cases, contains_there}
 use Rattle.driver_history.specs.Histories.{FindsDone, IsAnsweredOk, IsIssuedOn}
-use Rattle.driver_history.specs.Trace.{ReadsCiAndSact}
+use Rattle.driver_history.specs.AccessTrace.{ReadsCiAndSact}
 use Rattle.host_boot.specs.TakeOver.{probe_result_of}
-use Rattle.port_control.specs.Looks.{IsLooking}
-use Rattle.request_queue.specs.Entries.{BookEntry}
+use Rattle.port_control.specs.PortEvents.{IsEventAccess}
+use Rattle.request_queue.specs.BookEntries.{BookEntry}
 use Rattle.request_queue.specs.Dispositions.{disposition_of}
-use Rattle.request_queue.specs.Machine.{EntryRelation}
+use Rattle.request_queue.specs.BookRelation.{EntryRelation}
 use Rattle.request_queue.specs.declared.disposition.Disposition.TheVariants.{Complete}
 use Rattle.slots.specs.declared.SlotUse.{SlotUse}
 use Rattle.server_history.specs.Prerequisites.{PrerequisiteLaws}
 use Rattle.server_history.specs.ErrorHandling.{IsErrorHandled, HasResolved, HandlesPortError, requests_of}
-use Rattle.server_history.specs.Served.{AnswersEach, HasEnded, ok_answers_of, is_used}
-use Rattle.server_history.specs.Server.{ServerState, InCallInvariant, MachineRelation, mode_in, state_of, used_for}
+use Rattle.server_history.specs.IssuingAndAnswering.{AnswersEach, HasEnded, ok_answers_of, is_used}
+use Rattle.server_history.specs.ServerState.{ServerState, InCallInvariant, MachineRelation, mode_in, state_of, used_for}
 use Rattle.server_history.proofs.any_turn.UnusedSlotBits.{unused_clear}
 use Rattle.server_history.specs.Turns.{FindsDoneInTurn, joint_state_of}
 use Rattle.server_history.proofs.state.AnswerSteps.{answered_in, ended_stood, in_answered, may_parts, no_answer, no_answer_issuing}
@@ -71,9 +71,9 @@ module _ (laws : PrerequisiteLaws) (port : Port) (low : port.0 < 4) (done : ℕ)
       → (request : BookEntry) → Contains requests request → HadSlot old request.entry.id
   had_slot [] old new k ready over none request here = absurd (nowhere request here)
   had_slot (e ∷ requests) old new k ready over (mid, one, its, more) request here = ⊎_elim
-      (λ (same : request ≡ e). record { slot = one.slot; small = one.small; used = one.used; used_is = one.served; id_is = one.id_is ∙ ap (λ (h : BookEntry). h.entry.id) (sym same); found = its })
+      (λ (same : request ≡ e). record { slot = one.slot; small = one.slot_is_below_32; used = one.used; used_is = one.slot_use_is; id_is = one.id_is ∙ ap (λ (h : BookEntry). h.entry.id) (sym same); found = its })
       (λ (there : Contains requests request).
-      let x = had_slot requests mid new (answer_kept laws old mid port e k ready one (over one.slot one.small its)) (ready_on laws port done e old mid one ready) (over_on laws port done e old mid one over) more request there in
+      let x = had_slot requests mid new (answer_kept laws old mid port e k ready one (over one.slot one.slot_is_below_32 its)) (ready_on laws port done e old mid one ready) (over_on laws port done e old mid one over) more request there in
       record { slot = x.slot; small = x.small; used = x.used; used_is = slots_were laws port low done (e ∷ []) old mid k ready over (mid, one, its, refl) x.slot x.used x.used_is; id_is = x.id_is; found = x.found })
       (contains_cases e requests request here)
 
@@ -83,24 +83,24 @@ module _ (laws : PrerequisiteLaws) (port : Port) (low : port.0 < 4) (done : ℕ)
   was_told [] old new k ready over none slot used is unused = let z : None ≡ Some used = sym unused ∙ ap (λ (n : ServerState). used_for n.slots port.0 slot) none ∙ is in absurd cc
   was_told (e ∷ requests) old new k ready over (mid, one, its, more) slot used is unused = ⊎_elim
       (λ (same : slot ≡ one.slot).
-      let z : Some one.used ≡ Some used = sym one.served ∙ ap (used_for old.slots port.0) (sym same) ∙ is in
+      let z : Some one.used ≡ Some used = sym one.slot_use_is ∙ ap (used_for old.slots port.0) (sym same) ∙ is in
       let u : one.used ≡ used = cc in
       (e, first_here e requests, sym one.id_is ∙ ap (λ (v : SlotUse). v.id) u))
       (λ (other : slot ≢ one.slot).
-      let four = k.four in
+      let four = k.four_slots in
       let places = (k.slots port.0 low).places in
-      let small = one.small in
+      let small = one.slot_is_below_32 in
       let still : used_for mid.slots port.0 slot ≡ Some used =
-      ap (λ (n : ServerState). used_for n.slots port.0 slot) one.server
+      ap (λ (n : ServerState). used_for n.slots port.0 slot) one.server_is
       ∙ placed_other old.slots port.0 one.slot None (omega (arith, four, low)) (omega (arith, places, small)) port.0 slot (λ _ same. other same) ∙ is in
-      let x = was_told requests mid new (answer_kept laws old mid port e k ready one (over one.slot one.small its)) (ready_on laws port done e old mid one ready) (over_on laws port done e old mid one over) more slot used still unused in
+      let x = was_told requests mid new (answer_kept laws old mid port e k ready one (over one.slot one.slot_is_below_32 its)) (ready_on laws port done e old mid one ready) (over_on laws port done e old mid one over) more slot used still unused in
       (x.0, contains_there e requests x.0 x.1, x.2))
       (cases_eq slot one.slot)
 
 -- ---- the whole
 
 module _ (laws : PrerequisiteLaws) (port : Port) (replies : List Reply) (old new : ServerState) (k : InCallInvariant old) (ready : state_of (probe_result_of old.ports port.0) ≡ ReadyState) (r : HandlesPortError port replies old new)
-    (looks : IsSimulated (IsLooking port) AnyUse old.device r.settled.error_handled.seen) (kept : InCallInvariant r.mid) (evident : IsEvident port replies old new r) (m : Machine) (reached : IsReachable m) (is : MachineRelation old m)
+    (looks : IsSimulated (IsEventAccess port) AnyUse old.device r.settled.error_handled.seen) (kept : InCallInvariant r.mid) (evident : IsEvident port replies old new r) (m : Machine) (reached : IsReachable m) (is : MachineRelation old m)
     (d : DecidesTurn port replies old new r (evidence_by r.settled) m) where
   abbrev a : HasResolved port r.later old r.mid
   a = r.settled
@@ -151,7 +151,7 @@ module _ (laws : PrerequisiteLaws) (port : Port) (replies : List Reply) (old new
       (Contains-append_right d.dispositions.middle (ok_answers_of d.dispositions.ended ++ d.dispositions.first) (Answer e outcome.Ok)
       (Contains-append_left (ok_answers_of d.dispositions.ended) d.dispositions.first (Answer e outcome.Ok) (in_answered d.dispositions.ended e here)))))
 
-  early_may : AllMay m d.dispositions.first × AllMay (after m d.dispositions.first) (ok_answers_of d.dispositions.ended)
+  early_may : AllEnabled m d.dispositions.first × AllEnabled (after m d.dispositions.first) (ok_answers_of d.dispositions.ended)
   early_may = may_parts laws m (ok_answers_of d.dispositions.ended) d.dispositions.first
       (may_parts laws m d.dispositions.middle (ok_answers_of d.dispositions.ended ++ d.dispositions.first) (may_parts laws m d.dispositions.dispositions (d.dispositions.middle ++ (ok_answers_of d.dispositions.ended ++ d.dispositions.first)) d.dispositions.may).0).0
 
@@ -165,20 +165,20 @@ module _ (laws : PrerequisiteLaws) (port : Port) (replies : List Reply) (old new
   -- a request that was issued has a slot
   module _ (e : Pending) (own : IsIssuedOn port m e) where
     h : HasSlot old port e.request.id
-    h = issued_has old m port is k ready e own.here own.port_is own.issued
+    h = issued_has old m port is k ready e own.is_in_book own.port_is own.issued
 
     tells : bit x.done h.slot ≡ (not (bit x.reads.issued h.slot) && not (bit x.reads.active h.slot))
-    tells = x.reads.tells h.slot h.small ∙ ap (λ (y : Bool). y && not (bit x.reads.issued h.slot) && not (bit x.reads.active h.slot)) (x.its h.slot h.small ∙ ap is_used h.used_is)
+    tells = x.reads.done_is h.slot h.small ∙ ap (λ (y : Bool). y && not (bit x.reads.issued h.slot) && not (bit x.reads.active h.slot)) (x.is_mask_of h.slot h.small ∙ ap is_used h.used_is)
 
     -- the slot of a request that was answered was found done
     then_clear : IsAnsweredOk e d.steps → AreClear h.slot
     then_clear ok =
         let w = at_right (HasEnded port) x.requests d.dispositions.ended d.dispositions.each ok.0 (answered_ended ok.0 ok.2) in
-        let y = had_slot laws port low x.done x.requests from a.mid (found_kept laws port replies old new k ready r looks kept) ready (done_over laws port replies old new k ready r looks kept) x.each w.0 w.1 in
+        let y = had_slot laws port low x.done x.requests from a.mid (found_kept laws port replies old new k ready r looks kept) ready (done_over laws port replies old new k ready r looks kept) x.answers_each w.0 w.1 in
         let id_is : y.used.id ≡ e.request.id = y.id_is ∙ sym w.2.entry.id ∙ ap (λ q. q.id) ok.1 in
         let there = serves_used old m port.0 is ready y.slot y.used y.used_is ∙ ap Serves id_is in
         let here = serves_used old m port.0 is ready h.slot h.used h.used_is ∙ ap Serves h.id_is in
-        let same : y.slot ≡ h.slot = (is.knows.agrees.apart port.0 y.slot port.0 h.slot e.request.id there here).1 in
+        let same : y.slot ≡ h.slot = (is.driver_relation.state_relation.serve_apart port.0 y.slot port.0 h.slot e.request.id there here).1 in
         let both = and_parts (not (bit x.reads.issued h.slot)) (not (bit x.reads.active h.slot)) (sym tells ∙ ap (bit x.done) (sym same) ∙ y.found) in
         (not_true (bit x.reads.issued h.slot) both.0, not_true (bit x.reads.active h.slot) both.1)
 
@@ -186,26 +186,26 @@ module _ (laws : PrerequisiteLaws) (port : Port) (replies : List Reply) (old new
     then_told : AreClear h.slot → IsAnsweredOk e d.steps
     then_told clear =
         let done = tells ∙ and_from (not (bit x.reads.issued h.slot)) (not (bit x.reads.active h.slot)) (ap not clear.0) (ap not clear.1) in
-        let w = was_told laws port low x.done x.requests from a.mid (found_kept laws port replies old new k ready r looks kept) ready (done_over laws port replies old new k ready r looks kept) x.each h.slot h.used h.used_is (x.free h.slot h.small done) in
+        let w = was_told laws port low x.done x.requests from a.mid (found_kept laws port replies old new k ready r looks kept) ready (done_over laws port replies old new k ready r looks kept) x.answers_each h.slot h.used h.used_is (x.done_slots_are_free h.slot h.small done) in
         let y = at_left (HasEnded port) x.requests d.dispositions.ended d.dispositions.each w.0 w.1 in
         let l = laws.basic.found_before m.book (after m d.dispositions.first).book y.0 (laws.basic.spares m d.dispositions.first d.dispositions.first_only).book (ended_stood laws (after m d.dispositions.first) d.dispositions.ended early_may.1 y.0 y.1) in
         let id_is : e.request.id ≡ y.0.request.id = sym h.id_is ∙ sym w.2 ∙ sym y.2.entry.id in
-        let one : e ≡ l.0 = one_of e l.0 own.here l.1 (ap (λ (i : RequestId). i.0) (id_is ∙ ap (λ q. q.id) l.2.request)) in
+        let one : e ≡ l.0 = one_of e l.0 own.is_in_book l.1 (ap (λ (i : RequestId). i.0) (id_is ∙ ap (λ q. q.id) l.2.request)) in
         (y.0, l.2.request ∙ ap (λ (q : Pending). q.request) (sym one), ended_answered y.0 y.1)
 
     -- one that had ended is answered
     ended_told : e.ended ≡ true → IsAnsweredOk e d.steps
     ended_told ended =
         let serves : is.uses port.0 h.slot ≡ Serves e.request.id = serves_used old m port.0 is ready h.slot h.used h.used_is ∙ ap Serves h.id_is in
-        let clear = laws.slots.ended_clear is.uses m old.device port h.slot e reached is.knows.agrees (inl (own.here, own.issued)) ended serves in
-        then_told (both_clear laws port h.slot x.reads.issued x.reads.active old.device x.seen masks_read.0 x.found h.small looks.driven masks_read.1 masks_read.2 clear.0.over clear.0.sact)
+        let clear = laws.slots.ended_clear is.uses m old.device port h.slot e reached is.driver_relation.state_relation (inl (own.is_in_book, own.issued)) ended serves in
+        then_told (both_clear laws port h.slot x.reads.issued x.reads.active old.device x.seen masks_read.0 x.found h.small looks.is_driven masks_read.1 masks_read.2 clear.0.over clear.0.sact)
 
     module _ (slot : ℕ) (says : ServesRequest m old.device.memory (old.device.port port.0) port.0 slot e.request.id) where
       elsewhere : slot ≢ h.slot → IsAnsweredOk e d.steps ↔ AreClear slot
       elsewhere apart =
-          let free = is_free laws old k m reached is port.0 ready e own.here h.slot h.used h.used_is h.id_is slot apart says in (
-            (λ _. both_clear laws port slot x.reads.issued x.reads.active old.device x.seen masks_read.0 x.found says.placed.slot_below looks.driven masks_read.1 masks_read.2 (record { issued = free.issued; free = free.free }) free.unarmed),
-            (λ _. ended_told (has_ended laws old k m reached is port.0 ready e own.here h.slot h.used h.used_is h.id_is slot apart says)),
+          let free = is_free laws old k m reached is port.0 ready e own.is_in_book h.slot h.used h.used_is h.id_is slot apart says in (
+            (λ _. both_clear laws port slot x.reads.issued x.reads.active old.device x.seen masks_read.0 x.found says.list_is_in_place.slot_below looks.is_driven masks_read.1 masks_read.2 (record { issued = free.issued; free = free.free }) free.unarmed),
+            (λ _. ended_told (has_ended laws old k m reached is port.0 ready e own.is_in_book h.slot h.used h.used_is h.id_is slot apart says)),
           )
 
       exact : IsAnsweredOk e d.steps ↔ AreClear slot
@@ -224,9 +224,9 @@ module _ (laws : PrerequisiteLaws) (port : Port) (replies : List Reply) (old new
   masks = record {
     before = there.before;
     later = there.later ++ rest;
-    here = evident.accesses_are ∙ ap (λ (list : List Access). list ++ rest) there.here
+    accesses_are_split = evident.accesses_are ∙ ap (λ (list : List Access). list ++ rest) there.accesses_are_split
         ∙ append_assoc there.before (Reading (Px port Ci) x.reads.issued ∷ Reading (Px port Sact) x.reads.active ∷ there.later) rest;
-    running = there.running;
+    cmd_is_unwritten_before = there.cmd_is_unwritten_before;
   }
 
   -- what is found done is answered, and nothing else
@@ -236,8 +236,8 @@ module _ (laws : PrerequisiteLaws) (port : Port) (replies : List Reply) (old new
   -- and the masks show the bits of a slot that isn't used clear
   pub found_by_masks : FindsDoneInTurn port evident.accesses old m d.steps
   unfolding finding
-  found_by_masks = record { done = finding; unused = λ slot small none. unused_clear laws old m port.0 is ready x.seen x.found looks.driven x.mask x.done x.reads slot small none }
+  found_by_masks = record { done = finding; unused = λ slot small none. unused_clear laws old m port.0 is ready x.seen x.found looks.is_driven x.mask x.done x.reads slot small none }
 
   -- what had ended is
   pub heeding : AnswersEnded m d.steps port
-  heeding e here own ended = ended_told e (record { here = here; port_is = own; issued = laws.basic.ended_issued m e reached here ended }) ended
+  heeding e here own ended = ended_told e (record { is_in_book = here; port_is = own; issued = laws.basic.ended_issued m e reached here ended }) ended

@@ -14,23 +14,23 @@ use Rattle.adapter.specs.Access.{Access, DoesAll, Writes}
 use Rattle.adapter.specs.Access.Access.{Reading, Writing}
 use Rattle.adapter.specs.Device.{Device, DevicePort}
 use Rattle.adapter.specs.Rules.{IsOn}
-use Rattle.refinement.specs.Driven.{TapeGrows, OnPortWriting, IsDrivenBy, SparesOtherPorts}
+use Rattle.refinement.specs.Fragments.{TapeGrows, IsPortAccessWriting, IsDrivenBy, SparesOtherPorts}
 use Rattle.refinement.specs.Driver.{IsBacked}
 use Rattle.block_machine.specs.Events.{ShowsDisk, changes_disk}
 use Rattle.block_machine.specs.State.{Machine}
 use Rattle.block_machine.specs.Steps.{Step}
-use Rattle.host_boot.specs.Again.{RebootsPort, BootsStopped, IsCapPiOrBootAccess}
+use Rattle.host_boot.specs.Reboots.{RebootsPort, BootsStopped, IsCapPiOrBootAccess}
 use Rattle.host_boot.specs.declared.Booted.{Booted}
 use Rattle.host_boot.specs.declared.ProbeResult.{ProbeResult}
 use Rattle.host_boot.specs.declared.ProbeResult.TheVariants.{Ready, Unready, Unserved}
 use Rattle.identify.specs.declared.wanted.Wanted.{Wanted}
-use Rattle.port_boot.specs.States.{BacksState, EndsBeforeStart, EndsAfterStart, BringsReady, BringsUpPort, IsBeforeStart, IsAfterStart, IsOfBoot, HasDiskIfShown, IsStateOfFault}
+use Rattle.port_boot.specs.States.{BacksState, EndsBeforeStart, EndsAfterStart, BringsReady, BringsUpPort, IsBeforeStart, IsAfterStart, IsBootAccess, ShownDiskIsIn, IsStateOfFault}
 use Rattle.identify.specs.Wanted.{serial_of}
 use Rattle.port_control.specs.Ports.{FindsLink, HasLink, IsPlacingRegister, SeesResetFault, ReadsUntil}
 use Rattle.port_control.specs.declared.PortFault.{PortFault}
 use Rattle.port_control.specs.declared.PortFault.TheVariants.{NoDevice, Busy, EngineStuck, NotAta}
 use Rattle.server_history.specs.Prerequisites.{PrerequisiteLaws}
-use Rattle.server_history.specs.Server.{MachineRelation, ServerState, state_of}
+use Rattle.server_history.specs.ServerState.{MachineRelation, ServerState, state_of}
 use Rattle.server_history.proofs.state.DrivenAccesses.{driven_as}
 use Rattle.server_history.proofs.recovery_turn.LinkResets.{IsBeside, cleared_then, late_then, linked_then, placing_boots, ready_then, resetting, started_then, until, without}
 use Rattle.server_history.proofs.any_turn.ShownTrouble.{grows_over}
@@ -39,45 +39,45 @@ use Rattle.server_history.proofs.any_turn.ShownDevice.{had_disk}
 -- At this moment of the way a device shows; and a disk is in then, since COMRESET has the port show no device until its link comes up.
 pub record SeesDevice (port : Port) (old new : Device) : Type 0 where
   pub seen : Device
-  pub early : IsDrivenBy (IsOfBoot port) old seen
+  pub early : IsDrivenBy (IsBootAccess port) old seen
   pub shows : (seen.port port.0).ssts_det ≡ 3
-  pub own : HasDiskIfShown (seen.port port.0)
+  pub own : ShownDiskIsIn (seen.port port.0)
   pub late : IsDrivenBy (IsBeside port) seen new
 
 module _ (laws : PrerequisiteLaws) (port : Port) where
   -- once COMRESET was sent, a disk is in where a device shows
-  own_then : (placed sent ended seen : Device) → IsOn placed → Writes (Px port Sctl) 1 placed sent → Writes (Px port Sctl) 0 sent ended → ReadsUntil port Ssts HasLink ended seen → HasDiskIfShown (seen.port port.0)
+  own_then : (placed sent ended seen : Device) → IsOn placed → Writes (Px port Sctl) 1 placed sent → Writes (Px port Sctl) 0 sent ended → ReadsUntil port Ssts HasLink ended seen → ShownDiskIsIn (seen.port port.0)
   own_then placed sent ended seen on sends ends sees =
       let waits = sees.waits.reads in
       laws.recovery.own_on port.0 (Writing (Px port Sctl) 0 ∷ (waits.accesses ++ Reading (Px port Ssts) sees.value ∷ [])) sent seen
-      (ended, ends, laws.basic.does_append waits.accesses (Reading (Px port Ssts) sees.value ∷ []) ended sees.waited seen waits.all (seen, sees.reads, refl))
+      (ended, ends, laws.basic.does_append waits.accesses (Reading (Px port Ssts) sees.value ∷ []) ended sees.waited seen waits.all_are_done (seen, sees.reads, refl))
       (λ shows. let z : 0 ≡ 3 = sym none ∙ shows in absurd (omega (arith, z)))
     where
       none : (sent.port port.0).ssts_det ≡ 0
-      none = ap (λ (p : DevicePort). p.ssts_det) (laws.looks.put port Sctl 1 placed sent sends on.no_reset).here
+      none = ap (λ (p : DevicePort). p.ssts_det) (laws.looks.put port Sctl 1 placed sent sends on.no_reset).port_is_written
 
   -- COMRESET was sent, and the link was found
-  found_then : (old placed sent ended linked new : Device) → IsOn old → IsDrivenBy (OnPortWriting IsPlacingRegister port) old placed → Writes (Px port Sctl) 1 placed sent → Writes (Px port Sctl) 0 sent ended
+  found_then : (old placed sent ended linked new : Device) → IsOn old → IsDrivenBy (IsPortAccessWriting IsPlacingRegister port) old placed → Writes (Px port Sctl) 1 placed sent → Writes (Px port Sctl) 0 sent ended
       → FindsLink port ended linked → IsDrivenBy (IsBeside port) linked new → SeesDevice port old new
   found_then old placed sent ended linked new on places sends ends found rest =
       let waited = (resetting laws port old placed sent ended found.sees.waited places sends ends (without laws port Ssts _ found.sees.count ended found.sees.waited found.sees.waits)).driven in
-      let there = laws.of_on port old found.sees.waited on (record { accesses = waited.accesses; all = waited.all; only = All-weaker (IsOfBoot port) (SparesOtherPorts port) (laws.booting_of port) waited.accesses waited.only }) in
+      let there = laws.of_on port old found.sees.waited on (record { accesses = waited.accesses; all_are_done = waited.all_are_done; accesses_are_of_kind = All-weaker (IsBootAccess port) (SparesOtherPorts port) (laws.booting_of port) waited.accesses waited.accesses_are_of_kind }) in
       record {
         seen = found.seen;
         early = (resetting laws port old placed sent ended found.seen places sends ends (until laws port Ssts _ ended found.seen found.sees)).driven;
         shows = sym (laws.looks.shown_after port Ssts found.sees.value found.sees.waited found.seen there.no_reset found.sees.reads) ∙ found.sees.shown;
-        own = own_then placed sent ended found.seen (laws.of_on port old placed on (driven_as (OnPortWriting IsPlacingRegister port) (SparesOtherPorts port) old placed (λ access is. laws.booting_of port access (placing_boots laws port access is)) places)) sends ends found.sees;
+        own = own_then placed sent ended found.seen (laws.of_on port old placed on (driven_as (IsPortAccessWriting IsPlacingRegister port) (SparesOtherPorts port) old placed (λ access is. laws.booting_of port access (placing_boots laws port access is)) places)) sends ends found.sees;
         late = cleared_then laws port found.seen linked new found.clears rest;
       }
 
   -- the port was started, and what came then
   started : (old up new : Device) → IsOn old → BringsUpPort port old up → IsDrivenBy (IsBeside port) up new → SeesDevice port old new
-  started old up new on g rest = found_then old g.placed g.resets.sent g.resets.ended g.resets.rest.linked new on g.places g.resets.sends g.resets.ends g.resets.rest.links
+  started old up new on g rest = found_then old g.placed g.resets.sent g.resets.ended g.resets.does_rest.linked new on g.places g.resets.sends g.resets.ends g.resets.does_rest.links
       (started_then laws port old up new g rest)
 
   -- it wasn't started, but looked at, with a fault that isn't a missing device
   early : (state : Shown) (old new : Device) → IsOn old → state ≢ Absent → EndsBeforeStart port state old new → SeesDevice port old new
-  early state old new on other g = by g.fault g.told g.resets.rest
+  early state old new on other g = by g.fault g.state_is g.resets.does_rest
     where
       by : (fault : PortFault) → IsStateOfFault state fault → SeesResetFault port fault g.resets.ended new → SeesDevice port old new
       by NoDevice told l = absurd (other told)
@@ -90,12 +90,12 @@ module _ (laws : PrerequisiteLaws) (port : Port) where
   unready_sees Absent old new on other first last shows = absurd shows
   unready_sees Dead old new on other first last shows = absurd shows
   unready_sees ReadyState old new on other first last shows = absurd (other refl)
-  unready_sees Foreign old new on other first last shows = let g = last tt in started old g.up new on g.first (late_then laws port old new g)
+  unready_sees Foreign old new on other first last shows = let g = last tt in started old g.up new on g.brings_up (late_then laws port old new g)
   unready_sees (Unfit n) old new on other first last shows = ⊎_elim
       (λ (seven : n ≡ 7). early (Unfit n) old new on no (first (inl seven)))
       (λ (not_seven : n ≢ 7). ⊎_elim
       (λ (eight : n ≡ 8). early (Unfit n) old new on no (first (inr eight)))
-      (λ (not_eight : n ≢ 8). let g = last (not_seven, not_eight) in started old g.up new on g.first (late_then laws port old new g))
+      (λ (not_eight : n ≢ 8). let g = last (not_seven, not_eight) in started old g.up new on g.brings_up (late_then laws port old new g))
       (cases_eq n 8))
       (cases_eq n 7)
     where
@@ -104,13 +104,13 @@ module _ (laws : PrerequisiteLaws) (port : Port) where
 
   -- and one that is ready
   pub ready_sees : (old new : Device) → IsOn old → BringsReady port old new → SeesDevice port old new
-  ready_sees old new on g = started old g.up new on g.first (ready_then laws port old new g)
+  ready_sees old new on g = started old g.up new on g.brings_up (ready_then laws port old new g)
 
   -- each boot that finds a disk
   pub boot_sees : (wanted : Wanted) (found : ProbeResult) (old new : Device) → IsOn old → BootsStopped wanted port found old new → ShowsDisk (state_of found) → SeesDevice port old new
   boot_sees wanted Unserved old new on none shows = absurd none
-  boot_sees wanted (Ready info) old new on e shows = ready_sees old new on e.way
-  boot_sees wanted (Unready state) old new on e shows = unready_sees state old new on (λ is. subst (λ (x : Shown). BacksState (serial_of wanted) x port.0 new) is e.ended) e.early e.late shows
+  boot_sees wanted (Ready info) old new on e shows = ready_sees old new on e.brings_ready
+  boot_sees wanted (Unready state) old new on e shows = unready_sees state old new on (λ is. subst (λ (x : Shown). BacksState (serial_of wanted) x port.0 new) is e.state_is_backed) e.ends_before_start e.ends_after_start shows
 
 -- So it has since before the boot: by these accesses, of which some led to the boot.
 pub record SeesOver (port : Port) (old asked new : Device) : Type 0 where
@@ -118,40 +118,40 @@ pub record SeesOver (port : Port) (old asked new : Device) : Type 0 where
   pub accesses : List Access
   pub does : DoesAll accesses old seen
   pub shows : (seen.port port.0).ssts_det ≡ 3
-  pub own : HasDiskIfShown (seen.port port.0)
+  pub own : ShownDiskIsIn (seen.port port.0)
   pub before : TapeGrows old asked
   pub since : TapeGrows asked new
   pub later : TapeGrows seen new
 
 pub booted_sees : (laws : PrerequisiteLaws) (port : Port) (wanted : Wanted) (booted : Booted) (accesses : List Access) (old d new : Device) → IsOn old → DoesAll accesses old d → All (SparesOtherPorts port) accesses
-    → (b : RebootsPort wanted port booted d new) → ShowsDisk (state_of booted.found) → SeesOver port old b.asked new
+    → (b : RebootsPort wanted port booted d new) → ShowsDisk (state_of booted.found) → SeesOver port old b.surveyed new
 booted_sees laws port wanted booted accesses old d new on does of b shows = record {
   seen = sees.seen;
   accesses = until ++ sees.early.accesses;
-  does = laws.basic.does_append until sees.early.accesses old b.asked sees.seen asked sees.early.all;
+  does = laws.basic.does_append until sees.early.accesses old b.surveyed sees.seen asked sees.early.all_are_done;
   shows = sees.shows;
   own = sees.own;
-  before = grows_over laws until old b.asked asked;
-  since = laws.looks.tape.grows_more b.asked sees.seen new (grows_over laws sees.early.accesses b.asked sees.seen sees.early.all) late;
+  before = grows_over laws until old b.surveyed asked;
+  since = laws.looks.tape.grows_more b.surveyed sees.seen new (grows_over laws sees.early.accesses b.surveyed sees.seen sees.early.all_are_done) late;
   later = late;
 }
   where
-    made : IsDrivenBy (IsCapPiOrBootAccess port) d b.asked
-    made = b.asks.driven
+    made : IsDrivenBy (IsCapPiOrBootAccess port) d b.surveyed
+    made = b.surveys.is_driven
 
     until : List Access
     until = accesses ++ made.accesses
 
-    asked : DoesAll until old b.asked
-    asked = laws.basic.does_append accesses made.accesses old d b.asked does made.all
+    asked : DoesAll until old b.surveyed
+    asked = laws.basic.does_append accesses made.accesses old d b.surveyed does made.all_are_done
 
-    sees : SeesDevice port b.asked new
-    sees = boot_sees laws port wanted booted.found b.asked new
-        (laws.of_on port old b.asked on (record { accesses = until; all = asked; only = All-append (SparesOtherPorts port) accesses made.accesses of (All-weaker (IsCapPiOrBootAccess port) (SparesOtherPorts port) (laws.recovery.start_of port) made.accesses made.only) }))
+    sees : SeesDevice port b.surveyed new
+    sees = boot_sees laws port wanted booted.found b.surveyed new
+        (laws.of_on port old b.surveyed on (record { accesses = until; all_are_done = asked; accesses_are_of_kind = All-append (SparesOtherPorts port) accesses made.accesses of (All-weaker (IsCapPiOrBootAccess port) (SparesOtherPorts port) (laws.recovery.start_of port) made.accesses made.accesses_are_of_kind) }))
         b.boots shows
 
     late : TapeGrows sees.seen new
-    late = grows_over laws sees.late.accesses sees.seen new sees.late.all
+    late = grows_over laws sees.late.accesses sees.seen new sees.late.all_are_done
 
 -- The machine had a disk in the port then, or one went or came, where the device went on after the boot.
 pub booted_had : (laws : PrerequisiteLaws) (port : Port) (s : ServerState) (wanted : Wanted) (booted : Booted) (accesses : List Access) (d new end : Device) → IsOn s.device → DoesAll accesses s.device d → All (SparesOtherPorts port) accesses

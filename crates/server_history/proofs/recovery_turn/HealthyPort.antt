@@ -13,32 +13,32 @@ use Rattle.adapter.specs.Access.{Access, DoesAll, named_causes}
 use Rattle.adapter.specs.Access.Access.{Writing}
 use Rattle.adapter.specs.Device.{Device, DevicePort}
 use Rattle.adapter.specs.Rules.{IsOn}
-use Rattle.refinement.specs.Driven.{AnyUse, TapeGrows, IsDrivenBy, IsSimulated}
+use Rattle.refinement.specs.Fragments.{AnyUse, TapeGrows, IsDrivenBy, IsSimulated}
 use Rattle.refinement.specs.Errors.{IsFatalOf}
 use Rattle.refinement.specs.PortFacts.{IsFaultOf, RunsWell, Undisturbed}
 use Rattle.refinement.specs.Links.{NoPlugEvents, DoesNotWrite}
-use Rattle.refinement.specs.Recovering.{IsLinked, WorksPlainly}
+use Rattle.refinement.specs.HaltRecovery.{IsLinked, WorksPlainly}
 use Rattle.block_machine.specs.State.{Machine}
 use Rattle.driver_history.specs.Histories.{RunsWellAnew}
-use Rattle.driver_history.specs.Trace.{ResetsLink}
+use Rattle.driver_history.specs.AccessTrace.{ResetsLink}
 use Rattle.error_recovery.specs.Evidence.{GainsSinceStart}
 use Rattle.error_recovery.specs.declared.Next.{Next}
 use Rattle.error_recovery.specs.declared.Next.TheVariants as next
 use Rattle.host_boot.specs.TakeOver.{StillBacksProbeResult, probe_result_of, wanted_of}
-use Rattle.host_boot.specs.Again.{RebootsPort}
+use Rattle.host_boot.specs.Reboots.{RebootsPort}
 use Rattle.host_boot.specs.declared.Booted.{Booted}
 use Rattle.host_boot.specs.declared.ProbeResult.{ProbeResult}
 use Rattle.host_boot.specs.declared.ProbeResult.TheVariants.{Ready}
 use Rattle.identify.specs.declared.DiskInfo.{DiskInfo}
 use Rattle.identify.specs.declared.wanted.Wanted.{Wanted}
 use Rattle.port_boot.specs.States.{BringsReady}
-use Rattle.port_control.specs.Looks.{IsLooking}
+use Rattle.port_control.specs.PortEvents.{IsEventAccess}
 use Rattle.port_control.specs.declared.events.PortError.{PortError}
 use Rattle.port_control.specs.declared.events.PortError.TheVariants.{TaskFileError}
 use Rattle.block_machine.specs.Events.{Service}
 use Rattle.server_history.specs.Prerequisites.{PrerequisiteLaws}
 use Rattle.server_history.specs.ErrorHandling.{IsErrorHandled, HasResolved, HandlesPortError}
-use Rattle.server_history.specs.Server.{ServerState, InCallInvariant, ports_of, state_of}
+use Rattle.server_history.specs.ServerState.{ServerState, InCallInvariant, ports_of, state_of}
 use Rattle.server_history.specs.Turns.{joint_state_of}
 use Rattle.server_history.proofs.recovery_turn.MendedPort.{next_dead, state_new}
 use Rattle.server_history.proofs.recovery_turn.TurnEvidence.{IsEvident}
@@ -92,7 +92,7 @@ module _ (laws : PrerequisiteLaws) (port : Port) where
       (laws.runs_well port.0 old mid (laws.runs_over port access old mid on kind.3 kind.2 does) parts.0 well)
 
   well_over : (old new : Device) → IsOn old → IsDrivenBy (LeavesTrouble port) old new → Undisturbed port.0 old new → RunsWell (old.port port.0) → RunsWell (new.port port.0)
-  well_over old new on driven calm well = all_well driven.accesses old new on driven.only driven.all calm well
+  well_over old new on driven calm well = all_well driven.accesses old new on driven.accesses_are_of_kind driven.all_are_done calm well
 
 -- one that got ready runs well, where no disk went or came, and nothing went wrong since ST was set
 module _ (laws : PrerequisiteLaws) (port : Port) (old asked mid new : Device) (on : IsOn asked) (way : BringsReady port asked mid) (later : IsDrivenBy (LeavesTrouble port) mid new) (mid_on : IsOn mid)
@@ -100,36 +100,36 @@ module _ (laws : PrerequisiteLaws) (port : Port) (old asked mid new : Device) (o
   pub ready_well : NoPlugEvents port.0 old new → (GainsSinceStart (IsFaultOf port.0) port.0 old new → ⊥) → (GainsSinceStart (IsFatalOf port.0) port.0 old new → ⊥) → RunsWell (new.port port.0)
   ready_well none unfailed unbroken =
       let since = ready_since laws port old asked mid new on way later in
-      let up = (let x = up_driven laws port asked way.up way.first in grows_over laws x.accesses asked way.up x.all) in
-      let told = laws.looks.tape.grows_more way.up way.then.asked mid (grows_over laws way.then.asks.accesses way.up way.then.asked way.then.asks.all) (laws.looks.tape.access_grows (Writing (Px port Ie) named_causes) way.then.asked mid way.then.tells) in
+      let up = (let x = up_driven laws port asked way.up way.brings_up in grows_over laws x.accesses asked way.up x.all_are_done) in
+      let told = laws.looks.tape.grows_more way.up way.asks_disk.asked mid (grows_over laws way.asks_disk.asks.accesses way.up way.asks_disk.asked way.asks_disk.asks.all_are_done) (laws.looks.tape.access_grows (Writing (Px port Ie) named_causes) way.asks_disk.asked mid way.asks_disk.tells) in
       let whole = laws.looks.tape.grows_more asked way.up mid up told in
-      let last = grows_over laws later.accesses mid new later.all in
+      let last = grows_over laws later.accesses mid new later.all_are_done in
       let rest = laws.looks.tape.grows_more asked mid new whole last in
       let plugs = laws.looks.tape.plugs_parts port.0 asked mid new whole.0 last.0 whole.1 last.1 (laws.looks.tape.plugs_parts port.0 old asked new first.0 rest.0 first.1 rest.1 none).1 in
-      let same = (shows_over laws port since.accesses way.up new (ready_up_on laws port old asked mid new on way later) since.only since.all).same in
-      let set = way.first.set in
-      let calm = laws.calls.calm_since port.0 old way.up new (laws.looks.tape.grows_more old asked way.up first up) (grows_over laws since.accesses way.up new since.all) (omega (arith, same, set)) none unfailed unbroken in
+      let same = (shows_over laws port since.accesses way.up new (ready_up_on laws port old asked mid new on way later) since.accesses_are_of_kind since.all_are_done).same in
+      let set = way.brings_up.st_set_is_last in
+      let calm = laws.calls.calm_since port.0 old way.up new (laws.looks.tape.grows_more old asked way.up first up) (grows_over laws since.accesses way.up new since.all_are_done) (omega (arith, same, set)) none unfailed unbroken in
       let parts = laws.looks.tape.calm_parts port.0 way.up mid new told.0 last.0 told.1 last.1 calm in
-      well_over laws port mid new mid_on later parts.1 (way.well plugs.0 parts.0)
+      well_over laws port mid new mid_on later parts.1 (way.port_runs_well plugs.0 parts.0)
 
 -- and so does one that was booted
 module _ (laws : PrerequisiteLaws) (port : Port) (low : port.0 < 4) (wanted : Wanted) (info : DiskInfo) (booted : Booted) (old d mid new : Device) (on : IsOn d) (b : RebootsPort wanted port booted d mid) (found : booted.found ≡ Ready info)
     (later : IsDrivenBy (LeavesTrouble port) mid new) (mid_on : IsOn mid) (until : TapeGrows old d) where
   pub booted_well : NoPlugEvents port.0 old new → (GainsSinceStart (IsFaultOf port.0) port.0 old new → ⊥) → (GainsSinceStart (IsFatalOf port.0) port.0 old new → ⊥) → RunsWell (new.port port.0)
-  booted_well = ready_well laws port old b.asked mid new (boot_asked_on laws port low wanted info booted old d mid new on b found later) (boot_ends laws port low wanted info booted old d mid new on b found later).way later mid_on
-      (laws.looks.tape.grows_more old d b.asked until (grows_over laws b.asks.driven.accesses d b.asked b.asks.driven.all))
+  booted_well = ready_well laws port old b.surveyed mid new (boot_asked_on laws port low wanted info booted old d mid new on b found later) (boot_ends laws port low wanted info booted old d mid new on b found later).brings_ready later mid_on
+      (laws.looks.tape.grows_more old d b.surveyed until (grows_over laws b.surveys.is_driven.accesses d b.surveyed b.surveys.is_driven.all_are_done))
 
 -- a link wasn't reset where PxSCTL wasn't written
 never_reset : (port : Port) (accesses : List Access) → All (DoesNotWrite (Px port Sctl)) accesses → ResetsLink port accesses → ⊥
 never_reset port accesses all r = All-contains (DoesNotWrite (Px port Sctl)) accesses (Writing (Px port Sctl) r.sending) all
-    (subst (λ (list : List Access). Contains list (Writing (Px port Sctl) r.sending)) (sym r.here)
+    (subst (λ (list : List Access). Contains list (Writing (Px port Sctl) r.sending)) (sym r.accesses_are_split)
     (Contains-append_right r.before (Writing (Px port Sctl) r.sending ∷ (r.between ++ (Writing (Px port Sctl) r.ending ∷ r.later))) (Writing (Px port Sctl) r.sending)
     (0, omega arith, refl))) refl
 
 -- ---- the whole
 
 module _ (laws : PrerequisiteLaws) (port : Port) (replies : List Reply) (old new : ServerState) (k : InCallInvariant old) (ready : state_of (probe_result_of old.ports port.0) ≡ ReadyState) (r : HandlesPortError port replies old new)
-    (looks : IsSimulated (IsLooking port) AnyUse old.device r.settled.error_handled.seen) (kept : InCallInvariant r.mid) (evident : IsEvident port replies old new r)
+    (looks : IsSimulated (IsEventAccess port) AnyUse old.device r.settled.error_handled.seen) (kept : InCallInvariant r.mid) (evident : IsEvident port replies old new r)
     (plainly : r.settled.error_handled.queued ≡ false → WorksPlainly (r.settled.mid.device.port port.0)) where
   abbrev a : HasResolved port r.later old r.mid
   a = r.settled
@@ -150,13 +150,13 @@ module _ (laws : PrerequisiteLaws) (port : Port) (replies : List Reply) (old new
   then_ready = mid_ready laws port r.later old r.mid k ready a looks
 
   early_grows : TapeGrows old.device a.mid.device
-  early_grows = grows_over laws t.early.accesses old.device a.mid.device t.early.all
+  early_grows = grows_over laws t.early.accesses old.device a.mid.device t.early.all_are_done
 
   part_grows : TapeGrows a.mid.device a.device
   part_grows = grows_over laws x.handling.accesses a.mid.device a.device t.does
 
   late_grows : TapeGrows a.device new.device
-  late_grows = grows_over laws t.late.accesses a.device new.device t.late.all
+  late_grows = grows_over laws t.late.accesses a.device new.device t.late.all_are_done
 
   -- ---- a port that runs again
 
@@ -170,30 +170,30 @@ module _ (laws : PrerequisiteLaws) (port : Port) (replies : List Reply) (old new
           All-contains (DoesNotWrite (Px port Sctl)) (t.early.accesses ++ (x.handling.accesses ++ t.late.accesses)) access unreset (Contains-append_left t.early.accesses (x.handling.accesses ++ t.late.accesses) access w.0),
           laws.of_host port access w.1.0.1,
         ))
-        t.early.accesses (λ i d small. (All-contains_itself t.early.accesses i d small, t.early.only i d small))
+        t.early.accesses (λ i d small. (All-contains_itself t.early.accesses i d small, t.early.accesses_are_of_kind i d small))
 
     -- its link was up
     linked : NoPlugEvents port.0 old.device new.device → (old.device.port port.0).ssts_det ≡ 3 → (old.device.port port.0).fresh ≡ true → IsLinked (a.mid.device.port port.0)
     linked none det fresh = record {
       det = up.det;
-      present = (then_kept.behind port.0 low).own then_ready up.det;
+      present = (then_kept.port_invariant port.0 low).has_disk_if_shown then_ready up.det;
       fresh = up.fresh;
-      linked = up.undue;
-      released = λ one. let z : 0 ≡ 1 = sym released ∙ one in absurd cc;
+      no_link_is_due = up.undue;
+      comreset_is_over = λ one. let z : 0 ≡ 1 = sym released ∙ one in absurd cc;
     }
       where
         rest : TapeGrows a.mid.device new.device
         rest = laws.looks.tape.grows_more a.mid.device a.device new.device part_grows late_grows
 
         up : ShowsLink (a.mid.device.port port.0)
-        up = linked_over laws port t.early.accesses old.device a.mid.device k.on early_leaves
-            (laws.looks.tape.plugs_parts port.0 old.device a.mid.device new.device early_grows.0 rest.0 early_grows.1 rest.1 none).0 t.early.all
-            (record { det = det; fresh = fresh; undue = ((k.behind port.0 low).runs ready).recorded.linked })
+        up = linked_over laws port t.early.accesses old.device a.mid.device k.adapter_is_on early_leaves
+            (laws.looks.tape.plugs_parts port.0 old.device a.mid.device new.device early_grows.0 rest.0 early_grows.1 rest.1 none).0 t.early.all_are_done
+            (record { det = det; fresh = fresh; undue = ((k.port_invariant port.0 low).engine_runs ready).faults_are_recorded.no_link_is_due })
 
         released : (a.mid.device.port port.0).sctl_det ≡ 0
         released =
             let f = ready_found a.mid port.0 then_kept then_ready in
-            (subst (λ (f : ProbeResult). StillBacksProbeResult (wanted_of a.mid.wanted port.0) f port.0 a.mid.device) f.1.1 (then_kept.behind port.0 low).behind).1.det
+            (subst (λ (f : ProbeResult). StillBacksProbeResult (wanted_of a.mid.wanted port.0) f port.0 a.mid.device) f.1.1 (then_kept.port_invariant port.0 low).probe_result_is_backed).1.no_comreset
 
     runs_well : NoPlugEvents port.0 old.device new.device → (old.device.port port.0).ssts_det ≡ 3 → (GainsSinceStart (IsFaultOf port.0) port.0 old.device new.device → ⊥) → (GainsSinceStart (IsFatalOf port.0) port.0 old.device new.device → ⊥)
         → ResetsLink port evident.accesses ⊎ ((old.device.port port.0).fresh ≡ true) → RunsWell (new.device.port port.0)
@@ -207,11 +207,11 @@ module _ (laws : PrerequisiteLaws) (port : Port) (replies : List Reply) (old new
         let runs = again laws port replies old new k ready r looks kept t token is in
         let on = recovered_on laws port replies old new k ready r looks kept t in
         let last = then_issuing laws port replies old new k ready r looks kept t token is in
-        let same = (shows_over laws port last.accesses a.device new.device on last.only last.all).same in
-        let known = runs.recorded.known in
+        let same = (shows_over laws port last.accesses a.device new.device on last.accesses_are_of_kind last.all_are_done).same in
+        let known = runs.faults_are_on_record.st_set_is_on_tape in
         let calm = laws.calls.calm_since port.0 old.device a.device new.device (laws.looks.tape.grows_more old.device a.mid.device a.device early_grows part_grows) late_grows (omega (arith, same, known)) none unfailed unbroken in
         well_over laws port a.device new.device on last calm
-        (runs.well plugs.0 (λ g. unbroken (laws.calls.fatal_in_part port.0 old.device a.mid.device a.device new.device early_grows late_grows same g)) (linked none det fresh) plainly)
+        (runs.port_runs_well plugs.0 (λ g. unbroken (laws.calls.fatal_in_part port.0 old.device a.mid.device a.device new.device early_grows late_grows same g)) (linked none det fresh) plainly)
 
   -- ---- one that was booted
 
@@ -222,7 +222,7 @@ module _ (laws : PrerequisiteLaws) (port : Port) (replies : List Reply) (old new
         let again = again_booted laws port replies old new k ready r looks kept t token is is_ready in
         let its = info laws port replies old new k ready r looks kept t token is is_ready in
         booted_well laws port low (wanted_of old.wanted port.0) its.0 again.0 old.device a.device r.mid.device new.device (recovered_on laws port replies old new k ready r looks kept t) again.2 (again.1 ∙ its.1)
-        (issuing laws port replies old new k ready r looks kept t) kept.on (laws.looks.tape.grows_more old.device a.mid.device a.device early_grows part_grows)
+        (issuing laws port replies old new k ready r looks kept t) kept.adapter_is_on (laws.looks.tape.grows_more old.device a.mid.device a.device early_grows part_grows)
 
   -- A port that runs again showed a device when the turn began, where no disk went or came: else the look would have told that its disk was lost.
   showed : (m : Machine) (token : _) → x.result.next ≡ next.Running token → NoPlugEvents port.0 old.device new.device → (old.device.port port.0).ssts_det ≡ 3
@@ -230,8 +230,8 @@ module _ (laws : PrerequisiteLaws) (port : Port) (replies : List Reply) (old new
       (λ shows. shows)
       (λ (missing : (old.device.port port.0).ssts_det ≢ 3).
       let failed : x.port_error ≢ TaskFileError = λ failed.
-      nowhere port (subst (λ (t : PortError). Contains (gone_of port t (old.device.port port.0)) port) failed ((evident.evidenced Service m).gone_all ready (inr (missing, none_comes port.0 old.device new.device none)))) in
-      absurd ((given_up x.port_error port x.outstanding x.queued x.result x.handling.accesses a.mid.device a.device x.tells failed).1 token is))
+      nowhere port (subst (λ (t : PortError). Contains (gone_of port t (old.device.port port.0)) port) failed ((evident.evidenced Service m).link_changed_all ready (inr (missing, none_comes port.0 old.device new.device none)))) in
+      absurd ((given_up x.port_error port x.outstanding x.queued x.result x.handling.accesses a.mid.device a.device x.tells_error_handling failed).1 token is))
       (cases_eq (old.device.port port.0).ssts_det 3)
 
   pub going_well : (m : Machine) → RunsWellAnew (evidence_by a) evident.accesses (joint_state_of old m) (ports_of new) new.device port

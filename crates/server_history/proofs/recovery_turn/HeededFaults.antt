@@ -14,29 +14,29 @@ use Rattle.ata_types.specs.declared.request.Outcome.TheVariants as outcome
 use Rattle.ata_types.specs.declared.request.Reply.{Reply}
 use Rattle.ata_types.specs.declared.request.RequestId.{RequestId}
 use Rattle.adapter.specs.Device.{DevicePort}
-use Rattle.refinement.specs.Driven.{AnyUse, IsSimulated}
-use Rattle.block_machine.specs.Events.{IsIssuedIn, NoneStaysIssued, answers_of, issues_it}
+use Rattle.refinement.specs.Fragments.{AnyUse, IsSimulated}
+use Rattle.block_machine.specs.Events.{IsIssuedIn, NoneStaysIssued, answers_of, issues_id}
 use Rattle.block_machine.specs.Histories.{IsReachable}
 use Rattle.block_machine.specs.Expected.{after}
 use Rattle.block_machine.specs.State.{Machine, Pending}
-use Rattle.block_machine.specs.Steps.{Answer, Issue, Step, at, newly_issued}
+use Rattle.block_machine.specs.Steps.{Answer, Issue, Step, update_pending, newly_issued}
 use Rattle.block_machine.specs.declared.due.QueueMode.{QueueMode}
-use Rattle.driver_history.specs.Heeding.{IsDisturbed, ServesReady, tells_fault}
+use Rattle.driver_history.specs.EvidenceHandling.{IsDisturbed, ServicesReadyPort, tells_fault}
 use Rattle.server_history.proofs.state.ListMembers.{at_cases, contains_cases, contains_here, contains_there, map_in}
 use Rattle.host_boot.specs.TakeOver.{probe_result_of}
-use Rattle.port_control.specs.Looks.{IsLooking}
+use Rattle.port_control.specs.PortEvents.{IsEventAccess}
 use Rattle.port_control.specs.declared.events.PortError.{PortError}
 use Rattle.port_control.specs.declared.events.PortError.TheVariants.{FatalError, TaskFileError, TimedOut, LinkChanged}
-use Rattle.request_queue.specs.Entries.{BookEntry}
+use Rattle.request_queue.specs.BookEntries.{BookEntry}
 use Rattle.request_queue.specs.Dispositions.{disposition_of}
-use Rattle.request_queue.specs.Machine.{EntryRelation}
+use Rattle.request_queue.specs.BookRelation.{EntryRelation}
 use Rattle.request_queue.specs.declared.disposition.FailedRequest as failed_request
 use Rattle.request_queue.specs.declared.disposition.Disposition.TheVariants.{Complete}
-use Rattle.slots.specs.Uses.{PortSlots, use_at}
+use Rattle.slots.specs.SlotUses.{PortSlots, use_at}
 use Rattle.server_history.specs.Prerequisites.{PrerequisiteLaws}
 use Rattle.server_history.specs.ErrorHandling.{HasResolved, HandlesPortError, requests_of}
-use Rattle.server_history.specs.Served.{AllByDeviceOrIssue, ok_answers_of}
-use Rattle.server_history.specs.Server.{ServerState, InCallInvariant, MachineRelation, mode_in, no_slots, state_of, used_for}
+use Rattle.server_history.specs.IssuingAndAnswering.{AllByDeviceOrIssue, ok_answers_of}
+use Rattle.server_history.specs.ServerState.{ServerState, InCallInvariant, MachineRelation, mode_in, no_slots, state_of, used_for}
 use Rattle.server_history.specs.Turns.{IsOfTurn, abstract_state_of}
 use Rattle.server_history.proofs.state.AnswerSteps.{answered_in, no_answer, no_answer_issuing}
 use Rattle.server_history.proofs.recovery_turn.MendedPort.{interrupted}
@@ -63,10 +63,10 @@ issued_before : PrerequisiteLaws → (mode : QueueMode) (port : Port) (m : Machi
     → IsIssuedIn e.request.id steps ⊎ ((was : Pending) × Contains m.book was × (was.request ≡ e.request) × (was.issued ≡ true))
 issued_before laws mode port m [] only e here issued = inr (e, here, refl, issued)
 issued_before laws mode port m (Issue its x ∷ steps) only e here issued =
-    let w = map_in (λ (y : Pending). at x.request.id newly_issued y) (after m steps).book e here in ⊎_elim
-    (λ (hit : (w.0.request.id.0 ≡ x.request.id.0) × (at x.request.id newly_issued w.0 ≡ newly_issued w.0)).
+    let w = map_in (λ (y : Pending). update_pending x.request.id newly_issued y) (after m steps).book e here in ⊎_elim
+    (λ (hit : (w.0.request.id.0 ≡ x.request.id.0) × (update_pending x.request.id newly_issued w.0 ≡ newly_issued w.0)).
     let same : e.request.id.0 ≡ x.request.id.0 = ap (λ (y : Pending). y.request.id.0) (w.2 ∙ hit.1) ∙ hit.0 in
-    inl (ap (λ (b : Bool). b || list_any (issues_it e.request.id) steps) (eq-eqb x.request.id.0 e.request.id.0 (sym same))))
+    inl (ap (λ (b : Bool). b || list_any (issues_id e.request.id) steps) (eq-eqb x.request.id.0 e.request.id.0 (sym same))))
     (λ miss.
     let same : e ≡ w.0 = w.2 ∙ miss.1 in
     ⊎_elim
@@ -76,17 +76,17 @@ issued_before laws mode port m (Issue its x ∷ steps) only e here issued =
     (issued_before laws mode port m steps only.2 w.0 w.1 (ap (λ (y : Pending). y.issued) (sym same) ∙ issued)))
     (at_cases x.request.id newly_issued w.0)
   where
-    by : (b : Bool) → list_any (issues_it e.request.id) steps ≡ true → (b || list_any (issues_it e.request.id) steps) ≡ true
+    by : (b : Bool) → list_any (issues_id e.request.id) steps ≡ true → (b || list_any (issues_id e.request.id) steps) ≡ true
     by true is = refl
     by false is = is
 issued_before laws mode port m (step ∷ steps) only e here issued =
     let l = laws.basic.found_before (after m steps).book (after m (step ∷ steps)).book e (laws.basic.spares (after m steps) (step ∷ []) (tt, only.0)).book here in
     ⊎_elim
-    (λ (before : IsIssuedIn l.0.request.id steps). inl (by (issues_it e.request.id step) (subst (λ (id : RequestId). IsIssuedIn id steps) (sym (ap (λ q. q.id) l.2.request)) before)))
+    (λ (before : IsIssuedIn l.0.request.id steps). inl (by (issues_id e.request.id step) (subst (λ (id : RequestId). IsIssuedIn id steps) (sym (ap (λ q. q.id) l.2.request)) before)))
     (λ was. inr (was.0, was.1, was.2 ∙ sym l.2.request, was.3))
     (issued_before laws mode port m steps only.1 l.0 l.1 (sym l.2.issued ∙ issued))
   where
-    by : (b : Bool) → list_any (issues_it e.request.id) steps ≡ true → (b || list_any (issues_it e.request.id) steps) ≡ true
+    by : (b : Bool) → list_any (issues_id e.request.id) steps ≡ true → (b || list_any (issues_id e.request.id) steps) ≡ true
     by true is = refl
     by false is = is
 
@@ -160,7 +160,7 @@ failed_id None = 0
 failed_id (Some failed) = failed.id.0
 
 module _ (laws : PrerequisiteLaws) (port : Port) (replies : List Reply) (old new : ServerState) (k : InCallInvariant old) (ready : state_of (probe_result_of old.ports port.0) ≡ ReadyState) (r : HandlesPortError port replies old new)
-    (looks : IsSimulated (IsLooking port) AnyUse old.device r.settled.error_handled.seen) (kept : InCallInvariant r.mid) (evident : IsEvident port replies old new r) (m : Machine) (reached : IsReachable m) (is : MachineRelation old m)
+    (looks : IsSimulated (IsEventAccess port) AnyUse old.device r.settled.error_handled.seen) (kept : InCallInvariant r.mid) (evident : IsEvident port replies old new r) (m : Machine) (reached : IsReachable m) (is : MachineRelation old m)
     (d : DecidesTurn port replies old new r (evidence_by r.settled) m) where
   abbrev a : HasResolved port r.later old r.mid
   a = r.settled
@@ -177,9 +177,9 @@ module _ (laws : PrerequisiteLaws) (port : Port) (replies : List Reply) (old new
   unused : (slot : ℕ) → used_for r.mid.slots port.0 slot ≡ None
   unused slot =
       let then_kept = mid_kept laws port r.later old r.mid k ready a looks in
-      let four = then_kept.four in
-      ap (λ (s : ServerState). used_for s.slots port.0 slot) a.server
-      ∙ ap (λ (slots : PortSlots). use_at slots slot) (get_or-set_same a.mid.slots port.0 a.slots no_slots (let small = low in omega (arith, small, four))) ∙ a.unused.free slot
+      let four = then_kept.four_slots in
+      ap (λ (s : ServerState). used_for s.slots port.0 slot) a.server_is
+      ∙ ap (λ (slots : PortSlots). use_at slots slot) (get_or-set_same a.mid.slots port.0 a.slots no_slots (let small = low in omega (arith, small, four))) ∙ a.has_no_used_slot.free slot
 
   none_issued : (e : Pending) → Contains (after m base).book e → e.request.port ≡ port → e.issued ≡ true → ⊥
   none_issued e here own issued =
@@ -204,9 +204,9 @@ module _ (laws : PrerequisiteLaws) (port : Port) (replies : List Reply) (old new
       (Contains-append_right d.issuing.steps base (Answer e o) (Contains-append_left d.dispositions.dispositions (d.dispositions.middle ++ (ok_answers_of d.dispositions.ended ++ d.dispositions.first)) (Answer e o) here))
 
   differ : AreDifferent (answers_of d.dispositions.dispositions)
-  differ = still_differ d.dispositions.tells.answers (answers_of d.dispositions.dispositions) d.dispositions.tells.same (told_differ port d.dispositions.tells.answers
+  differ = still_differ d.dispositions.tells.answers (answers_of d.dispositions.dispositions) d.dispositions.tells.is_permutation (told_differ port d.dispositions.tells.answers
       (All-weaker (Contains d.dispositions.tells.answers) (λ x. x.0.request.port ≡ port)
-      (λ x here. All-contains (IsOfTurn port) d.steps (Answer x.0 x.1) d.own (fate_there x.0 x.1 (answers_there d.dispositions.dispositions x (Contains-permutation d.dispositions.tells.answers (answers_of d.dispositions.dispositions) x d.dispositions.tells.same here))))
+      (λ x here. All-contains (IsOfTurn port) d.steps (Answer x.0 x.1) d.own (fate_there x.0 x.1 (answers_there d.dispositions.dispositions x (Contains-permutation d.dispositions.tells.answers (answers_of d.dispositions.dispositions) x d.dispositions.tells.is_permutation here))))
       d.dispositions.tells.answers (All-contains_itself d.dispositions.tells.answers))
       d.dispositions.tells.ordered)
 
@@ -288,17 +288,17 @@ module _ (laws : PrerequisiteLaws) (port : Port) (replies : List Reply) (old new
 
   -- ---- all of it
 
-  pub serves_ready : a.error_handled.port_error ≢ TimedOut → ServesReady (abstract_state_of old m) (evidence_by a) d.steps (abstract_state_of new (after m d.steps)) port
+  pub serves_ready : a.error_handled.port_error ≢ TimedOut → ServicesReadyPort (abstract_state_of old m) (evidence_by a) d.steps (abstract_state_of new (after m d.steps)) port
   serves_ready unhung = record {
-    ended = heeding laws port replies old new k ready r looks kept evident m reached is d;
-    emptied = λ here. d.emptied (gone_is port shown a.error_handled.port_error unhung here);
-    told = λ here. d.told (gone_is port shown a.error_handled.port_error unhung here);
-    interrupts = λ _. interrupted laws port replies old new k ready r looks kept;
-    anew = λ _. anew;
-    single = single;
-    fatal = fatal;
-    disk = evident.had m is d.steps d.backed;
-    calm = inl disturbed;
+    answers_ended = heeding laws port replies old new k ready r looks kept evident m reached is d;
+    none_is_left = λ here. d.emptied (gone_is port shown a.error_handled.port_error unhung here);
+    others_are_told_alike = λ here. d.told (gone_is port shown a.error_handled.port_error unhung here);
+    is_interrupted = λ _. interrupted laws port replies old new k ready r looks kept;
+    none_stays_issued = λ _. anew;
+    one_fault_at_most = single;
+    fatal_tells_no_fault = fatal;
+    shown_disk_was_in_or_came = evident.had m is d.steps d.backed;
+    is_left_alone_if_calm = inl disturbed;
   }
     where
       disturbed : IsDisturbed (evidence_by a) d.steps port

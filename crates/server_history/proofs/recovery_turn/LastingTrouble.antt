@@ -11,16 +11,16 @@ use Rattle.adapter.specs.Access.{Access, named_causes}
 use Rattle.adapter.specs.Access.Access.{Loading, Reading, Storing, Writing}
 use Rattle.adapter.specs.Device.{Device}
 use Rattle.adapter.specs.Rules.{IsOn}
-use Rattle.refinement.specs.Driven.{AnyUse, IsDrivenBy, IsSimulated, SparesOtherPorts}
+use Rattle.refinement.specs.Fragments.{AnyUse, IsDrivenBy, IsSimulated, SparesOtherPorts}
 use Rattle.server_history.proofs.state.DrivenAccesses.{by_then, driven_as}
 use Rattle.block_machine.specs.State.{Machine}
-use Rattle.disk_page.specs.Asking.{IsPageAccess}
+use Rattle.disk_page.specs.PageRequests.{IsPageAccess}
 use Rattle.driver_history.specs.Histories.{LosesNoPortError}
 use Rattle.error_recovery.specs.Evidence.{HidesNoTrouble}
 use Rattle.error_recovery.specs.Recovery.{EndsAsNext, RunsAgain}
 use Rattle.error_recovery.specs.declared.Next.{Next}
 use Rattle.error_recovery.specs.declared.Next.TheVariants as next
-use Rattle.host_boot.specs.Again.{RebootsPort, BootsStopped, IsCapPiOrBootAccess}
+use Rattle.host_boot.specs.Reboots.{RebootsPort, BootsStopped, IsCapPiOrBootAccess}
 use Rattle.identify.specs.Wanted.{serial_of}
 use Rattle.port_boot.specs.Outcomes.{EndsReady}
 use Rattle.host_boot.specs.TakeOver.{probe_result_of, wanted_of}
@@ -28,14 +28,14 @@ use Rattle.host_boot.specs.declared.Booted.{Booted}
 use Rattle.host_boot.specs.declared.ProbeResult.{ProbeResult}
 use Rattle.host_boot.specs.declared.ProbeResult.TheVariants.{Ready, Unready}
 use Rattle.identify.specs.declared.DiskInfo.{DiskInfo}
-use Rattle.port_boot.specs.States.{BringsReady, IsOfBoot}
-use Rattle.port_control.specs.Looks.{IsLooking}
-use Rattle.request_queue.specs.Entries.{asks_of, due_ids}
+use Rattle.port_boot.specs.States.{BringsReady, IsBootAccess}
+use Rattle.port_control.specs.PortEvents.{IsEventAccess}
+use Rattle.request_queue.specs.BookEntries.{unanswered_of, due_ids}
 use Rattle.identify.specs.declared.wanted.Wanted.{Wanted}
 use Rattle.server_history.specs.Prerequisites.{PrerequisiteLaws}
 use Rattle.server_history.specs.ErrorHandling.{IsRevalidated, IsErrorHandled, HasResolved, HandlesPortError}
 use Rattle.commands.specs.Batches.{IsBatchAccess}
-use Rattle.server_history.specs.Server.{ServerState, InCallInvariant, mode_in, ports_of, state_of}
+use Rattle.server_history.specs.ServerState.{ServerState, InCallInvariant, mode_in, ports_of, state_of}
 use Rattle.server_history.specs.Turns.{joint_state_of}
 use Rattle.server_history.proofs.recovery_turn.MendedPort.{interrupted, next_dead, ready_info, state_new}
 use Rattle.server_history.proofs.recovery_turn.RecoveryAccesses.{IsEarlyPart, IsPart, start_part}
@@ -96,39 +96,39 @@ asking_leaves port (Storing at bytes) is = (tt, tt, tt, tt, stays_on (Storing at
 
 module _ (laws : PrerequisiteLaws) (port : Port) (old asked mid new : Device) (on : IsOn asked) (way : BringsReady port asked mid) (later : IsDrivenBy (LeavesTrouble port) mid new) where
   pub ready_up_on : IsOn way.up
-  ready_up_on = laws.of_on port asked way.up on (driven_as (IsOfBoot port) (SparesOtherPorts port) asked way.up (λ access x. laws.booting_of port access x) (up_driven laws port asked way.up way.first))
+  ready_up_on = laws.of_on port asked way.up on (driven_as (IsBootAccess port) (SparesOtherPorts port) asked way.up (λ access x. laws.booting_of port access x) (up_driven laws port asked way.up way.brings_up))
 
   -- what came since ST was set leaves what the port shows
   pub ready_since : IsDrivenBy (LeavesTrouble port) way.up new
   ready_since =
-      by_then laws (driven_as (IsPageAccess port) (LeavesTrouble port) way.up way.then.asked (asking_leaves port) way.then.asks)
+      by_then laws (driven_as (IsPageAccess port) (LeavesTrouble port) way.up way.asks_disk.asked (asking_leaves port) way.asks_disk.asks)
       (by_then laws
-      (record { accesses = Writing (Px port Ie) named_causes ∷ []; all = (mid, way.then.tells, refl); only = All-cons (LeavesTrouble port) (Writing (Px port Ie) named_causes) [] (ie_apart port named_causes) (All-nil (LeavesTrouble port)) })
+      (record { accesses = Writing (Px port Ie) named_causes ∷ []; all_are_done = (mid, way.asks_disk.tells, refl); accesses_are_of_kind = All-cons (LeavesTrouble port) (Writing (Px port Ie) named_causes) [] (ie_apart port named_causes) (All-nil (LeavesTrouble port)) })
       later)
 
   pub ready_shows : HidesNoTrouble port.0 old new
-  ready_shows = shown_since port.0 old way.up new (shows_over laws port ready_since.accesses way.up new ready_up_on ready_since.only ready_since.all) way.first.set
+  ready_shows = shown_since port.0 old way.up new (shows_over laws port ready_since.accesses way.up new ready_up_on ready_since.accesses_are_of_kind ready_since.all_are_done) way.brings_up.st_set_is_last
 
 -- ---- a port that is ready once it was booted
 
 module _ (laws : PrerequisiteLaws) (port : Port) (low : port.0 < 4) (wanted : Wanted) (info : DiskInfo) (booted : Booted) (old d mid new : Device) (on : IsOn d) (b : RebootsPort wanted port booted d mid) (found : booted.found ≡ Ready info)
     (later : IsDrivenBy (LeavesTrouble port) mid new) where
-  pub boot_asked_on : IsOn b.asked
-  boot_asked_on = laws.of_on port d b.asked on (driven_as (IsCapPiOrBootAccess port) (SparesOtherPorts port) d b.asked (λ access s. (start_part laws port low access s).1) b.asks.driven)
+  pub boot_asked_on : IsOn b.surveyed
+  boot_asked_on = laws.of_on port d b.surveyed on (driven_as (IsCapPiOrBootAccess port) (SparesOtherPorts port) d b.surveyed (λ access s. (start_part laws port low access s).1) b.surveys.is_driven)
 
-  pub boot_ends : EndsReady (serial_of wanted) port info b.asked mid
-  boot_ends = subst (λ (f : ProbeResult). BootsStopped wanted port f b.asked mid) found b.boots
+  pub boot_ends : EndsReady (serial_of wanted) port info b.surveyed mid
+  boot_ends = subst (λ (f : ProbeResult). BootsStopped wanted port f b.surveyed mid) found b.boots
 
-  abbrev boot_way : BringsReady port b.asked mid
-  boot_way = boot_ends.way
+  abbrev boot_way : BringsReady port b.surveyed mid
+  boot_way = boot_ends.brings_ready
 
   pub boot_shows : HidesNoTrouble port.0 old new
-  boot_shows = ready_shows laws port old b.asked mid new boot_asked_on boot_way later
+  boot_shows = ready_shows laws port old b.surveyed mid new boot_asked_on boot_way later
 
 -- ---- the whole
 
 module _ (laws : PrerequisiteLaws) (port : Port) (replies : List Reply) (old new : ServerState) (k : InCallInvariant old) (ready : state_of (probe_result_of old.ports port.0) ≡ ReadyState) (r : HandlesPortError port replies old new)
-    (looks : IsSimulated (IsLooking port) AnyUse old.device r.settled.error_handled.seen) (kept : InCallInvariant r.mid) (t : TurnParts port replies old new r) where
+    (looks : IsSimulated (IsEventAccess port) AnyUse old.device r.settled.error_handled.seen) (kept : InCallInvariant r.mid) (t : TurnParts port replies old new r) where
   abbrev a : HasResolved port r.later old r.mid
   a = r.settled
 
@@ -140,30 +140,30 @@ module _ (laws : PrerequisiteLaws) (port : Port) (replies : List Reply) (old new
 
   -- what is issued leaves what the port shows
   pub issuing : IsDrivenBy (LeavesTrouble port) r.mid.device new.device
-  issuing = driven_as (IsBatchAccess port) (LeavesTrouble port) r.mid.device new.device (issuing_leaves port port) (each_driven laws port (due_ids (mode_in r.mid port) port (asks_of r.mid.book)) r.mid new r.issued)
+  issuing = driven_as (IsBatchAccess port) (LeavesTrouble port) r.mid.device new.device (issuing_leaves port port) (each_driven laws port (due_ids (mode_in r.mid port) port (unanswered_of r.mid.book)) r.mid new r.issued)
 
   -- the adapter is on when the port was recovered
   pub recovered_driven : IsDrivenBy (SparesOtherPorts port) old.device a.device
   recovered_driven = by_then laws (driven_as (IsEarlyPart port) (SparesOtherPorts port) old.device a.mid.device (λ access is. is.0.1) t.early)
-      (record { accesses = x.handling.accesses; all = t.does; only = All-weaker (IsPart port) (SparesOtherPorts port) (λ access is. is.1) x.handling.accesses t.kinds })
+      (record { accesses = x.handling.accesses; all_are_done = t.does; accesses_are_of_kind = All-weaker (IsPart port) (SparesOtherPorts port) (λ access is. is.1) x.handling.accesses t.kinds })
 
   pub recovered_on : IsOn a.device
-  recovered_on = laws.of_on port old.device a.device k.on recovered_driven
+  recovered_on = laws.of_on port old.device a.device k.adapter_is_on recovered_driven
 
   -- a port that runs again
   module _ (token : _) (is : x.result.next ≡ next.Running token) where
-    again_is : IsRevalidated (wanted_of old.wanted port.0) port x.port_error a.was (next.Running token) a.device r.mid.device a.found
-    again_is = subst (λ (n : Next). IsRevalidated (wanted_of old.wanted port.0) port x.port_error a.was n a.device r.mid.device a.found) is a.is
+    again_is : IsRevalidated (wanted_of old.wanted port.0) port x.port_error a.disk_before (next.Running token) a.device r.mid.device a.found
+    again_is = subst (λ (n : Next). IsRevalidated (wanted_of old.wanted port.0) port x.port_error a.disk_before n a.device r.mid.device a.found) is a.is_revalidated
 
     pub again : RunsAgain x.queued port.0 a.mid.device a.device
-    again = (subst (λ (n : Next). EndsAsNext x.queued port n a.mid.device a.device) is x.handling.leaves.ends).1
+    again = (subst (λ (n : Next). EndsAsNext x.queued port n a.mid.device a.device) is x.handling.leaves.ends_as_next).1
 
     pub then_issuing : IsDrivenBy (LeavesTrouble port) a.device new.device
     then_issuing = subst (λ (d : Device). IsDrivenBy (LeavesTrouble port) d new.device) again_is.1 issuing
 
     runs_shows : HidesNoTrouble port.0 old.device new.device
-    runs_shows = shown_more port.0 old.device a.mid.device a.device new.device again.shows (grows_over laws x.handling.accesses a.mid.device a.device t.does) again.since
-        (shows_over laws port then_issuing.accesses a.device new.device recovered_on then_issuing.only then_issuing.all)
+    runs_shows = shown_more port.0 old.device a.mid.device a.device new.device again.hides_no_trouble (grows_over laws x.handling.accesses a.mid.device a.device t.does) again.st_set_in_call
+        (shows_over laws port then_issuing.accesses a.device new.device recovered_on then_issuing.accesses_are_of_kind then_issuing.all_are_done)
 
   -- one that was booted
   module _ (token : _) (is : x.result.next ≡ next.Restart token) (is_ready : (ports_of new).state port ≡ ReadyState) where
@@ -172,8 +172,8 @@ module _ (laws : PrerequisiteLaws) (port : Port) (replies : List Reply) (old new
 
     pub again_booted : (booted : Booted) × (booted.found ≡ a.found) × RebootsPort (wanted_of old.wanted port.0) port booted a.device r.mid.device
     again_booted =
-        let after : IsRevalidated (wanted_of old.wanted port.0) port x.port_error a.was (next.Restart token) a.device r.mid.device a.found =
-        subst (λ (n : Next). IsRevalidated (wanted_of old.wanted port.0) port x.port_error a.was n a.device r.mid.device a.found) is a.is in (
+        let after : IsRevalidated (wanted_of old.wanted port.0) port x.port_error a.disk_before (next.Restart token) a.device r.mid.device a.found =
+        subst (λ (n : Next). IsRevalidated (wanted_of old.wanted port.0) port x.port_error a.disk_before n a.device r.mid.device a.found) is a.is_revalidated in (
           after.0,
           after.1,
           ⊎_elim
@@ -183,7 +183,7 @@ module _ (laws : PrerequisiteLaws) (port : Port) (replies : List Reply) (old new
         )
 
     abbrev pub asked : Device
-    asked = again_booted.2.asked
+    asked = again_booted.2.surveyed
 
     its_shows : HidesNoTrouble port.0 old.device new.device
     its_shows = boot_shows laws port low (wanted_of old.wanted port.0) info.0 again_booted.0 old.device a.device r.mid.device new.device recovered_on again_booted.2 (again_booted.1 ∙ info.1) issuing
@@ -203,7 +203,7 @@ module _ (laws : PrerequisiteLaws) (port : Port) (replies : List Reply) (old new
   lasting m = record {
     errors = λ _ _. inl (interrupted laws port replies old new k ready r looks kept);
     changes = λ _ _. inl (interrupted laws port replies old new k ready r looks kept);
-    fault = λ is_ready g. (shows is_ready).fault g;
-    fatal = λ is_ready g. (shows is_ready).fatal g;
-    disk = λ is_ready g. (shows is_ready).disk g;
+    fault = λ is_ready g. (shows is_ready).fault_is_shown g;
+    fatal = λ is_ready g. (shows is_ready).fatal_is_shown g;
+    disk = λ is_ready g. (shows is_ready).plug_is_shown g;
   }

@@ -13,13 +13,13 @@ use Rattle.hba_regs.specs.declared.reg.Reg.TheVariants.{Px}
 use Rattle.adapter.specs.Access.{Access, Does, Reads, Writes, named_causes}
 use Rattle.adapter.specs.Access.Access.{Loading, Reading, Storing, Writing}
 use Rattle.adapter.specs.Device.{Device}
-use Rattle.refinement.specs.Driven.{OnPortWriting, IsDrivenBy}
+use Rattle.refinement.specs.Fragments.{IsPortAccessWriting, IsDrivenBy}
 use Rattle.refinement.specs.Links.{DoesNotWrite}
 use Rattle.server_history.proofs.state.DrivenAccesses.{by_none, by_then, driven_as}
-use Rattle.disk_page.specs.Asking.{IsPageAccess}
-use Rattle.driver_history.specs.Trace.{ResetsLink}
+use Rattle.disk_page.specs.PageRequests.{IsPageAccess}
+use Rattle.driver_history.specs.AccessTrace.{ResetsLink}
 use Rattle.error_recovery.specs.Recovery.{IsRecoveryRegister, IsRecoveryAccess}
-use Rattle.port_boot.specs.States.{EndsBeforeStart, EndsAfterStart, BringsReady, BringsUpPort, IsBootRegister, IsOfBoot}
+use Rattle.port_boot.specs.States.{EndsBeforeStart, EndsAfterStart, BringsReady, BringsUpPort, IsBootRegister, IsBootAccess}
 use Rattle.port_control.specs.Ports.{ClearsErrors, FindsLink, FindsSignature, IsPlacingRegister, SeesResetFault, IsVainReading, ReadsUntil, ReadsInVain, IsCommandRegister}
 use Rattle.port_control.specs.declared.PortFault.{PortFault}
 use Rattle.port_control.specs.declared.PortFault.TheVariants.{NoDevice, Busy, EngineStuck, NotAta}
@@ -27,7 +27,7 @@ use Rattle.server_history.specs.Prerequisites.{PrerequisiteLaws}
 
 -- By these accesses, of a boot, the link was reset.
 pub record ResetsBy (port : Port) (old new : Device) : Type 0 where
-  pub driven : IsDrivenBy (IsOfBoot port) old new
+  pub driven : IsDrivenBy (IsBootAccess port) old new
   pub resets : ResetsLink port driven.accesses
 
 -- more accesses before, and after, that don't write PxSCTL
@@ -38,15 +38,15 @@ resets_more port early part late r spared = record {
   later = r.later ++ late;
   sending = r.sending;
   ending = r.ending;
-  here =
-      ap (λ (list : List Access). early ++ (list ++ late)) r.here
+  accesses_are_split =
+      ap (λ (list : List Access). early ++ (list ++ late)) r.accesses_are_split
       ∙ ap (λ (list : List Access). early ++ list) (append_assoc r.before (Writing (Px port Sctl) r.sending ∷ (r.between ++ (Writing (Px port Sctl) r.ending ∷ r.later))) late)
       ∙ ap (λ (list : List Access). early ++ (r.before ++ (Writing (Px port Sctl) r.sending ∷ list))) (append_assoc r.between (Writing (Px port Sctl) r.ending ∷ r.later) late)
       ∙ sym (append_assoc early r.before (Writing (Px port Sctl) r.sending ∷ (r.between ++ (Writing (Px port Sctl) r.ending ∷ (r.later ++ late)))));
-  sends = r.sends;
-  ends = r.ends;
-  held = r.held;
-  left = All-append (DoesNotWrite (Px port Sctl)) r.later late r.left spared;
+  sends_comreset = r.sends_comreset;
+  ends_comreset = r.ends_comreset;
+  sctl_is_unwritten_between = r.sctl_is_unwritten_between;
+  sctl_is_unwritten_later = All-append (DoesNotWrite (Px port Sctl)) r.later late r.sctl_is_unwritten_later spared;
 }
 
 pub resets_since : (port : Port) (early part : List Access) → ResetsLink port part → ResetsLink port (early ++ part)
@@ -56,13 +56,13 @@ resets_since port early part r =
 -- ---- accesses of a boot's way but those that reset the link
 
 abbrev pub IsBeside : Port → Access → Type 0
-IsBeside port access = IsOfBoot port access × DoesNotWrite (Px port Sctl) access
+IsBeside port access = IsBootAccess port access × DoesNotWrite (Px port Sctl) access
 
 apart : (port at : Port) (r other : PortReg) → r ≢ other → Px at r ≢ Px port other
 apart port at r other ne same = ne cc
 
 module _ (laws : PrerequisiteLaws) (port : Port) where
-  control_beside : (Such : PortReg → Type 0) → ((r : PortReg) → Such r → IsBootRegister r × (r ≢ Sctl)) → (access : Access) → OnPortWriting Such port access → IsBeside port access
+  control_beside : (Such : PortReg → Type 0) → ((r : PortReg) → Such r → IsBootRegister r × (r ≢ Sctl)) → (access : Access) → IsPortAccessWriting Such port access → IsBeside port access
   control_beside Such each (Reading (Px at r) v) is = (inl is, tt)
   control_beside Such each (Reading r v) is = absurd is
   control_beside Such each (Writing (Px at r) v) is = let e = each r is.1 in (inl (is.0, e.0), apart port at r Sctl e.1)
@@ -83,7 +83,7 @@ module _ (laws : PrerequisiteLaws) (port : Port) where
       no (inr (inr (inr (inl x)))) same = let z : Fb ≡ Sctl = sym x ∙ same in absurd cc
       no (inr (inr (inr (inr x)))) same = let z : Fbu ≡ Sctl = sym x ∙ same in absurd cc
 
-  pub placing_boots : (access : Access) → OnPortWriting IsPlacingRegister port access → IsOfBoot port access
+  pub placing_boots : (access : Access) → IsPortAccessWriting IsPlacingRegister port access → IsBootAccess port access
   placing_boots access is = (control_beside IsPlacingRegister placing_beside access is).0
 
   asking_beside : (access : Access) → IsPageAccess port access → IsBeside port access
@@ -93,14 +93,14 @@ module _ (laws : PrerequisiteLaws) (port : Port) where
   asking_beside (Storing at bytes) is = (inr is, tt)
 
   unread : (r : PortReg) (Sees : ℕ → Type 0) (access : Access) → IsVainReading port r Sees access → IsBeside port access
-  unread r Sees (Reading at v) is = (inl (subst (λ (x : Reg). OnPortWriting IsBootRegister port (Reading x v)) (sym is.0) refl), tt)
+  unread r Sees (Reading at v) is = (inl (subst (λ (x : Reg). IsPortAccessWriting IsBootRegister port (Reading x v)) (sym is.0) refl), tt)
   unread r Sees (Writing at v) is = absurd is
   unread r Sees (Loading at bytes) is = absurd is
   unread r Sees (Storing at bytes) is = absurd is
 
   -- one access
   one : (access : Access) (old new : Device) → IsBeside port access → Does access old new → IsDrivenBy (IsBeside port) old new
-  one access old new is does = record { accesses = access ∷ []; all = (new, does, refl); only = All-cons (IsBeside port) access [] is (All-nil (IsBeside port)) }
+  one access old new is does = record { accesses = access ∷ []; all_are_done = (new, does, refl); accesses_are_of_kind = All-cons (IsBeside port) access [] is (All-nil (IsBeside port)) }
 
   read_one : (r : PortReg) (v : ℕ) (old new : Device) → Reads (Px port r) v old new → IsDrivenBy (IsBeside port) old new
   read_one r v old new reads = one (Reading (Px port r) v) old new (inl refl, tt) reads
@@ -139,34 +139,34 @@ module _ (laws : PrerequisiteLaws) (port : Port) where
   looking (NotAta signature) old new l = signing signature old new l
   looking EngineStuck old new l = absurd l
 
-  pub commanding : (old new : Device) → IsDrivenBy (OnPortWriting IsCommandRegister port) old new → IsDrivenBy (IsBeside port) old new
-  commanding old new driven = driven_as (OnPortWriting IsCommandRegister port) (IsBeside port) old new (control_beside IsCommandRegister command_beside) driven
+  pub commanding : (old new : Device) → IsDrivenBy (IsPortAccessWriting IsCommandRegister port) old new → IsDrivenBy (IsBeside port) old new
+  commanding old new driven = driven_as (IsPortAccessWriting IsCommandRegister port) (IsBeside port) old new (control_beside IsCommandRegister command_beside) driven
 
   asking : (old new : Device) → IsDrivenBy (IsPageAccess port) old new → IsDrivenBy (IsBeside port) old new
   asking old new driven = driven_as (IsPageAccess port) (IsBeside port) old new asking_beside driven
 
   -- what comes once the link was found of a port that is started, and then
-  pub started_then : (old up new : Device) (g : BringsUpPort port old up) → IsDrivenBy (IsBeside port) up new → IsDrivenBy (IsBeside port) g.resets.rest.linked new
-  started_then old up new g rest = by_then laws (linked_then 0x101 g.resets.ended g.found g.resets.rest) (by_then laws (commanding g.found up g.starts) rest)
+  pub started_then : (old up new : Device) (g : BringsUpPort port old up) → IsDrivenBy (IsBeside port) up new → IsDrivenBy (IsBeside port) g.resets.does_rest.linked new
+  started_then old up new g rest = by_then laws (linked_then 0x101 g.resets.ended g.found g.resets.does_rest) (by_then laws (commanding g.found up g.starts) rest)
 
   -- what comes once a port was started that is ready then, or stopped
   pub ready_then : (old new : Device) (g : BringsReady port old new) → IsDrivenBy (IsBeside port) g.up new
-  ready_then old new g = by_then laws (asking g.up g.then.asked g.then.asks) (write_one Ie named_causes g.then.asked new (inr (inr refl)) (λ e. let z : Ie ≡ Sctl = e in cc) g.then.tells)
+  ready_then old new g = by_then laws (asking g.up g.asks_disk.asked g.asks_disk.asks) (write_one Ie named_causes g.asks_disk.asked new (inr (inr refl)) (λ e. let z : Ie ≡ Sctl = e in cc) g.asks_disk.tells)
 
   pub late_then : (old new : Device) (g : EndsAfterStart port old new) → IsDrivenBy (IsBeside port) g.up new
-  late_then old new g = by_then laws (asking g.up g.then.asked g.then.asks) (commanding g.then.asked new g.then.stops)
+  late_then old new g = by_then laws (asking g.up g.asks_then_stops.asked g.asks_then_stops.asks) (commanding g.asks_then_stops.asked new g.asks_then_stops.stops)
 
   -- ---- the whole
 
-  pub resetting : (old placed sent ended new : Device) → IsDrivenBy (OnPortWriting IsPlacingRegister port) old placed → Writes (Px port Sctl) 1 placed sent → Writes (Px port Sctl) 0 sent ended → IsDrivenBy (IsBeside port) ended new → ResetsBy port old new
+  pub resetting : (old placed sent ended new : Device) → IsDrivenBy (IsPortAccessWriting IsPlacingRegister port) old placed → Writes (Px port Sctl) 1 placed sent → Writes (Px port Sctl) 0 sent ended → IsDrivenBy (IsBeside port) ended new → ResetsBy port old new
   resetting old placed sent ended new places sends ends rest = record {
     driven = record {
       accesses = places.accesses ++ list;
-      all = laws.basic.does_append places.accesses list old placed new places.all (sent, sends, (ended, ends, rest.all));
-      only = All-append (IsOfBoot port) places.accesses list
-          (All-weaker (OnPortWriting IsPlacingRegister port) (IsOfBoot port) placing_boots places.accesses places.only)
-          (All-cons (IsOfBoot port) (Writing (Px port Sctl) 1) (Writing (Px port Sctl) 0 ∷ rest.accesses) (inl (refl, inr (inl (inl refl))))
-          (All-cons (IsOfBoot port) (Writing (Px port Sctl) 0) rest.accesses (inl (refl, inr (inl (inl refl)))) (All-weaker (IsBeside port) (IsOfBoot port) (λ access is. is.0) rest.accesses rest.only)));
+      all_are_done = laws.basic.does_append places.accesses list old placed new places.all_are_done (sent, sends, (ended, ends, rest.all_are_done));
+      accesses_are_of_kind = All-append (IsBootAccess port) places.accesses list
+          (All-weaker (IsPortAccessWriting IsPlacingRegister port) (IsBootAccess port) placing_boots places.accesses places.accesses_are_of_kind)
+          (All-cons (IsBootAccess port) (Writing (Px port Sctl) 1) (Writing (Px port Sctl) 0 ∷ rest.accesses) (inl (refl, inr (inl (inl refl))))
+          (All-cons (IsBootAccess port) (Writing (Px port Sctl) 0) rest.accesses (inl (refl, inr (inl (inl refl)))) (All-weaker (IsBeside port) (IsBootAccess port) (λ access is. is.0) rest.accesses rest.accesses_are_of_kind)));
     };
     resets = record {
       before = places.accesses;
@@ -174,11 +174,11 @@ module _ (laws : PrerequisiteLaws) (port : Port) where
       later = rest.accesses;
       sending = 1;
       ending = 0;
-      here = refl;
-      sends = refl;
-      ends = refl;
-      held = All-nil (DoesNotWrite (Px port Sctl));
-      left = All-weaker (IsBeside port) (DoesNotWrite (Px port Sctl)) (λ access is. is.1) rest.accesses rest.only;
+      accesses_are_split = refl;
+      sends_comreset = refl;
+      ends_comreset = refl;
+      sctl_is_unwritten_between = All-nil (DoesNotWrite (Px port Sctl));
+      sctl_is_unwritten_later = All-weaker (IsBeside port) (DoesNotWrite (Px port Sctl)) (λ access is. is.1) rest.accesses rest.accesses_are_of_kind;
     };
   }
     where
@@ -186,23 +186,23 @@ module _ (laws : PrerequisiteLaws) (port : Port) where
       list = Writing (Px port Sctl) 1 ∷ Writing (Px port Sctl) 0 ∷ rest.accesses
 
   getting_up : (old up new : Device) → BringsUpPort port old up → IsDrivenBy (IsBeside port) up new → ResetsBy port old new
-  getting_up old up new g rest = resetting old g.placed g.resets.sent g.resets.ended new g.places g.resets.sends g.resets.ends (by_then laws (linking g.resets.ended g.resets.rest.linked g.resets.rest.links) (started_then old up new g rest))
+  getting_up old up new g rest = resetting old g.placed g.resets.sent g.resets.ended new g.places g.resets.sends g.resets.ends (by_then laws (linking g.resets.ended g.resets.does_rest.linked g.resets.does_rest.links) (started_then old up new g rest))
 
   pub ready_resets : (old new : Device) → BringsReady port old new → ResetsBy port old new
-  ready_resets old new g = getting_up old g.up new g.first (ready_then old new g)
+  ready_resets old new g = getting_up old g.up new g.brings_up (ready_then old new g)
 
   pub early_resets : (state : Shown) (old new : Device) → EndsBeforeStart port state old new → ResetsBy port old new
-  early_resets state old new g = resetting old g.placed g.resets.sent g.resets.ended new g.places g.resets.sends g.resets.ends (looking g.fault g.resets.ended new g.resets.rest)
+  early_resets state old new g = resetting old g.placed g.resets.sent g.resets.ended new g.places g.resets.sends g.resets.ends (looking g.fault g.resets.ended new g.resets.does_rest)
 
   pub late_resets : (old new : Device) → EndsAfterStart port old new → ResetsBy port old new
-  late_resets old new g = getting_up old g.up new g.first (late_then old new g)
+  late_resets old new g = getting_up old g.up new g.brings_up (late_then old new g)
 
-  pub up_driven : (old up : Device) → BringsUpPort port old up → IsDrivenBy (IsOfBoot port) old up
+  pub up_driven : (old up : Device) → BringsUpPort port old up → IsDrivenBy (IsBootAccess port) old up
   up_driven old up g = (getting_up old up up g (by_none (IsBeside port) up)).driven
 
   -- ---- recovery
 
-  control_spares : (Such : PortReg → Type 0) → ((r : PortReg) → Such r → r ≢ Sctl) → (access : Access) → OnPortWriting Such port access → DoesNotWrite (Px port Sctl) access
+  control_spares : (Such : PortReg → Type 0) → ((r : PortReg) → Such r → r ≢ Sctl) → (access : Access) → IsPortAccessWriting Such port access → DoesNotWrite (Px port Sctl) access
   control_spares Such each (Reading r v) is = tt
   control_spares Such each (Writing (Px at r) v) is = apart port at r Sctl (each r is.1)
   control_spares Such each (Writing r v) is = absurd is

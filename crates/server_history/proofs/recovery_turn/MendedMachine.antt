@@ -13,11 +13,11 @@ use Rattle.ata_types.specs.declared.request.Reply.{Reply}
 use Rattle.ata_types.specs.declared.request.RequestId.{RequestId}
 use Rattle.adapter.specs.Device.{Device}
 use Rattle.refinement.specs.Acts.{DriverSlots, driver_state}
-use Rattle.refinement.specs.Driven.{AnyUse, IsSimulated}
+use Rattle.refinement.specs.Fragments.{AnyUse, IsSimulated}
 use Rattle.refinement.specs.Driver.{HasNoSlot, IsBacked}
 use Rattle.refinement.specs.Slots.{Serves}
-use Rattle.refinement.specs.Spares.{SparesBook}
-use Rattle.block_machine.specs.Events.{AllByDevice, AllMay}
+use Rattle.refinement.specs.SparedBook.{SparesBook}
+use Rattle.block_machine.specs.Events.{AllByDevice, AllEnabled}
 use Rattle.block_machine.specs.Histories.{IsReachable}
 use Rattle.block_machine.specs.Expected.{after}
 use Rattle.block_machine.specs.State.{Machine, Pending}
@@ -30,22 +30,22 @@ use Rattle.host_boot.specs.TakeOver.{probe_result_of, wanted_of}
 use Rattle.host_boot.specs.declared.ProbeResult.{ProbeResult}
 use Rattle.host_boot.specs.declared.ProbeResult.TheVariants.{Unserved, Ready, Unready}
 use Rattle.identify.specs.declared.DiskInfo.{DiskInfo}
-use Rattle.port_control.specs.Looks.{IsLooking}
-use Rattle.request_queue.specs.Entries.{BookEntry, IsEarlier, is_of_port}
+use Rattle.port_control.specs.PortEvents.{IsEventAccess}
+use Rattle.request_queue.specs.BookEntries.{BookEntry, IsEarlier, is_of_port}
 use Rattle.request_queue.specs.Dispositions.{KeepsOrEndsLoan, BookAndLoans, AreResolved, IsResolved, disposition_of, disposition_of_unfailed, keeps_loan}
-use Rattle.request_queue.specs.Machine.{EntryRelation}
+use Rattle.request_queue.specs.BookRelation.{EntryRelation}
 use Rattle.request_queue.specs.declared.PendingRequest.{PendingRequest}
 use Rattle.request_queue.specs.declared.disposition.FailedRequest.{FailedRequest}
 use Rattle.request_queue.specs.declared.disposition.Disposition.{Disposition}
 use Rattle.request_queue.specs.declared.disposition.Disposition.TheVariants.{Complete, Requeue, Wait}
 use Rattle.request_queue.specs.declared.disposition.Revalidation.{Revalidation}
 use Rattle.request_queue.specs.declared.disposition.Revalidation.TheVariants.{SameDisk, DiskLost, Dead as NoEnd}
-use Rattle.slots.specs.Uses.{PortSlots}
+use Rattle.slots.specs.SlotUses.{PortSlots}
 use Rattle.server_history.specs.Prerequisites.{PrerequisiteLaws}
-use Rattle.server_history.specs.Dispositions.{IsResolveStep, AreResolvable, AreResolvedInMachine, keeps_frames_lent}
+use Rattle.server_history.specs.ResolvedRequests.{IsResolveStep, AreResolvable, AreResolvedInMachine, keeps_frames_lent}
 use Rattle.server_history.specs.ErrorHandling.{HasNoUsedSlot, IsFailedRequest, IsRevalidated, IsRevalidation, HasResolved, book_and_loans_of, requests_of, with_port_found}
-use Rattle.server_history.specs.Served.{ok_answers_of}
-use Rattle.server_history.specs.Server.{QuarantineRelation, AreUsesOf, InCallInvariant, MachineRelation, ServerState, is_served, quarantined_at, slots_at, state_of, RevokedMarkInvariant}
+use Rattle.server_history.specs.IssuingAndAnswering.{ok_answers_of}
+use Rattle.server_history.specs.ServerState.{QuarantineRelation, AreUsesOf, InCallInvariant, MachineRelation, ServerState, is_served, quarantined_at, slots_at, state_of, RevokedMarkInvariant}
 use Rattle.server_history.proofs.state.HistorySteps.{book_on, still_kept}
 use Rattle.server_history.proofs.state.Quarantine.{none_alive}
 use Rattle.server_history.proofs.plain_calls.Looks.{finding_kept, found_over, looking_kept}
@@ -73,12 +73,12 @@ in_ports ports port info is = is_listed ports port (ap is_served is)
 -- ---- what fates leave
 
 -- steps that decide leave the grants, the owners, and the next id
-step_leaves : (port : Port) (m : Machine) (step : Step) → IsResolveStep port step → ((after_step m step).rows ≡ m.rows) × ((frame : Frame) → (after_step m step).owner frame ≡ m.owner frame) × ((after_step m step).next ≡ m.next)
+step_leaves : (port : Port) (m : Machine) (step : Step) → IsResolveStep port step → ((after_step m step).rows ≡ m.rows) × ((frame : Frame) → (after_step m step).owner frame ≡ m.owner frame) × ((after_step m step).next_id ≡ m.next_id)
 step_leaves port m (Accept r) is = absurd is
 step_leaves port m (Revoke client number) is = absurd is
 step_leaves port m step is = (refl, λ frame. refl, refl)
 
-pub deciding_leaves : (port : Port) (m : Machine) (steps : List Step) → All (IsResolveStep port) steps → ((after m steps).rows ≡ m.rows) × ((frame : Frame) → (after m steps).owner frame ≡ m.owner frame) × ((after m steps).next ≡ m.next)
+pub deciding_leaves : (port : Port) (m : Machine) (steps : List Step) → All (IsResolveStep port) steps → ((after m steps).rows ≡ m.rows) × ((frame : Frame) → (after m steps).owner frame ≡ m.owner frame) × ((after m steps).next_id ≡ m.next_id)
 deciding_leaves port m [] own = (refl, λ frame. refl, refl)
 deciding_leaves port m (step ∷ steps) own =
     let x = step_leaves port (after m steps) step (All-head (IsResolveStep port) step steps own) in
@@ -93,7 +93,7 @@ fate_owners request (Complete o) replies old new meets = by (keeps_loan o reques
   where
     by : (b : Bool) → KeepsOrEndsLoan b request old new → new.table.owners ≡ old.table.owners
     by true loan = ap (λ t. t.owners) loan.1
-    by false loan = loan.1.owners
+    by false loan = loan.1.owners_are_kept
 
 pub fates_owners : (disposition : PendingRequest → Disposition) (requests : List BookEntry) (replies : List Reply) (old new : BookAndLoans) → AreResolved disposition requests replies old new → new.table.owners ≡ old.table.owners
 fates_owners disposition [] replies old new meets = ap (λ (h : BookAndLoans). h.table.owners) meets.1
@@ -153,8 +153,8 @@ module _ (laws : PrerequisiteLaws) (port : Port) (mid : ServerState) (k : InCall
       served : way ≢ Stuck → e.entry.issued ≡ true → HasNoSlot t.uses e.entry.id
       served lives issued = ⊎_elim
           (λ (parked : Contains (is.parked port.0) entry.0.request.id). absurd (nowhere entry.0.request.id (subst (λ (ids : List RequestId). Contains ids entry.0.request.id) (is.unparked port.0 alive) parked)))
-          (λ (slot : (slot : ℕ) × (is.uses port.0 slot ≡ Serves entry.0.request.id)). passed.left.unserved lives is.knows.agrees.apart slot.0 e.entry.id (slot.1 ∙ ap Serves entry.2.id))
-          (is.knows.have port.0 entry.0 (inl (entry.1, entry.2.issued ∙ issued)) (ap (λ (q : Port). q.0) (entry.2.port ∙ (of_its e here).1)))
+          (λ (slot : (slot : ℕ) × (is.uses port.0 slot ≡ Serves entry.0.request.id)). passed.left.unserved lives is.driver_relation.state_relation.serve_apart slot.0 e.entry.id (slot.1 ∙ ap Serves entry.2.id))
+          (is.driver_relation.have_slots port.0 entry.0 (inl (entry.1, entry.2.issued ∙ issued)) (ap (λ (q : Port). q.0) (entry.2.port ∙ (of_its e here).1)))
 
       of : (x : Next) → way ≡ x → e.entry.issued ≡ true → HasNoSlot t.uses e.entry.id
       of (Running token) z issued = served (λ stuck. let y : Running token ≡ Stuck = sym z ∙ stuck in absurd cc) issued
@@ -168,7 +168,7 @@ module _ (laws : PrerequisiteLaws) (port : Port) (mid : ServerState) (k : InCall
       by : (b : Bool) → e.entry.issued ≡ b → HasNoSlot t.uses e.entry.id
       by false waits =
           let l = laws.basic.found_later n.book w.book entry.0 spares.book entry.1 in
-          subst (HasNoSlot t.uses) (ap (λ r. r.id) l.2.request ∙ entry.2.id) (laws.slots.waiting t.uses w device w_reached passed.passes.knows.agrees l.0 l.1 (l.2.issued ∙ entry.2.issued ∙ waits))
+          subst (HasNoSlot t.uses) (ap (λ r. r.id) l.2.request ∙ entry.2.id) (laws.slots.waiting t.uses w device w_reached passed.passes.driver_relation.state_relation l.0 l.1 (l.2.issued ∙ entry.2.issued ∙ waits))
       by true issued = of way refl issued
 
   -- what is parked was in a slot
@@ -184,14 +184,14 @@ module _ (laws : PrerequisiteLaws) (port : Port) (mid : ServerState) (k : InCall
   may_meet : AreResolvable port disposition its (book_and_loans_of port mid) (driver_state t device) w
   may_meet = record {
     reached = w_reached;
-    knows = passed.passes.knows;
+    driver_relation = passed.passes.driver_relation;
     book = book_on mid.book n.book w.book spares.book is.book;
     lent = λ frame. ap (λ f. f frame) spares.lent ∙ is.lent frame;
-    ordered = k.ordered;
-    accepted = k.accepted;
+    book_is_in_order = k.book_is_in_order;
+    requests_are_accepted = k.requests_are_accepted;
     here = of_its;
-    marked = λ e here. tells_of w.rows mid.grants e.entry (spares.rows ∙ is.rows) (All-contains (RevokedMarkInvariant mid.grants) mid.book e k.marked (of_its e here).0).tells;
-    earlier = AllPairs-filter IsEarlier (λ (x : BookEntry). is_of_port port x.entry) mid.book k.ordered.ordered;
+    marked = λ e here. tells_of w.rows mid.grants e.entry (spares.rows ∙ is.rows) (All-contains (RevokedMarkInvariant mid.grants) mid.book e k.revoked_marks_agree (of_its e here).0).tells;
+    earlier = AllPairs-filter IsEarlier (λ (x : BookEntry). is_of_port port x.entry) mid.book k.book_is_in_order.ids_rise;
     unserved = unserved;
   }
 
@@ -242,7 +242,7 @@ module _ (laws : PrerequisiteLaws) (port : Port) (mid : ServerState) (k : InCall
 
       used : AreUsesOf new t.uses
       used = uses_then port.0 way found mid.ports mid.slots slots (record { uses = is.uses; parked = is.parked }) t (let f = (ready_found mid port.0 k ready).1 in in_ports mid.ports port.0 f.0 f.1)
-          (let f = k.four in let l = low in omega (arith, f, l)) unused.free passed.left is.used
+          (let f = k.four_slots in let l = low in omega (arith, f, l)) unused.free passed.left is.are_uses_of
 
       unparked : (q : ℕ) → probe_result_of new.ports q ≢ Unready Dead → met.parked q ≡ []
       unparked q lives = ⊎_elim
@@ -254,7 +254,7 @@ module _ (laws : PrerequisiteLaws) (port : Port) (mid : ServerState) (k : InCall
       -- ---- what is kept
 
       was_kept : QuarantineRelation mid.ports mid.kept w.kept
-      was_kept = still_kept laws mid.ports mid.kept n.kept w.kept spares.kept is.kept
+      was_kept = still_kept laws mid.ports mid.kept n.kept w.kept spares.kept is.quarantine_relation
 
       -- one that was kept is of another port
       elsewhere : (e : Pending) → Contains w.kept e → e.request.port.0 ≢ port.0
@@ -271,18 +271,18 @@ module _ (laws : PrerequisiteLaws) (port : Port) (mid : ServerState) (k : InCall
           met.two
           (λ a b here there. absurd (nowhere a (subst (λ (loans : List Lending). Contains loans a) none_kept_here here))))
 
-      leaves : (z.rows ≡ w.rows) × ((frame : Frame) → z.owner frame ≡ w.owner frame) × (z.next ≡ w.next)
+      leaves : (z.rows ≡ w.rows) × ((frame : Frame) → z.owner frame ≡ w.owner frame) × (z.next_id ≡ w.next_id)
       leaves = deciding_leaves port w met.steps met.own
 
       pub stands : MachineRelation new z
       stands = record {
         uses = t.uses;
-        used = used;
+        are_uses_of = used;
         parked = met.parked;
         unparked = unparked;
-        knows = met.knows;
+        driver_relation = met.driver_relation;
         book = met.book;
-        kept = are_kept;
+        quarantine_relation = are_kept;
         rows = leaves.0 ∙ spares.rows ∙ is.rows;
         owner = λ frame. leaves.1 frame ∙ ap (λ f. f frame) spares.owner ∙ is.owner frame
             ∙ ap (λ (owners : List (Option ClientId)). get_or owners frame.0 None) (sym (fates_owners disposition its later (book_and_loans_of port mid) now meets));
@@ -293,7 +293,7 @@ module _ (laws : PrerequisiteLaws) (port : Port) (mid : ServerState) (k : InCall
 -- ---- the whole
 
 module _ (laws : PrerequisiteLaws) (port : Port) (later : List Reply) (old new : ServerState) (k : InCallInvariant old) (ready : state_of (probe_result_of old.ports port.0) ≡ ReadyState) (a : HasResolved port later old new)
-    (looks : IsSimulated (IsLooking port) AnyUse old.device a.error_handled.seen) where
+    (looks : IsSimulated (IsEventAccess port) AnyUse old.device a.error_handled.seen) where
   abbrev from : ServerState
   from = record old { device = a.error_handled.found }
 
@@ -304,13 +304,13 @@ module _ (laws : PrerequisiteLaws) (port : Port) (later : List Reply) (old new :
   found_kept = finding_kept (record old { device = a.error_handled.seen }) a.error_handled.found port seen_kept ready laws a.error_handled.mask a.error_handled.done a.error_handled.reads
 
   pub over : CommandsAreOver port a.error_handled.done a.error_handled.found
-  over = found_over (record old { device = a.error_handled.seen }) a.error_handled.found port seen_kept ready laws a.error_handled.mask a.error_handled.done a.error_handled.reads a.error_handled.its
+  over = found_over (record old { device = a.error_handled.seen }) a.error_handled.found port seen_kept ready laws a.error_handled.mask a.error_handled.done a.error_handled.reads a.error_handled.is_mask_of
 
   pub mid_kept : InCallInvariant a.mid
-  mid_kept = answers_kept laws port a.error_handled.done a.error_handled.requests from a.mid found_kept ready over a.error_handled.each
+  mid_kept = answers_kept laws port a.error_handled.done a.error_handled.requests from a.mid found_kept ready over a.error_handled.answers_each
 
   pub settings : a.mid ≡ record from { table = a.mid.table; slots = a.mid.slots; book = a.mid.book }
-  settings = answers_settings laws port a.error_handled.done a.error_handled.requests from a.mid a.error_handled.each
+  settings = answers_settings laws port a.error_handled.done a.error_handled.requests from a.mid a.error_handled.answers_each
 
   pub mid_ready : state_of (probe_result_of a.mid.ports port.0) ≡ ReadyState
   mid_ready = ap (λ (s : ServerState). state_of (probe_result_of s.ports port.0)) settings ∙ ready
@@ -318,8 +318,8 @@ module _ (laws : PrerequisiteLaws) (port : Port) (later : List Reply) (old new :
   -- nobody is named on a port whose engine is stuck
   pub unnamed : a.error_handled.result.next ≡ Stuck → (a.found ≡ Unready Dead) × (a.failed ≡ None)
   unnamed stuck = (
-    (subst (λ (way : Next). IsRevalidated (wanted_of old.wanted port.0) port a.error_handled.port_error a.was way a.device new.device a.found) stuck a.is).0,
-    subst (λ (its : Option _). IsFailedRequest (slots_at a.mid.slots port.0) its a.failed) (a.error_handled.handling.tells.dead stuck) a.names,
+    (subst (λ (way : Next). IsRevalidated (wanted_of old.wanted port.0) port a.error_handled.port_error a.disk_before way a.device new.device a.found) stuck a.is_revalidated).0,
+    subst (λ (its : Option _). IsFailedRequest (slots_at a.mid.slots port.0) its a.failed) (a.error_handled.handling.tells.dead_names_none stuck) a.failed_request_is,
   )
 
   pub adds_fates : (m : Machine) → IsReachable m → MachineRelation old m → AddsFates port later old new a m
@@ -332,26 +332,26 @@ module _ (laws : PrerequisiteLaws) (port : Port) (later : List Reply) (old new :
     early = record { looked = looked.0; later = finding.0; first_is = refl; seen = looked.2; seen_backed = looked.3; found = x.2; found_backed = x.3 };
     each = y.each;
     middle_only = p.passes.only;
-    may = laws.basic.may m f.steps (p.passes.steps ++ base) (laws.basic.may m p.passes.steps base base_may p.passes.may) (subst (λ (s : Machine). AllMay s f.steps) (sym then_is) f.may);
+    may = laws.basic.may m f.steps (p.passes.steps ++ base) (laws.basic.may m p.passes.steps base base_may p.passes.may) (subst (λ (s : Machine). AllEnabled s f.steps) (sym then_is) f.steps_are_enabled);
     backed = laws.backed_parts old.device new.device new.device m (p.passes.steps ++ base) f.steps
         (laws.backed_parts old.device a.mid.device new.device m base p.passes.steps base_backed p.passes.backed) (subst (λ (s : Machine). IsBacked new.device new.device s f.steps) (sym then_is) (f.backed new.device));
     stands = subst (MachineRelation new) (sym (laws.basic.joined m f.steps (p.passes.steps ++ base) ∙ ap (λ (s : Machine). after s f.steps) then_is))
-        (subst (λ (s : ServerState). MachineRelation s (after (after n p.passes.steps) f.steps)) (sym a.server)
-        (stands laws port a.mid mid_kept mid_ready n n_reached is_mid a.error_handled.result.next a.found new.device p a.failed a.revalidation a.error_handled.port_error a.was a.expects unnamed later a.now a.meets a.mode a.slots a.unused));
+        (subst (λ (s : ServerState). MachineRelation s (after (after n p.passes.steps) f.steps)) (sym a.server_is)
+        (stands laws port a.mid mid_kept mid_ready n n_reached is_mid a.error_handled.result.next a.found new.device p a.failed a.revalidation a.error_handled.port_error a.disk_before a.is_revalidation unnamed later a.book_and_loans_after a.are_resolved a.mode a.slots a.has_no_used_slot));
     own = f.own;
     answered = f.answered;
     again = f.again;
-    tells = f.tells;
+    tells = f.replies_match;
   }
     where
-      looked : (steps : List Step) × AllMay m steps × MachineRelation (record old { device = a.error_handled.seen }) (after m steps) × IsBacked old.device a.error_handled.seen m steps × AllByDevice steps
+      looked : (steps : List Step) × AllEnabled m steps × MachineRelation (record old { device = a.error_handled.seen }) (after m steps) × IsBacked old.device a.error_handled.seen m steps × AllByDevice steps
       looked = followed_steps laws old a.error_handled.seen (looks_serve laws port old.device a.error_handled.seen looks) m reached is
 
-      finding : (steps : List Step) × AllMay (after m looked.0) steps × MachineRelation from (after (after m looked.0) steps) × IsBacked a.error_handled.seen a.error_handled.found (after m looked.0) steps × AllByDevice steps
+      finding : (steps : List Step) × AllEnabled (after m looked.0) steps × MachineRelation from (after (after m looked.0) steps) × IsBacked a.error_handled.seen a.error_handled.found (after m looked.0) steps × AllByDevice steps
       finding = followed_steps laws (record old { device = a.error_handled.seen }) a.error_handled.found (finds_serve laws port a.error_handled.mask a.error_handled.done a.error_handled.seen a.error_handled.found a.error_handled.reads)
           (after m looked.0) (laws.basic.reached m looked.0 reached looked.1) looked.2
 
-      x : (steps : List Step) × AllMay m steps × MachineRelation from (after m steps) × IsBacked old.device a.error_handled.found m steps × AllByDevice steps
+      x : (steps : List Step) × AllEnabled m steps × MachineRelation from (after m steps) × IsBacked old.device a.error_handled.found m steps × AllByDevice steps
       x = (
         finding.0 ++ looked.0,
         laws.basic.may m finding.0 looked.0 looked.1 finding.1,
@@ -364,7 +364,7 @@ module _ (laws : PrerequisiteLaws) (port : Port) (later : List Reply) (old new :
       reached_x = laws.basic.reached m x.0 reached x.1
 
       y : AreAnswered port a.error_handled.requests from a.mid (after m x.0)
-      y = each_answered laws port a.error_handled.done a.error_handled.requests from a.mid found_kept ready over a.error_handled.each (after m x.0) reached_x x.2
+      y = each_answered laws port a.error_handled.done a.error_handled.requests from a.mid found_kept ready over a.error_handled.answers_each (after m x.0) reached_x x.2
 
       base : List Step
       base = ok_answers_of y.ended ++ x.0
@@ -372,7 +372,7 @@ module _ (laws : PrerequisiteLaws) (port : Port) (later : List Reply) (old new :
       n : Machine
       n = after m base
 
-      base_may : AllMay m base
+      base_may : AllEnabled m base
       base_may = laws.basic.may m (ok_answers_of y.ended) x.0 x.1 y.may
 
       base_backed : IsBacked old.device a.mid.device m base
@@ -385,11 +385,11 @@ module _ (laws : PrerequisiteLaws) (port : Port) (later : List Reply) (old new :
       is_mid = subst (MachineRelation a.mid) (sym (laws.basic.joined m (ok_answers_of y.ended) x.0)) y.stands
 
       p : IsPassed port.0 a.error_handled.result.next a.found a.mid.device new.device (record { uses = is_mid.uses; parked = is_mid.parked }) n
-      p = passed laws (wanted_of old.wanted port.0) port a.error_handled.port_error a.was a.error_handled.result.next a.error_handled.handling.accesses a.mid.device a.device new.device a.found a.error_handled.handling.does.slots a.is
-          (record { uses = is_mid.uses; parked = is_mid.parked }) n n_reached is_mid.knows
+      p = passed laws (wanted_of old.wanted port.0) port a.error_handled.port_error a.disk_before a.error_handled.result.next a.error_handled.handling.accesses a.mid.device a.device new.device a.found a.error_handled.handling.does.slots a.is_revalidated
+          (record { uses = is_mid.uses; parked = is_mid.parked }) n n_reached is_mid.driver_relation
 
-      f : AreResolvedInMachine port (disposition_of a.failed a.revalidation) (requests_of port a.mid.book) later (book_and_loans_of port a.mid) a.now (driver_state p.slots new.device) (after n p.passes.steps)
-      f = met laws port a.mid mid_kept mid_ready n n_reached is_mid a.error_handled.result.next a.found new.device p a.failed a.revalidation a.error_handled.port_error a.was a.expects unnamed later a.now a.meets
+      f : AreResolvedInMachine port (disposition_of a.failed a.revalidation) (requests_of port a.mid.book) later (book_and_loans_of port a.mid) a.book_and_loans_after (driver_state p.slots new.device) (after n p.passes.steps)
+      f = met laws port a.mid mid_kept mid_ready n n_reached is_mid a.error_handled.result.next a.found new.device p a.failed a.revalidation a.error_handled.port_error a.disk_before a.is_revalidation unnamed later a.book_and_loans_after a.are_resolved
 
       then_is : after m (p.passes.steps ++ base) ≡ after n p.passes.steps
       then_is = laws.basic.joined m p.passes.steps base

@@ -12,7 +12,7 @@ use Rattle.hba_regs.specs.Bits.{bit}
 use Rattle.adapter.specs.Device.{Device}
 use Rattle.adapter.specs.declared.command.Operation.TheVariants.{Identify}
 use Rattle.refinement.specs.Acts.{DriverSlots}
-use Rattle.refinement.specs.Driven.{AnyUse, IsSimulated}
+use Rattle.refinement.specs.Fragments.{AnyUse, IsSimulated}
 use Rattle.refinement.specs.Links.{SameAdapter}
 use Rattle.block_machine.specs.Histories.{IsReachable}
 use Rattle.block_machine.specs.State.{Machine}
@@ -28,14 +28,14 @@ use Rattle.port_boot.specs.States.{IsBootable}
 use Rattle.port_control.specs.Ports.{IsStopped}
 use Rattle.port_control.specs.declared.Running as running_token
 use Rattle.port_control.specs.declared.Stopped.{Stopped}
-use Rattle.port_control.specs.Looks.{IsLooking}
-use Rattle.request_queue.specs.Entries.{BookEntry, is_of_port}
+use Rattle.port_control.specs.PortEvents.{IsEventAccess}
+use Rattle.request_queue.specs.BookEntries.{BookEntry, is_of_port}
 use Rattle.request_queue.specs.Dispositions.{disposition_of}
 use Rattle.request_queue.specs.declared.disposition.Revalidation.{Revalidation}
 use Rattle.request_queue.specs.declared.disposition.Revalidation.TheVariants.{SameDisk, DiskLost, Dead}
 use Rattle.server_history.specs.Prerequisites.{PrerequisiteLaws}
 use Rattle.server_history.specs.ErrorHandling.{AreAllQueuedAs, IsRevalidated, IsRevalidation, IsErrorHandled, HasResolved, book_and_loans_of, requests_of}
-use Rattle.server_history.specs.Server.{ServerState, InCallInvariant, MachineRelation, is_served, quarantined_at, probed_mode, mode_in, slots_at, state_of, used_for}
+use Rattle.server_history.specs.ServerState.{ServerState, InCallInvariant, MachineRelation, is_served, quarantined_at, probed_mode, mode_in, slots_at, state_of, used_for}
 use Rattle.server_history.proofs.state.PortGrounds.{ready_on}
 use Rattle.server_history.proofs.recovery_turn.OtherPorts.{Passes, PassesTo, recovery_passes, after_passes, passes_none, slots_of}
 use Rattle.server_history.proofs.state.PlainHalts.{again_halts, works_plainly}
@@ -67,7 +67,7 @@ kept_in {X} passes (y ∷ xs) x here is = ⊎_elim
 -- ---- a recovery
 
 module _ (laws : PrerequisiteLaws) (port : Port) (old mid : ServerState) (device : Device) (k : InCallInvariant old) (ready : state_of (probe_result_of old.ports port.0) ≡ ReadyState) (r : IsErrorHandled port old mid device)
-    (looks : IsSimulated (IsLooking port) AnyUse old.device r.seen) where
+    (looks : IsSimulated (IsEventAccess port) AnyUse old.device r.seen) where
   seen_kept : InCallInvariant (record old { device = r.seen })
   seen_kept = looking_kept old r.seen port k ready laws looks
 
@@ -77,10 +77,10 @@ module _ (laws : PrerequisiteLaws) (port : Port) (old mid : ServerState) (device
   -- what was done was answered
   pub mid_kept : InCallInvariant mid
   mid_kept = answers_kept laws port r.done r.requests (record old { device = r.found }) mid found_kept ready
-      (λ slot small done. found_over (record old { device = r.seen }) r.found port seen_kept ready laws r.mask r.done r.reads r.its slot small done) r.each
+      (λ slot small done. found_over (record old { device = r.seen }) r.found port seen_kept ready laws r.mask r.done r.reads r.is_mask_of slot small done) r.answers_each
 
   settings : mid ≡ record old { device = r.found; table = mid.table; slots = mid.slots; book = mid.book }
-  settings = answers_settings laws port r.done r.requests (record old { device = r.found }) mid r.each
+  settings = answers_settings laws port r.done r.requests (record old { device = r.found }) mid r.answers_each
 
   ports_same : mid.ports ≡ old.ports
   ports_same = ap (λ (n : ServerState). n.ports) settings
@@ -111,19 +111,19 @@ module _ (laws : PrerequisiteLaws) (port : Port) (old mid : ServerState) (device
   pub bootable : (token : Stopped) → r.result.next ≡ next.Restart token → IsBootable port device × IsStopped (device.port port.0) × ((device.port port.0).notes.link_count ≡ MOST_READINGS)
   bootable token is = (
     record {
-      on = passed.1.on;
-      there = still_there port.0 mid.device device same (mid_kept.there port.0 (ap is_served (ready_found mid port.0 mid_kept mid_ready).1.1));
-      room = let room = mid_kept.room in let size = same.size in omega (arith, room, size);
-      agreed = (passed.0.uses, passed.2 (λ dead. let z : next.Restart token ≡ next.Dead = sym is ∙ dead in absurd cc), record { machine = passed.1.machine; parked = passed.0.parked; reached = passed.1.reached; knows = passed.1.knows });
+      adapter_is_on = passed.1.on;
+      has_port = still_there port.0 mid.device device same (mid_kept.served_ports_exist port.0 (ap is_served (ready_found mid port.0 mid_kept mid_ready).1.1));
+      driver_memory_fits = let room = mid_kept.driver_memory_fits in let size = same.size in omega (arith, room, size);
+      machine_is_related = (passed.0.uses, passed.2 (λ dead. let z : next.Restart token ≡ next.Dead = sym is ∙ dead in absurd cc), record { machine = passed.1.machine; parked = passed.0.parked; reached = passed.1.reached; driver_relation = passed.1.driver_relation });
     },
-    (subst (λ (n : Next). EndsAsNext r.queued port n mid.device device) is r.handling.leaves.ends).1,
-    saw_still laws port r.handling.accesses mid.device device r.handling.does.only (recovery_does port.0 r.result.next r.handling.accesses mid.device device r.handling.does.slots) mid_kept.on ((mid_kept.behind port.0 low).runs mid_ready).saw,
+    (subst (λ (n : Next). EndsAsNext r.queued port n mid.device device) is r.handling.leaves.ends_as_next).1,
+    saw_still laws port r.handling.accesses mid.device device r.handling.does.only (recovery_does port.0 r.result.next r.handling.accesses mid.device device r.handling.does.slots) mid_kept.adapter_is_on ((mid_kept.port_invariant port.0 low).engine_runs mid_ready).device_was_seen,
   )
 
 -- ---- what it is then
 
 module _ (laws : PrerequisiteLaws) (port : Port) (later : List Reply) (old new : ServerState) (k : InCallInvariant old) (ready : state_of (probe_result_of old.ports port.0) ≡ ReadyState) (a : HasResolved port later old new)
-    (looks : IsSimulated (IsLooking port) AnyUse old.device a.error_handled.seen) where
+    (looks : IsSimulated (IsEventAccess port) AnyUse old.device a.error_handled.seen) where
   abbrev r : IsErrorHandled port old a.mid a.device
   r = a.error_handled
 
@@ -139,14 +139,14 @@ module _ (laws : PrerequisiteLaws) (port : Port) (later : List Reply) (old new :
   small : port.0 < 4
   small = low laws port old mid a.device k ready r looks
 
-  was_found : probe_result_of mid.ports port.0 ≡ Ready a.was
+  was_found : probe_result_of mid.ports port.0 ≡ Ready a.disk_before
   was_found = ap (λ (ports : List ProbeResult). probe_result_of ports port.0) (ports_same laws port old mid a.device k ready r looks) ∙ a.ready
 
   abbrev wanted : Wanted
   wanted = wanted_of mid.wanted port.0
 
-  is_after : IsRevalidated wanted port r.port_error a.was r.result.next a.device new.device a.found
-  is_after = subst (λ (list : List Wanted). IsRevalidated (wanted_of list port.0) port r.port_error a.was r.result.next a.device new.device a.found) (sym (wanted_same laws port old mid a.device k ready r looks)) a.is
+  is_after : IsRevalidated wanted port r.port_error a.disk_before r.result.next a.device new.device a.found
+  is_after = subst (λ (list : List Wanted). IsRevalidated (wanted_of list port.0) port r.port_error a.disk_before r.result.next a.device new.device a.found) (sym (wanted_same laws port old mid a.device k ready r looks)) a.is_revalidated
 
   done : PassesTo laws mid port m small r.result.next a.device
   done = recovery_passes laws mid port m small (slots_of mid m) mid.device (passes_none mid port m) r.outstanding r.queued r.result a.device r.handling
@@ -155,15 +155,15 @@ module _ (laws : PrerequisiteLaws) (port : Port) (later : List Reply) (old new :
 
   -- the whole way leaves the other ports
   whole : (slots : DriverSlots) × Passes mid port slots new.device
-  whole = after_passes laws mid port m small wanted r.port_error a.was r.result.next a.device new.device a.found is_after done
+  whole = after_passes laws mid port m small wanted r.port_error a.disk_before r.result.next a.device new.device a.found is_after done
 
   alike : SameAdapter mid.device new.device
   alike = same_over laws port mid.device new.device whole.1.driven
 
   -- ---- the port
 
-  was_stands : StillBacksProbeResult wanted (Ready a.was) port.0 mid.device
-  was_stands = subst (λ (f : ProbeResult). StillBacksProbeResult wanted f port.0 mid.device) was_found (m.behind port.0 small).behind
+  was_stands : StillBacksProbeResult wanted (Ready a.disk_before) port.0 mid.device
+  was_stands = subst (λ (f : ProbeResult). StillBacksProbeResult wanted f port.0 mid.device) was_found (m.port_invariant port.0 small).probe_result_is_backed
 
   recovered_same : SameAdapter mid.device a.device
   recovered_same = same_over laws port mid.device a.device done.1.driven
@@ -175,37 +175,37 @@ module _ (laws : PrerequisiteLaws) (port : Port) (later : List Reply) (old new :
   Stands found d = StandsAt wanted found port.0 d
 
   -- it runs again
-  runs_then : (token : running_token.Running) → EndsAsNext r.queued port (next.Running token) mid.device a.device → Stands (Ready a.was) a.device
+  runs_then : (token : running_token.Running) → EndsAsNext r.queued port (next.Running token) mid.device a.device → Stands (Ready a.disk_before) a.device
   runs_then token ends =
       let l = r.handling.leaves in
       let g = ends.1 in
-      let was = (m.behind port.0 small).runs its_ready in
+      let was = (m.port_invariant port.0 small).engine_runs its_ready in
       record {
-        behind = ready_on laws wanted a.was port.0 mid.device a.device recovered_same l.det l.enabled l.written
-            (l.silent (
-              m.stands.uses,
-              (λ own. not_own (probe_result_of mid.ports port.0) (used_for mid.slots port.0 0) (m.stands.uses port.0 0) Identify (not_dead mid port.0 its_ready) (m.stands.used port.0 0) own),
-              record { machine = m.machine; parked = m.stands.parked; reached = m.reached; knows = m.stands.knows },
+        behind = ready_on laws wanted a.disk_before port.0 mid.device a.device recovered_same l.sctl_det_is_kept l.ie_is_kept l.sctl_time_is_kept
+            (l.no_identify_moves (
+              m.machine_relation.uses,
+              (λ own. not_own (probe_result_of mid.ports port.0) (used_for mid.slots port.0 0) (m.machine_relation.uses port.0 0) Identify (not_dead mid port.0 its_ready) (m.machine_relation.are_uses_of port.0 0) own),
+              record { machine = m.machine; parked = m.machine_relation.parked; reached = m.reached; driver_relation = m.machine_relation.driver_relation },
             )) was_stands;
-        runs = λ _. record { st = g.runs.st; cr = g.runs.cr; fre = g.runs.fre; bases = g.runs.bases; saw = g.count ∙ was.saw; recorded = g.recorded };
+        runs = λ _. record { st = g.runs.st; cr = g.runs.cr; fre = g.runs.fre; bases = g.runs.bases; device_was_seen = g.link_count_is_kept ∙ was.device_was_seen; faults_are_recorded = g.faults_are_on_record };
         shown = λ bad. absurd bad;
-        own = λ _. laws.recovery.own_on port.0 done.1.driven.accesses mid.device a.device done.1.driven.all ((m.behind port.0 small).own its_ready);
+        own = λ _. laws.recovery.own_on port.0 done.1.driven.accesses mid.device a.device done.1.driven.all_are_done ((m.port_invariant port.0 small).has_disk_if_shown its_ready);
         halts = λ _. again_halts laws r.queued port.0 mid.device a.device g
-            (λ plain. works_plainly laws mid m port its_ready (subst (λ (queued : Bool). AreAllQueuedAs queued (slots_at mid.slots port.0)) plain r.alike) ((m.behind port.0 small).halts its_ready));
+            (λ plain. works_plainly laws mid m port its_ready (subst (λ (queued : Bool). AreAllQueuedAs queued (slots_at mid.slots port.0)) plain r.are_queued_alike) ((m.port_invariant port.0 small).halt_is_of_taken its_ready));
       }
 
   its_stands : Stands a.found new.device
-  its_stands = stands_after laws wanted port a.device new.device done.1.on served_then r.queued r.port_error a.was mid.device r.result.next a.found r.handling.leaves.ends is_after (alike.pi ∙ sym recovered_same.pi)
-      (λ token is. runs_then token (subst (λ (n : Next). EndsAsNext r.queued port n mid.device a.device) is r.handling.leaves.ends))
+  its_stands = stands_after laws wanted port a.device new.device done.1.on served_then r.queued r.port_error a.disk_before mid.device r.result.next a.found r.handling.leaves.ends_as_next is_after (alike.pi ∙ sym recovered_same.pi)
+      (λ token is. runs_then token (subst (λ (n : Next). EndsAsNext r.queued port n mid.device a.device) is r.handling.leaves.ends_as_next))
 
   -- ---- the requests
 
-  left : IsLeft port (disposition_of a.failed a.revalidation) (requests_of port mid.book) (book_and_loans_of port mid) a.now
-  left = fated laws port (disposition_of a.failed a.revalidation) (requests_of port mid.book) (fits_each a.failed a.revalidation (requests_of port mid.book)) later (book_and_loans_of port mid) a.now (its_requests port mid m.ordered m.accepted) a.meets
+  left : IsLeft port (disposition_of a.failed a.revalidation) (requests_of port mid.book) (book_and_loans_of port mid) a.book_and_loans_after
+  left = fated laws port (disposition_of a.failed a.revalidation) (requests_of port mid.book) (fits_each a.failed a.revalidation (requests_of port mid.book)) later (book_and_loans_of port mid) a.book_and_loans_after (its_requests port mid m.book_is_in_order m.requests_are_accepted) a.are_resolved
 
   -- where one of the port is left, its port is ready
-  still_ready : (e : BookEntry) → Contains a.now.book e → e.entry.port.0 ≡ port.0 → state_of a.found ≡ ReadyState
-  still_ready e here own = by a.revalidation refl a.expects
+  still_ready : (e : BookEntry) → Contains a.book_and_loans_after.book e → e.entry.port.0 ≡ port.0 → state_of a.found ≡ ReadyState
+  still_ready e here own = by a.revalidation refl a.is_revalidation
     where
       w : WasIn mid.book e
       w = left.from e here
@@ -215,7 +215,7 @@ module _ (laws : PrerequisiteLaws) (port : Port) (later : List Reply) (old new :
           let end = ends_of a.failed a.revalidation other w.was.entry in
           left.gone w.was end.0 (kept_in (λ (x : BookEntry). is_of_port port x.entry) mid.book w.was w.there (eq-eqb w.was.entry.port.0 port.0 (ap (λ (p : Port). p.0) (sym w.port) ∙ own))) end.1 e here w.id
 
-      by : (p : Revalidation) → a.revalidation ≡ p → IsRevalidation r.port_error a.was a.found p → state_of a.found ≡ ReadyState
+      by : (p : Revalidation) → a.revalidation ≡ p → IsRevalidation r.port_error a.disk_before a.found p → state_of a.found ≡ ReadyState
       by SameDisk is x = ap state_of x.1.1
       by DiskLost is x = absurd (none (λ same. let z : DiskLost ≡ SameDisk = sym is ∙ same in cc))
       by Dead is x = absurd (none (λ same. let z : Dead ≡ SameDisk = sym is ∙ same in cc))
@@ -223,10 +223,10 @@ module _ (laws : PrerequisiteLaws) (port : Port) (later : List Reply) (old new :
   -- ---- the server
 
   -- it had no loan kept, and has one of each issued request at most
-  few_kept : (q : ℕ) → length (quarantined_at (slice_set mid.kept port.0 a.now.kept) q) ≤ 32
+  few_kept : (q : ℕ) → length (quarantined_at (slice_set mid.kept port.0 a.book_and_loans_after.kept) q) ≤ 32
   few_kept q = ⊎_elim
       (λ (same : q ≡ port.0).
-      let here = ap (quarantined_at (slice_set mid.kept port.0 a.now.kept)) same ∙ get_or-set_same mid.kept port.0 a.now.kept [] (let f = m.four_kept in let l = small in omega (arith, f, l)) in
+      let here = ap (quarantined_at (slice_set mid.kept port.0 a.book_and_loans_after.kept)) same ∙ get_or-set_same mid.kept port.0 a.book_and_loans_after.kept [] (let f = m.four_kept in let l = small in omega (arith, f, l)) in
       let were = places laws mid port m its_ready in
       let none = ap length were.0 in
       let most = were.1 in
@@ -234,13 +234,13 @@ module _ (laws : PrerequisiteLaws) (port : Port) (later : List Reply) (old new :
       let long = ap length here in
       omega (arith, long, none, most, then_most))
       (λ (other : q ≢ port.0).
-      let there = ap length (get_or-set_other mid.kept port.0 q a.now.kept [] other) in
+      let there = ap length (get_or-set_other mid.kept port.0 q a.book_and_loans_after.kept [] other) in
       let most = m.few_kept q in
       omega (arith, there, most))
       (cases_eq q port.0)
 
   pub recovered_kept : (machine : Machine) → IsReachable machine → MachineRelation new machine → InCallInvariant new
-  recovered_kept machine reached stands = subst InCallInvariant (sym a.server)
-      (replaced_kept laws port mid m small new.device whole.0 whole.1 a.now.table a.found (slice_set mid.remembered port.0 (Some a.was)) a.mode a.slots (slice_set mid.kept port.0 a.now.kept) a.now.book (ap is_served was_found) its_stands a.mode_is a.unused
+  recovered_kept machine reached stands = subst InCallInvariant (sym a.server_is)
+      (replaced_kept laws port mid m small new.device whole.0 whole.1 a.book_and_loans_after.table a.found (slice_set mid.remembered port.0 (Some a.disk_before)) a.mode a.slots (slice_set mid.kept port.0 a.book_and_loans_after.kept) a.book_and_loans_after.book (ap is_served was_found) its_stands a.mode_is a.has_no_used_slot
       (record { owners = left.owners; accepted = left.accepted; ordered = left.ordered; from = left.from; ready = still_ready })
-      (length-set mid.remembered port.0 (Some a.was) ∙ m.four_remembered) (length-set mid.kept port.0 a.now.kept ∙ m.four_kept) few_kept machine reached (subst (λ (s : ServerState). MachineRelation s machine) a.server stands))
+      (length-set mid.remembered port.0 (Some a.disk_before) ∙ m.four_remembered) (length-set mid.kept port.0 a.book_and_loans_after.kept ∙ m.four_kept) few_kept machine reached (subst (λ (s : ServerState). MachineRelation s machine) a.server_is stands))

@@ -8,13 +8,13 @@ use Rattle.hba_regs.specs.declared.reg.Reg.TheVariants.{Px}
 use Rattle.adapter.specs.Access.Access.{Reading, Writing}
 use Rattle.adapter.specs.Device.{Device, DevicePort}
 use Rattle.adapter.specs.Rules.{IsOn}
-use Rattle.refinement.specs.Driven.{TapeGrows}
+use Rattle.refinement.specs.Fragments.{TapeGrows}
 use Rattle.refinement.specs.Errors.{IsFatalOf}
 use Rattle.refinement.specs.PortFacts.{IsFaultOf}
 use Rattle.refinement.specs.Links.{IsPlugEvent}
 use Rattle.driver_history.specs.Evidence.{TapeGainsEntry, ShowsChange, ShowsFailure, ShowsLoss}
 use Rattle.error_recovery.specs.Evidence.{ShowsFatal}
-use Rattle.port_control.specs.Looks.{LooksAt}
+use Rattle.port_control.specs.PortEvents.{TakesEvent}
 use Rattle.port_control.specs.declared.events.PortEvent.{PortEvent}
 use Rattle.port_control.specs.declared.events.PortEvent.TheVariants as look
 use Rattle.server_history.specs.Prerequisites.{PrerequisiteLaws}
@@ -31,11 +31,11 @@ module _ (laws : PrerequisiteLaws) (port : Port) (old seen new : Device) (on : I
   p = old.port port.0
 
   -- what came since PxIS was read
-  since_read : (told : PortEvent) (l : LooksAt port told old seen) → TapeGrows l.seen new
+  since_read : (told : PortEvent) (l : TakesEvent port told old seen) → TapeGrows l.seen new
   since_read told l =
       laws.looks.tape.grows_more l.seen l.cleared new (laws.looks.tape.access_grows (Writing (Px port Is) l.causes) l.seen l.cleared l.clears)
-      (laws.looks.tape.grows_more l.cleared l.acknowledged new (laws.looks.tape.access_grows (Writing reg.Is l.own) l.cleared l.acknowledged l.acknowledges)
-      (laws.looks.tape.grows_more l.acknowledged seen new (laws.looks.tape.access_grows (Reading (Px port Ssts) l.status) l.acknowledged seen l.shows) later))
+      (laws.looks.tape.grows_more l.cleared l.acknowledged new (laws.looks.tape.access_grows (Writing reg.Is l.port_mask) l.cleared l.acknowledged l.acknowledges)
+      (laws.looks.tape.grows_more l.acknowledged seen new (laws.looks.tape.access_grows (Reading (Px port Ssts) l.status) l.acknowledged seen l.reads_status) later))
 
   -- ---- failures
 
@@ -69,7 +69,7 @@ module _ (laws : PrerequisiteLaws) (port : Port) (old seen new : Device) (on : I
   -- ---- a loss
 
   -- a look that told something else found nothing of it
-  unlost_by : (told : PortEvent) → LooksAt port told old seen → told ≢ look.LinkChanged → ShowsLoss port old new → ⊥
+  unlost_by : (told : PortEvent) → TakesEvent port told old seen → told ≢ look.LinkChanged → ShowsLoss port old new → ⊥
   unlost_by told l other shows = ⊎_elim
       (no_change laws port told old seen l on other)
       (λ missing. not_missing laws port told old seen l on other new later undue missing.0 missing.1)

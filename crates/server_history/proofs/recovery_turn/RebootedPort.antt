@@ -9,25 +9,25 @@ use Rattle.ata_types.specs.declared.PortState.TheVariants.{Dead as DeadState, Re
 use Rattle.ata_types.specs.declared.request.Reply.{Reply}
 use Rattle.adapter.specs.Access.{Access}
 use Rattle.adapter.specs.Device.{Device}
-use Rattle.refinement.specs.Driven.{AnyUse, IsSimulated}
+use Rattle.refinement.specs.Fragments.{AnyUse, IsSimulated}
 use Rattle.refinement.specs.Links.{SameAdapter}
 use Rattle.block_machine.specs.Events.{Served, Service}
 use Rattle.block_machine.specs.Ports.{SamePort}
 use Rattle.block_machine.specs.State.{Machine}
 use Rattle.driver_history.specs.Histories.{BootsAnew}
-use Rattle.driver_history.specs.Trace.{ResetsLink}
+use Rattle.driver_history.specs.AccessTrace.{ResetsLink}
 use Rattle.error_recovery.specs.declared.Next.{Next}
 use Rattle.error_recovery.specs.declared.Next.TheVariants as next
 use Rattle.host_boot.specs.TakeOver.{probe_result_of, wanted_of}
 use Rattle.host_boot.specs.declared.ProbeResult.{ProbeResult}
 use Rattle.host_boot.specs.declared.ProbeResult.TheVariants.{Ready, Unready, Unserved}
 use Rattle.port_control.specs.declared.Running as running_token
-use Rattle.port_control.specs.Looks.{IsLooking}
+use Rattle.port_control.specs.PortEvents.{IsEventAccess}
 use Rattle.port_control.specs.declared.events.PortError.{PortError}
 use Rattle.port_control.specs.declared.events.PortError.TheVariants.{TaskFileError, LinkChanged}
 use Rattle.server_history.specs.Prerequisites.{PrerequisiteLaws}
 use Rattle.server_history.specs.ErrorHandling.{IsRevalidated, IsErrorHandled, HasResolved, HandlesPortError}
-use Rattle.server_history.specs.Server.{ServerState, InCallInvariant, last_disk_in, last_disk_of, is_served, probed_mode, mode_in, plain_mode, ports_of, last_sectors_of, last_serial_of, state_of, trims_of}
+use Rattle.server_history.specs.ServerState.{ServerState, InCallInvariant, last_disk_in, last_disk_of, is_served, probed_mode, mode_in, plain_mode, ports_of, last_sectors_of, last_serial_of, state_of, trims_of}
 use Rattle.server_history.specs.Turns.{joint_state_of}
 use Rattle.server_history.proofs.recovery_turn.MendedPort.{disk_new, disk_old, found_new, issued_as, next_dead, state_new}
 use Rattle.server_history.proofs.recovery_turn.TurnEvidence.{IsEvident}
@@ -40,7 +40,7 @@ use Rattle.server_history.proofs.recovery_turn.TurnStretches.{TurnParts}
 use Rattle.server_history.proofs.state.FirstMembers.{nowhere}
 
 module _ (laws : PrerequisiteLaws) (port : Port) (replies : List Reply) (old new : ServerState) (k : InCallInvariant old) (ready : state_of (probe_result_of old.ports port.0) ≡ ReadyState) (r : HandlesPortError port replies old new)
-    (looks : IsSimulated (IsLooking port) AnyUse old.device r.settled.error_handled.seen) (kept : InCallInvariant r.mid) (evident : IsEvident port replies old new r) where
+    (looks : IsSimulated (IsEventAccess port) AnyUse old.device r.settled.error_handled.seen) (kept : InCallInvariant r.mid) (evident : IsEvident port replies old new r) where
   abbrev a : HasResolved port r.later old r.mid
   a = r.settled
 
@@ -59,7 +59,7 @@ module _ (laws : PrerequisiteLaws) (port : Port) (replies : List Reply) (old new
   mode_new =
       let then_kept = mid_kept laws port r.later old r.mid k ready a looks in
       let four = then_kept.four_modes in
-      ap (λ (s : ServerState). mode_in s port) (issued_as laws port replies old new k ready r looks kept) ∙ ap (λ (s : ServerState). mode_in s port) a.server
+      ap (λ (s : ServerState). mode_in s port) (issued_as laws port replies old new k ready r looks kept) ∙ ap (λ (s : ServerState). mode_in s port) a.server_is
       ∙ get_or-set_same a.mid.modes port.0 a.mode plain_mode (let small = low in omega (arith, small, four))
 
   abbrev until : List Access
@@ -68,16 +68,16 @@ module _ (laws : PrerequisiteLaws) (port : Port) (replies : List Reply) (old new
   adapter : SameAdapter old.device a.device
   adapter = laws.looks.same_over old.device a.device (record {
     accesses = until;
-    all = laws.basic.does_append t.early.accesses x.handling.accesses old.device a.mid.device a.device t.early.all t.does;
-    only = λ i access small. tt;
+    all_are_done = laws.basic.does_append t.early.accesses x.handling.accesses old.device a.mid.device a.device t.early.all_are_done t.does;
+    accesses_are_of_kind = λ i access small. tt;
   })
 
-  module _ (found : a.found ≡ Ready a.was) (device : r.mid.device ≡ a.device) where
+  module _ (found : a.found ≡ Ready a.disk_before) (device : r.mid.device ≡ a.device) where
     found_same : probe_result_of new.ports port.0 ≡ probe_result_of old.ports port.0
     found_same = found_new laws port replies old new k ready r looks kept ∙ found ∙ sym a.ready
 
     disk_same : last_disk_in new port ≡ last_disk_in old port
-    disk_same = disk_new laws port replies old new k ready r looks kept ∙ ap (λ (f : ProbeResult). last_disk_of f (Some a.was)) found ∙ sym (disk_old laws port replies old new k ready r looks kept)
+    disk_same = disk_new laws port replies old new k ready r looks kept ∙ ap (λ (f : ProbeResult). last_disk_of f (Some a.disk_before)) found ∙ sym (disk_old laws port replies old new k ready r looks kept)
 
     mode_same : mode_in new port ≡ mode_in old port
     mode_same =
@@ -127,14 +127,14 @@ module _ (laws : PrerequisiteLaws) (port : Port) (replies : List Reply) (old new
     where
       by : (n : Next) → x.result.next ≡ n → SamePort (ports_of old) (ports_of new) port ⊎ Stopped
       by (next.Running token) is =
-          let then_is : IsRevalidated (wanted_of old.wanted port.0) port x.port_error a.was (next.Running token) a.device r.mid.device a.found = subst (λ (n : Next). IsRevalidated (wanted_of old.wanted port.0) port x.port_error a.was n a.device r.mid.device a.found) is a.is in
+          let then_is : IsRevalidated (wanted_of old.wanted port.0) port x.port_error a.disk_before (next.Running token) a.device r.mid.device a.found = subst (λ (n : Next). IsRevalidated (wanted_of old.wanted port.0) port x.port_error a.disk_before n a.device r.mid.device a.found) is a.is_revalidated in
           inl (same then_is.0 then_is.1)
       by (next.Restart token) is = inr (stops (next.Restart token) is (λ at e. let z : next.Restart token ≡ next.Running at = e in cc))
       by next.Dead is = inr (stops next.Dead is (λ at e. let z : next.Dead ≡ next.Running at = e in cc))
 
   -- but after a command that failed it doesn't run on
   unless_failed : x.port_error ≢ TaskFileError → Stopped
-  unless_failed other = stops x.result.next refl ((given_up x.port_error port x.outstanding x.queued x.result x.handling.accesses a.mid.device a.device x.tells other).1)
+  unless_failed other = stops x.result.next refl ((given_up x.port_error port x.outstanding x.queued x.result x.handling.accesses a.mid.device a.device x.tells_error_handling other).1)
 
   -- and where its disk wasn't lost either, its link was reset, unless it is dead
   pub restarts : x.port_error ≢ TaskFileError → x.port_error ≢ LinkChanged → ((ports_of new).state port ≡ DeadState) ⊎ ResetsLink port evident.accesses
@@ -144,7 +144,7 @@ module _ (laws : PrerequisiteLaws) (port : Port) (replies : List Reply) (old new
   reboots m = (
     (λ is_ready port_error. rebooted (unless_failed (λ failed. ⊎_elim
         (λ fatal. nowhere port (subst (λ (t : PortError). Contains (fatal_of port t (old.device.port port.0)) port) failed ((evident.evidenced Service m).fatal_all is_ready fatal)))
-        (λ loss. nowhere port (subst (λ (t : PortError). Contains (gone_of port t (old.device.port port.0)) port) failed ((evident.evidenced Service m).gone_all is_ready loss)))
+        (λ loss. nowhere port (subst (λ (t : PortError). Contains (gone_of port t (old.device.port port.0)) port) failed ((evident.evidenced Service m).link_changed_all is_ready loss)))
         port_error))),
     ⊎_elim (λ same. inl same) (λ stops. inr (rebooted stops)) ends,
   )

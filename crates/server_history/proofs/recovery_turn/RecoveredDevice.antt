@@ -13,14 +13,14 @@ use Rattle.adapter.specs.Access.{Access}
 use Rattle.adapter.specs.Device.{Device}
 use Rattle.adapter.specs.declared.command.Operation.{Operation}
 use Rattle.adapter.specs.declared.command.Operation.TheVariants.{Identify, ReadLog}
-use Rattle.refinement.specs.Acts.{AnySlots, ByDeviceAlone, DriverSlots, Performs, driver_state, act_steps}
+use Rattle.refinement.specs.Acts.{AnySlots, ActsByDeviceAlone, DriverSlots, Performs, driver_state, act_steps}
 use Rattle.refinement.specs.Relation.{ServeApart}
-use Rattle.refinement.specs.Driven.{IsSimulated, IsSimulatedTo}
+use Rattle.refinement.specs.Fragments.{IsSimulated, IsSimulatedChangingUses}
 use Rattle.refinement.specs.Driver.{AllFree, HasNoSlot, IsBacked, DriverState, DriverRelation}
-use Rattle.refinement.specs.GivingUp.{given_up, ids_in_slots}
-use Rattle.refinement.specs.Slots.{Own, Serves, SlotState, SlotStates, put}
+use Rattle.refinement.specs.GivingUp.{with_all_given_up, ids_in_slots}
+use Rattle.refinement.specs.Slots.{Own, Serves, SlotState, SlotStates, set_slot_state}
 use Rattle.server_history.proofs.state.FollowedAccesses.{followed_adds}
-use Rattle.block_machine.specs.Events.{AllByDevice, AllMay}
+use Rattle.block_machine.specs.Events.{AllByDevice, AllEnabled}
 use Rattle.block_machine.specs.Histories.{IsReachable}
 use Rattle.block_machine.specs.Expected.{after}
 use Rattle.block_machine.specs.State.{Machine}
@@ -28,18 +28,18 @@ use Rattle.block_machine.specs.Steps.{Step}
 use Rattle.error_recovery.specs.Recovery.{SlotsAfterRecovery, with_own}
 use Rattle.error_recovery.specs.declared.Next.{Next}
 use Rattle.error_recovery.specs.declared.Next.TheVariants.{Running, Restart, Dead as Stuck}
-use Rattle.host_boot.specs.Again.{RebootsPort, BootsStopped, IsCapPiOrBootAccess}
+use Rattle.host_boot.specs.Reboots.{RebootsPort, BootsStopped, IsCapPiOrBootAccess}
 use Rattle.host_boot.specs.TakeOver.{probe_result_of}
 use Rattle.host_boot.specs.declared.ProbeResult.{ProbeResult}
 use Rattle.host_boot.specs.declared.ProbeResult.TheVariants.{Unserved, Ready, Unready}
 use Rattle.identify.specs.declared.DiskInfo.{DiskInfo}
 use Rattle.identify.specs.declared.wanted.Wanted.{Wanted}
-use Rattle.port_boot.specs.States.{IsBoot, IsBootTo, IsOfBoot, StopsOnWay}
+use Rattle.port_boot.specs.States.{IsBoot, IsBootTo, IsBootAccess, StopsOnWay}
 use Rattle.port_control.specs.Engines.{EngineSticks}
-use Rattle.slots.specs.Uses.{PortSlots, use_at}
+use Rattle.slots.specs.SlotUses.{PortSlots, use_at}
 use Rattle.server_history.specs.Prerequisites.{PrerequisiteLaws}
 use Rattle.server_history.specs.ErrorHandling.{IsRevalidated}
-use Rattle.server_history.specs.Server.{IsUsedAs, no_slots, slot_state_of, used_for}
+use Rattle.server_history.specs.ServerState.{IsUsedAs, no_slots, slot_state_of, used_for}
 use Rattle.port_control.specs.declared.events.PortError.{PortError}
 use Rattle.server_history.proofs.recovery_turn.BootOrAbsence.{IsFoundAbsent, boots_or_absent}
 
@@ -49,9 +49,9 @@ use Rattle.server_history.proofs.recovery_turn.BootOrAbsence.{IsFoundAbsent, boo
 pub record Passes (k later : DriverState) (m : Machine) : Type 0 where
   pub steps : List Step
   pub only : AllByDevice steps
-  pub may : AllMay m steps
+  pub may : AllEnabled m steps
   pub backed : IsBacked k.device later.device m steps
-  pub knows : DriverRelation (after m steps) later
+  pub driver_relation : DriverRelation (after m steps) later
 
 pub devices_both : (late early : List Step) → AllByDevice late → AllByDevice early → AllByDevice (late ++ early)
 devices_both [] early a b = b
@@ -63,23 +63,23 @@ passes_then laws a b c m x y = record {
   only = devices_both y.steps x.steps y.only x.only;
   may = laws.basic.may m y.steps x.steps x.may y.may;
   backed = laws.backed_parts a.device b.device c.device m x.steps y.steps x.backed y.backed;
-  knows = subst (λ (n : Machine). DriverRelation n c) (sym (laws.basic.joined m y.steps x.steps)) y.knows;
+  driver_relation = subst (λ (n : Machine). DriverRelation n c) (sym (laws.basic.joined m y.steps x.steps)) y.driver_relation;
 }
 
 -- what was followed
-passes_followed : PrerequisiteLaws → (May : Access → Type 0) (Fits : SlotStates → Type 0) (next : SlotStates → SlotStates) (old new : Device) → IsSimulatedTo May Fits next old new → (s : DriverSlots) (m : Machine) → Fits s.uses → IsReachable m → DriverRelation m (driver_state s old)
+passes_followed : PrerequisiteLaws → (May : Access → Type 0) (Fits : SlotStates → Type 0) (next : SlotStates → SlotStates) (old new : Device) → IsSimulatedChangingUses May Fits next old new → (s : DriverSlots) (m : Machine) → Fits s.uses → IsReachable m → DriverRelation m (driver_state s old)
     → Passes (driver_state s old) (driver_state (record s { uses = next s.uses }) new) m
 passes_followed laws May Fits next old new followed s m fits reached knows =
-    let x = (followed_adds laws followed s.uses s.parked fits).adds m reached knows in
-    record { steps = x.0; only = x.3.only; may = x.1; backed = x.3.backed; knows = x.2 }
+    let x = (followed_adds laws followed s.uses s.parked fits).simulates m reached knows in
+    record { steps = x.0; only = x.3.only; may = x.1; backed = x.3.is_backed; driver_relation = x.2 }
 
 -- a part of a call
-passes_performs : PrerequisiteLaws → (accesses : List Access) (next : DriverSlots → DriverSlots) (old new : Device) → Performs accesses AnySlots next ByDeviceAlone old new → (s : DriverSlots) (m : Machine) → IsReachable m → DriverRelation m (driver_state s old)
+passes_performs : PrerequisiteLaws → (accesses : List Access) (next : DriverSlots → DriverSlots) (old new : Device) → Performs accesses AnySlots next ActsByDeviceAlone old new → (s : DriverSlots) (m : Machine) → IsReachable m → DriverRelation m (driver_state s old)
     → Passes (driver_state s old) (driver_state (next s) new) m
 passes_performs laws accesses next old new p s m reached knows =
-    let c = p.comes s m reached knows tt in
-    let g = laws.slots.acts_go c.acts (driver_state s old) (driver_state (next s) new) m knows c.done in
-    record { steps = act_steps c.acts; only = c.tells; may = g.may; backed = g.backed; knows = g.knows }
+    let c = p.acts_reach s m reached knows tt in
+    let g = laws.slots.acts_go c.acts (driver_state s old) (driver_state (next s) new) m knows c.acts_are_done in
+    record { steps = act_steps c.acts; only = c.tells; may = g.steps_are_enabled; backed = g.is_backed; driver_relation = g.driver_relation }
 
 -- ---- what is in the slots then
 
@@ -112,13 +112,13 @@ pub record IsPassed (port : ℕ) (way : Next) (found : ProbeResult) (old new : D
   pub passes : Passes (driver_state s old) (driver_state slots new) m
 
 module _ (laws : PrerequisiteLaws) (port : ℕ) (s : DriverSlots) (d : Device) where
-  free_then : AllFree (given_up port s).uses port
+  free_then : AllFree (with_all_given_up port s).uses port
   free_then = laws.slots.given_free (driver_state s d) port
 
-  its_then : (id : RequestId) → Contains ((given_up port s).parked port) id → Contains (ids_in_slots s.uses port 32 ++ s.parked port) id
+  its_then : (id : RequestId) → Contains ((with_all_given_up port s).parked port) id → Contains (ids_in_slots s.uses port 32 ++ s.parked port) id
   its_then id here = subst (λ (ids : List RequestId). Contains ids id) (laws.slots.given_parked (driver_state s d) port) here
 
-  left_given : (way : Next) (found : ProbeResult) → LeavesIn port way found s (given_up port s)
+  left_given : (way : Next) (found : ProbeResult) → LeavesIn port way found s (with_all_given_up port s)
   left_given way found = record {
     uses = λ q ne. (laws.slots.given_others (driver_state s d) port q ne).0;
     parked = λ q ne. (laws.slots.given_others (driver_state s d) port q ne).1;
@@ -128,13 +128,13 @@ module _ (laws : PrerequisiteLaws) (port : ℕ) (s : DriverSlots) (d : Device) w
   }
 
   -- with a command of the driver's own in slot 0 of a dead port
-  left_own : (way : Next) (found : ProbeResult) (o : Operation) → found ≡ Unready Dead → LeavesIn port way found s (with_own port o (given_up port s))
+  left_own : (way : Next) (found : ProbeResult) (o : Operation) → found ≡ Unready Dead → LeavesIn port way found s (with_own port o (with_all_given_up port s))
   left_own way found o dead = record {
-    uses = λ q ne. (λ i slot. laws.recovery.put_other (given_up port s).uses port 0 (Own o) q slot (λ same _. ne same) i) ∙ (laws.slots.given_others (driver_state s d) port q ne).0;
+    uses = λ q ne. (λ i slot. laws.recovery.put_other (with_all_given_up port s).uses port 0 (Own o) q slot (λ same _. ne same) i) ∙ (laws.slots.given_others (driver_state s d) port q ne).0;
     parked = λ q ne. (laws.slots.given_others (driver_state s d) port q ne).1;
     its = its_then;
     unserved = λ lives apart slot id serves.
-        laws.slots.put_unserved (given_up port s).uses port 0 (Own o) id (laws.slots.frees (driver_state s d) port slot id apart serves) (λ other same. let z : Own o ≡ Serves other = same in absurd cc);
+        laws.slots.put_unserved (with_all_given_up port s).uses port 0 (Own o) id (laws.slots.frees (driver_state s d) port slot id apart serves) (λ other same. let z : Own o ≡ Serves other = same in absurd cc);
     free = λ lives. absurd (lives dead);
   }
 
@@ -152,7 +152,7 @@ module _ (laws : PrerequisiteLaws) (port : ℕ) (s : DriverSlots) (d : Device) w
 
 module _ (laws : PrerequisiteLaws) (wanted : Wanted) (port : Port) (old mid new : Device) (s : DriverSlots) (m : Machine) (reached : IsReachable m) (knows : DriverRelation m (driver_state s old)) where
   abbrev given : DriverSlots
-  given = given_up port.0 s
+  given = with_all_given_up port.0 s
 
   -- its slots were given up, and then it was booted
   module _ (x : Passes (driver_state s old) (driver_state given mid) m) where
@@ -165,7 +165,7 @@ module _ (laws : PrerequisiteLaws) (wanted : Wanted) (port : Port) (old mid new 
       slots = given;
       left = left_given laws port.0 s old way (Ready info);
       passes = passes_then laws (driver_state s old) (driver_state given mid) (driver_state given new) m x
-          (passes_followed laws (IsOfBoot port) (λ uses. AllFree uses port.0) (λ uses. uses) mid new boots.boots.followed given (after m x.steps) (free_then laws port.0 s old) here x.knows);
+          (passes_followed laws (IsBootAccess port) (λ uses. AllFree uses port.0) (λ uses. uses) mid new boots.boots.followed given (after m x.steps) (free_then laws port.0 s old) here x.driver_relation);
     }
     booted way (Unready state) boots = by state boots.boots
       where
@@ -174,7 +174,7 @@ module _ (laws : PrerequisiteLaws) (wanted : Wanted) (port : Port) (old mid new 
           slots = given;
           left = left_given laws port.0 s old way (Unready state);
           passes = passes_then laws (driver_state s old) (driver_state given mid) (driver_state given new) m x
-              (passes_followed laws (IsOfBoot port) (λ uses. AllFree uses port.0) (λ uses. uses) mid new boots.followed given (after m x.steps) (free_then laws port.0 s old) here x.knows);
+              (passes_followed laws (IsBootAccess port) (λ uses. AllFree uses port.0) (λ uses. uses) mid new boots.followed given (after m x.steps) (free_then laws port.0 s old) here x.driver_relation);
         }
 
         by : (state : PortState) → IsBootTo (StopsOnWay port state) port state mid new → IsPassed port.0 way (Unready state) old new s m
@@ -183,7 +183,7 @@ module _ (laws : PrerequisiteLaws) (wanted : Wanted) (port : Port) (old mid new 
           slots = with_own port.0 Identify given;
           left = left_own laws port.0 s old way (Unready Dead) Identify refl;
           passes = passes_then laws (driver_state s old) (driver_state given mid) (driver_state (with_own port.0 Identify given) new) m x
-              (passes_followed laws (IsOfBoot port) (λ uses. AllFree uses port.0) (λ uses. put uses port.0 0 (Own Identify)) mid new boots.followed given (after m x.steps) (free_then laws port.0 s old) here x.knows);
+              (passes_followed laws (IsBootAccess port) (λ uses. AllFree uses port.0) (λ uses. set_slot_state uses port.0 0 (Own Identify)) mid new boots.followed given (after m x.steps) (free_then laws port.0 s old) here x.driver_relation);
         }
         by Absent boots = plainly (StopsOnWay port Absent) boots Absent
         by ReadyState boots = plainly (StopsOnWay port ReadyState) boots ReadyState
@@ -193,40 +193,40 @@ module _ (laws : PrerequisiteLaws) (wanted : Wanted) (port : Port) (old mid new 
 pub passed : PrerequisiteLaws → (wanted : Wanted) (port : Port) (port_error : PortError) (was : DiskInfo) (way : Next) (accesses : List Access) (old mid new : Device) (found : ProbeResult) → SlotsAfterRecovery port.0 way accesses old mid → IsRevalidated wanted port port_error was way mid new found
     → (s : DriverSlots) (m : Machine) → IsReachable m → DriverRelation m (driver_state s old) → IsPassed port.0 way found old new s m
 passed laws wanted port port_error was (Running token) accesses old mid new found performs (is, same) s m reached knows = record {
-  slots = given_up port.0 s;
+  slots = with_all_given_up port.0 s;
   left = left_given laws port.0 s old (Running token) found;
-  passes = subst (λ (d : Device). Passes (driver_state s old) (driver_state (given_up port.0 s) d) m) (sym same) (passes_performs laws accesses (given_up port.0) old mid performs s m reached knows);
+  passes = subst (λ (d : Device). Passes (driver_state s old) (driver_state (with_all_given_up port.0 s) d) m) (sym same) (passes_performs laws accesses (with_all_given_up port.0) old mid performs s m reached knows);
 }
 passed laws wanted port port_error was (Restart token) accesses old mid new found performs (its, is, again) s m reached knows =
     subst (λ (f : ProbeResult). IsPassed port.0 (Restart token) f old new s m) is (⊎_elim
-    (λ (b : RebootsPort wanted port its mid new). booted laws wanted port old b.asked new s m reached knows (started b.asked b.asks) (Restart token) its.found b.boots)
+    (λ (b : RebootsPort wanted port its mid new). booted laws wanted port old b.surveyed new s m reached knows (started b.surveyed b.surveys) (Restart token) its.found b.boots)
     (λ (absent : IsFoundAbsent wanted port port_error its.found mid new). record {
-      slots = given_up port.0 s;
+      slots = with_all_given_up port.0 s;
       left = left_given laws port.0 s old (Restart token) its.found;
       passes = started new absent.starts;
     })
     (boots_or_absent port_error wanted port its mid new again))
   where
-    x : Passes (driver_state s old) (driver_state (given_up port.0 s) mid) m
-    x = passes_performs laws accesses (given_up port.0) old mid performs s m reached knows
+    x : Passes (driver_state s old) (driver_state (with_all_given_up port.0 s) mid) m
+    x = passes_performs laws accesses (with_all_given_up port.0) old mid performs s m reached knows
 
-    started : (d : Device) → IsSimulated (IsCapPiOrBootAccess port) (λ uses. AllFree uses port.0) mid d → Passes (driver_state s old) (driver_state (given_up port.0 s) d) m
+    started : (d : Device) → IsSimulated (IsCapPiOrBootAccess port) (λ uses. AllFree uses port.0) mid d → Passes (driver_state s old) (driver_state (with_all_given_up port.0 s) d) m
     started d asks =
-        passes_then laws (driver_state s old) (driver_state (given_up port.0 s) mid) (driver_state (given_up port.0 s) d) m x
-        (passes_followed laws (IsCapPiOrBootAccess port) (λ uses. AllFree uses port.0) (λ uses. uses) mid d asks (given_up port.0 s) (after m x.steps) (free_then laws port.0 s old) (laws.basic.reached m x.steps reached x.may) x.knows)
+        passes_then laws (driver_state s old) (driver_state (with_all_given_up port.0 s) mid) (driver_state (with_all_given_up port.0 s) d) m x
+        (passes_followed laws (IsCapPiOrBootAccess port) (λ uses. AllFree uses port.0) (λ uses. uses) mid d asks (with_all_given_up port.0 s) (after m x.steps) (free_then laws port.0 s old) (laws.basic.reached m x.steps reached x.may) x.driver_relation)
 passed laws wanted port port_error was Stuck accesses old mid new found (inl performs) (is, same) s m reached knows = record {
   slots = s;
   left = left_stuck laws port.0 s old found is;
   passes = subst (λ (d : Device). Passes (driver_state s old) (driver_state s d) m) (sym same) (passes_performs laws accesses (λ s. s) old mid performs s m reached knows);
 }
 passed laws wanted port port_error was Stuck accesses old mid new found (inr (inl performs)) (is, same) s m reached knows = record {
-  slots = given_up port.0 s;
+  slots = with_all_given_up port.0 s;
   left = left_given laws port.0 s old Stuck found;
-  passes = subst (λ (d : Device). Passes (driver_state s old) (driver_state (given_up port.0 s) d) m) (sym same) (passes_performs laws accesses (given_up port.0) old mid performs s m reached knows);
+  passes = subst (λ (d : Device). Passes (driver_state s old) (driver_state (with_all_given_up port.0 s) d) m) (sym same) (passes_performs laws accesses (with_all_given_up port.0) old mid performs s m reached knows);
 }
 passed laws wanted port port_error was Stuck accesses old mid new found (inr (inr performs)) (is, same) s m reached knows = record {
-  slots = with_own port.0 ReadLog (given_up port.0 s);
+  slots = with_own port.0 ReadLog (with_all_given_up port.0 s);
   left = left_own laws port.0 s old Stuck found ReadLog is;
-  passes = subst (λ (d : Device). Passes (driver_state s old) (driver_state (with_own port.0 ReadLog (given_up port.0 s)) d) m) (sym same)
-      (passes_performs laws accesses (λ s. with_own port.0 ReadLog (given_up port.0 s)) old mid performs s m reached knows);
+  passes = subst (λ (d : Device). Passes (driver_state s old) (driver_state (with_own port.0 ReadLog (with_all_given_up port.0 s)) d) m) (sym same)
+      (passes_performs laws accesses (λ s. with_own port.0 ReadLog (with_all_given_up port.0 s)) old mid performs s m reached knows);
 }

@@ -16,20 +16,20 @@ use Rattle.adapter.specs.Access.Access.{Loading, Reading, Storing, Writing}
 use Rattle.adapter.specs.Device.{Device}
 use Rattle.adapter.specs.declared.command.Operation.{Operation}
 use Rattle.adapter.specs.declared.command.Operation.TheVariants.{Identify}
-use Rattle.refinement.specs.Driven.{IsDrivenBy, IsSimulated, IsSimulatedTo, SparesOtherPorts, IsSimulatedAlongTo, GainsNoMove, known}
+use Rattle.refinement.specs.Fragments.{IsDrivenBy, IsSimulated, IsSimulatedChangingUses, SparesOtherPorts, IsSimulatedAlongChangingUses, GainsNoMove, driver_state_of}
 use Rattle.refinement.specs.Driver.{AllFree, DriverRelation}
 use Rattle.refinement.specs.Links.{DoesNotWrite}
-use Rattle.refinement.specs.Slots.{Own, SlotStates, op_of, put}
+use Rattle.refinement.specs.Slots.{Own, SlotStates, op_of, set_slot_state}
 use Rattle.server_history.proofs.state.FollowedAccesses.{followed_adds, followed_silent}
 use Rattle.block_machine.specs.Histories.{IsReachable}
 use Rattle.block_machine.specs.Expected.{after}
 use Rattle.block_machine.specs.State.{Machine}
-use Rattle.disk_page.specs.Asking.{IsPageAccess}
-use Rattle.driver_history.specs.Trace.{IsDriversOwn, DoesNotWriteCmd, ResetsLink}
+use Rattle.disk_page.specs.PageRequests.{IsPageAccess}
+use Rattle.driver_history.specs.AccessTrace.{IsDriversOwn, DoesNotWriteCmd, ResetsLink}
 use Rattle.error_recovery.specs.Recovery.{IsRecoveryAccess}
 use Rattle.error_recovery.specs.declared.Next.{Next}
 use Rattle.error_recovery.specs.declared.Next.TheVariants as next
-use Rattle.host_boot.specs.Again.{RebootsPort, BootsStopped, IsCapPiOrBootAccess}
+use Rattle.host_boot.specs.Reboots.{RebootsPort, BootsStopped, IsCapPiOrBootAccess}
 use Rattle.identify.specs.Wanted.{serial_of}
 use Rattle.port_boot.specs.Outcomes.{EndsUnready}
 use Rattle.host_boot.specs.TakeOver.{ReadsCapOrPi}
@@ -38,7 +38,7 @@ use Rattle.host_boot.specs.declared.ProbeResult.{ProbeResult}
 use Rattle.host_boot.specs.declared.ProbeResult.TheVariants.{Ready, Unready, Unserved}
 use Rattle.identify.specs.declared.DiskInfo.{DiskInfo}
 use Rattle.identify.specs.declared.wanted.Wanted.{Wanted}
-use Rattle.port_boot.specs.States.{IsBoot, IsOfBoot}
+use Rattle.port_boot.specs.States.{IsBoot, IsBootAccess}
 use Rattle.port_control.specs.Engines.{EngineSticks}
 use Rattle.port_control.specs.declared.Stopped.{Stopped}
 use Rattle.server_history.specs.Prerequisites.{PrerequisiteLaws}
@@ -76,7 +76,7 @@ module _ (laws : PrerequisiteLaws) (port : Port) (low : port.0 < 4) where
   asking_own (Loading at bytes) is = let here = is.0 in let size = is.1 in omega (arith, low, here, size)
   asking_own (Storing at bytes) is = table_own port.0 0 at bytes low (omega arith) is
 
-  booting_own : (access : Access) → IsOfBoot port access → IsDriversOwn access
+  booting_own : (access : Access) → IsBootAccess port access → IsDriversOwn access
   booting_own (Reading r v) is = tt
   booting_own (Writing r v) is = tt
   booting_own (Loading at bytes) (inl is) = absurd is
@@ -84,7 +84,7 @@ module _ (laws : PrerequisiteLaws) (port : Port) (low : port.0 < 4) where
   booting_own (Storing at bytes) (inl is) = absurd is
   booting_own (Storing at bytes) (inr is) = asking_own (Storing at bytes) is
 
-  pub booting_part : (access : Access) → IsOfBoot port access → IsPart port access
+  pub booting_part : (access : Access) → IsBootAccess port access → IsPart port access
   booting_part access is = (booting_own access is, laws.booting_of port access is)
 
 pub survey_part : (port : Port) (access : Access) → ReadsCapOrPi access → IsPart port access
@@ -107,7 +107,7 @@ pub record IsGivenUp (port : Port) (d : Device) : Type 0 where
   pub machine : Machine
   pub free : AllFree uses port.0
   pub reached : IsReachable machine
-  pub knows : DriverRelation machine (known uses parked d)
+  pub driver_relation : DriverRelation machine (driver_state_of uses parked d)
 
 -- The accesses between recovery and the issues, and what they tell of a port that is dead after its boot: 64 readings in a row showed an engine that is
 -- stuck. Another boot has reset the link. Another port is sent no page by a command that its slot 0 hadn't.
@@ -120,27 +120,27 @@ pub record AfterList (port : Port) (port_error : PortError) (then : Next) (found
   pub silent : (q : Port) (o : Operation) → q.0 ≢ port.0 → op_of o ≡ None → ((token : Stopped) → then ≡ next.Restart token → (g : IsGivenUp port old) × (g.uses q.0 0 ≡ Own o → ⊥)) → GainsNoMove q.0 o old new
 
 module _ (laws : PrerequisiteLaws) (port : Port) (low : port.0 < 4) (wanted : Wanted) (port_error : PortError) where
-  module _ (token : Stopped) (old asked new : Device) (asks : IsSimulated (IsCapPiOrBootAccess port) (λ uses. AllFree uses port.0) old asked) (then : SlotStates → SlotStates) (boots : IsSimulatedTo (IsOfBoot port) (λ uses. AllFree uses port.0) then asked new) where
+  module _ (token : Stopped) (old asked new : Device) (asks : IsSimulated (IsCapPiOrBootAccess port) (λ uses. AllFree uses port.0) old asked) (then : SlotStates → SlotStates) (boots : IsSimulatedChangingUses (IsBootAccess port) (λ uses. AllFree uses port.0) then asked new) where
     boot_silent : (q : Port) (o : Operation) → q.0 ≢ port.0 → op_of o ≡ None → (g : IsGivenUp port old) → (g.uses q.0 0 ≡ Own o → ⊥) → GainsNoMove q.0 o old new
     boot_silent q o other own g none =
-        let x = (followed_adds laws asks g.uses g.parked g.free).adds g.machine g.reached g.knows in
+        let x = (followed_adds laws asks g.uses g.parked g.free).simulates g.machine g.reached g.driver_relation in
         silent_more q.0 o old asked new
-        (followed_silent laws asks g.uses g.parked g.machine g.free g.reached g.knows q o own (λ access is. laws.of_spares port q Ci other access (start_part laws port low access is).1) (λ access is. laws.of_spares port q Sact other access (start_part laws port low access is).1) none)
+        (followed_silent laws asks g.uses g.parked g.machine g.free g.reached g.driver_relation q o own (λ access is. laws.of_spares port q Ci other access (start_part laws port low access is).1) (λ access is. laws.of_spares port q Sact other access (start_part laws port low access is).1) none)
         (followed_silent laws boots g.uses g.parked (after g.machine x.0) g.free (laws.basic.reached g.machine x.0 g.reached x.1) x.2 q o own
         (λ access is. laws.of_spares port q Ci other access (laws.booting_of port access is)) (λ access is. laws.of_spares port q Sact other access (laws.booting_of port access is)) none)
 
-    boot_list : (found : ProbeResult) (by : IsDrivenBy (IsOfBoot port) asked new) → (found ≡ Unready DeadState → EngineSticks port by.accesses) → (found ≡ Unready DeadState → (new.port port.0).notes.engine_count ≡ MOST_READINGS)
+    boot_list : (found : ProbeResult) (by : IsDrivenBy (IsBootAccess port) asked new) → (found ≡ Unready DeadState → EngineSticks port by.accesses) → (found ≡ Unready DeadState → (new.port port.0).notes.engine_count ≡ MOST_READINGS)
         → (found ≢ Unready DeadState → ResetsLink port by.accesses) → AfterList port port_error (next.Restart token) found old new
     boot_list found by sticks stuck resets = record {
       driven = record {
-        accesses = asks.driven.accesses ++ by.accesses;
-        all = laws.basic.does_append asks.driven.accesses by.accesses old asked new asks.driven.all by.all;
-        only = All-append (IsPart port) asks.driven.accesses by.accesses (All-weaker (IsCapPiOrBootAccess port) (IsPart port) (start_part laws port low) asks.driven.accesses asks.driven.only)
-            (All-weaker (IsOfBoot port) (IsPart port) (booting_part laws port low) by.accesses by.only);
+        accesses = asks.is_driven.accesses ++ by.accesses;
+        all_are_done = laws.basic.does_append asks.is_driven.accesses by.accesses old asked new asks.is_driven.all_are_done by.all_are_done;
+        accesses_are_of_kind = All-append (IsPart port) asks.is_driven.accesses by.accesses (All-weaker (IsCapPiOrBootAccess port) (IsPart port) (start_part laws port low) asks.is_driven.accesses asks.is_driven.accesses_are_of_kind)
+            (All-weaker (IsBootAccess port) (IsPart port) (booting_part laws port low) by.accesses by.accesses_are_of_kind);
       };
-      sticks = λ dead _. laws.sticks_since asks.driven.accesses by.accesses port (sticks dead);
+      sticks = λ dead _. laws.sticks_since asks.is_driven.accesses by.accesses port (sticks dead);
       stuck = λ dead _. stuck dead;
-      resets = λ _ _ lives. inr (resets_since port asks.driven.accesses by.accesses (resets lives));
+      resets = λ _ _ lives. inr (resets_since port asks.is_driven.accesses by.accesses (resets lives));
       unreset = λ never. absurd (never token refl);
       silent = λ q o other own given. let g = given token refl in boot_silent q o other own g.0 g.1;
     }
@@ -152,19 +152,19 @@ module _ (laws : PrerequisiteLaws) (port : Port) (low : port.0 < 4) (wanted : Wa
   -- no device showed
   absent_list : (token : Stopped) (found : ProbeResult) (old new : Device) → IsFoundAbsent wanted port port_error found old new → AfterList port port_error (next.Restart token) found old new
   absent_list token found old new absent = record {
-    driven = record { accesses = made.accesses; all = made.all; only = All-weaker (IsCapPiOrBootAccess port) (IsPart port) (start_part laws port low) made.accesses made.only };
+    driven = record { accesses = made.accesses; all_are_done = made.all_are_done; accesses_are_of_kind = All-weaker (IsCapPiOrBootAccess port) (IsPart port) (start_part laws port low) made.accesses made.accesses_are_of_kind };
     sticks = λ dead _. absurd (lives dead);
     stuck = λ dead _. absurd (lives dead);
     resets = λ _ _ _. inl (absent.lost, absent.is);
     unreset = λ never. absurd (never token refl);
     silent = λ q o other own given.
         let g = given token refl in
-        followed_silent laws absent.starts g.0.uses g.0.parked g.0.machine g.0.free g.0.reached g.0.knows q o own
+        followed_silent laws absent.starts g.0.uses g.0.parked g.0.machine g.0.free g.0.reached g.0.driver_relation q o own
         (λ access is. laws.of_spares port q Ci other access (start_part laws port low access is).1) (λ access is. laws.of_spares port q Sact other access (start_part laws port low access is).1) g.1;
   }
     where
       made : IsDrivenBy (IsCapPiOrBootAccess port) old new
-      made = absent.starts.driven
+      made = absent.starts.is_driven
 
       lives : found ≡ Unready DeadState → ⊥
       lives dead = let z : Unready shown.Absent ≡ Unready DeadState = sym absent.is ∙ dead in cc
@@ -175,37 +175,37 @@ module _ (laws : PrerequisiteLaws) (port : Port) (low : port.0 < 4) (wanted : Wa
       lives : (state : Shown) → state ≢ DeadState → Unready state ≡ Unready DeadState → ⊥
       lives state other is = other (let z : Unready state ≡ Unready DeadState = is in cc)
 
-      unready : (state : Shown) → EndsUnready (serial_of wanted) port state b.asked new → AfterList port port_error (next.Restart token) (Unready state) old new
+      unready : (state : Shown) → EndsUnready (serial_of wanted) port state b.surveyed new → AfterList port port_error (next.Restart token) (Unready state) old new
       unready shown.Dead x = ⊎_elim
-          (λ (told : IsBoot (EngineSticks port) port b.asked new). boot_list token old b.asked new b.asks (λ uses. uses) told.followed (Unready DeadState) told.followed.driven (λ _. told.tells) (λ _. x.ended.1) (λ lives. absurd (lives refl)))
-          (λ (told : IsSimulatedAlongTo (EngineSticks port) (IsOfBoot port) (λ uses. AllFree uses port.0) (λ uses. put uses port.0 0 (Own Identify)) b.asked new).
-          boot_list token old b.asked new b.asks (λ uses. put uses port.0 0 (Own Identify)) told.followed (Unready DeadState) told.followed.driven (λ _. told.tells) (λ _. x.ended.1) (λ lives. absurd (lives refl)))
+          (λ (told : IsBoot (EngineSticks port) port b.surveyed new). boot_list token old b.surveyed new b.surveys (λ uses. uses) told.followed (Unready DeadState) told.followed.is_driven (λ _. told.tells) (λ _. x.state_is_backed.1) (λ lives. absurd (lives refl)))
+          (λ (told : IsSimulatedAlongChangingUses (EngineSticks port) (IsBootAccess port) (λ uses. AllFree uses port.0) (λ uses. set_slot_state uses port.0 0 (Own Identify)) b.surveyed new).
+          boot_list token old b.surveyed new b.surveys (λ uses. set_slot_state uses port.0 0 (Own Identify)) told.followed (Unready DeadState) told.followed.is_driven (λ _. told.tells) (λ _. x.state_is_backed.1) (λ lives. absurd (lives refl)))
           x.boots
-      unready shown.Absent x = lives_list token old b.asked new b.asks (λ uses. uses) x.boots.followed (Unready shown.Absent) (lives shown.Absent (λ e. let z : shown.Absent ≡ DeadState = e in cc)) (early_resets laws port shown.Absent b.asked new (x.early tt))
-      unready shown.Foreign x = lives_list token old b.asked new b.asks (λ uses. uses) x.boots.followed (Unready shown.Foreign) (lives shown.Foreign (λ e. let z : shown.Foreign ≡ DeadState = e in cc)) (late_resets laws port b.asked new (x.late tt))
+      unready shown.Absent x = lives_list token old b.surveyed new b.surveys (λ uses. uses) x.boots.followed (Unready shown.Absent) (lives shown.Absent (λ e. let z : shown.Absent ≡ DeadState = e in cc)) (early_resets laws port shown.Absent b.surveyed new (x.ends_before_start tt))
+      unready shown.Foreign x = lives_list token old b.surveyed new b.surveys (λ uses. uses) x.boots.followed (Unready shown.Foreign) (lives shown.Foreign (λ e. let z : shown.Foreign ≡ DeadState = e in cc)) (late_resets laws port b.surveyed new (x.ends_after_start tt))
       unready (shown.Unfit n) x =
-          lives_list token old b.asked new b.asks (λ uses. uses) x.boots.followed (Unready (shown.Unfit n)) (lives (shown.Unfit n) (λ e. let z : shown.Unfit n ≡ DeadState = e in cc))
+          lives_list token old b.surveyed new b.surveys (λ uses. uses) x.boots.followed (Unready (shown.Unfit n)) (lives (shown.Unfit n) (λ e. let z : shown.Unfit n ≡ DeadState = e in cc))
           (⊎_elim
-          (λ (seven : n ≡ 7). early_resets laws port (shown.Unfit n) b.asked new (x.early (inl seven)))
+          (λ (seven : n ≡ 7). early_resets laws port (shown.Unfit n) b.surveyed new (x.ends_before_start (inl seven)))
           (λ (not_seven : n ≢ 7). ⊎_elim
-          (λ (eight : n ≡ 8). early_resets laws port (shown.Unfit n) b.asked new (x.early (inr eight)))
-          (λ (not_eight : n ≢ 8). late_resets laws port b.asked new (x.late (not_seven, not_eight)))
+          (λ (eight : n ≡ 8). early_resets laws port (shown.Unfit n) b.surveyed new (x.ends_before_start (inr eight)))
+          (λ (not_eight : n ≢ 8). late_resets laws port b.surveyed new (x.ends_after_start (not_seven, not_eight)))
           (cases_eq n 8))
           (cases_eq n 7))
-      unready shown.Ready x = absurd x.ended
+      unready shown.Ready x = absurd x.state_is_backed
 
-      by : (found : ProbeResult) → BootsStopped wanted port found b.asked new → AfterList port port_error (next.Restart token) found old new
+      by : (found : ProbeResult) → BootsStopped wanted port found b.surveyed new → AfterList port port_error (next.Restart token) found old new
       by Unserved x = absurd x
       by (Ready info) x =
           let no : Ready info ≡ Unready DeadState → ⊥ = λ e. let z : Ready info ≡ Unready DeadState = e in cc in
-          lives_list token old b.asked new b.asks (λ uses. uses) x.boots.followed (Ready info) no (ready_resets laws port b.asked new x.way)
+          lives_list token old b.surveyed new b.surveys (λ uses. uses) x.boots.followed (Ready info) no (ready_resets laws port b.surveyed new x.brings_ready)
       by (Unready state) x = unready state x
 
   pub after_list : (was : DiskInfo) (then : Next) (old new : Device) (found : ProbeResult) → IsRevalidated wanted port port_error was then old new found → AfterList port port_error then found old new
   after_list was (next.Running token) old new found is =
       let none : found ≡ Unready DeadState → ⊥ = λ dead. let z : Ready was ≡ Unready DeadState = sym is.0 ∙ dead in cc in
       subst (λ (d : Device). AfterList port port_error (next.Running token) found old d) (sym is.1) (record {
-        driven = record { accesses = []; all = refl; only = All-nil (IsPart port) };
+        driven = record { accesses = []; all_are_done = refl; accesses_are_of_kind = All-nil (IsPart port) };
         sticks = λ dead _. absurd (none dead);
         stuck = λ dead _. absurd (none dead);
         resets = λ other is _. absurd (let z : next.Running token ≡ next.Restart other = is in cc);
@@ -217,7 +217,7 @@ module _ (laws : PrerequisiteLaws) (port : Port) (low : port.0 < 4) (wanted : Wa
       (λ (absent : IsFoundAbsent wanted port port_error is.0.found old new). absent_list token is.0.found old new absent)
       (boots_or_absent port_error wanted port is.0 old new is.2))
   after_list was next.Dead old new found is = subst (λ (d : Device). AfterList port port_error next.Dead found old d) (sym is.1) (record {
-    driven = record { accesses = []; all = refl; only = All-nil (IsPart port) };
+    driven = record { accesses = []; all_are_done = refl; accesses_are_of_kind = All-nil (IsPart port) };
     sticks = λ _ lives. absurd (lives refl);
     stuck = λ _ lives. absurd (lives refl);
     resets = λ token is _. absurd (let z : next.Dead ≡ next.Restart token = is in cc);

@@ -16,21 +16,21 @@ use Rattle.adapter.specs.Rules.{HasPort, IsOn}
 use Rattle.adapter.specs.declared.command.Operation.TheVariants.{Identify}
 use Rattle.refinement.specs.Acts.{DriverSlots}
 use Rattle.refinement.specs.Relation.{port_at}
-use Rattle.refinement.specs.Driven.{AnyAccess, IsDrivenBy, SparesOtherPorts, LeavesPort, GainsNoMove}
+use Rattle.refinement.specs.Fragments.{AnyAccess, IsDrivenBy, SparesOtherPorts, LeavesPort, GainsNoMove}
 use Rattle.refinement.specs.Halting.{HaltIsOfTaken, HaltOfTakenIfSt}
 use Rattle.refinement.specs.Links.{ShowsDiskIfIn, SameAdapter}
-use Rattle.block_machine.specs.Due.{is_plain}
+use Rattle.block_machine.specs.DueRequests.{is_plain}
 use Rattle.block_machine.specs.Events.{ShowsDisk}
 use Rattle.block_machine.specs.Histories.{IsReachable}
 use Rattle.block_machine.specs.State.{Machine}
 use Rattle.block_machine.specs.declared.due.QueueMode.{QueueMode}
 use Rattle.dma_frames.specs.Loan.{Lending}
-use Rattle.dma_frames.specs.Table.{Table}
+use Rattle.dma_frames.specs.FrameTables.{FrameOwnership}
 use Rattle.driver_history.specs.PortInvariants.{EngineRuns}
 use Rattle.error_recovery.specs.Recovery.{EndsAsNext}
 use Rattle.error_recovery.specs.declared.Next.{Next}
 use Rattle.error_recovery.specs.declared.Next.TheVariants as next
-use Rattle.host_boot.specs.Again.{RebootsPort, BootsStopped, IsCapPiOrBootAccess}
+use Rattle.host_boot.specs.Reboots.{RebootsPort, BootsStopped, IsCapPiOrBootAccess}
 use Rattle.host_boot.specs.TakeOver.{FoundBadDisk, IsServed, StillBacksProbeResult, probe_result_of, wanted_of}
 use Rattle.host_boot.specs.declared.Booted.{Booted}
 use Rattle.host_boot.specs.declared.ProbeResult.{ProbeResult}
@@ -38,16 +38,16 @@ use Rattle.host_boot.specs.declared.ProbeResult.TheVariants.{Unserved, Ready, Un
 use Rattle.identify.specs.Wanted.{serial_of}
 use Rattle.identify.specs.declared.DiskInfo.{DiskInfo}
 use Rattle.identify.specs.declared.wanted.Wanted.{Wanted}
-use Rattle.port_boot.specs.States.{BacksState, HasDiskIfShown}
+use Rattle.port_boot.specs.States.{BacksState, ShownDiskIsIn}
 use Rattle.port_control.specs.Ports.{BacksFault}
 use Rattle.port_control.specs.declared.PortFault.TheVariants.{EngineStuck}
 use Rattle.port_control.specs.declared.Running as running_token
-use Rattle.request_queue.specs.Entries.{BookEntry, IsAccepted, BookIsInOrder}
-use Rattle.slots.specs.Uses.{PortSlots, use_at}
+use Rattle.request_queue.specs.BookEntries.{BookEntry, IsAccepted, BookIsInOrder}
+use Rattle.slots.specs.SlotUses.{PortSlots, use_at}
 use Rattle.slots.specs.declared.SlotUse.{SlotUse}
 use Rattle.server_history.specs.Prerequisites.{PrerequisiteLaws}
 use Rattle.server_history.specs.ErrorHandling.{IsRevalidated, HasNoUsedSlot}
-use Rattle.server_history.specs.Server.{SlotsInvariant, ServerState, InCallInvariant, MachineRelation, PortInvariant, is_served, quarantined_at, mode_at, probed_mode, mode_in, no_slots, plain_mode, slots_at, state_of, usable_slots_of, used_for, RevokedMarkInvariant}
+use Rattle.server_history.specs.ServerState.{SlotsInvariant, ServerState, InCallInvariant, MachineRelation, PortInvariant, is_served, quarantined_at, mode_at, probed_mode, mode_in, no_slots, plain_mode, slots_at, state_of, usable_slots_of, used_for, RevokedMarkInvariant}
 use Rattle.port_control.specs.declared.events.PortError.{PortError}
 use Rattle.server_history.proofs.state.PortGrounds.{left_on}
 use Rattle.server_history.proofs.recovery_turn.OtherPorts.{Passes}
@@ -63,11 +63,11 @@ pub record StandsAt (wanted : Wanted) (found : ProbeResult) (port : ℕ) (d : De
   pub behind : StillBacksProbeResult wanted found port d
   pub runs : state_of found ≡ ReadyState → EngineRuns port d
   pub shown : FoundBadDisk (state_of found) → ShowsDiskIfIn (d.port port)
-  pub own : state_of found ≡ ReadyState → HasDiskIfShown (d.port port)
+  pub own : state_of found ≡ ReadyState → ShownDiskIsIn (d.port port)
   pub halts : state_of found ≡ ReadyState → HaltIsOfTaken (d.port port)
 
 its_port : (wanted : List Wanted) (found : List ProbeResult) (port : ℕ) (d : Device) → StandsAt (wanted_of wanted port) (probe_result_of found port) port d → PortInvariant wanted found port d
-its_port wanted found port d s = record { behind = s.behind; runs = s.runs; shown = s.shown; own = s.own; halts = s.halts }
+its_port wanted found port d s = record { probe_result_is_backed = s.behind; engine_runs = s.runs; shows_disk_if_in = s.shown; has_disk_if_shown = s.own; halt_is_of_taken = s.halts }
 
 -- another port is left to the device
 other_stands : PrerequisiteLaws → (port : Port) (wanted : Wanted) (found : ProbeResult) (q : ℕ) (old new : Device) → q ≢ port.0 → IsOn old → IsDrivenBy (SparesOtherPorts port) old new → SameAdapter old new
@@ -79,14 +79,14 @@ other_stands laws port wanted found q old new other on driven same silent halts 
       let st = left.controls.st ∙ r.st in
       record {
         st = st;
-        cr = left.controls.runs r.st r.cr;
+        cr = left.controls.engine_stays_running r.st r.cr;
         fre = left.controls.fre ∙ r.fre;
         bases = left.keeps.bases ∙ r.bases;
-        saw = ap (λ n. n.link_count) left.notes ∙ r.saw;
-        recorded = laws.recovery.of_recorded port q old new other driven (λ _. r.recorded) st;
+        device_was_seen = ap (λ n. n.link_count) left.notes ∙ r.device_was_seen;
+        faults_are_recorded = laws.recovery.of_recorded port q old new other driven (λ _. r.faults_are_recorded) st;
       };
   shown = λ bad. laws.recovery.of_shown (port_at q) port old new other on driven (s.shown bad);
-  own = λ ready. laws.recovery.own_on q driven.accesses old new driven.all (s.own ready);
+  own = λ ready. laws.recovery.own_on q driven.accesses old new driven.all_are_done (s.own ready);
   halts = λ ready. halts (λ _. s.halts ready) (left.controls.st ∙ (s.runs ready).st);
 }
   where
@@ -123,35 +123,35 @@ module _ (laws : PrerequisiteLaws) (wanted : Wanted) (port : Port) (d new : Devi
   }
 
   module _ (booted : Booted) (b : RebootsPort wanted port booted d new) where
-    runs_as : (f : ProbeResult) → BootsStopped wanted port f b.asked new → state_of f ≡ ReadyState → EngineRuns port.0 new
+    runs_as : (f : ProbeResult) → BootsStopped wanted port f b.surveyed new → state_of f ≡ ReadyState → EngineRuns port.0 new
     runs_as Unserved none is = absurd none
     runs_as (Ready info) e is = record {
       st = e.ready.runs.st;
       cr = e.ready.runs.cr;
       fre = e.ready.runs.fre;
       bases = e.ready.runs.bases;
-      saw = e.ready.saw.1;
-      recorded = e.news.recorded e.ready.runs.st;
+      device_was_seen = e.ready.device_was_seen.1;
+      faults_are_recorded = e.shows_only_new_errors.faults_are_on_record e.ready.runs.st;
     }
-    runs_as (Unready state) e is = absurd (subst (λ (s : PortState). BacksState (serial_of wanted) s port.0 new) is e.ended)
+    runs_as (Unready state) e is = absurd (subst (λ (s : PortState). BacksState (serial_of wanted) s port.0 new) is e.state_is_backed)
 
-    halts_as : (f : ProbeResult) → BootsStopped wanted port f b.asked new → state_of f ≡ ReadyState → HaltIsOfTaken (new.port port.0)
+    halts_as : (f : ProbeResult) → BootsStopped wanted port f b.surveyed new → state_of f ≡ ReadyState → HaltIsOfTaken (new.port port.0)
     halts_as Unserved none is = absurd none
-    halts_as (Ready info) e is = e.halts
-    halts_as (Unready state) e is = absurd (subst (λ (s : PortState). BacksState (serial_of wanted) s port.0 new) is e.ended)
+    halts_as (Ready info) e is = e.halt_is_of_taken
+    halts_as (Unready state) e is = absurd (subst (λ (s : PortState). BacksState (serial_of wanted) s port.0 new) is e.state_is_backed)
 
     shown_as : (f : ProbeResult) → booted.found ≡ f → FoundBadDisk (state_of f) → ShowsDiskIfIn (new.port port.0)
     shown_as Unserved is bad = absurd bad
     shown_as (Ready info) is bad = absurd bad
     shown_as (Unready state) is bad = laws.recovery.again_shown wanted port booted state d new on b bad is
 
-    pub asked_on : IsOn b.asked
-    asked_on = laws.of_on port d b.asked on (driven_as (IsCapPiOrBootAccess port) (SparesOtherPorts port) d b.asked (laws.recovery.start_of port) b.asks.driven)
+    pub asked_on : IsOn b.surveyed
+    asked_on = laws.of_on port d b.surveyed on (driven_as (IsCapPiOrBootAccess port) (SparesOtherPorts port) d b.surveyed (laws.recovery.start_of port) b.surveys.is_driven)
 
-    own_as : state_of booted.found ≡ ReadyState → HasDiskIfShown (new.port port.0)
+    own_as : state_of booted.found ≡ ReadyState → ShownDiskIsIn (new.port port.0)
     own_as is =
-        let sees = boot_sees laws port wanted booted.found b.asked new asked_on b.boots (subst ShowsDisk (sym is) tt) in
-        laws.recovery.own_on port.0 sees.late.accesses sees.seen new sees.late.all sees.own
+        let sees = boot_sees laws port wanted booted.found b.surveyed new asked_on b.boots (subst ShowsDisk (sym is) tt) in
+        laws.recovery.own_on port.0 sees.late.accesses sees.seen new sees.late.all_are_done sees.own
 
     pub boots_then : StandsAt wanted booted.found port.0 new
     boots_then = record {
@@ -184,7 +184,7 @@ is_listed ports port served = ⊎_elim
     (cases_lt port (length ports))
 
 -- the server, with this device and book, and with the port found so, which takes commands so and uses these slots
-abbrev pub with_found : Port → Device → Table → ProbeResult → List (Option DiskInfo) → QueueMode → PortSlots → List (List Lending) → List BookEntry → ServerState → ServerState
+abbrev pub with_found : Port → Device → FrameOwnership → ProbeResult → List (Option DiskInfo) → QueueMode → PortSlots → List (List Lending) → List BookEntry → ServerState → ServerState
 with_found port device table found remembered mode its kept book s = record s {
   device = device;
   table = table;
@@ -197,14 +197,14 @@ with_found port device table found remembered mode its kept book s = record s {
 }
 
 -- What of a server has to hold then: each request was one of it before, and is of a ready port.
-pub record IsBookLeft (port : Port) (found : ProbeResult) (table : Table) (book : List BookEntry) (s : ServerState) : Type 0 where
+pub record IsBookLeft (port : Port) (found : ProbeResult) (table : FrameOwnership) (book : List BookEntry) (s : ServerState) : Type 0 where
   pub owners : table.owners ≡ s.table.owners
   pub accepted : All (IsAccepted table) book
   pub ordered : BookIsInOrder book
   pub from : (e : BookEntry) → Contains book e → WasIn s.book e
   pub ready : (e : BookEntry) → Contains book e → e.entry.port.0 ≡ port.0 → state_of found ≡ ReadyState
 
-module _ (laws : PrerequisiteLaws) (port : Port) (s : ServerState) (k : InCallInvariant s) (low : port.0 < 4) (device : Device) (slots : DriverSlots) (whole : Passes s port slots device) (table : Table)
+module _ (laws : PrerequisiteLaws) (port : Port) (s : ServerState) (k : InCallInvariant s) (low : port.0 < 4) (device : Device) (slots : DriverSlots) (whole : Passes s port slots device) (table : FrameOwnership)
     (found : ProbeResult) (remembered : List (Option DiskInfo)) (mode : QueueMode) (its : PortSlots) (kept : List (List Lending)) (book : List BookEntry)
     (served : is_served (probe_result_of s.ports port.0) ≡ true) (stands : StandsAt (wanted_of s.wanted port.0) found port.0 device) (mode_is : mode ≡ probed_mode device.cap found) (unused : HasNoUsedSlot mode its)
     (left : IsBookLeft port found table book s) where
@@ -227,7 +227,7 @@ module _ (laws : PrerequisiteLaws) (port : Port) (s : ServerState) (k : InCallIn
   mode_other q other = get_or-set_other s.modes port.0 q mode plain_mode other
 
   slots_here : slots_at then_is.slots port.0 ≡ its
-  slots_here = get_or-set_same s.slots port.0 its no_slots (let four = k.four in omega (arith, four, low))
+  slots_here = get_or-set_same s.slots port.0 its no_slots (let four = k.four_slots in omega (arith, four, low))
 
   slots_other : (q : ℕ) → q ≢ port.0 → slots_at then_is.slots q ≡ slots_at s.slots q
   slots_other q other = get_or-set_other s.slots port.0 q its no_slots other
@@ -245,16 +245,16 @@ module _ (laws : PrerequisiteLaws) (port : Port) (s : ServerState) (k : InCallIn
       (λ (same : q ≡ port.0).
       subst (λ (p : ℕ). StandsAt (wanted_of s.wanted p) (probe_result_of then_is.ports p) p device) (sym same) (subst (λ (f : ProbeResult). StandsAt (wanted_of s.wanted port.0) f port.0 device) (sym found_here) stands))
       (λ (other : q ≢ port.0).
-      let was = k.behind q small in
+      let was = k.port_invariant q small in
       subst (λ (f : ProbeResult). StandsAt (wanted_of s.wanted q) f q device) (sym (found_other q other))
-      (other_stands laws port (wanted_of s.wanted q) (probe_result_of s.ports q) q s.device device other k.on whole.driven alike (λ alive. whole.silent q Identify refl other alive) (whole.halts q other)
-      (record { behind = was.behind; runs = was.runs; shown = was.shown; own = was.own; halts = was.halts })))
+      (other_stands laws port (wanted_of s.wanted q) (probe_result_of s.ports q) q s.device device other k.adapter_is_on whole.driven alike (λ alive. whole.silent q Identify refl other alive) (whole.halts q other)
+      (record { behind = was.probe_result_is_backed; runs = was.engine_runs; shown = was.shows_disk_if_in; own = was.has_disk_if_shown; halts = was.halt_is_of_taken })))
       (cases_eq q port.0))
 
   there_is : (q : ℕ) → is_served (probe_result_of then_is.ports q) ≡ true → HasPort device q
   there_is q is = still_there q s.device device alike (⊎_elim
-      (λ (same : q ≡ port.0). subst (HasPort s.device) (sym same) (k.there port.0 served))
-      (λ (other : q ≢ port.0). k.there q (ap is_served (sym (found_other q other)) ∙ is))
+      (λ (same : q ≡ port.0). subst (HasPort s.device) (sym same) (k.served_ports_exist port.0 served))
+      (λ (other : q ≢ port.0). k.served_ports_exist q (ap is_served (sym (found_other q other)) ∙ is))
       (cases_eq q port.0))
 
   modes_are : (q : ℕ) → q < 4 → mode_at then_is.modes q ≡ probed_mode device.cap (probe_result_of then_is.ports q)
@@ -291,16 +291,16 @@ module _ (laws : PrerequisiteLaws) (port : Port) (s : ServerState) (k : InCallIn
       (λ (same : e.entry.port.0 ≡ port.0). ap (λ (q : ℕ). state_of (probe_result_of then_is.ports q)) same ∙ ap state_of found_here ∙ left.ready e here same)
       (λ (other : e.entry.port.0 ≢ port.0).
       ap state_of (found_other e.entry.port.0 other) ∙ ap (λ (p : Port). state_of (probe_result_of s.ports p.0)) w.port
-      ∙ All-contains (λ (x : BookEntry). state_of (probe_result_of s.ports x.entry.port.0) ≡ ReadyState) s.book w.was k.ready w.there)
+      ∙ All-contains (λ (x : BookEntry). state_of (probe_result_of s.ports x.entry.port.0) ≡ ReadyState) s.book w.was k.requests_are_of_ready_ports w.there)
       (cases_eq e.entry.port.0 port.0)
 
   marked_one : (e : BookEntry) → Contains book e → RevokedMarkInvariant s.grants e
-  marked_one e here = marked_from s.grants s.book k.marked e (left.from e here)
+  marked_one e here = marked_from s.grants s.book k.revoked_marks_agree e (left.from e here)
 
-  handed_one : (e : BookEntry) → Contains book e → e.entry.id.0 ≤ s.last
+  handed_one : (e : BookEntry) → Contains book e → e.entry.id.0 ≤ s.last_id
   handed_one e here =
       let w = left.from e here in
-      subst (λ (id : RequestId). id.0 ≤ s.last) (sym w.id) (All-contains (λ (x : BookEntry). x.entry.id.0 ≤ s.last) s.book w.was k.handed_out w.there)
+      subst (λ (id : RequestId). id.0 ≤ s.last_id) (sym w.id) (All-contains (λ (x : BookEntry). x.entry.id.0 ≤ s.last_id) s.book w.was k.ids_were_handed_out w.there)
 
   -- what holds of each that is left
   each_left : (P : BookEntry → Type 0) → ((e : BookEntry) → Contains book e → P e) → All P book
@@ -311,39 +311,39 @@ module _ (laws : PrerequisiteLaws) (port : Port) (s : ServerState) (k : InCallIn
   kinds_are q slot used e is here same =
       let u = used_then q.0 slot used is in
       let w = left.from e here in
-      k.kinds q slot used w.was u.1 w.there (sym w.id ∙ same) ∙ (λ i. not (is_plain (sym (mode_other q.0 u.0) i) (sym w.op i)))
+      k.slots_queue_as_asked q slot used w.was u.1 w.there (sym w.id ∙ same) ∙ (λ i. not (is_plain (sym (mode_other q.0 u.0) i) (sym w.op i)))
 
   -- ---- the whole
 
   pub replaced_kept : length remembered ≡ 4 → length kept ≡ 4 → ((q : ℕ) → length (quarantined_at kept q) ≤ 32) → (machine : Machine) → IsReachable machine → MachineRelation then_is machine → InCallInvariant then_is
   replaced_kept four_remembered four_kept few_kept machine reached is = record {
-    on = whole.on;
-    room = let room = k.room in let size = alike.size in omega (arith, room, size);
-    there = there_is;
-    behind = ports_stand;
-    four = length-set s.slots port.0 its ∙ k.four;
+    adapter_is_on = whole.on;
+    driver_memory_fits = let room = k.driver_memory_fits in let size = alike.size in omega (arith, room, size);
+    served_ports_exist = there_is;
+    port_invariant = ports_stand;
+    four_slots = length-set s.slots port.0 its ∙ k.four_slots;
     four_modes = length-set s.modes port.0 mode ∙ k.four_modes;
     four_remembered = four_remembered;
     four_kept = four_kept;
     few_kept = few_kept;
     modes = modes_are;
     slots = slots_are;
-    kinds = kinds_are;
-    commands = λ q slot used is. let u = used_then q slot used is in whole.commands q slot used u.0 u.1;
-    alone = λ q slot used is plain.
+    slots_queue_as_asked = kinds_are;
+    slots_store_commands = λ q slot used is. let u = used_then q slot used is in whole.commands q slot used u.0 u.1;
+    plain_stands_alone = λ q slot used is plain.
         let u = used_then q slot used is in
-        let was = k.alone q slot used u.1 plain in
+        let was = k.plain_stands_alone q slot used u.1 plain in
         (was.0, λ other ne. ap (λ (x : PortSlots). use_at x other) (slots_other q u.0) ∙ was.1 other ne);
-    rows = k.rows;
-    owners = λ frame client own.
-        let o = k.owners frame client (ap (λ (list : List (Option ClientId)). get_or list frame.0 None) (sym left.owners) ∙ own) in
+    rows_are_valid = k.rows_are_valid;
+    owned_frames_are_clients = λ frame client own.
+        let o = k.owned_frames_are_clients frame client (ap (λ (list : List (Option ClientId)). get_or list frame.0 None) (sym left.owners) ∙ own) in
         (o.0, subst (λ (n : ℕ). 4096 * frame.0 + 4096 ≤ n) (sym alike.size) o.1);
-    accepted = left.accepted;
-    ordered = left.ordered;
-    marked = each_left (RevokedMarkInvariant s.grants) marked_one;
-    handed_out = each_left (λ (e : BookEntry). e.entry.id.0 ≤ s.last) handed_one;
-    ready = each_left (λ (e : BookEntry). state_of (probe_result_of then_is.ports e.entry.port.0) ≡ ReadyState) ready_one;
+    requests_are_accepted = left.accepted;
+    book_is_in_order = left.ordered;
+    revoked_marks_agree = each_left (RevokedMarkInvariant s.grants) marked_one;
+    ids_were_handed_out = each_left (λ (e : BookEntry). e.entry.id.0 ≤ s.last_id) handed_one;
+    requests_are_of_ready_ports = each_left (λ (e : BookEntry). state_of (probe_result_of then_is.ports e.entry.port.0) ≡ ReadyState) ready_one;
     machine = machine;
     reached = reached;
-    stands = is;
+    machine_relation = is;
   }

@@ -4,17 +4,17 @@ use Rattle.ata_types.specs.declared.Port.{Port}
 use Rattle.ata_types.specs.declared.PortState.TheVariants.{Ready as ReadyState}
 use Rattle.ata_types.specs.declared.request.Reply.{Reply}
 use Rattle.adapter.specs.declared.access.DeviceStep.{DeviceStep}
-use Rattle.refinement.specs.Driven.{AnyUse, IsSimulated}
+use Rattle.refinement.specs.Fragments.{AnyUse, IsSimulated}
 use Rattle.block_machine.specs.Events.{AreStepsOfCall, UnpluggedLostDisk, Tick}
 use Rattle.block_machine.specs.Histories.{IsReachable}
 use Rattle.block_machine.specs.Ports.{SameDisk}
 use Rattle.block_machine.specs.State.{Machine}
 use Rattle.host_boot.specs.TakeOver.{probe_result_of}
-use Rattle.port_control.specs.Looks.{IsLooking}
+use Rattle.port_control.specs.PortEvents.{IsEventAccess}
 use Rattle.request_queue.specs.declared.disposition.Revalidation.TheVariants.{DiskLost}
 use Rattle.server_history.specs.Prerequisites.{PrerequisiteLaws}
 use Rattle.server_history.specs.ErrorHandling.{HasResolved, IsRevalidation, HandlesPortError}
-use Rattle.server_history.specs.Server.{InCallInvariant, MachineRelation, ServerState, ports_of, state_of}
+use Rattle.server_history.specs.ServerState.{InCallInvariant, MachineRelation, ServerState, ports_of, state_of}
 use Rattle.server_history.specs.Turns.{InRestart, MeetsTurnDuty, RestartsPort}
 use Rattle.port_control.specs.declared.events.PortError.TheVariants.{TaskFileError, TimedOut, LinkChanged}
 use Rattle.server_history.proofs.recovery_turn.MendedPort.{dead_found, disk_same, interrupted, ready_info}
@@ -27,7 +27,7 @@ use Rattle.server_history.proofs.recovery_turn.RebootedPort.{restarts}
 use Rattle.server_history.proofs.recovery_turn.TurnParts.{evidence_by, faults_of}
 
 module _ (laws : PrerequisiteLaws) (port : Port) (replies : List Reply) (old new : ServerState) (k : InCallInvariant old) (ready : state_of (probe_result_of old.ports port.0) ≡ ReadyState) (r : HandlesPortError port replies old new)
-    (looks : IsSimulated (IsLooking port) AnyUse old.device r.settled.error_handled.seen) (kept : InCallInvariant r.mid) (evident : IsEvident port replies old new r) (m : Machine) (reached : IsReachable m) (is : MachineRelation old m)
+    (looks : IsSimulated (IsEventAccess port) AnyUse old.device r.settled.error_handled.seen) (kept : InCallInvariant r.mid) (evident : IsEvident port replies old new r) (m : Machine) (reached : IsReachable m) (is : MachineRelation old m)
     (d : DecidesTurn port replies old new r (evidence_by r.settled) m) (hung : r.settled.error_handled.port_error ≡ TimedOut) where
   abbrev a : HasResolved port r.later old r.mid
   a = r.settled
@@ -45,7 +45,7 @@ module _ (laws : PrerequisiteLaws) (port : Port) (replies : List Reply) (old new
   another : UnpluggedLostDisk d.steps (ports_of old) (ports_of new)
   another e here =
       let why = d.unplugged e here in
-      let told : IsRevalidation a.error_handled.port_error a.was a.found DiskLost = subst (IsRevalidation a.error_handled.port_error a.was a.found) why.0 a.expects in
+      let told : IsRevalidation a.error_handled.port_error a.disk_before a.found DiskLost = subst (IsRevalidation a.error_handled.port_error a.disk_before a.found) why.0 a.is_revalidation in
       let own = ap (ports_of new).state (sym why.1) in (
         λ dead. told.0 (dead_found laws port replies old new k ready r looks kept (own ∙ dead)),
         λ is_ready same.
@@ -57,11 +57,11 @@ module _ (laws : PrerequisiteLaws) (port : Port) (replies : List Reply) (old new
   restarted = record {
     finds = found_by_masks laws port replies old new k ready r looks kept evident m reached is d;
     boots = restarts laws port replies old new k ready r looks kept evident unfailed unlost;
-    ended = heeding laws port replies old new k ready r looks kept evident m reached is d;
-    interrupts = interrupted laws port replies old new k ready r looks kept;
-    anew = anew laws port replies old new k ready r looks kept evident m reached is d;
-    another = another;
-    disk = evident.had m is d.steps d.backed;
+    answers_ended = heeding laws port replies old new k ready r looks kept evident m reached is d;
+    is_interrupted = interrupted laws port replies old new k ready r looks kept;
+    none_stays_issued = anew laws port replies old new k ready r looks kept evident m reached is d;
+    unplugged_lost_its_disk = another;
+    shown_disk_was_in_or_came = evident.had m is d.steps d.backed;
   }
 
   pub owes : MeetsTurnDuty InRestart port evident.accesses old new m (evidence_by a) d.steps

@@ -7,18 +7,18 @@ use Rattle.std.proofs.lemmas.List.Elements.{All-contains, All-contains_itself, A
 use Rattle.ata_types.specs.declared.Port.{Port}
 use Rattle.ata_types.specs.declared.request.Reply.{Reply}
 use Rattle.ata_types.specs.declared.request.RequestId.{RequestId}
-use Rattle.block_machine.specs.Due.{mark_waiting, of_port, without_request, with_waiting}
+use Rattle.block_machine.specs.DueRequests.{mark_waiting, requests_of_port, without_request, with_waiting}
 use Rattle.block_machine.specs.declared.due.Unanswered.{Unanswered}
 use Rattle.server_history.proofs.state.ListMembers.{map_in}
 use Rattle.host_boot.specs.declared.ProbeResult.TheVariants.{Unserved}
-use Rattle.request_queue.specs.Entries.{BookEntry, BookIsInOrder, asks, asks_of, due_ids, is_of_port}
+use Rattle.request_queue.specs.BookEntries.{BookEntry, BookIsInOrder, as_unanswered, unanswered_of, due_ids, is_of_port}
 use Rattle.request_queue.specs.Dispositions.{BookAndLoans, AreResolved, IsResolved, disposition_of}
 use Rattle.request_queue.specs.declared.PendingRequest.{PendingRequest}
 use Rattle.request_queue.specs.declared.disposition.Disposition.{Disposition}
 use Rattle.request_queue.specs.declared.disposition.Disposition.TheVariants.{Complete, Requeue, Wait}
 use Rattle.server_history.specs.Prerequisites.{PrerequisiteLaws}
 use Rattle.server_history.specs.ErrorHandling.{IsErrorHandled, HasResolved, HandlesPortError, book_and_loans_of, requests_of}
-use Rattle.server_history.specs.Server.{ServerState, InCallInvariant, mode_in, no_slots, plain_mode, slots_at}
+use Rattle.server_history.specs.ServerState.{ServerState, InCallInvariant, mode_in, no_slots, plain_mode, slots_at}
 use Rattle.server_history.specs.Turns.{LeavesOthers}
 use Rattle.server_history.proofs.plain_calls.IssueRounds.{each_apart, each_settings, each_slots}
 use Rattle.server_history.proofs.healthy_turn.AnswersAndIssues.{answers_apart, answers_order, answers_settings, answers_slots}
@@ -48,40 +48,40 @@ module _ (q : Port) (id : RequestId) where
   same_waiting : (r : Unanswered) → r.id ≢ id → mark_waiting id r ≡ r
   same_waiting r other = cond-false (r.id.0 == id.0) (record r { issued = false }) r (ne_eqb r.id.0 id.0 (λ is. other (ap (λ (n : ℕ). record { 0 = n }) is)))
 
-  waiting_apart : (list : List Unanswered) → IsNoneOf q id list → of_port q (with_waiting id list) ≡ of_port q list
+  waiting_apart : (list : List Unanswered) → IsNoneOf q id list → requests_of_port q (with_waiting id list) ≡ requests_of_port q list
   waiting_apart [] none = refl
   waiting_apart (r ∷ list) none =
-      let more : of_port q (with_waiting id list) ≡ of_port q list = waiting_apart list (All-tail (λ r. r.port ≡ q → r.id ≢ id) r list none) in
+      let more : requests_of_port q (with_waiting id list) ≡ requests_of_port q list = waiting_apart list (All-tail (λ r. r.port ≡ q → r.id ≢ id) r list none) in
       ⊎_elim
       (λ (here : its r ≡ true).
       let same = same_waiting r (All-head (λ r. r.port ≡ q → r.id ≢ id) r list none (passing q r here)) in
       ap (λ (x : Unanswered). filter its (x ∷ with_waiting id list)) same
-      ∙ cond-true (its r) (r ∷ of_port q (with_waiting id list)) (of_port q (with_waiting id list)) here
-      ∙ ap (λ (rest : List Unanswered). r ∷ rest) more ∙ sym (cond-true (its r) (r ∷ of_port q list) (of_port q list) here))
+      ∙ cond-true (its r) (r ∷ requests_of_port q (with_waiting id list)) (requests_of_port q (with_waiting id list)) here
+      ∙ ap (λ (rest : List Unanswered). r ∷ rest) more ∙ sym (cond-true (its r) (r ∷ requests_of_port q list) (requests_of_port q list) here))
       (λ (other : its r ≡ false).
-      cond-false (its (mark_waiting id r)) (mark_waiting id r ∷ of_port q (with_waiting id list)) (of_port q (with_waiting id list)) (ap (λ (p : Port). p.0 == q.0) (still_of r).0 ∙ other)
-      ∙ more ∙ sym (cond-false (its r) (r ∷ of_port q list) (of_port q list) other))
+      cond-false (its (mark_waiting id r)) (mark_waiting id r ∷ requests_of_port q (with_waiting id list)) (requests_of_port q (with_waiting id list)) (ap (λ (p : Port). p.0 == q.0) (still_of r).0 ∙ other)
+      ∙ more ∙ sym (cond-false (its r) (r ∷ requests_of_port q list) (requests_of_port q list) other))
       (cases_Bool (its r))
 
   abbrev stays : Unanswered → Bool
   stays r = not (r.id.0 == id.0)
 
-  none_apart : (list : List Unanswered) → IsNoneOf q id list → of_port q (without_request id list) ≡ of_port q list
+  none_apart : (list : List Unanswered) → IsNoneOf q id list → requests_of_port q (without_request id list) ≡ requests_of_port q list
   none_apart [] none = refl
   none_apart (r ∷ list) none =
-      let more : of_port q (without_request id list) ≡ of_port q list = none_apart list (All-tail (λ r. r.port ≡ q → r.id ≢ id) r list none) in
+      let more : requests_of_port q (without_request id list) ≡ requests_of_port q list = none_apart list (All-tail (λ r. r.port ≡ q → r.id ≢ id) r list none) in
       ⊎_elim
       (λ (here : its r ≡ true).
       let differs = All-head (λ r. r.port ≡ q → r.id ≢ id) r list none (passing q r here) in
       ap (filter its) (cond-true (stays r) (r ∷ without_request id list) (without_request id list) (ap not (ne_eqb r.id.0 id.0 (λ is. differs (ap (λ (n : ℕ). record { 0 = n }) is)))))
-      ∙ cond-true (its r) (r ∷ of_port q (without_request id list)) (of_port q (without_request id list)) here
-      ∙ ap (λ (rest : List Unanswered). r ∷ rest) more ∙ sym (cond-true (its r) (r ∷ of_port q list) (of_port q list) here))
+      ∙ cond-true (its r) (r ∷ requests_of_port q (without_request id list)) (requests_of_port q (without_request id list)) here
+      ∙ ap (λ (rest : List Unanswered). r ∷ rest) more ∙ sym (cond-true (its r) (r ∷ requests_of_port q list) (requests_of_port q list) here))
       (λ (other : its r ≡ false). ⊎_elim
       (λ (left : stays r ≡ true).
       ap (filter its) (cond-true (stays r) (r ∷ without_request id list) (without_request id list) left)
-      ∙ cond-false (its r) (r ∷ of_port q (without_request id list)) (of_port q (without_request id list)) other ∙ more ∙ sym (cond-false (its r) (r ∷ of_port q list) (of_port q list) other))
+      ∙ cond-false (its r) (r ∷ requests_of_port q (without_request id list)) (requests_of_port q (without_request id list)) other ∙ more ∙ sym (cond-false (its r) (r ∷ requests_of_port q list) (requests_of_port q list) other))
       (λ (gone : stays r ≡ false).
-      ap (filter its) (cond-false (stays r) (r ∷ without_request id list) (without_request id list) gone) ∙ more ∙ sym (cond-false (its r) (r ∷ of_port q list) (of_port q list) other))
+      ap (filter its) (cond-false (stays r) (r ∷ without_request id list) (without_request id list) gone) ∙ more ∙ sym (cond-false (its r) (r ∷ requests_of_port q list) (requests_of_port q list) other))
       (cases_Bool (stays r)))
       (cases_Bool (its r))
 
@@ -97,39 +97,39 @@ module _ (q : Port) (id : RequestId) where
 
 module _ (laws : PrerequisiteLaws) (q : Port) where
   -- one request met its fate
-  one_apart : (e : BookEntry) (disposition : Disposition) (replies : List Reply) (old new : BookAndLoans) → IsResolved e disposition replies old new → IsNoneOf q e.entry.id (asks_of old.book)
-      → (of_port q (asks_of new.book) ≡ of_port q (asks_of old.book)) × ((id : RequestId) → IsNoneOf q id (asks_of old.book) → IsNoneOf q id (asks_of new.book))
+  one_apart : (e : BookEntry) (disposition : Disposition) (replies : List Reply) (old new : BookAndLoans) → IsResolved e disposition replies old new → IsNoneOf q e.entry.id (unanswered_of old.book)
+      → (requests_of_port q (unanswered_of new.book) ≡ requests_of_port q (unanswered_of old.book)) × ((id : RequestId) → IsNoneOf q id (unanswered_of old.book) → IsNoneOf q id (unanswered_of new.book))
   one_apart e Wait replies old new meets none =
-      let same : asks_of new.book ≡ asks_of old.book = ap (λ (h : BookAndLoans). asks_of h.book) meets.1 in
-      (ap (of_port q) same, λ id is. subst (IsNoneOf q id) (sym same) is)
+      let same : unanswered_of new.book ≡ unanswered_of old.book = ap (λ (h : BookAndLoans). unanswered_of h.book) meets.1 in
+      (ap (requests_of_port q) same, λ id is. subst (IsNoneOf q id) (sym same) is)
   one_apart e Requeue replies old new meets none =
-      let same : asks_of new.book ≡ with_waiting e.entry.id (asks_of old.book) = ap (λ (h : BookAndLoans). asks_of h.book) meets.1 ∙ laws.asks_requeued old.book e.entry.id in
-      (ap (of_port q) same ∙ waiting_apart q e.entry.id (asks_of old.book) none, λ id is. subst (IsNoneOf q id) (sym same) (waiting_none q e.entry.id id (asks_of old.book) is))
+      let same : unanswered_of new.book ≡ with_waiting e.entry.id (unanswered_of old.book) = ap (λ (h : BookAndLoans). unanswered_of h.book) meets.1 ∙ laws.asks_requeued old.book e.entry.id in
+      (ap (requests_of_port q) same ∙ waiting_apart q e.entry.id (unanswered_of old.book) none, λ id is. subst (IsNoneOf q id) (sym same) (waiting_none q e.entry.id id (unanswered_of old.book) is))
   one_apart e (Complete outcome) replies old new meets none =
-      let same : asks_of new.book ≡ without_request e.entry.id (asks_of old.book) = ap asks_of meets.1 ∙ laws.asks_answered old.book e.entry.id in
-      (ap (of_port q) same ∙ none_apart q e.entry.id (asks_of old.book) none, λ id is. subst (IsNoneOf q id) (sym same) (none_none q e.entry.id id (asks_of old.book) is))
+      let same : unanswered_of new.book ≡ without_request e.entry.id (unanswered_of old.book) = ap unanswered_of meets.1 ∙ laws.asks_answered old.book e.entry.id in
+      (ap (requests_of_port q) same ∙ none_apart q e.entry.id (unanswered_of old.book) none, λ id is. subst (IsNoneOf q id) (sym same) (none_none q e.entry.id id (unanswered_of old.book) is))
 
   -- and so did these
-  pub fates_apart : (disposition : PendingRequest → Disposition) (requests : List BookEntry) (replies : List Reply) (old new : BookAndLoans) → AreResolved disposition requests replies old new → All (λ (e : BookEntry). IsNoneOf q e.entry.id (asks_of old.book)) requests
-      → of_port q (asks_of new.book) ≡ of_port q (asks_of old.book)
-  fates_apart disposition [] replies old new meets none = ap (λ (h : BookAndLoans). of_port q (asks_of h.book)) meets.1
+  pub fates_apart : (disposition : PendingRequest → Disposition) (requests : List BookEntry) (replies : List Reply) (old new : BookAndLoans) → AreResolved disposition requests replies old new → All (λ (e : BookEntry). IsNoneOf q e.entry.id (unanswered_of old.book)) requests
+      → requests_of_port q (unanswered_of new.book) ≡ requests_of_port q (unanswered_of old.book)
+  fates_apart disposition [] replies old new meets none = ap (λ (h : BookAndLoans). requests_of_port q (unanswered_of h.book)) meets.1
   fates_apart disposition (e ∷ requests) replies old new (mid, its, later, split, one, more) none =
-      let x = one_apart e (disposition e.entry) its old mid one (All-head (λ (e : BookEntry). IsNoneOf q e.entry.id (asks_of old.book)) e requests none) in
+      let x = one_apart e (disposition e.entry) its old mid one (All-head (λ (e : BookEntry). IsNoneOf q e.entry.id (unanswered_of old.book)) e requests none) in
       fates_apart disposition requests later mid new more
-      (All-weaker (λ (e : BookEntry). IsNoneOf q e.entry.id (asks_of old.book)) (λ (e : BookEntry). IsNoneOf q e.entry.id (asks_of mid.book)) (λ e is. x.1 e.entry.id is) requests
-      (All-tail (λ (e : BookEntry). IsNoneOf q e.entry.id (asks_of old.book)) e requests none))
+      (All-weaker (λ (e : BookEntry). IsNoneOf q e.entry.id (unanswered_of old.book)) (λ (e : BookEntry). IsNoneOf q e.entry.id (unanswered_of mid.book)) (λ e is. x.1 e.entry.id is) requests
+      (All-tail (λ (e : BookEntry). IsNoneOf q e.entry.id (unanswered_of old.book)) e requests none))
       ∙ x.0
 
   -- no request of one port has the id of one of another
-  pub none_of_one : (port : Port) (book : List BookEntry) → q ≢ port → BookIsInOrder book → (e : BookEntry) → Contains book e × (e.entry.port ≡ port) → IsNoneOf q e.entry.id (asks_of book)
-  none_of_one port book ne order e its = All-weaker (Contains (asks_of book)) (λ (r : Unanswered). r.port ≡ q → r.id ≢ e.entry.id) (λ r there is same.
-      let y = map_in (λ (x : BookEntry). asks x.entry) book r there in
+  pub none_of_one : (port : Port) (book : List BookEntry) → q ≢ port → BookIsInOrder book → (e : BookEntry) → Contains book e × (e.entry.port ≡ port) → IsNoneOf q e.entry.id (unanswered_of book)
+  none_of_one port book ne order e its = All-weaker (Contains (unanswered_of book)) (λ (r : Unanswered). r.port ≡ q → r.id ≢ e.entry.id) (λ r there is same.
+      let y = map_in (λ (x : BookEntry). as_unanswered x.entry) book r there in
       let one : y.0 ≡ e = laws.one book y.0 e order y.1 its.0 (sym (ap (λ (u : Unanswered). u.id) y.2) ∙ same) in
-      ne (sym is ∙ ap (λ (u : Unanswered). u.port) y.2 ∙ ap (λ (x : BookEntry). x.entry.port) one ∙ its.1)) (asks_of book) (All-contains_itself (asks_of book))
+      ne (sym is ∙ ap (λ (u : Unanswered). u.port) y.2 ∙ ap (λ (x : BookEntry). x.entry.port) one ∙ its.1)) (unanswered_of book) (All-contains_itself (unanswered_of book))
 
-  pub none_of_port : (port : Port) (book : List BookEntry) → q ≢ port → BookIsInOrder book → All (λ (e : BookEntry). IsNoneOf q e.entry.id (asks_of book)) (requests_of port book)
+  pub none_of_port : (port : Port) (book : List BookEntry) → q ≢ port → BookIsInOrder book → All (λ (e : BookEntry). IsNoneOf q e.entry.id (unanswered_of book)) (requests_of port book)
   none_of_port port book ne order =
-      All-weaker (Contains (requests_of port book)) (λ (e : BookEntry). IsNoneOf q e.entry.id (asks_of book)) (λ e here. none_of_one port book ne order e (booked e here, its_port e here)) (requests_of port book)
+      All-weaker (Contains (requests_of port book)) (λ (e : BookEntry). IsNoneOf q e.entry.id (unanswered_of book)) (λ e here. none_of_one port book ne order e (booked e here, its_port e here)) (requests_of port book)
       (All-contains_itself (requests_of port book))
     where
       its_port : (e : BookEntry) → Contains (requests_of port book) e → e.entry.port ≡ port
@@ -151,11 +151,11 @@ module _ (laws : PrerequisiteLaws) (port : Port) (replies : List Reply) (old new
   from = record old { device = x.found }
 
   abbrev ids : List RequestId
-  ids = due_ids (mode_in r.mid port) port (asks_of r.mid.book)
+  ids = due_ids (mode_in r.mid port) port (unanswered_of r.mid.book)
 
   -- but for device, loans, slots and book, the server was as before while requests were answered that were done
   answered_as : a.mid ≡ record from { table = a.mid.table; slots = a.mid.slots; book = a.mid.book }
-  answered_as = answers_settings laws port x.done x.requests from a.mid x.each
+  answered_as = answers_settings laws port x.done x.requests from a.mid x.answers_each
 
   issued_as : new ≡ record r.mid { device = new.device; slots = new.slots; book = new.book }
   issued_as = each_settings laws port ids r.mid new r.issued
@@ -166,17 +166,17 @@ module _ (laws : PrerequisiteLaws) (port : Port) (replies : List Reply) (old new
 
   pub leaves_others : LeavesOthers port old new
   leaves_others = record {
-    grants = ap (λ (n : ServerState). n.grants) issued_as ∙ ap (λ (n : ServerState). n.grants) a.server ∙ ap (λ (n : ServerState). n.grants) answered_as;
-    wanted = ap (λ (n : ServerState). n.wanted) issued_as ∙ ap (λ (n : ServerState). n.wanted) a.server ∙ ap (λ (n : ServerState). n.wanted) answered_as;
-    last = ap (λ (n : ServerState). n.last) issued_as ∙ ap (λ (n : ServerState). n.last) a.server ∙ ap (λ (n : ServerState). n.last) answered_as;
-    found = other_of (λ (n : ServerState). n.ports) Unserved a.found (ap (λ (n : ServerState). n.ports) a.server) (ap (λ (n : ServerState). n.ports) issued_as) (ap (λ (n : ServerState). n.ports) answered_as);
-    remembered = other_of (λ (n : ServerState). n.remembered) None (Some a.was) (ap (λ (n : ServerState). n.remembered) a.server) (ap (λ (n : ServerState). n.remembered) issued_as) (ap (λ (n : ServerState). n.remembered) answered_as);
-    modes = other_of (λ (n : ServerState). n.modes) plain_mode a.mode (ap (λ (n : ServerState). n.modes) a.server) (ap (λ (n : ServerState). n.modes) issued_as) (ap (λ (n : ServerState). n.modes) answered_as);
-    slots = λ q ne. each_slots laws port ids r.mid new r.issued q ne ∙ ap (λ (n : ServerState). slots_at n.slots q) a.server ∙ get_or-set_other a.mid.slots port.0 q a.slots no_slots ne
-        ∙ answers_slots laws port x.done x.requests from a.mid x.each q ne;
+    grants = ap (λ (n : ServerState). n.grants) issued_as ∙ ap (λ (n : ServerState). n.grants) a.server_is ∙ ap (λ (n : ServerState). n.grants) answered_as;
+    wanted = ap (λ (n : ServerState). n.wanted) issued_as ∙ ap (λ (n : ServerState). n.wanted) a.server_is ∙ ap (λ (n : ServerState). n.wanted) answered_as;
+    last_id = ap (λ (n : ServerState). n.last_id) issued_as ∙ ap (λ (n : ServerState). n.last_id) a.server_is ∙ ap (λ (n : ServerState). n.last_id) answered_as;
+    found = other_of (λ (n : ServerState). n.ports) Unserved a.found (ap (λ (n : ServerState). n.ports) a.server_is) (ap (λ (n : ServerState). n.ports) issued_as) (ap (λ (n : ServerState). n.ports) answered_as);
+    remembered = other_of (λ (n : ServerState). n.remembered) None (Some a.disk_before) (ap (λ (n : ServerState). n.remembered) a.server_is) (ap (λ (n : ServerState). n.remembered) issued_as) (ap (λ (n : ServerState). n.remembered) answered_as);
+    modes = other_of (λ (n : ServerState). n.modes) plain_mode a.mode (ap (λ (n : ServerState). n.modes) a.server_is) (ap (λ (n : ServerState). n.modes) issued_as) (ap (λ (n : ServerState). n.modes) answered_as);
+    slots = λ q ne. each_slots laws port ids r.mid new r.issued q ne ∙ ap (λ (n : ServerState). slots_at n.slots q) a.server_is ∙ get_or-set_other a.mid.slots port.0 q a.slots no_slots ne
+        ∙ answers_slots laws port x.done x.requests from a.mid x.answers_each q ne;
     book = λ q ne.
-        each_apart laws port ids r.mid new kept.ordered r.issued q ne
-        ∙ ap (λ (n : ServerState). of_port q (asks_of n.book)) a.server
-        ∙ fates_apart laws q (disposition_of a.failed a.revalidation) (requests_of port a.mid.book) r.later (book_and_loans_of port a.mid) a.now a.meets (none_of_port laws q port a.mid.book ne (answers_order laws port x.done x.requests from a.mid k.ordered x.each))
-        ∙ answers_apart laws port x.done x.requests from a.mid k.ordered x.each q ne;
+        each_apart laws port ids r.mid new kept.book_is_in_order r.issued q ne
+        ∙ ap (λ (n : ServerState). requests_of_port q (unanswered_of n.book)) a.server_is
+        ∙ fates_apart laws q (disposition_of a.failed a.revalidation) (requests_of port a.mid.book) r.later (book_and_loans_of port a.mid) a.book_and_loans_after a.are_resolved (none_of_port laws q port a.mid.book ne (answers_order laws port x.done x.requests from a.mid k.book_is_in_order x.answers_each))
+        ∙ answers_apart laws port x.done x.requests from a.mid k.book_is_in_order x.answers_each q ne;
   }

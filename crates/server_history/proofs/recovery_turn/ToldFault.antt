@@ -14,14 +14,14 @@ use Rattle.ata_types.specs.declared.request.RequestId.{RequestId}
 use Rattle.hba_regs.specs.Bits.{bit}
 use Rattle.adapter.specs.Commands.{Meaning, is_queued}
 use Rattle.adapter.specs.Rules.{InUse}
-use Rattle.refinement.specs.Driven.{AnyUse, IsSimulated}
+use Rattle.refinement.specs.Fragments.{AnyUse, IsSimulated}
 use Rattle.refinement.specs.PortFacts.{ShowsFault}
 use Rattle.refinement.specs.Slots.{IsEmptySlot, RelatesSlot, ServesRequest, SlotState}
-use Rattle.block_machine.specs.Events.{AllMay, answers_of, reply_of}
+use Rattle.block_machine.specs.Events.{AllEnabled, answers_of, reply_of}
 use Rattle.block_machine.specs.Histories.{IsReachable}
 use Rattle.block_machine.specs.Expected.{after}
 use Rattle.block_machine.specs.State.{Machine, Pending}
-use Rattle.block_machine.specs.Steps.{Answer, May, Step}
+use Rattle.block_machine.specs.Steps.{Answer, IsEnabled, Step}
 use Rattle.server_history.proofs.state.ListMembers.{contains_cases, contains_here, map_in, in_filter}
 use Rattle.driver_history.specs.Histories.{IsAnsweredFaulty, IsIssuedOn}
 use Rattle.identify.specs.declared.error_log.FailedSlot.{FailedSlot}
@@ -29,10 +29,10 @@ use Rattle.error_recovery.specs.Recovery.{MayRecover, BacksFailure, TellsRecover
 use Rattle.error_recovery.specs.declared.Next.{Next}
 use Rattle.error_recovery.specs.declared.Next.TheVariants as next
 use Rattle.host_boot.specs.TakeOver.{probe_result_of}
-use Rattle.port_control.specs.Looks.{IsLooking}
+use Rattle.port_control.specs.PortEvents.{IsEventAccess}
 use Rattle.port_control.specs.declared.events.PortError.{PortError}
 use Rattle.port_control.specs.declared.events.PortError.TheVariants.{TaskFileError}
-use Rattle.request_queue.specs.Entries.{BookEntry, is_of_port}
+use Rattle.request_queue.specs.BookEntries.{BookEntry, is_of_port}
 use Rattle.request_queue.specs.Dispositions.{BookAndLoans, AreResolved, IsResolved, disposition_of, disposition_of_unfailed, reply_to}
 use Rattle.request_queue.specs.declared.PendingRequest.{PendingRequest}
 use Rattle.request_queue.specs.declared.disposition.FailedRequest.{FailedRequest}
@@ -42,8 +42,8 @@ use Rattle.request_queue.specs.declared.disposition.Revalidation.{Revalidation}
 use Rattle.slots.specs.declared.SlotUse.{SlotUse}
 use Rattle.server_history.specs.Prerequisites.{PrerequisiteLaws}
 use Rattle.server_history.specs.ErrorHandling.{IsFailedRequest, ErrorIsFound, IsErrorHandled, HasResolved, HandlesPortError, book_and_loans_of, requests_of, TellsErrorHandling}
-use Rattle.server_history.specs.Served.{AnswersEach, is_used}
-use Rattle.server_history.specs.Server.{ServerState, InCallInvariant, MachineRelation, ports_of, slots_at, state_of, used_for}
+use Rattle.server_history.specs.IssuingAndAnswering.{AnswersEach, is_used}
+use Rattle.server_history.specs.ServerState.{ServerState, InCallInvariant, MachineRelation, ports_of, slots_at, state_of, used_for}
 use Rattle.server_history.specs.Turns.{IsOfTurn}
 use Rattle.server_history.proofs.healthy_turn.OneAnswer.{answer_kept}
 use Rattle.server_history.proofs.recovery_turn.MendedPort.{next_dead, state_new}
@@ -67,11 +67,11 @@ left_used : (laws : PrerequisiteLaws) (port : Port) → port.0 < 4 → (done : �
     → AnswersEach port done requests old new → (slot : ℕ) (used : SlotUse) → bit done slot ≡ false → used_for old.slots port.0 slot ≡ Some used → used_for new.slots port.0 slot ≡ Some used
 left_used laws port low done [] old new k ready over none slot used clear is = ap (λ (n : ServerState). used_for n.slots port.0 slot) none ∙ is
 left_used laws port low done (e ∷ requests) old new k ready over (mid, one, its, more) slot used clear is =
-    let four = k.four in
+    let four = k.four_slots in
     let places = (k.slots port.0 low).places in
-    let small = one.small in
-    left_used laws port low done requests mid new (answer_kept laws old mid port e k ready one (over one.slot one.small its)) (ready_on laws port done e old mid one ready) (over_on laws port done e old mid one over) more slot used clear
-    (ap (λ (n : ServerState). used_for n.slots port.0 slot) one.server
+    let small = one.slot_is_below_32 in
+    left_used laws port low done requests mid new (answer_kept laws old mid port e k ready one (over one.slot one.slot_is_below_32 its)) (ready_on laws port done e old mid one ready) (over_on laws port done e old mid one over) more slot used clear
+    (ap (λ (n : ServerState). used_for n.slots port.0 slot) one.server_is
     ∙ placed_other old.slots port.0 one.slot None (omega (arith, four, low)) (omega (arith, places, small)) port.0 slot (λ _ same. false≢true (sym clear ∙ ap (bit done) same ∙ its)) ∙ is)
 
 -- ---- what is told
@@ -88,10 +88,10 @@ fate_told disposition (request ∷ requests) replies old new (mid, its, later, s
     (contains_cases request requests e here))
 
 -- who is answered in a turn was unanswered when it began
-pub answer_stood : PrerequisiteLaws → (port : Port) (m : Machine) (steps : List Step) → AllMay m steps → All (IsOfTurn port) steps → (e : Pending) (o : Outcome) → Contains steps (Answer e o) → StandsIn m.book e
+pub answer_stood : PrerequisiteLaws → (port : Port) (m : Machine) (steps : List Step) → AllEnabled m steps → All (IsOfTurn port) steps → (e : Pending) (o : Outcome) → Contains steps (Answer e o) → StandsIn m.book e
 answer_stood laws port m [] may own e o here = absurd (nowhere (Answer e o) here)
 answer_stood laws port m (step ∷ steps) may own e o here = ⊎_elim
-    (λ (is : Answer e o ≡ step). let may_answer : May (after m steps) (Answer e o) = subst (May (after m steps)) (sym is) may.1 in stood laws port m steps (All-tail (IsOfTurn port) step steps own) e may_answer.0)
+    (λ (is : Answer e o ≡ step). let may_answer : IsEnabled (after m steps) (Answer e o) = subst (IsEnabled (after m steps)) (sym is) may.1 in stood laws port m steps (All-tail (IsOfTurn port) step steps own) e may_answer.0)
     (λ (there : Contains steps (Answer e o)). answer_stood laws port m steps may.0 (All-tail (IsOfTurn port) step steps own) e o there)
     (contains_cases step steps (Answer e o) here)
 
@@ -104,7 +104,7 @@ failed_fate its failed revalidation e is same =
 -- ---- the whole
 
 module _ (laws : PrerequisiteLaws) (port : Port) (replies : List Reply) (old new : ServerState) (k : InCallInvariant old) (ready : state_of (probe_result_of old.ports port.0) ≡ ReadyState) (r : HandlesPortError port replies old new)
-    (looks : IsSimulated (IsLooking port) AnyUse old.device r.settled.error_handled.seen) (kept : InCallInvariant r.mid) (m : Machine) (reached : IsReachable m) (is : MachineRelation old m)
+    (looks : IsSimulated (IsEventAccess port) AnyUse old.device r.settled.error_handled.seen) (kept : InCallInvariant r.mid) (m : Machine) (reached : IsReachable m) (is : MachineRelation old m)
     (d : DecidesTurn port replies old new r (evidence_by r.settled) m) where
   abbrev a : HasResolved port r.later old r.mid
   a = r.settled
@@ -137,17 +137,17 @@ module _ (laws : PrerequisiteLaws) (port : Port) (replies : List Reply) (old new
   -- the port's last fault was of a slot that is in use still
   module _ (failing : x.port_error ≡ TaskFileError) (slot : ℕ) (used : SlotUse) (its : used_for old.slots port.0 slot ≡ Some used) (plain : used.queued ≡ false) where
     healed : TellsRecovery port x.outstanding x.queued x.result x.handling.accesses a.mid.device a.device
-    healed = subst (λ (t : PortError). TellsErrorHandling t port x.outstanding x.queued x.result x.handling.accesses a.mid.device a.device) failing x.tells
+    healed = subst (λ (t : PortError). TellsErrorHandling t port x.outstanding x.queued x.result x.handling.accesses a.mid.device a.device) failing x.tells_error_handling
 
     is_zero : slot ≡ 0
-    is_zero = (k.alone port.0 slot used its plain).0
+    is_zero = (k.plain_stands_alone port.0 slot used its plain).0
 
     fault : ShowsFault (drop (x.found.port port.0).notes.st_set_at x.found.tape) (x.found.port port.0) port.0
-    fault = let may : MayRecover port.0 x.found = may_recover laws old x.seen x.found port x.mask x.done k ready (subst (λ (t : PortError). ErrorIsFound port t old.device x.seen) failing x.finds) looks x.reads in may.recorded.fault may.halted
+    fault = let may : MayRecover port.0 x.found = may_recover laws old x.seen x.found port x.mask x.done k ready (subst (λ (t : PortError). ErrorIsFound port t old.device x.seen) failing x.error_is_found) looks x.reads in may.faults_are_on_record.shows_last_fault may.halted
 
     unused_free : (other : ℕ) → other ≢ 0 → IsEmptySlot (x.found.port port.0) other
     unused_free other ne = subst (λ (u : SlotState). RelatesSlot from_kept.machine x.found.memory x.found.tape (x.found.port port.0) port.0 other u)
-        (free_unused from from_kept.machine port.0 from_kept.stands ready other ((k.alone port.0 slot used its plain).1 other ne)) (from_kept.stands.knows.agrees.slot port.0 other)
+        (free_unused from from_kept.machine port.0 from_kept.machine_relation ready other ((k.plain_stands_alone port.0 slot used its plain).1 other ne)) (from_kept.machine_relation.driver_relation.state_relation.relates_slots port.0 other)
 
     over_idle : (other : ℕ) → (x.found.port port.0).ci other ≡ false → (x.found.port port.0).taken other ≡ None → InUse (x.found.port port.0) other → ⊥
     over_idle other clear free (inl issued) = false≢true (sym clear ∙ issued)
@@ -155,8 +155,8 @@ module _ (laws : PrerequisiteLaws) (port : Port) (replies : List Reply) (old new
 
     zero_used : InUse (x.found.port port.0) 0
     zero_used = ⊎_elim
-        (λ (same : fault.fault.slot.0 ≡ 0). subst (InUse (x.found.port port.0)) same fault.used)
-        (λ (ne : fault.fault.slot.0 ≢ 0). let f = unused_free fault.fault.slot.0 ne in absurd (over_idle fault.fault.slot.0 f.issued f.free fault.used))
+        (λ (same : fault.fault.slot.0 ≡ 0). subst (InUse (x.found.port port.0)) same fault.slot_is_in_use)
+        (λ (ne : fault.fault.slot.0 ≢ 0). let f = unused_free fault.fault.slot.0 ne in absurd (over_idle fault.fault.slot.0 f.issued f.free fault.slot_is_in_use))
         (cases_eq fault.fault.slot.0 0)
 
     not_done : bit x.done slot ≡ false
@@ -168,28 +168,28 @@ module _ (laws : PrerequisiteLaws) (port : Port) (replies : List Reply) (old new
         (cases_Bool (bit x.done slot))
 
     still : used_for a.mid.slots port.0 slot ≡ Some used
-    still = left_used laws port low x.done x.requests from a.mid from_kept ready (done_over laws port replies old new k ready r looks kept) x.each slot used not_done its
+    still = left_used laws port low x.done x.requests from a.mid from_kept ready (done_over laws port replies old new k ready r looks kept) x.answers_each slot used not_done its
 
     mid_queued : x.queued ≡ false
-    mid_queued = sym (x.alike slot used still) ∙ plain
+    mid_queued = sym (x.are_queued_alike slot used still) ∙ plain
 
     outstanding : bit x.outstanding 0 ≡ true
-    outstanding = ap (bit x.outstanding) (sym is_zero) ∙ x.left slot (let z = is_zero in omega (arith, z)) ∙ ap is_used still
+    outstanding = ap (bit x.outstanding) (sym is_zero) ∙ x.outstanding_is_mask slot (let z = is_zero in omega (arith, z)) ∙ ap is_used still
 
     -- its request
     request : IsServedBy a.mid then_kept.machine port.0 slot used.id
-    request = served_request a.mid then_kept.machine port.0 slot then_kept.stands then_ready used.id (serves_used a.mid then_kept.machine port.0 then_kept.stands then_ready slot used still)
+    request = served_request a.mid then_kept.machine port.0 slot then_kept.machine_relation then_ready used.id (serves_used a.mid then_kept.machine port.0 then_kept.machine_relation then_ready slot used still)
 
     in_its : Contains (requests_of port a.mid.book) request.request
     in_its = in_filter (λ (y : BookEntry). is_of_port port y.entry) a.mid.book request.request request.there (eq-eqb request.request.entry.port.0 port.0 request.port_is)
 
     module _ (e : Pending) (here : Contains m.book e) (id_is : used.id ≡ e.request.id) where
       told : (its_failure : FailedSlot) → x.result.failed ≡ Some its_failure → IsAnsweredFaulty e d.steps
-      told its_failure named = by (subst (λ (f : Option FailedSlot). IsFailedRequest (slots_at a.mid.slots port.0) f a.failed) named a.names)
+      told its_failure named = by (subst (λ (f : Option FailedSlot). IsFailedRequest (slots_at a.mid.slots port.0) f a.failed) named a.failed_request_is)
         where
           zero_named : its_failure.slot.0 ≡ 0
           zero_named = (subst (λ (queued : Bool). BacksFailure queued port x.outstanding x.handling.accesses a.mid.device a.device (Some its_failure)) mid_queued
-              (subst (BacksFailure x.queued port x.outstanding x.handling.accesses a.mid.device a.device) named x.handling.tells.rests)).slot_is
+              (subst (BacksFailure x.queued port x.outstanding x.handling.accesses a.mid.device a.device) named x.handling.tells.failure_is_backed)).slot_is
 
           by : IsFailedRequest (slots_at a.mid.slots port.0) (Some its_failure) a.failed → IsAnsweredFaulty e d.steps
           by (other, at, names) =
@@ -198,9 +198,9 @@ module _ (laws : PrerequisiteLaws) (port : Port) (replies : List Reply) (old new
               let failed : FailedRequest = record { id = other.id; status = its_failure.status; error = its_failure.error } in
               let o : Outcome = outcome.DeviceError its_failure.status its_failure.error in
               let disposition = failed_fate failed a.failed a.revalidation request.request.entry names (ap (λ (u : SlotUse). u.id) same ∙ sym request.id_is) in
-              let reply = fate_told (disposition_of a.failed a.revalidation) (requests_of port a.mid.book) r.later (book_and_loans_of port a.mid) a.now a.meets request.request o in_its disposition in
-              let w = map_in reply_of d.dispositions.tells.answers (reply_to request.request o) (subst (λ (list : List Reply). Contains list (reply_to request.request o)) d.dispositions.tells.told reply) in
-              let there = answers_there d.dispositions.dispositions w.0 (Contains-permutation d.dispositions.tells.answers (answers_of d.dispositions.dispositions) w.0 d.dispositions.tells.same w.1) in
+              let reply = fate_told (disposition_of a.failed a.revalidation) (requests_of port a.mid.book) r.later (book_and_loans_of port a.mid) a.book_and_loans_after a.are_resolved request.request o in_its disposition in
+              let w = map_in reply_of d.dispositions.tells.answers (reply_to request.request o) (subst (λ (list : List Reply). Contains list (reply_to request.request o)) d.dispositions.tells.replies_are reply) in
+              let there = answers_there d.dispositions.dispositions w.0 (Contains-permutation d.dispositions.tells.answers (answers_of d.dispositions.dispositions) w.0 d.dispositions.tells.is_permutation w.1) in
               let o_is : w.0.1 ≡ o = ap (λ (y : Reply). y.outcome) (sym w.2) in
               let in_steps : Contains d.steps (Answer w.0.0 o) = subst (λ (y : Outcome). Contains d.steps (Answer w.0.0 y)) o_is (subst (λ (steps : List Step). Contains steps (Answer w.0.0 w.0.1)) (sym d.steps_are)
               (Contains-append_right d.issuing.steps (until_issues d.dispositions) (Answer w.0.0 w.0.1) (Contains-append_left d.dispositions.dispositions _ (Answer w.0.0 w.0.1) there))) in
@@ -211,7 +211,7 @@ module _ (laws : PrerequisiteLaws) (port : Port) (replies : List Reply) (old new
       faulty = by x.result.next refl
         where
           by_failed : x.result.next ≢ next.Dead → (f : Option FailedSlot) → x.result.failed ≡ f → IsAnsweredFaulty e d.steps
-          by_failed lives None none = absurd (healed.told mid_queued outstanding lives none)
+          by_failed lives None none = absurd (healed.plain_is_named mid_queued outstanding lives none)
           by_failed lives (Some its_failure) named = told its_failure named
 
           by : (after_it : Next) → x.result.next ≡ after_it → IsAnsweredFaulty e d.steps ⊎ ((ports_of new).state port ≡ DeadState)
@@ -223,15 +223,15 @@ module _ (laws : PrerequisiteLaws) (port : Port) (replies : List Reply) (old new
   pub faulting : x.port_error ≡ TaskFileError → (e : Pending) (slot : ℕ) → IsIssuedOn port m e → e.ended ≡ false → (s : ServesRequest m old.device.memory (old.device.port port.0) port.0 slot e.request.id) → is_queued s.command.operation ≡ false
       → IsAnsweredFaulty e d.steps ⊎ ((ports_of new).state port ≡ DeadState)
   faulting failing e slot own unended says plain = ⊎_elim
-      (λ (same : slot ≡ h.slot). faulty failing h.slot h.used h.used_is (its_kind same) e own.here h.id_is)
-      (λ (apart : slot ≢ h.slot). absurd (false≢true (sym unended ∙ has_ended laws old k m reached is port.0 ready e own.here h.slot h.used h.used_is h.id_is slot apart says)))
+      (λ (same : slot ≡ h.slot). faulty failing h.slot h.used h.used_is (its_kind same) e own.is_in_book h.id_is)
+      (λ (apart : slot ≢ h.slot). absurd (false≢true (sym unended ∙ has_ended laws old k m reached is port.0 ready e own.is_in_book h.slot h.used h.used_is h.id_is slot apart says)))
       (cases_eq slot h.slot)
     where
       h : HasSlot old port e.request.id
-      h = issued_has old m port is k ready e own.here own.port_is own.issued
+      h = issued_has old m port is k ready e own.is_in_book own.port_is own.issued
 
       its_kind : slot ≡ h.slot → h.used.queued ≡ false
       its_kind same =
-          let c = k.commands port.0 slot h.used (ap (used_for old.slots port.0) same ∙ h.used_is) in
-          let one = (laws.slots.one_said old.device.memory (old.device.port port.0).bases.clb slot says.command c.command says.places c.places says.told.says c.stored.told.says).0 in
+          let c = k.slots_store_commands port.0 slot h.used (ap (used_for old.slots port.0) same ∙ h.used_is) in
+          let one = (laws.slots.one_said old.device.memory (old.device.port port.0).bases.clb slot says.command c.command says.places c.places says.slot_decodes_to.decodes_to c.stored.slot_decodes_to.decodes_to).0 in
           sym c.kind ∙ ap (λ (y : Meaning). is_queued y.operation) (sym one) ∙ plain

@@ -5,20 +5,20 @@ use Rattle.ata_types.specs.declared.Port.{Port}
 use Rattle.ata_types.specs.declared.PortState.TheVariants as shown
 use Rattle.ata_types.specs.declared.PortState.TheVariants.{Ready as ReadyState}
 use Rattle.ata_types.specs.declared.request.Reply.{Reply}
-use Rattle.refinement.specs.Driven.{AnyUse, IsSimulated}
+use Rattle.refinement.specs.Fragments.{AnyUse, IsSimulated}
 use Rattle.refinement.specs.Errors.{IsFatalOf}
-use Rattle.refinement.specs.Recovering.{WorksPlainly}
+use Rattle.refinement.specs.HaltRecovery.{WorksPlainly}
 use Rattle.block_machine.specs.Events.{Service}
 use Rattle.block_machine.specs.Histories.{IsReachable}
 use Rattle.block_machine.specs.State.{Machine}
 use Rattle.driver_history.specs.Histories.{HasUnservedDisk, HasOnlyTaskFileError}
 use Rattle.host_boot.specs.TakeOver.{probe_result_of}
-use Rattle.port_control.specs.Looks.{IsLooking}
+use Rattle.port_control.specs.PortEvents.{IsEventAccess}
 use Rattle.port_control.specs.declared.events.PortError.{PortError}
 use Rattle.port_control.specs.declared.events.PortError.TheVariants.{FatalError, TaskFileError, TimedOut, LinkChanged}
 use Rattle.server_history.specs.Prerequisites.{PrerequisiteLaws}
 use Rattle.server_history.specs.ErrorHandling.{AreAllQueuedAs, HandlesPortError}
-use Rattle.server_history.specs.Server.{ServerState, InCallInvariant, MachineRelation, ports_of, slots_at, state_of}
+use Rattle.server_history.specs.ServerState.{ServerState, InCallInvariant, MachineRelation, ports_of, slots_at, state_of}
 use Rattle.server_history.specs.Turns.{HandlesShownErrors, InService, TurnCorresponds, joint_state_of}
 use Rattle.server_history.proofs.recovery_turn.DecidedSteps.{DecidesTurn}
 use Rattle.server_history.proofs.recovery_turn.TurnEvidence.{IsEvident}
@@ -37,7 +37,7 @@ use Rattle.server_history.proofs.state.FirstMembers.{first_here}
 use Rattle.refinement.specs.Links.{IsPlugEvent}
 
 module _ (laws : PrerequisiteLaws) (port : Port) (replies : List Reply) (old new : ServerState) (k : InCallInvariant old) (ready : state_of (probe_result_of old.ports port.0) ≡ ReadyState) (r : HandlesPortError port replies old new)
-    (looks : IsSimulated (IsLooking port) AnyUse old.device r.settled.error_handled.seen) (kept : InCallInvariant r.mid) (evident : IsEvident port replies old new r)
+    (looks : IsSimulated (IsEventAccess port) AnyUse old.device r.settled.error_handled.seen) (kept : InCallInvariant r.mid) (evident : IsEvident port replies old new r)
     (m : Machine) (reached : IsReachable m) (is : MachineRelation old m)
     (d : DecidesTurn port replies old new r (evidence_by r.settled) m) where
   -- the port was ready when the turn began
@@ -58,7 +58,7 @@ module _ (laws : PrerequisiteLaws) (port : Port) (replies : List Reply) (old new
 
   -- with plain commands outstanding, it has worked on plain ones alone
   plainly : r.settled.error_handled.queued ≡ false → WorksPlainly (r.settled.mid.device.port port.0)
-  plainly plain = works_plainly laws r.settled.mid then_kept port then_ready (subst (λ (queued : Bool). AreAllQueuedAs queued (slots_at r.settled.mid.slots port.0)) plain r.settled.error_handled.alike) ((then_kept.behind port.0 (ready_found old port.0 k ready).0).halts then_ready)
+  plainly plain = works_plainly laws r.settled.mid then_kept port then_ready (subst (λ (queued : Bool). AreAllQueuedAs queued (slots_at r.settled.mid.slots port.0)) plain r.settled.error_handled.are_queued_alike) ((then_kept.port_invariant port.0 (ready_found old port.0 k ready).0).halt_is_of_taken then_ready)
 
   -- where TFES alone was shown, and no fatal error came, a command had failed
   failing : r.settled.error_handled.port_error ≢ TimedOut → HasOnlyTaskFileError port (joint_state_of old m) new.device → r.settled.error_handled.port_error ≡ TaskFileError
@@ -68,33 +68,33 @@ module _ (laws : PrerequisiteLaws) (port : Port) (replies : List Reply) (old new
       by TaskFileError is = is
       by FatalError is =
           let here : Contains (fatal_of port r.settled.error_handled.port_error (old.device.port port.0)) port = subst (λ (t : PortError). Contains (fatal_of port t (old.device.port port.0)) port) (sym is) (first_here port []) in
-          absurd (⊎_elim alone.shows.fatal (gains_none (IsFatalOf port.0) old.device new.device alone.fatal.gained alone.fatal.tape alone.fatal.none) ((evident.evidenced Service m).fatal_only here).1)
+          absurd (⊎_elim alone.shows_only_tfes.no_fatal_is_shown (gains_none (IsFatalOf port.0) old.device new.device alone.none_is_fatal.new_entries alone.none_is_fatal.tape_is alone.none_is_fatal.no_such_entry) ((evident.evidenced Service m).fatal_only here).1)
       by LinkChanged is =
           let here : Contains (gone_of port r.settled.error_handled.port_error (old.device.port port.0)) port = subst (λ (t : PortError). Contains (gone_of port t (old.device.port port.0)) port) (sym is) (first_here port []) in
-          absurd (⊎_elim alone.shows.change
-          (λ more. ⊎_elim (λ (out : (old.device.port port.0).ssts_det ≢ 3). out alone.shows.device) (gains_none (IsPlugEvent port.0) old.device new.device alone.plugged.gained alone.plugged.tape alone.plugged.none) more)
-          ((evident.evidenced Service m).gone_only here).1)
+          absurd (⊎_elim alone.shows_only_tfes.no_change_is_shown
+          (λ more. ⊎_elim (λ (out : (old.device.port port.0).ssts_det ≢ 3). out alone.shows_only_tfes.device_is_shown) (gains_none (IsPlugEvent port.0) old.device new.device alone.no_plug_events.new_entries alone.no_plug_events.tape_is alone.no_plug_events.no_such_entry) more)
+          ((evident.evidenced Service m).link_changed_only here).1)
       by TimedOut is = absurd (unhung is)
 
   -- what a call does of trouble
   pub heeds_trouble : HandlesShownErrors port evident.accesses (joint_state_of old m) (evidence_by r.settled) (ports_of new) new.device
   heeds_trouble = record {
-    port_error = lasting laws port replies old new k ready r looks kept evident.parts m;
-    well = going_well laws port replies old new k ready r looks kept evident plainly m;
+    loses_no_error = lasting laws port replies old new k ready r looks kept evident.parts m;
+    runs_well_anew = going_well laws port replies old new k ready r looks kept evident plainly m;
   }
 
   pub ties_recovered : r.settled.error_handled.port_error ≢ TimedOut → TurnCorresponds InService port replies evident.accesses old new m (evidence_by r.settled) d.steps
   ties_recovered unhung = record {
-    finds = λ _ e issued. finding laws port replies old new k ready r looks kept evident m reached is d;
-    faults = λ alone e slot issued unended says plain. faulting laws port replies old new k ready r looks kept m reached is d (failing unhung alone) e slot issued unended says plain;
-    probes = λ _ _. record {
+    finds_done = λ _ e issued. finding laws port replies old new k ready r looks kept evident m reached is d;
+    plain_faults_are_told = λ alone e slot issued unended says plain. faulting laws port replies old new k ready r looks kept m reached is d (failing unhung alone) e slot issued unended says plain;
+    probes_disk = λ _ _. record {
       shown = λ absent. absurd (not_absent absent);
       absent = λ absent. absurd (not_absent absent);
       missing = λ bad. absurd (not_bad bad);
       changed = λ bad. absurd (not_bad bad);
     };
-    boots = reboots laws port replies old new k ready r looks kept evident m;
-    port_error = heeds_trouble.port_error;
-    well = heeds_trouble.well;
-    heeds = λ _. serves_ready laws port replies old new k ready r looks kept evident m reached is d unhung;
+    boots_anew = reboots laws port replies old new k ready r looks kept evident m;
+    loses_no_error = heeds_trouble.loses_no_error;
+    runs_well_anew = heeds_trouble.runs_well_anew;
+    handles_evidence = λ _. serves_ready laws port replies old new k ready r looks kept evident m reached is d unhung;
   }

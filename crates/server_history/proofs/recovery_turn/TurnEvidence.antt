@@ -13,7 +13,7 @@ use Rattle.adapter.specs.Access.{Access, DoesAll}
 use Rattle.adapter.specs.Device.{Device}
 use Rattle.adapter.specs.declared.command.Operation.TheVariants.{ReadLog}
 use Rattle.adapter.specs.declared.tape.Fault as tape_fault
-use Rattle.refinement.specs.Driven.{AnyUse, TapeGrows, IsSimulated, SparesOtherPorts, GainsNoMove}
+use Rattle.refinement.specs.Fragments.{AnyUse, TapeGrows, IsSimulated, SparesOtherPorts, GainsNoMove}
 use Rattle.refinement.specs.Driver.{IsBacked}
 use Rattle.refinement.specs.Links.{DoesNotWrite}
 use Rattle.block_machine.specs.Events.{AbstractCall, ShownDiskWasInOrCame, Served, ShowsDisk, changes_disk}
@@ -24,7 +24,7 @@ use Rattle.block_machine.specs.State.{Machine}
 use Rattle.block_machine.specs.Steps.{Step}
 use Rattle.server_history.proofs.state.ListMembers.{contains_cases}
 use Rattle.driver_history.specs.Evidence.{IsEvidencedOf}
-use Rattle.driver_history.specs.Trace.{IsDriversOwn}
+use Rattle.driver_history.specs.AccessTrace.{IsDriversOwn}
 use Rattle.error_recovery.specs.Evidence.{HasFailed}
 use Rattle.error_recovery.specs.Recovery.{EndsAsNext, BacksFailure, TellsEngine}
 use Rattle.error_recovery.specs.declared.Next.{Next}
@@ -33,18 +33,18 @@ use Rattle.identify.specs.declared.error_log.FailedSlot.{FailedSlot}
 use Rattle.host_boot.specs.TakeOver.{probe_result_of, wanted_of}
 use Rattle.host_boot.specs.declared.ProbeResult.TheVariants.{Ready, Unready}
 use Rattle.port_control.specs.Engines.{EngineSticks, Stops}
-use Rattle.port_control.specs.Looks.{IsLooking, LooksAt}
+use Rattle.port_control.specs.PortEvents.{IsEventAccess, TakesEvent}
 use Rattle.port_control.specs.declared.events.PortEvent.{PortEvent}
-use Rattle.request_queue.specs.Entries.{BookEntry, asks_of, due_ids}
+use Rattle.request_queue.specs.BookEntries.{BookEntry, unanswered_of, due_ids}
 use Rattle.request_queue.specs.declared.disposition.FailedRequest as failed_request
 use Rattle.request_queue.specs.declared.disposition.Revalidation.TheVariants.{DiskLost}
-use Rattle.slots.specs.Uses.{use_at}
+use Rattle.slots.specs.SlotUses.{use_at}
 use Rattle.slots.specs.declared.SlotUse.{SlotUse}
 use Rattle.server_history.specs.Prerequisites.{PrerequisiteLaws}
 use Rattle.server_history.proofs.any_turn.ShownTrouble.{grows_over}
 use Rattle.server_history.specs.ErrorHandling.{IsFailedRequest, IsRevalidated, ErrorIsFound, IsRevalidation, IsErrorHandled, HasResolved, HandlesPortError}
-use Rattle.server_history.specs.Served.{AnswersEach}
-use Rattle.server_history.specs.Server.{ServerState, InCallInvariant, MachineRelation, ports_of, slots_at, state_of, used_for, mode_in}
+use Rattle.server_history.specs.IssuingAndAnswering.{AnswersEach}
+use Rattle.server_history.specs.ServerState.{ServerState, InCallInvariant, MachineRelation, ports_of, slots_at, state_of, used_for, mode_in}
 use Rattle.server_history.specs.Turns.{IsFaultOfCommand, LeavesOthers, NamesOnly, TellsFault, joint_state_of, abstract_state_of}
 use Rattle.server_history.proofs.healthy_turn.OneAnswer.{answer_kept}
 use Rattle.server_history.proofs.recovery_turn.SparedPorts.{leaves_others}
@@ -65,7 +65,7 @@ use Rattle.port_control.specs.declared.events.PortEvent.TheVariants as look
 use Rattle.port_control.specs.declared.events.PortError.{PortError}
 use Rattle.port_control.specs.declared.events.PortError.TheVariants.{FatalError, TaskFileError, TimedOut, LinkChanged}
 use Rattle.server_history.proofs.state.TurnAccesses.{look_list, look_does}
-use Rattle.host_boot.specs.Again.{RebootsPort}
+use Rattle.host_boot.specs.Reboots.{RebootsPort}
 use Rattle.host_boot.specs.declared.Booted.{Booted}
 use Rattle.host_boot.specs.declared.ProbeResult.{ProbeResult}
 use Rattle.server_history.proofs.plain_calls.IssueRounds.{each_driven}
@@ -96,11 +96,11 @@ pub slots_were : (laws : PrerequisiteLaws) (port : Port) → port.0 < 4 → (don
     → (slot : ℕ) (used : SlotUse) → used_for new.slots port.0 slot ≡ Some used → used_for old.slots port.0 slot ≡ Some used
 slots_were laws port low done [] old new k ready over none slot used is = ap (λ (n : ServerState). used_for n.slots port.0 slot) (sym none) ∙ is
 slots_were laws port low done (e ∷ requests) old new k ready over (mid, one, its, more) slot used is =
-    let was = slots_were laws port low done requests mid new (answer_kept laws old mid port e k ready one (over one.slot one.small its)) (ready_on laws port done e old mid one ready) (over_on laws port done e old mid one over) more slot used is in
-    let four = k.four in
+    let was = slots_were laws port low done requests mid new (answer_kept laws old mid port e k ready one (over one.slot one.slot_is_below_32 its)) (ready_on laws port done e old mid one ready) (over_on laws port done e old mid one over) more slot used is in
+    let four = k.four_slots in
     let places = (k.slots port.0 low).places in
-    let small = one.small in
-    freed_was old.slots port.0 one.slot (omega (arith, four, low)) (omega (arith, places, small)) port.0 slot used (ap (λ (n : ServerState). used_for n.slots port.0 slot) (sym one.server) ∙ was)
+    let small = one.slot_is_below_32 in
+    freed_was old.slots port.0 one.slot (omega (arith, four, low)) (omega (arith, places, small)) port.0 slot used (ap (λ (n : ServerState). used_for n.slots port.0 slot) (sym one.server_is) ∙ was)
 
 -- ---- the whole
 
@@ -122,7 +122,7 @@ pub record IsEvident (port : Port) (replies : List Reply) (old new : ServerState
       → ShownDiskWasInOrCame (abstract_state_of old m) steps (abstract_state_of new (after m steps)) port
 
 module _ (laws : PrerequisiteLaws) (port : Port) (replies : List Reply) (old new : ServerState) (k : InCallInvariant old) (ready : state_of (probe_result_of old.ports port.0) ≡ ReadyState) (r : HandlesPortError port replies old new)
-    (looks : IsSimulated (IsLooking port) AnyUse old.device r.settled.error_handled.seen) (kept : InCallInvariant r.mid) where
+    (looks : IsSimulated (IsEventAccess port) AnyUse old.device r.settled.error_handled.seen) (kept : InCallInvariant r.mid) where
   abbrev a : HasResolved port r.later old r.mid
   a = r.settled
 
@@ -141,17 +141,17 @@ module _ (laws : PrerequisiteLaws) (port : Port) (replies : List Reply) (old new
   -- ---- the tape grows
 
   grown_late : TapeGrows a.mid.device new.device
-  grown_late = laws.looks.tape.grows_more a.mid.device a.device new.device (grows_over laws part a.mid.device a.device t.does) (grows_over laws t.late.accesses a.device new.device t.late.all)
+  grown_late = laws.looks.tape.grows_more a.mid.device a.device new.device (grows_over laws part a.mid.device a.device t.does) (grows_over laws t.late.accesses a.device new.device t.late.all_are_done)
 
   grown_seen : TapeGrows x.seen new.device
   grown_seen =
-      laws.looks.tape.grows_more x.seen x.found new.device (grows_over laws x.reads.driven.accesses x.seen x.found x.reads.driven.all)
+      laws.looks.tape.grows_more x.seen x.found new.device (grows_over laws x.reads.driven.accesses x.seen x.found x.reads.driven.all_are_done)
       (subst (λ (d : Device). TapeGrows d new.device) (mid_device laws port replies old new k ready r looks kept) grown_late)
 
   -- ---- ports
 
   undue : (old.device.port port.0).link_due ≡ false
-  undue = ((k.behind port.0 low).runs ready).recorded.linked
+  undue = ((k.port_invariant port.0 low).engine_runs ready).faults_are_recorded.no_link_is_due
 
   -- a dead port's engine was awaited in vain, at last
   counted : a.found ≡ Unready DeadState → (new.device.port port.0).notes.engine_count ≡ MOST_READINGS
@@ -161,28 +161,28 @@ module _ (laws : PrerequisiteLaws) (port : Port) (replies : List Reply) (old new
       by (next.Running token) is = t.stuck dead (λ e. let z : next.Running token ≡ next.Dead = sym is ∙ e in cc)
       by (next.Restart token) is = t.stuck dead (λ e. let z : next.Restart token ≡ next.Dead = sym is ∙ e in cc)
       by next.Dead is =
-          let still : IsRevalidated (wanted_of old.wanted port.0) port x.port_error a.was next.Dead a.device r.mid.device a.found = subst (λ (n : Next). IsRevalidated (wanted_of old.wanted port.0) port x.port_error a.was n a.device r.mid.device a.found) is a.is in
+          let still : IsRevalidated (wanted_of old.wanted port.0) port x.port_error a.disk_before next.Dead a.device r.mid.device a.found = subst (λ (n : Next). IsRevalidated (wanted_of old.wanted port.0) port x.port_error a.disk_before n a.device r.mid.device a.found) is a.is_revalidated in
           ap (λ (s : ServerState). (s.device.port port.0).notes.engine_count) (t.with_issue_undone dead) ∙ ap (λ (d : Device). (d.port port.0).notes.engine_count) still.1
-          ∙ ends_stuck laws port [] [] [] x.queued x.result.next a.mid.device a.device x.handling.leaves.ends is
+          ∙ ends_stuck laws port [] [] [] x.queued x.result.next a.mid.device a.device x.handling.leaves.ends_as_next is
 
   evidenced : (ask : AbstractCall DeviceStep) (m : Machine) → IsEvidencedOf ask (Served replies) (accesses_in t) (joint_state_of old m) (ports_of new) new.device (its laws port replies old new k ready r looks kept) port
   evidenced ask m = record {
     lost = λ here.
         let other = lost_is port a.revalidation here in
-        let e : IsRevalidation x.port_error a.was a.found DiskLost = subst (IsRevalidation x.port_error a.was a.found) other a.expects in
+        let e : IsRevalidation x.port_error a.disk_before a.found DiskLost = subst (IsRevalidation x.port_error a.disk_before a.found) other a.is_revalidation in
         ⊎_elim
-        (λ lost. ⊎_elim (λ change. inl change) (λ more. inr (⊎_elim (λ out. inl out) (λ came. inr (inl came)) more)) (loss laws port old.device x.seen new.device k.on undue grown_seen x.port_error x.finds lost))
+        (λ lost. ⊎_elim (λ change. inl change) (λ more. inr (⊎_elim (λ out. inl out) (λ came. inr (inl came)) more)) (loss laws port old.device x.seen new.device k.adapter_is_on undue grown_seen x.port_error x.error_is_found lost))
         (λ another. inr (inr (inr (
           (λ dead. e.0 (dead_found laws port replies old new k ready r looks kept dead)),
           (λ is same. let i = ready_info laws port replies old new k ready r looks kept is in another i.0 i.1 (disk_same laws port replies old new k ready r looks kept i.0 i.1 same)),
         ))))
         e.1;
-    gone_all = λ _ shows. gone_all laws port old.device x.seen new.device k.on undue grown_seen x.port_error x.finds shows;
-    gone_only = λ here. (ready, gone_only laws port old.device x.seen new.device k.on undue grown_seen x.port_error x.finds here);
-    failed_all = λ _ shows. failed_all laws port old.device x.seen new.device k.on undue grown_seen x.port_error shows;
-    failed_only = λ here. (ready, failed_only laws port old.device x.seen new.device k.on undue grown_seen x.port_error x.finds here);
-    fatal_all = λ _ fatal. fatal_all laws port old.device x.seen new.device k.on undue grown_seen x.port_error x.finds fatal;
-    fatal_only = λ here. (ready, fatal_only laws port old.device x.seen new.device k.on undue grown_seen x.port_error x.finds here);
+    link_changed_all = λ _ shows. gone_all laws port old.device x.seen new.device k.adapter_is_on undue grown_seen x.port_error x.error_is_found shows;
+    link_changed_only = λ here. (ready, gone_only laws port old.device x.seen new.device k.adapter_is_on undue grown_seen x.port_error x.error_is_found here);
+    failed_all = λ _ shows. failed_all laws port old.device x.seen new.device k.adapter_is_on undue grown_seen x.port_error shows;
+    failed_only = λ here. (ready, failed_only laws port old.device x.seen new.device k.adapter_is_on undue grown_seen x.port_error x.error_is_found here);
+    fatal_all = λ _ fatal. fatal_all laws port old.device x.seen new.device k.adapter_is_on undue grown_seen x.port_error x.error_is_found fatal;
+    fatal_only = λ here. (ready, fatal_only laws port old.device x.seen new.device k.adapter_is_on undue grown_seen x.port_error x.error_is_found here);
     stopped_all = inr (interrupted laws port replies old new k ready r looks kept);
     stopped_only = λ here. inl (engine_stops laws port t.early.accesses part t.late.accesses x.result.next x.handling.does.engine here);
     stuck_only = λ here.
@@ -194,16 +194,16 @@ module _ (laws : PrerequisiteLaws) (port : Port) (replies : List Reply) (old new
 
   -- Where a queued command is named, the port runs, with the disk that it had.
   module _ (its_failure : FailedSlot) (named : x.result.failed ≡ Some its_failure) where
-    runs_then : x.queued ≡ true → (a.found ≡ Ready a.was) × (r.mid.device ≡ a.device)
+    runs_then : x.queued ≡ true → (a.found ≡ Ready a.disk_before) × (r.mid.device ≡ a.device)
     runs_then queued = by x.result.next refl
       where
-        then_is : (then : Next) → x.result.next ≡ then → IsRevalidated (wanted_of old.wanted port.0) port x.port_error a.was then a.device r.mid.device a.found
-        then_is then is = subst (λ (n : Next). IsRevalidated (wanted_of old.wanted port.0) port x.port_error a.was n a.device r.mid.device a.found) is a.is
+        then_is : (then : Next) → x.result.next ≡ then → IsRevalidated (wanted_of old.wanted port.0) port x.port_error a.disk_before then a.device r.mid.device a.found
+        then_is then is = subst (λ (n : Next). IsRevalidated (wanted_of old.wanted port.0) port x.port_error a.disk_before n a.device r.mid.device a.found) is a.is_revalidated
 
-        by : (then : Next) → x.result.next ≡ then → (a.found ≡ Ready a.was) × (r.mid.device ≡ a.device)
+        by : (then : Next) → x.result.next ≡ then → (a.found ≡ Ready a.disk_before) × (r.mid.device ≡ a.device)
         by (next.Running token) is = then_is (next.Running token) is
-        by (next.Restart token) is = let z : Some its_failure ≡ None = sym named ∙ x.handling.tells.unnamed token queued is in absurd cc
-        by next.Dead is = let z : Some its_failure ≡ None = sym named ∙ x.handling.tells.dead is in absurd cc
+        by (next.Restart token) is = let z : Some its_failure ≡ None = sym named ∙ x.handling.tells.reboot_names_none token queued is in absurd cc
+        by next.Dead is = let z : Some its_failure ≡ None = sym named ∙ x.handling.tells.dead_names_none is in absurd cc
 
     lives_then : x.queued ≡ true → (ports_of new).state port ≢ DeadState
     lives_then queued dead = let z : ReadyState ≡ DeadState = sym (ap state_of (runs_then queued).0) ∙ sym (state_new laws port replies old new k ready r looks kept) ∙ dead in cc
@@ -216,29 +216,29 @@ module _ (laws : PrerequisiteLaws) (port : Port) (replies : List Reply) (old new
         (t.issuing_silent (λ dead. let z : ReadyState ≡ DeadState = sym (ap state_of (found_is laws port replies old new k ready r looks kept ∙ then.0)) ∙ dead in absurd cc))
 
     stays_failed : (fault : tape_fault.Fault) → HasFailed port part a.mid.device a.device fault → HasFailed port (accesses_in t) old.device new.device fault
-    stays_failed fault = laws.failed_stays port t.early.accesses part t.late.accesses old.device a.mid.device a.device new.device fault k.on
-        (All-weaker (IsEarlyPart port) (DoesNotWrite Ghc) (λ access is. laws.of_host port access is.0.1) t.early.accesses t.early.only)
-        (All-weaker (IsEarlyPart port) (DoesNotWrite (Px port Cmd)) (λ access is. is.1) t.early.accesses t.early.only) t.early.all t.late.all
+    stays_failed fault = laws.failed_stays port t.early.accesses part t.late.accesses old.device a.mid.device a.device new.device fault k.adapter_is_on
+        (All-weaker (IsEarlyPart port) (DoesNotWrite Ghc) (λ access is. laws.of_host port access is.0.1) t.early.accesses t.early.accesses_are_of_kind)
+        (All-weaker (IsEarlyPart port) (DoesNotWrite (Px port Cmd)) (λ access is. is.1) t.early.accesses t.early.accesses_are_of_kind) t.early.all_are_done t.late.all_are_done
 
     told_so : (queued : Bool) → x.queued ≡ queued → BacksFailure queued port x.outstanding part a.mid.device a.device (Some its_failure) → (id : RequestId)
         → IsFaultOfCommand queued port (accesses_in t) old.device new.device its_failure.slot.0 (record { id = id; status = its_failure.status; error = its_failure.error })
-    told_so false is rests id = (rests.fault, stays_failed rests.fault rests.has_failed, rests.at ∙ sym rests.slot_is, rests.status_is, rests.error_is)
+    told_so false is rests id = (rests.fault, stays_failed rests.fault rests.has_failed, rests.fault_slot_is ∙ sym rests.slot_is, rests.status_is, rests.error_is)
     told_so true is rests id = (
       (rests.fault, stays_failed rests.fault rests.has_failed),
-      (rests.page, laws.log_stays port old.device a.mid.device a.device new.device rests.page (grows_over laws t.early.accesses old.device a.mid.device t.early.all) (quiet_then is) rests.brings, rests.tells),
+      (rests.last_log_page, laws.log_stays port old.device a.mid.device a.device new.device rests.last_log_page (grows_over laws t.early.accesses old.device a.mid.device t.early.all_are_done) (quiet_then is) rests.brings, rests.tells),
     )
 
     tells_named : (used : SlotUse) → use_at (slots_at a.mid.slots port.0) its_failure.slot.0 ≡ Some used → TellsFault port (accesses_in t) old new (record { id = used.id; status = its_failure.status; error = its_failure.error })
     tells_named used there =
-        let alike : used.queued ≡ x.queued = x.alike its_failure.slot.0 used there in
+        let alike : used.queued ≡ x.queued = x.are_queued_alike its_failure.slot.0 used there in
         record {
           slot = its_failure.slot.0;
           used = used;
-          served = slots_were laws port low x.done x.requests (record old { device = x.found }) a.mid (found_kept laws port replies old new k ready r looks kept) ready (done_over laws port replies old new k ready r looks kept) x.each its_failure.slot.0 used there;
+          slot_use_is = slots_were laws port low x.done x.requests (record old { device = x.found }) a.mid (found_kept laws port replies old new k ready r looks kept) ready (done_over laws port replies old new k ready r looks kept) x.answers_each its_failure.slot.0 used there;
           id_is = refl;
-          its = subst (λ (queued : Bool). IsFaultOfCommand queued port (accesses_in t) old.device new.device its_failure.slot.0 (record { id = used.id; status = its_failure.status; error = its_failure.error })) (sym alike)
-              (told_so x.queued refl (subst (BacksFailure x.queued port x.outstanding part a.mid.device a.device) named x.handling.tells.rests) used.id);
-          lives = λ queued. lives_then (sym alike ∙ queued);
+          is_fault_of_command = subst (λ (queued : Bool). IsFaultOfCommand queued port (accesses_in t) old.device new.device its_failure.slot.0 (record { id = used.id; status = its_failure.status; error = its_failure.error })) (sym alike)
+              (told_so x.queued refl (subst (BacksFailure x.queued port x.outstanding part a.mid.device a.device) named x.handling.tells.failure_is_backed) used.id);
+          port_is_not_dead = λ queued. lives_then (sym alike ∙ queued);
         }
 
   faults : (told : RequestFault) → Contains (faults_of a.failed) told → TellsFault port (accesses_in t) old new told
@@ -256,34 +256,34 @@ module _ (laws : PrerequisiteLaws) (port : Port) (replies : List Reply) (old new
       by (Some failed) is there =
           let fault : RequestFault = record { id = failed.id; status = failed.status; error = failed.error } in
           let same : told ≡ fault = ⊎_elim (λ e. e) (λ none. absurd (nowhere told none)) (contains_cases fault [] told (subst (λ (o : Option failed_request.FailedRequest). Contains (faults_of o) told) is there)) in
-          subst (TellsFault port (accesses_in t) old new) (sym same) (by_failure failed is x.result.failed refl a.names)
+          subst (TellsFault port (accesses_in t) old new) (sym same) (by_failure failed is x.result.failed refl a.failed_request_is)
 
   -- ---- disks
 
   -- where a device showed at a moment of the turn, a disk was in
   own_at : (accesses : List Access) (d : Device) → DoesAll accesses old.device d → (d.port port.0).ssts_det ≡ 3 → (d.port port.0).present ≡ true
-  own_at accesses d does = laws.recovery.own_on port.0 accesses old.device d does ((k.behind port.0 low).own ready)
+  own_at accesses d does = laws.recovery.own_on port.0 accesses old.device d does ((k.port_invariant port.0 low).has_disk_if_shown ready)
 
   had_at : (accesses : List Access) (d : Device) → DoesAll accesses old.device d → (d.port port.0).ssts_det ≡ 3 → TapeGrows d new.device → (m : Machine) → MachineRelation old m → (steps : List Step) → IsBacked old.device new.device m steps
       → (m.present port ≡ true) ⊎ (list_any (changes_disk port) steps ≡ true)
   had_at accesses d does shows grows m is steps backed = had_disk laws port old d new.device m accesses does (own_at accesses d does shows) is grows steps backed
 
   grown_issuing : TapeGrows r.mid.device new.device
-  grown_issuing = let issued = each_driven laws port (due_ids (mode_in r.mid port) port (asks_of r.mid.book)) r.mid new r.issued in grows_over laws issued.accesses r.mid.device new.device issued.all
+  grown_issuing = let issued = each_driven laws port (due_ids (mode_in r.mid port) port (unanswered_of r.mid.book)) r.mid new r.issued in grows_over laws issued.accesses r.mid.device new.device issued.all_are_done
 
   -- a boot that finds a disk sees a device; so did the look that told of an error
   module _ (m : Machine) (stands : MachineRelation old m) (steps : List Step) (backed : IsBacked old.device new.device m steps) where
     abbrev Had : Type 0
     Had = (m.present port ≡ true) ⊎ (list_any (changes_disk port) steps ≡ true)
 
-    had_seen : (told : PortEvent) (l : LooksAt port told old.device x.seen) → (told ≡ look.TaskFileError) ⊎ (told ≡ look.FatalError) → Had
+    had_seen : (told : PortEvent) (l : TakesEvent port told old.device x.seen) → (told ≡ look.TaskFileError) ⊎ (told ≡ look.FatalError) → Had
     had_seen told l error =
-        had_at (look_list port l.causes l.own l.status) x.seen (look_does port told old.device x.seen l) (shows_device laws port old.device x.seen told l k.on (λ lost. ⊎_elim (λ (is : told ≡ look.TaskFileError). let z : look.LinkChanged ≡ look.TaskFileError = sym lost ∙ is in cc) (λ (is : told ≡ look.FatalError). let z : look.LinkChanged ≡ look.FatalError = sym lost ∙ is in cc) error)) grown_seen m stands steps backed
+        had_at (look_list port l.causes l.port_mask l.status) x.seen (look_does port told old.device x.seen l) (shows_device laws port old.device x.seen told l k.adapter_is_on (λ lost. ⊎_elim (λ (is : told ≡ look.TaskFileError). let z : look.LinkChanged ≡ look.TaskFileError = sym lost ∙ is in cc) (λ (is : told ≡ look.FatalError). let z : look.LinkChanged ≡ look.FatalError = sym lost ∙ is in cc) error)) grown_seen m stands steps backed
 
     had_booted : (booted : Booted) → RebootsPort (wanted_of old.wanted port.0) port booted a.device r.mid.device → ShowsDisk (state_of booted.found) → Had
     had_booted booted b shows =
-        booted_had laws port old (wanted_of old.wanted port.0) booted (t.early.accesses ++ part) a.device r.mid.device new.device k.on (laws.basic.does_append t.early.accesses part old.device a.mid.device a.device t.early.all t.does)
-        (All-append (SparesOtherPorts port) t.early.accesses part (All-weaker (IsEarlyPart port) (SparesOtherPorts port) (λ access is. is.0.1) t.early.accesses t.early.only) (All-weaker (IsPart port) (SparesOtherPorts port) (λ access is. is.1) part t.kinds))
+        booted_had laws port old (wanted_of old.wanted port.0) booted (t.early.accesses ++ part) a.device r.mid.device new.device k.adapter_is_on (laws.basic.does_append t.early.accesses part old.device a.mid.device a.device t.early.all_are_done t.does)
+        (All-append (SparesOtherPorts port) t.early.accesses part (All-weaker (IsEarlyPart port) (SparesOtherPorts port) (λ access is. is.0.1) t.early.accesses t.early.accesses_are_of_kind) (All-weaker (IsPart port) (SparesOtherPorts port) (λ access is. is.1) part t.kinds))
         b shows grown_issuing m stands steps backed
 
     -- where no command had failed, the port was booted
@@ -291,18 +291,18 @@ module _ (laws : PrerequisiteLaws) (port : Port) (replies : List Reply) (old new
     had_stopped other shows = by x.result.next refl
       where
         by : (n : Next) → x.result.next ≡ n → Had
-        by (next.Running token) is = absurd ((given_up x.port_error port x.outstanding x.queued x.result x.handling.accesses a.mid.device a.device x.tells other).1 token is)
+        by (next.Running token) is = absurd ((given_up x.port_error port x.outstanding x.queued x.result x.handling.accesses a.mid.device a.device x.tells_error_handling other).1 token is)
         by next.Dead is = absurd (subst (λ (f : ProbeResult). ShowsDisk (state_of f)) (next_dead laws port replies old new k ready r looks kept is) shows)
         by (next.Restart token) is = ⊎_elim
             (λ boots. had_booted after.0 boots (subst (λ (f : ProbeResult). ShowsDisk (state_of f)) (sym after.1) shows))
             (λ absent. absurd (subst (λ (f : ProbeResult). ShowsDisk (state_of f)) (sym after.1 ∙ absent.is) shows))
             (boots_or_absent x.port_error (wanted_of old.wanted port.0) port after.0 a.device r.mid.device after.2)
           where
-            after : IsRevalidated (wanted_of old.wanted port.0) port x.port_error a.was (next.Restart token) a.device r.mid.device a.found
-            after = subst (λ (n : Next). IsRevalidated (wanted_of old.wanted port.0) port x.port_error a.was n a.device r.mid.device a.found) is a.is
+            after : IsRevalidated (wanted_of old.wanted port.0) port x.port_error a.disk_before (next.Restart token) a.device r.mid.device a.found
+            after = subst (λ (n : Next). IsRevalidated (wanted_of old.wanted port.0) port x.port_error a.disk_before n a.device r.mid.device a.found) is a.is_revalidated
 
     had : ShownDiskWasInOrCame (abstract_state_of old m) steps (abstract_state_of new (after m steps)) port
-    had shows = by x.port_error refl x.finds
+    had shows = by x.port_error refl x.error_is_found
       where
         shows_found : ShowsDisk (state_of a.found)
         shows_found = subst ShowsDisk (state_new laws port replies old new k ready r looks kept) shows
@@ -317,15 +317,15 @@ module _ (laws : PrerequisiteLaws) (port : Port) (replies : List Reply) (old new
 
   kinds : All (IsPart port) (accesses_in t)
   kinds =
-      All-append (IsPart port) t.early.accesses (part ++ t.late.accesses) (All-weaker (IsEarlyPart port) (IsPart port) (λ access is. is.0) t.early.accesses t.early.only)
-      (All-append (IsPart port) part t.late.accesses t.kinds t.late.only)
+      All-append (IsPart port) t.early.accesses (part ++ t.late.accesses) (All-weaker (IsEarlyPart port) (IsPart port) (λ access is. is.0) t.early.accesses t.early.accesses_are_of_kind)
+      (All-append (IsPart port) part t.late.accesses t.kinds t.late.accesses_are_of_kind)
 
   pub evident : IsEvident port replies old new r
   evident = record {
     parts = t;
     accesses = accesses_in t;
     accesses_are = refl;
-    does = laws.basic.does_append t.early.accesses (part ++ t.late.accesses) old.device a.mid.device new.device t.early.all (laws.basic.does_append part t.late.accesses a.mid.device a.device new.device t.does t.late.all);
+    does = laws.basic.does_append t.early.accesses (part ++ t.late.accesses) old.device a.mid.device new.device t.early.all_are_done (laws.basic.does_append part t.late.accesses a.mid.device a.device new.device t.does t.late.all_are_done);
     of = All-weaker (IsPart port) (SparesOtherPorts port) (λ access is. is.1) (accesses_in t) kinds;
     own = All-weaker (IsPart port) IsDriversOwn (λ access is. is.0) (accesses_in t) kinds;
     others = leaves_others laws port replies old new k r kept;

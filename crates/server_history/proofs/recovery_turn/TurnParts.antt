@@ -6,24 +6,24 @@ use Rattle.ata_types.specs.declared.request.Outcome.{Outcome}
 use Rattle.ata_types.specs.declared.request.Reply.{Reply}
 use Rattle.adapter.specs.Device.{Device, DevicePort}
 use Rattle.refinement.specs.Driver.{IsBacked}
-use Rattle.block_machine.specs.Events.{AllByDevice, AllMay, RepliesMatch}
+use Rattle.block_machine.specs.Events.{AllByDevice, AllEnabled, RepliesMatch}
 use Rattle.block_machine.specs.Expected.{after}
 use Rattle.block_machine.specs.Ports.{Evidence, RequestFault}
 use Rattle.block_machine.specs.State.{Machine, Pending}
-use Rattle.block_machine.specs.Steps.{Step, Again, Answer}
+use Rattle.block_machine.specs.Steps.{Step, WaitAgain, Answer}
 use Rattle.error_recovery.specs.declared.Next.{Next}
 use Rattle.error_recovery.specs.declared.Next.TheVariants as next
-use Rattle.request_queue.specs.Entries.{BookEntry}
+use Rattle.request_queue.specs.BookEntries.{BookEntry}
 use Rattle.request_queue.specs.Dispositions.{disposition_of}
-use Rattle.request_queue.specs.Machine.{EntryRelation}
+use Rattle.request_queue.specs.BookRelation.{EntryRelation}
 use Rattle.request_queue.specs.declared.disposition.FailedRequest.{FailedRequest}
 use Rattle.request_queue.specs.declared.disposition.Disposition.TheVariants.{Complete, Requeue}
 use Rattle.request_queue.specs.declared.disposition.Revalidation.{Revalidation}
 use Rattle.request_queue.specs.declared.disposition.Revalidation.TheVariants.{SameDisk, DiskLost, Dead}
-use Rattle.server_history.specs.Dispositions.{IsResolveStep}
+use Rattle.server_history.specs.ResolvedRequests.{IsResolveStep}
 use Rattle.server_history.specs.ErrorHandling.{IsErrorHandled, HasResolved, requests_of}
-use Rattle.server_history.specs.Served.{HasEnded, ok_answers_of}
-use Rattle.server_history.specs.Server.{ServerState, MachineRelation}
+use Rattle.server_history.specs.IssuingAndAnswering.{HasEnded, ok_answers_of}
+use Rattle.server_history.specs.ServerState.{ServerState, MachineRelation}
 use Rattle.port_control.specs.declared.events.PortError.{PortError}
 use Rattle.port_control.specs.declared.events.PortError.TheVariants.{FatalError, TimedOut, LinkChanged}
 use Rattle.server_history.proofs.state.CallEvidence.{shows_failure, shows_fatal, shows_loss}
@@ -85,7 +85,7 @@ abbrev pub evidence_of : Port → PortError → DevicePort → Option FailedRequ
 evidence_of port port_error p failed revalidation next = record {
   faults = faults_of failed;
   lost = lost_of port revalidation;
-  gone = gone_of port port_error p;
+  link_changed = gone_of port port_error p;
   failed = failed_of port port_error p;
   fatal = fatal_of port port_error p;
   stopped = stopped_of port next;
@@ -119,13 +119,13 @@ pub record AddsFates (port : Port) (later : List Reply) (old new : ServerState) 
   pub early : AddsFirst port old a.mid a.device a.error_handled m first
   pub each : AllZip (HasEnded port) a.error_handled.requests ended
   pub middle_only : AllByDevice middle
-  pub may : AllMay m (dispositions ++ (middle ++ (ok_answers_of ended ++ first)))
+  pub may : AllEnabled m (dispositions ++ (middle ++ (ok_answers_of ended ++ first)))
   pub backed : IsBacked old.device new.device m (dispositions ++ (middle ++ (ok_answers_of ended ++ first)))
   pub stands : MachineRelation new (after m (dispositions ++ (middle ++ (ok_answers_of ended ++ first))))
   pub own : All (IsResolveStep port) dispositions
   pub answered : (e : Pending) (outcome : Outcome) → Contains dispositions (Answer e outcome)
       → (request : BookEntry) × Contains (requests_of port a.mid.book) request × EntryRelation request e × (disposition_of a.failed a.revalidation request.entry ≡ Complete outcome)
-  pub again : (e : Pending) → Contains dispositions (Again e)
+  pub again : (e : Pending) → Contains dispositions (WaitAgain e)
       → (request : BookEntry) × Contains (requests_of port a.mid.book) request × EntryRelation request e × (disposition_of a.failed a.revalidation request.entry ≡ Requeue)
   pub tells : RepliesMatch dispositions later
 

@@ -17,17 +17,17 @@ use Rattle.adapter.specs.Access.Access.{Reading}
 use Rattle.adapter.specs.Device.{Device}
 use Rattle.adapter.specs.declared.command.Operation.TheVariants.{ReadLog}
 use Rattle.adapter.specs.Memory.{changed}
-use Rattle.refinement.specs.Acts.{AnySlots, ByDeviceAlone, DriverSlots, Performs, driver_state, act_steps}
+use Rattle.refinement.specs.Acts.{AnySlots, ActsByDeviceAlone, DriverSlots, Performs, driver_state, act_steps}
 use Rattle.refinement.specs.Relation.{port_at}
-use Rattle.refinement.specs.Driven.{AnyUse, IsDrivenBy, IsSimulated, GainsNoMove}
-use Rattle.refinement.specs.GivingUp.{given_up}
+use Rattle.refinement.specs.Fragments.{AnyUse, IsDrivenBy, IsSimulated, GainsNoMove}
+use Rattle.refinement.specs.GivingUp.{with_all_given_up}
 use Rattle.refinement.specs.Links.{DoesNotWrite}
 use Rattle.refinement.specs.Slots.{Free, Own, SlotState}
-use Rattle.block_machine.specs.Due.{due_of}
+use Rattle.block_machine.specs.DueRequests.{due_of}
 use Rattle.block_machine.specs.Expected.{after}
 use Rattle.block_machine.specs.declared.due.Unanswered.{Unanswered}
 use Rattle.server_history.proofs.state.ListMembers.{map_in}
-use Rattle.driver_history.specs.Trace.{DoesNotWriteCmd, ReadsCiAndSact, ResetsLink}
+use Rattle.driver_history.specs.AccessTrace.{DoesNotWriteCmd, ReadsCiAndSact, ResetsLink}
 use Rattle.error_recovery.specs.Recovery.{IsRecoveryAccess, SlotsAfterRecovery}
 use Rattle.error_recovery.specs.declared.Next.{Next}
 use Rattle.error_recovery.specs.declared.Next.TheVariants as next
@@ -35,15 +35,15 @@ use Rattle.host_boot.specs.TakeOver.{probe_result_of, wanted_of}
 use Rattle.host_boot.specs.declared.ProbeResult.TheVariants.{Unready, Unserved}
 use Rattle.port_control.specs.Engines.{EngineSticks}
 use Rattle.port_control.specs.declared.Stopped.{Stopped}
-use Rattle.port_control.specs.Looks.{IsLooking, LooksAt}
+use Rattle.port_control.specs.PortEvents.{IsEventAccess, TakesEvent}
 use Rattle.port_control.specs.declared.events.PortEvent.{PortEvent}
 use Rattle.port_control.specs.declared.events.PortEvent.TheVariants as look
-use Rattle.request_queue.specs.Entries.{BookEntry, asks, asks_of, due_ids}
+use Rattle.request_queue.specs.BookEntries.{BookEntry, as_unanswered, unanswered_of, due_ids}
 use Rattle.server_history.specs.Prerequisites.{PrerequisiteLaws}
 use Rattle.server_history.specs.ErrorHandling.{ErrorIsFound, IsErrorHandled, HasResolved, HandlesPortError}
 use Rattle.commands.specs.Batches.{IsBatchAccess}
-use Rattle.server_history.specs.Served.{IssuesTogetherIfAny}
-use Rattle.server_history.specs.Server.{ServerState, InCallInvariant, mode_in, state_of, used_for}
+use Rattle.server_history.specs.IssuingAndAnswering.{IssuesTogetherIfAny}
+use Rattle.server_history.specs.ServerState.{ServerState, InCallInvariant, mode_in, state_of, used_for}
 use Rattle.port_control.specs.declared.events.PortError.{PortError}
 use Rattle.port_control.specs.declared.events.PortError.TheVariants.{FatalError, TaskFileError, TimedOut, LinkChanged}
 use Rattle.server_history.proofs.state.TurnAccesses.{issuing_leaves, issuing_turns, look_does, look_list, look_turns, turn_leaves}
@@ -59,9 +59,9 @@ use Rattle.server_history.proofs.state.FirstMembers.{first_here}
 
 -- recovery's accesses were made
 pub recovery_does : (port : ℕ) (then : Next) (accesses : List Access) (old new : Device) → SlotsAfterRecovery port then accesses old new → DoesAll accesses old new
-recovery_does port (next.Running token) accesses old new p = p.does
-recovery_does port (next.Restart token) accesses old new p = p.does
-recovery_does port next.Dead accesses old new p = ⊎_elim (λ a. a.does) (λ b. ⊎_elim (λ x. x.does) (λ x. x.does) b) p
+recovery_does port (next.Running token) accesses old new p = p.accesses_are_done
+recovery_does port (next.Restart token) accesses old new p = p.accesses_are_done
+recovery_does port next.Dead accesses old new p = ⊎_elim (λ a. a.accesses_are_done) (λ b. ⊎_elim (λ x. x.accesses_are_done) (λ x. x.accesses_are_done) b) p
 
 -- The accesses of the turn: those until the masks were read, after which requests were answered; recovery's; and those after it, of a boot and of issues.
 -- No page of the log comes on another port that isn't dead.
@@ -89,7 +89,7 @@ nobody [] none = refl
 nobody (x ∷ xs) none = absurd (none x (first_here x xs))
 
 module _ (laws : PrerequisiteLaws) (port : Port) (replies : List Reply) (old new : ServerState) (k : InCallInvariant old) (ready : state_of (probe_result_of old.ports port.0) ≡ ReadyState) (r : HandlesPortError port replies old new)
-    (looks : IsSimulated (IsLooking port) AnyUse old.device r.settled.error_handled.seen) (kept : InCallInvariant r.mid) where
+    (looks : IsSimulated (IsEventAccess port) AnyUse old.device r.settled.error_handled.seen) (kept : InCallInvariant r.mid) where
   abbrev a : HasResolved port r.later old r.mid
   a = r.settled
 
@@ -111,14 +111,14 @@ module _ (laws : PrerequisiteLaws) (port : Port) (replies : List Reply) (old new
   found_kept = finding_kept (record old { device = x.seen }) x.found port seen_kept ready laws x.mask x.done x.reads
 
   answered_as : a.mid ≡ record from { table = a.mid.table; slots = a.mid.slots; book = a.mid.book }
-  answered_as = answers_settings laws port x.done x.requests from a.mid x.each
+  answered_as = answers_settings laws port x.done x.requests from a.mid x.answers_each
 
   -- the commands of slots that were found done are over
   pub done_over : CommandsAreOver port x.done x.found
-  done_over = found_over (record old { device = x.seen }) x.found port seen_kept ready laws x.mask x.done x.reads x.its
+  done_over = found_over (record old { device = x.seen }) x.found port seen_kept ready laws x.mask x.done x.reads x.is_mask_of
 
   pub mid_kept : InCallInvariant a.mid
-  mid_kept = answers_kept laws port x.done x.requests from a.mid found_kept ready done_over x.each
+  mid_kept = answers_kept laws port x.done x.requests from a.mid found_kept ready done_over x.answers_each
 
   pub mid_device : a.mid.device ≡ x.found
   mid_device = ap (λ (n : ServerState). n.device) answered_as
@@ -134,31 +134,31 @@ module _ (laws : PrerequisiteLaws) (port : Port) (replies : List Reply) (old new
 
   -- those of a look; where a request is hung there are none
   looking : IsDrivenBy IsLookingOn old.device x.seen
-  looking = by x.port_error x.finds
+  looking = by x.port_error x.error_is_found
     where
-      looked : (told : PortEvent) → LooksAt port told old.device x.seen → IsDrivenBy IsLookingOn old.device x.seen
+      looked : (told : PortEvent) → TakesEvent port told old.device x.seen → IsDrivenBy IsLookingOn old.device x.seen
       looked told l = record {
-        accesses = look_list port l.causes l.own l.status;
-        all = look_does port told old.device x.seen l;
-        only = λ i d small. let t = look_turns port l.causes l.own l.status l.alone i d small in let leaves = turn_leaves laws port port _ t in ((t.1, leaves.0), leaves.1);
+        accesses = look_list port l.causes l.port_mask l.status;
+        all_are_done = look_does port told old.device x.seen l;
+        accesses_are_of_kind = λ i d small. let t = look_turns port l.causes l.port_mask l.status l.is_sole_bit i d small in let leaves = turn_leaves laws port port _ t in ((t.1, leaves.0), leaves.1);
       }
 
       by : (port_error : PortError) → ErrorIsFound port port_error old.device x.seen → IsDrivenBy IsLookingOn old.device x.seen
       by TaskFileError l = looked look.TaskFileError l
       by FatalError l = looked look.FatalError l
       by LinkChanged l = looked look.LinkChanged l
-      by TimedOut same = subst (IsDrivenBy IsLookingOn old.device) (sym same) (record { accesses = []; all = refl; only = All-nil IsLookingOn })
+      by TimedOut same = subst (IsDrivenBy IsLookingOn old.device) (sym same) (record { accesses = []; all_are_done = refl; accesses_are_of_kind = All-nil IsLookingOn })
 
   looking_early : All (IsEarlyPart port) looking.accesses
-  looking_early = All-weaker IsLookingOn (IsEarlyPart port) (λ access is. is.0) looking.accesses looking.only
+  looking_early = All-weaker IsLookingOn (IsEarlyPart port) (λ access is. is.0) looking.accesses looking.accesses_are_of_kind
 
   finding : IsDrivenBy (IsEarlyPart port) x.seen x.found
   finding =
       let m = both_read port x.mask x.done x.seen x.found x.reads in
       record {
         accesses = Reading (Px port Ci) x.reads.issued ∷ Reading (Px port Sact) x.reads.active ∷ [];
-        all = (m.0, m.1, (x.found, m.2, refl));
-        only = All-cons (IsEarlyPart port) (Reading (Px port Ci) x.reads.issued) (Reading (Px port Sact) x.reads.active ∷ []) ((tt, refl), tt)
+        all_are_done = (m.0, m.1, (x.found, m.2, refl));
+        accesses_are_of_kind = All-cons (IsEarlyPart port) (Reading (Px port Ci) x.reads.issued) (Reading (Px port Sact) x.reads.active ∷ []) ((tt, refl), tt)
             (All-cons (IsEarlyPart port) (Reading (Px port Sact) x.reads.active) [] ((tt, refl), tt) (All-nil (IsEarlyPart port)));
       }
 
@@ -166,14 +166,14 @@ module _ (laws : PrerequisiteLaws) (port : Port) (replies : List Reply) (old new
   early : IsDrivenBy (IsEarlyPart port) old.device a.mid.device
   early = record {
     accesses = looking.accesses ++ finding.accesses;
-    all = subst (DoesAll (looking.accesses ++ finding.accesses) old.device) (sym mid_device) (laws.basic.does_append looking.accesses finding.accesses old.device x.seen x.found looking.all finding.all);
-    only = All-append (IsEarlyPart port) looking.accesses finding.accesses looking_early finding.only;
+    all_are_done = subst (DoesAll (looking.accesses ++ finding.accesses) old.device) (sym mid_device) (laws.basic.does_append looking.accesses finding.accesses old.device x.seen x.found looking.all_are_done finding.all_are_done);
+    accesses_are_of_kind = All-append (IsEarlyPart port) looking.accesses finding.accesses looking_early finding.accesses_are_of_kind;
   }
 
   early_spares : All (DoesNotWrite (Px port Sctl)) early.accesses
   unfolding early finding
   early_spares = All-append (DoesNotWrite (Px port Sctl)) looking.accesses finding.accesses
-      (All-weaker IsLookingOn (DoesNotWrite (Px port Sctl)) (λ access is. is.1) looking.accesses looking.only)
+      (All-weaker IsLookingOn (DoesNotWrite (Px port Sctl)) (λ access is. is.1) looking.accesses looking.accesses_are_of_kind)
       (All-cons (DoesNotWrite (Px port Sctl)) (Reading (Px port Ci) x.reads.issued) (Reading (Px port Sact) x.reads.active ∷ []) tt
       (All-cons (DoesNotWrite (Px port Sctl)) (Reading (Px port Sact) x.reads.active) [] tt (All-nil (DoesNotWrite (Px port Sctl)))))
 
@@ -182,32 +182,32 @@ module _ (laws : PrerequisiteLaws) (port : Port) (replies : List Reply) (old new
   masks = record {
     before = looking.accesses;
     later = [];
-    here = refl;
-    running = All-weaker (IsEarlyPart port) (DoesNotWriteCmd port) (λ access is. is.1) looking.accesses looking_early;
+    accesses_are_split = refl;
+    cmd_is_unwritten_before = All-weaker (IsEarlyPart port) (DoesNotWriteCmd port) (λ access is. is.1) looking.accesses looking_early;
   }
 
   afterwards : AfterList port x.port_error x.result.next a.found a.device r.mid.device
-  afterwards = after_list laws port low (wanted_of old.wanted port.0) x.port_error a.was x.result.next a.device r.mid.device a.found a.is
+  afterwards = after_list laws port low (wanted_of old.wanted port.0) x.port_error a.disk_before x.result.next a.device r.mid.device a.found a.is_revalidated
 
   each : IsDrivenBy (IsBatchAccess port) r.mid.device new.device
-  each = each_driven laws port (due_ids (mode_in r.mid port) port (asks_of r.mid.book)) r.mid new r.issued
+  each = each_driven laws port (due_ids (mode_in r.mid port) port (unanswered_of r.mid.book)) r.mid new r.issued
 
   issuing : IsDrivenBy (IsPart port) r.mid.device new.device
-  issuing = record { accesses = each.accesses; all = each.all; only = All-weaker (IsBatchAccess port) (IsPart port) (λ access is. (issuing_turns laws port low access is).1) each.accesses each.only }
+  issuing = record { accesses = each.accesses; all_are_done = each.all_are_done; accesses_are_of_kind = All-weaker (IsBatchAccess port) (IsPart port) (λ access is. (issuing_turns laws port low access is).1) each.accesses each.accesses_are_of_kind }
 
   issuing_spares : All (DoesNotWrite (Px port Sctl)) issuing.accesses
   unfolding issuing
-  issuing_spares = All-weaker (IsBatchAccess port) (DoesNotWrite (Px port Sctl)) (λ access is. (issuing_leaves laws port port access is).1) each.accesses each.only
+  issuing_spares = All-weaker (IsBatchAccess port) (DoesNotWrite (Px port Sctl)) (λ access is. (issuing_leaves laws port port access is).1) each.accesses each.accesses_are_of_kind
 
   -- nothing is issued on a dead port, of which there are no requests
   none_issued : state_of (probe_result_of r.mid.ports port.0) ≡ DeadState → new ≡ r.mid
-  none_issued dead = subst (λ (ids : List RequestId). IssuesTogetherIfAny port ids r.mid new) (ap (λ (us : List Unanswered). map (λ (u : Unanswered). u.id) us) (nobody (due_of (mode_in r.mid port) port (asks_of r.mid.book)) none)) r.issued
+  none_issued dead = subst (λ (ids : List RequestId). IssuesTogetherIfAny port ids r.mid new) (ap (λ (us : List Unanswered). map (λ (u : Unanswered). u.id) us) (nobody (due_of (mode_in r.mid port) port (unanswered_of r.mid.book)) none)) r.issued
     where
-      none : (u : Unanswered) → Contains (due_of (mode_in r.mid port) port (asks_of r.mid.book)) u → ⊥
+      none : (u : Unanswered) → Contains (due_of (mode_in r.mid port) port (unanswered_of r.mid.book)) u → ⊥
       none u here =
-          let due = (laws.exact (mode_in r.mid port) port (asks_of r.mid.book) u (laws.own (mode_in r.mid port) port (asks_of r.mid.book) u here)).0 here in
-          let e = map_in (λ (y : BookEntry). asks y.entry) r.mid.book u due.here in
-          let its : e.0.entry.port ≡ port = sym (ap (λ (v : Unanswered). v.port) e.2) ∙ laws.own (mode_in r.mid port) port (asks_of r.mid.book) u here in
+          let due = (laws.exact (mode_in r.mid port) port (unanswered_of r.mid.book) u (laws.own (mode_in r.mid port) port (unanswered_of r.mid.book) u here)).0 here in
+          let e = map_in (λ (y : BookEntry). as_unanswered y.entry) r.mid.book u due.is_in_book in
+          let its : e.0.entry.port ≡ port = sym (ap (λ (v : Unanswered). v.port) e.2) ∙ laws.own (mode_in r.mid port) port (unanswered_of r.mid.book) u here in
           let z : ReadyState ≡ DeadState = sym (of_ready r.mid kept e.0 e.1) ∙ ap (λ (q : Port). state_of (probe_result_of r.mid.ports q.0)) its ∙ dead in
           absurd cc
 
@@ -223,30 +223,30 @@ module _ (laws : PrerequisiteLaws) (port : Port) (replies : List Reply) (old new
   found_is =
       let many : length a.mid.ports ≡ length old.ports = ap (λ (n : ServerState). length n.ports) answered_as in
       let within : port.0 < length a.mid.ports = (let small = listed in omega (arith, small, many)) in
-      ap (λ (n : ServerState). probe_result_of n.ports port.0) a.server ∙ get_or-set_same a.mid.ports port.0 a.found Unserved within
+      ap (λ (n : ServerState). probe_result_of n.ports port.0) a.server_is ∙ get_or-set_same a.mid.ports port.0 a.found Unserved within
 
   -- ---- no page of the log
 
   module _ (q : ℕ) (other : q ≢ port.0) (lives : state_of (probe_result_of old.ports q) ≢ DeadState) where
     -- its slot 0 has no command of the driver's own
-    none_own : mid_kept.stands.uses q 0 ≡ Own ReadLog → ⊥
-    none_own = not_own (probe_result_of a.mid.ports q) (used_for a.mid.slots q 0) (mid_kept.stands.uses q 0) ReadLog (λ dead. lives (ap state_of (sym (mid_found q) ∙ dead))) (mid_kept.stands.used q 0)
+    none_own : mid_kept.machine_relation.uses q 0 ≡ Own ReadLog → ⊥
+    none_own = not_own (probe_result_of a.mid.ports q) (used_for a.mid.slots q 0) (mid_kept.machine_relation.uses q 0) ReadLog (λ dead. lives (ap state_of (sym (mid_found q) ∙ dead))) (mid_kept.machine_relation.are_uses_of q 0)
 
     -- nor has it once the port's slots were given up
     given : (token : Stopped) → x.result.next ≡ next.Restart token → (g : IsGivenUp port a.device) × (g.uses q 0 ≡ Own ReadLog → ⊥)
     given token is =
         let m = mid_kept.machine in
-        let s : DriverSlots = record { uses = mid_kept.stands.uses; parked = mid_kept.stands.parked } in
-        let p : Performs x.handling.accesses AnySlots (given_up port.0) ByDeviceAlone a.mid.device a.device = subst (λ (n : Next). SlotsAfterRecovery port.0 n x.handling.accesses a.mid.device a.device) is x.handling.does.slots in
-        let c = p.comes s m mid_kept.reached mid_kept.stands.knows tt in
-        let g = laws.slots.acts_go c.acts (driver_state s a.mid.device) (driver_state (given_up port.0 s) a.device) m mid_kept.stands.knows c.done in (
+        let s : DriverSlots = record { uses = mid_kept.machine_relation.uses; parked = mid_kept.machine_relation.parked } in
+        let p : Performs x.handling.accesses AnySlots (with_all_given_up port.0) ActsByDeviceAlone a.mid.device a.device = subst (λ (n : Next). SlotsAfterRecovery port.0 n x.handling.accesses a.mid.device a.device) is x.handling.does.slots in
+        let c = p.acts_reach s m mid_kept.reached mid_kept.machine_relation.driver_relation tt in
+        let g = laws.slots.acts_go c.acts (driver_state s a.mid.device) (driver_state (with_all_given_up port.0 s) a.device) m mid_kept.machine_relation.driver_relation c.acts_are_done in (
           record {
             uses = changed s.uses port.0 (λ slot. Free);
-            parked = (given_up port.0 s).parked;
+            parked = (with_all_given_up port.0 s).parked;
             machine = after m (act_steps c.acts);
             free = laws.slots.given_free (driver_state s a.mid.device) port.0;
-            reached = laws.basic.reached m (act_steps c.acts) mid_kept.reached g.may;
-            knows = g.knows;
+            reached = laws.basic.reached m (act_steps c.acts) mid_kept.reached g.steps_are_enabled;
+            driver_relation = g.driver_relation;
           },
           λ own. none_own (ap (λ (f : ℕ → SlotState). f 0) (sym (laws.slots.given_others (driver_state s a.mid.device) port.0 q other).0) ∙ own),
         )
@@ -257,26 +257,26 @@ module _ (laws : PrerequisiteLaws) (port : Port) (replies : List Reply) (old new
         (finding_silent (record old { device = x.seen }) x.found port seen_kept ready laws x.mask x.done x.reads q ReadLog refl (λ dead. lives (ap state_of dead))))
 
     recovery_silent : GainsNoMove q ReadLog a.mid.device a.device
-    recovery_silent = x.handling.leaves.others (port_at q) ReadLog other refl
-        (mid_kept.stands.uses, none_own, record { machine = mid_kept.machine; parked = mid_kept.stands.parked; reached = mid_kept.reached; knows = mid_kept.stands.knows })
+    recovery_silent = x.handling.leaves.no_other_page_moves (port_at q) ReadLog other refl
+        (mid_kept.machine_relation.uses, none_own, record { machine = mid_kept.machine; parked = mid_kept.machine_relation.parked; reached = mid_kept.reached; driver_relation = mid_kept.machine_relation.driver_relation })
 
     later_found : probe_result_of r.mid.ports q ≡ probe_result_of old.ports q
-    later_found = ap (λ (n : ServerState). probe_result_of n.ports q) a.server ∙ get_or-set_other a.mid.ports port.0 q a.found Unserved other ∙ mid_found q
+    later_found = ap (λ (n : ServerState). probe_result_of n.ports q) a.server_is ∙ get_or-set_other a.mid.ports port.0 q a.found Unserved other ∙ mid_found q
 
     whole_silent : GainsNoMove q ReadLog old.device new.device
     whole_silent =
         silent_more q ReadLog old.device a.mid.device new.device early_silent
         (silent_more q ReadLog a.mid.device a.device new.device recovery_silent
         (silent_more q ReadLog a.device r.mid.device new.device (afterwards.silent (port_at q) ReadLog other refl given)
-        (each_silent laws port (due_ids (mode_in r.mid port) port (asks_of r.mid.book)) r.mid new kept r.issued q ReadLog refl (λ dead. lives (ap state_of (sym later_found ∙ dead))))))
+        (each_silent laws port (due_ids (mode_in r.mid port) port (unanswered_of r.mid.book)) r.mid new kept r.issued q ReadLog refl (λ dead. lives (ap state_of (sym later_found ∙ dead))))))
 
   -- ---- the whole
 
   late : IsDrivenBy (IsPart port) a.device new.device
   late = record {
     accesses = afterwards.driven.accesses ++ issuing.accesses;
-    all = laws.basic.does_append afterwards.driven.accesses issuing.accesses a.device r.mid.device new.device afterwards.driven.all issuing.all;
-    only = All-append (IsPart port) afterwards.driven.accesses issuing.accesses afterwards.driven.only issuing.only;
+    all_are_done = laws.basic.does_append afterwards.driven.accesses issuing.accesses a.device r.mid.device new.device afterwards.driven.all_are_done issuing.all_are_done;
+    accesses_are_of_kind = All-append (IsPart port) afterwards.driven.accesses issuing.accesses afterwards.driven.accesses_are_of_kind issuing.accesses_are_of_kind;
   }
 
   dead_unissued : a.found ≡ Unready DeadState → new ≡ r.mid
@@ -310,5 +310,5 @@ module _ (laws : PrerequisiteLaws) (port : Port) (replies : List Reply) (old new
         (All-weaker (IsRecoveryAccess port) (DoesNotWrite (Px port Sctl)) (recovering_spares laws port) x.handling.accesses x.handling.does.only) (late_spares never));
     with_issue_undone = dead_unissued;
     silent = whole_silent;
-    issuing_silent = λ lives. each_silent laws port (due_ids (mode_in r.mid port) port (asks_of r.mid.book)) r.mid new kept r.issued port.0 ReadLog refl (λ dead. lives (ap state_of dead));
+    issuing_silent = λ lives. each_silent laws port (due_ids (mode_in r.mid port) port (unanswered_of r.mid.book)) r.mid new kept r.issued port.0 ReadLog refl (λ dead. lives (ap state_of dead));
   }

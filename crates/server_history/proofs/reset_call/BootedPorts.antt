@@ -10,13 +10,13 @@ use Rattle.adapter.specs.Access.{Access}
 use Rattle.adapter.specs.Access.Access.{Loading, Reading, Storing, Writing}
 use Rattle.adapter.specs.Device.{Device}
 use Rattle.refinement.specs.Relation.{port_at}
-use Rattle.refinement.specs.Driven.{OnPortWriting, IsDrivenBy}
-use Rattle.driver_history.specs.Parts.{HasTurnIn, IsOfOtherPort, call_accesses}
-use Rattle.driver_history.specs.Trace.{ResetsLink}
+use Rattle.refinement.specs.Fragments.{IsPortAccessWriting, IsDrivenBy}
+use Rattle.driver_history.specs.PortTurn.{HasTurnIn, IsOfOtherPort, call_accesses}
+use Rattle.driver_history.specs.AccessTrace.{ResetsLink}
 use Rattle.host_boot.specs.TakeOver.{StopsAndBootsPort, FindsEachPort, probe_result_of}
 use Rattle.host_boot.specs.declared.ProbeResult.{ProbeResult}
 use Rattle.host_boot.specs.declared.ProbeResult.TheVariants.{Unserved, Ready, Unready}
-use Rattle.port_boot.specs.States.{EndsBeforeStart, EndsAfterStart, BringsReady, IsBeforeStart, IsAfterStart, IsOfBoot}
+use Rattle.port_boot.specs.States.{EndsBeforeStart, EndsAfterStart, BringsReady, IsBeforeStart, IsAfterStart, IsBootAccess}
 use Rattle.port_control.specs.Engines.{EngineSticks}
 use Rattle.port_control.specs.Ports.{IsCommandRegister}
 use Rattle.server_history.specs.Prerequisites.{PrerequisiteLaws}
@@ -28,18 +28,18 @@ use Rattle.server_history.proofs.recovery_turn.LinkResets.{ResetsBy, early_reset
 -- What was done of a port that was found to be this. One that is ready got so once it was stopped. Its link was reset, unless it is dead: then one of its engines was seen to be stuck.
 abbrev pub DidBoot : Port → ProbeResult → List Access → Device → Device → Type 0
 DidBoot port Unserved accesses old new = Unit {0}
-DidBoot port (Ready info) accesses old new = ResetsLink port accesses × ((stopped : Device) × IsDrivenBy (OnPortWriting IsCommandRegister port) old stopped × BringsReady port stopped new)
+DidBoot port (Ready info) accesses old new = ResetsLink port accesses × ((stopped : Device) × IsDrivenBy (IsPortAccessWriting IsCommandRegister port) old stopped × BringsReady port stopped new)
 DidBoot port (Unready state) accesses old new = (state ≡ DeadState → EngineSticks port accesses) × (state ≢ DeadState → state ≢ ReadyState → ResetsLink port accesses)
 
 -- an access of the port's boot, if it is served
 abbrev pub IsBootOf : Port → ProbeResult → Access → Type 0
-IsBootOf port found access = (found ≢ Unserved) × IsOfBoot port access
+IsBootOf port found access = (found ≢ Unserved) × IsBootAccess port access
 
 -- it was done by such a list of accesses
 abbrev BootsBy : Port → ProbeResult → Device → Device → Type 0
 BootsBy port found old new = (driven : IsDrivenBy (IsBootOf port found) old new) × DidBoot port found driven.accesses old new
 
-pub command_boots : (port : Port) (access : Access) → OnPortWriting IsCommandRegister port access → IsOfBoot port access
+pub command_boots : (port : Port) (access : Access) → IsPortAccessWriting IsCommandRegister port access → IsBootAccess port access
 command_boots port (Reading (Px at r) v) is = inl is
 command_boots port (Reading r v) is = absurd is
 command_boots port (Writing (Px at r) v) is = inl (is.0, inl (inl is.1))
@@ -48,27 +48,27 @@ command_boots port (Loading at bytes) is = absurd is
 command_boots port (Storing at bytes) is = absurd is
 
 module _ (laws : PrerequisiteLaws) where
-  module _ (port : Port) (found : ProbeResult) (served : found ≢ Unserved) (old stopped new : Device) (stops : IsDrivenBy (OnPortWriting IsCommandRegister port) old stopped) where
+  module _ (port : Port) (found : ProbeResult) (served : found ≢ Unserved) (old stopped new : Device) (stops : IsDrivenBy (IsPortAccessWriting IsCommandRegister port) old stopped) where
     -- the stop, and then a boot
-    then_boots : IsDrivenBy (IsOfBoot port) stopped new → IsDrivenBy (IsBootOf port found) old new
+    then_boots : IsDrivenBy (IsBootAccess port) stopped new → IsDrivenBy (IsBootOf port found) old new
     then_boots boot = record {
       accesses = stops.accesses ++ boot.accesses;
-      all = laws.basic.does_append stops.accesses boot.accesses old stopped new stops.all boot.all;
-      only = All-append (IsBootOf port found) stops.accesses boot.accesses
-          (All-weaker (OnPortWriting IsCommandRegister port) (IsBootOf port found) (λ access is. (served, command_boots port access is)) stops.accesses stops.only)
-          (All-weaker (IsOfBoot port) (IsBootOf port found) (λ access is. (served, is)) boot.accesses boot.only);
+      all_are_done = laws.basic.does_append stops.accesses boot.accesses old stopped new stops.all_are_done boot.all_are_done;
+      accesses_are_of_kind = All-append (IsBootOf port found) stops.accesses boot.accesses
+          (All-weaker (IsPortAccessWriting IsCommandRegister port) (IsBootOf port found) (λ access is. (served, command_boots port access is)) stops.accesses stops.accesses_are_of_kind)
+          (All-weaker (IsBootAccess port) (IsBootOf port found) (λ access is. (served, is)) boot.accesses boot.accesses_are_of_kind);
     }
 
     reset_by : ResetsBy port stopped new → (driven : IsDrivenBy (IsBootOf port found) old new) × ResetsLink port driven.accesses
     unfolding then_boots
     reset_by r = (then_boots r.driven, resets_since port stops.accesses r.driven.accesses r.resets)
 
-  module _ (port : Port) (old stopped new : Device) (stops : IsDrivenBy (OnPortWriting IsCommandRegister port) old stopped) where
+  module _ (port : Port) (old stopped new : Device) (stops : IsDrivenBy (IsPortAccessWriting IsCommandRegister port) old stopped) where
     resets_by : (state : PortState) → state ≢ DeadState → ResetsBy port stopped new → BootsBy port (Unready state) old new
     resets_by state lives r =
         let x = reset_by port (Unready state) (λ e. let z : Unready state ≡ Unserved = e in cc) old stopped new stops r in (x.0, ((λ dead. absurd (lives dead)), λ _ _. x.1))
 
-    unready : (state : PortState) → IsDrivenBy (IsOfBoot port) stopped new → (IsBeforeStart state → EndsBeforeStart port state stopped new) → (IsAfterStart state → EndsAfterStart port stopped new) → state ≢ DeadState → BootsBy port (Unready state) old new
+    unready : (state : PortState) → IsDrivenBy (IsBootAccess port) stopped new → (IsBeforeStart state → EndsBeforeStart port state stopped new) → (IsAfterStart state → EndsAfterStart port stopped new) → state ≢ DeadState → BootsBy port (Unready state) old new
     unready DeadState boot early late other = absurd (other refl)
     unready ReadyState boot early late other = (then_boots port (Unready ReadyState) (λ e. let z : Unready ReadyState ≡ Unserved = e in cc) old stopped new stops boot, ((λ dead. absurd (other dead)), λ _ unready. absurd (unready refl)))
     unready Absent boot early late other = resets_by Absent other (early_resets laws port Absent stopped new (early tt))
@@ -82,13 +82,13 @@ module _ (laws : PrerequisiteLaws) where
         by_early is = resets_by (Unfit n) other (early_resets laws port (Unfit n) stopped new (early is))
 
   boots_by : (port : Port) (found : ProbeResult) (old new : Device) → StopsAndBootsPort port found old new → BootsBy port found old new
-  boots_by port Unserved old new same = (record { accesses = []; all = same; only = All-nil (IsBootOf port Unserved) }, tt)
+  boots_by port Unserved old new same = (record { accesses = []; all_are_done = same; accesses_are_of_kind = All-nil (IsBootOf port Unserved) }, tt)
   boots_by port (Ready info) old new (stopped, stops, boot, ready, news) =
       let r = reset_by port (Ready info) (λ e. let z : Ready info ≡ Unserved = e in cc) old stopped new stops (ready_resets laws port stopped new ready) in (r.0, (r.1, (stopped, stops, ready)))
   boots_by port (Unready state) old new (stopped, stops, boot, early, late, sticks) = ⊎_elim
       (λ (dead : state ≡ DeadState).
       let x = sticks dead in (
-        record { accesses = x.driven.accesses; all = x.driven.all; only = All-weaker (IsOfBoot port) (IsBootOf port (Unready state)) (λ access is. ((λ e. let z : Unready state ≡ Unserved = e in cc), is)) x.driven.accesses x.driven.only },
+        record { accesses = x.driven.accesses; all_are_done = x.driven.all_are_done; accesses_are_of_kind = All-weaker (IsBootAccess port) (IsBootOf port (Unready state)) (λ access is. ((λ e. let z : Unready state ≡ Unserved = e in cc), is)) x.driven.accesses x.driven.accesses_are_of_kind },
         ((λ _. x.sticks), λ lives. absurd (lives dead)),
       ))
       (λ (lives : state ≢ DeadState). unready port old stopped new stops state boot early late lives)
@@ -123,10 +123,10 @@ module _ (laws : PrerequisiteLaws) where
     all : IsDrivenBy (IsOfFound first (found ∷ rest)) old new
     all = record {
       accesses = one.0.accesses ++ more.driven.accesses;
-      all = laws.basic.does_append one.0.accesses more.driven.accesses old mid new one.0.all more.driven.all;
-      only = All-append (IsOfFound first (found ∷ rest)) one.0.accesses more.driven.accesses
-          (All-weaker (IsBootOf (port_at first) found) (IsOfFound first (found ∷ rest)) (λ access is. (port_at first, 0, (omega arith), is)) one.0.accesses one.0.only)
-          (All-weaker (IsOfFound (first + 1) rest) (IsOfFound first (found ∷ rest)) (λ access (q, k, at, its). (q, suc k, (omega (arith, at)), its)) more.driven.accesses more.driven.only);
+      all_are_done = laws.basic.does_append one.0.accesses more.driven.accesses old mid new one.0.all_are_done more.driven.all_are_done;
+      accesses_are_of_kind = All-append (IsOfFound first (found ∷ rest)) one.0.accesses more.driven.accesses
+          (All-weaker (IsBootOf (port_at first) found) (IsOfFound first (found ∷ rest)) (λ access is. (port_at first, 0, (omega arith), is)) one.0.accesses one.0.accesses_are_of_kind)
+          (All-weaker (IsOfFound (first + 1) rest) (IsOfFound first (found ∷ rest)) (λ access (q, k, at, its). (q, suc k, (omega (arith, at)), its)) more.driven.accesses more.driven.accesses_are_of_kind);
     }
 
     turn_here : (port : Port) → port.0 ≡ first → TookTurn port found all.accesses old new
@@ -138,11 +138,11 @@ module _ (laws : PrerequisiteLaws) where
         later = more.driven.accesses;
         start = old;
         end = mid;
-        first = refl;
-        then = one.0.all;
-        last = more.driven.all;
-        others = All-nil (IsOfOtherPort (port_at first));
-        others_later = All-weaker (IsOfFound (first + 1) rest) (IsOfOtherPort (port_at first)) (of_other (port_at first) (first + 1) rest (omega arith)) more.driven.accesses more.driven.only;
+        leads_to_start = refl;
+        turn_leads_to_end = one.0.all_are_done;
+        leads_to_new = more.driven.all_are_done;
+        earlier_are_of_others = All-nil (IsOfOtherPort (port_at first));
+        later_are_of_others = All-weaker (IsOfFound (first + 1) rest) (IsOfOtherPort (port_at first)) (of_other (port_at first) (first + 1) rest (omega arith)) more.driven.accesses more.driven.accesses_are_of_kind;
       };
       all = refl;
       did = one.1;
@@ -157,13 +157,13 @@ module _ (laws : PrerequisiteLaws) where
         later = t.turn.later;
         start = t.turn.start;
         end = t.turn.end;
-        first = laws.basic.does_append one.0.accesses t.turn.before old mid t.turn.start one.0.all t.turn.first;
-        then = t.turn.then;
-        last = t.turn.last;
-        others = All-append (IsOfOtherPort port) one.0.accesses t.turn.before
-            (All-weaker (IsBootOf (port_at first) found) (IsOfOtherPort port) (λ access is. (port_at first, (λ same. absurd (omega (arith, at, same))), laws.booting_of (port_at first) access is.1)) one.0.accesses one.0.only)
-            t.turn.others;
-        others_later = t.turn.others_later;
+        leads_to_start = laws.basic.does_append one.0.accesses t.turn.before old mid t.turn.start one.0.all_are_done t.turn.leads_to_start;
+        turn_leads_to_end = t.turn.turn_leads_to_end;
+        leads_to_new = t.turn.leads_to_new;
+        earlier_are_of_others = All-append (IsOfOtherPort port) one.0.accesses t.turn.before
+            (All-weaker (IsBootOf (port_at first) found) (IsOfOtherPort port) (λ access is. (port_at first, (λ same. absurd (omega (arith, at, same))), laws.booting_of (port_at first) access is.1)) one.0.accesses one.0.accesses_are_of_kind)
+            t.turn.earlier_are_of_others;
+        later_are_of_others = t.turn.later_are_of_others;
       };
       all = append_assoc one.0.accesses t.turn.before (t.turn.turn ++ t.turn.later) ∙ ap (λ (list : List Access). one.0.accesses ++ list) t.all;
       did = t.did;
@@ -180,5 +180,5 @@ module _ (laws : PrerequisiteLaws) where
         each port (suc k) at small = turn_later port k (omega (arith, at)) (omega (arith, small))
 
   pub went_by : (first : ℕ) (ports : List ProbeResult) (old new : Device) → FindsEachPort first ports old new → WentBy first ports old new
-  went_by first [] old new same = record { driven = record { accesses = []; all = same; only = All-nil (IsOfFound first []) }; each = λ port k at small. absurd (omega (arith, small)) }
+  went_by first [] old new same = record { driven = record { accesses = []; all_are_done = same; accesses_are_of_kind = All-nil (IsOfFound first []) }; each = λ port k at small. absurd (omega (arith, small)) }
   went_by first (found ∷ rest) old new (mid, way, more) = went_more first found rest old mid new way (went_by (first + 1) rest mid new more)

@@ -10,7 +10,7 @@ use Rattle.std.specs.List.Sorted.{IsPermutation}
 use Rattle.adapter.specs.Device.{Device}
 use Rattle.adapter.specs.declared.command.Operation.TheVariants.{Identify}
 use Rattle.refinement.specs.Relation.{port_at}
-use Rattle.refinement.specs.Driven.{known}
+use Rattle.refinement.specs.Fragments.{driver_state_of}
 use Rattle.refinement.specs.Driver.{IsBacked, DriverRelation}
 use Rattle.refinement.specs.Slots.{Free, Own, Serves, SlotStates}
 use Rattle.ata_types.specs.declared.Port.{Port}
@@ -21,20 +21,20 @@ use Rattle.ata_types.specs.declared.request.Outcome.{Outcome}
 use Rattle.ata_types.specs.declared.request.Reply.{Reply}
 use Rattle.ata_types.specs.declared.request.RequestId.{RequestId}
 use Rattle.server_history.proofs.state.ListMembers.{contains_there, in_filter}
-use Rattle.block_machine.specs.Events.{AllMay, IsToldBefore, answers_of, reply_of}
+use Rattle.block_machine.specs.Events.{AllEnabled, IsToldBefore, answers_of, reply_of}
 use Rattle.block_machine.specs.Histories.{IsReachable}
 use Rattle.block_machine.specs.Expected.{after}
 use Rattle.block_machine.specs.State.{Machine, Pending}
-use Rattle.block_machine.specs.Steps.{Again, Answer, Step}
+use Rattle.block_machine.specs.Steps.{WaitAgain, Answer, Step}
 use Rattle.dma_frames.specs.Loan.{Lending}
-use Rattle.dma_frames.specs.Table.{lent_to, owner_of}
+use Rattle.dma_frames.specs.FrameTables.{lent_to, owner_of}
 use Rattle.host_boot.specs.TakeOver.{IsUnusedOrDead, probe_result_of}
 use Rattle.host_boot.specs.declared.ProbeResult.{ProbeResult}
 use Rattle.host_boot.specs.declared.ProbeResult.TheVariants.{Unready}
 use Rattle.identify.specs.declared.DiskInfo.{DiskInfo}
-use Rattle.request_queue.specs.Entries.{BookEntry, IsAccepted, IsEarlier, BookIsInOrder, is_of_port, requeued_entry}
+use Rattle.request_queue.specs.BookEntries.{BookEntry, IsAccepted, IsEarlier, BookIsInOrder, is_of_port, requeued_entry}
 use Rattle.request_queue.specs.Dispositions.{BookAndLoans, AreResolved, IsResolved, disposition_of}
-use Rattle.request_queue.specs.Machine.{BookRelation, EntryRelation}
+use Rattle.request_queue.specs.BookRelation.{BookRelation, EntryRelation}
 use Rattle.request_queue.specs.declared.PendingRequest.{PendingRequest}
 use Rattle.request_queue.specs.declared.disposition.Disposition.{Disposition}
 use Rattle.request_queue.specs.declared.disposition.Disposition.TheVariants.{Complete, Requeue, Wait}
@@ -48,10 +48,10 @@ use Rattle.server_history.proofs.dispositions.FittingFates.{fits_each, kept_dead
 use Rattle.server_history.proofs.dispositions.MetFates.{meet, none_parked}
 use Rattle.server_history.proofs.dispositions.RemainingBook.{IsLeft, WasIn, ends_of, fated, marked_from, was_itself, was_more}
 use Rattle.server_history.specs.Prerequisites.{PrerequisiteLaws}
-use Rattle.server_history.specs.Dispositions.{IsResolveStep, AreResolvable, AreResolvedInMachine, keeps_frames_lent}
+use Rattle.server_history.specs.ResolvedRequests.{IsResolveStep, AreResolvable, AreResolvedInMachine, keeps_frames_lent}
 use Rattle.server_history.specs.ErrorHandling.{book_and_loans_of, requests_of}
 use Rattle.server_history.specs.Resets.{IsResetRevalidation, ResolvePorts, ResolvesPort, with_book_and_loans}
-use Rattle.server_history.specs.Server.{QuarantineRelation, ServerState, quarantined_at, remembered_at, RevokedMarkInvariant}
+use Rattle.server_history.specs.ServerState.{QuarantineRelation, ServerState, quarantined_at, remembered_at, RevokedMarkInvariant}
 use Rattle.server_history.proofs.state.RevokedMarks.{tells_of}
 
 -- ---- a port's requests
@@ -98,7 +98,7 @@ pub record IsFatedTo (n : ℕ) (c : ServerState) (m : Machine) : Type 0 where
   pub uses : SlotStates
   pub left : (port slot : ℕ) → IsUnusedOrDead c.ports uses port slot
   pub parked : ℕ → List RequestId
-  pub knows : DriverRelation m (known uses parked c.device)
+  pub driver_relation : DriverRelation m (driver_state_of uses parked c.device)
   pub unparked : (port : ℕ) → port < n → probe_result_of c.ports port ≢ Unready Dead → parked port ≡ []
   pub its : (port : ℕ) → n ≤ port → (id : RequestId) → Contains (parked port) id
       → (e : BookEntry) × Contains c.book e × (e.entry.id ≡ id) × (e.entry.issued ≡ true) × (e.entry.port.0 ≡ port)
@@ -108,7 +108,7 @@ pub record IsFatedTo (n : ℕ) (c : ServerState) (m : Machine) : Type 0 where
   pub rows : m.rows ≡ c.grants
   pub owner : (frame : Frame) → m.owner frame ≡ owner_of c.table frame
   pub lent : (frame : Frame) → m.lent frame ≡ lent_to c.table frame
-  pub next : m.next ≡ c.last + 1
+  pub next : m.next_id ≡ c.last_id + 1
   pub ordered : BookIsInOrder c.book
   pub accepted : All (IsAccepted c.table) c.book
   pub marked : All (RevokedMarkInvariant c.grants) c.book
@@ -132,26 +132,26 @@ module _ (laws : PrerequisiteLaws) (n : ℕ) (low : n < 4) (replies : List Reply
   abbrev found : ProbeResult
   found = probe_result_of old.ports n
 
-  may_meet : AreResolvable port disposition its (book_and_loans_of port old) (known at.uses at.parked old.device) m
+  may_meet : AreResolvable port disposition its (book_and_loans_of port old) (driver_state_of at.uses at.parked old.device) m
   may_meet = record {
     reached = reached;
-    knows = at.knows;
+    driver_relation = at.driver_relation;
     book = at.book;
     lent = at.lent;
-    ordered = at.ordered;
-    accepted = at.accepted;
+    book_is_in_order = at.ordered;
+    requests_are_accepted = at.accepted;
     marked = λ e here. tells_of m.rows old.grants e.entry at.rows (All-contains (RevokedMarkInvariant old.grants) old.book e at.marked (of_requests port old.book e here).0).tells;
     here = of_requests port old.book;
-    earlier = AllPairs-filter IsEarlier (λ (x : BookEntry). is_of_port port x.entry) old.book at.ordered.ordered;
+    earlier = AllPairs-filter IsEarlier (λ (x : BookEntry). is_of_port port x.entry) old.book at.ordered.ids_rise;
     unserved = λ e here never q slot serves. serves_none old.ports at.uses q slot (at.left q slot) e.entry.id serves;
   }
 
-  pub met : AreResolvedInMachine port disposition its replies (book_and_loans_of port old) s.now (known at.uses at.parked old.device) m
-  met = meet laws port disposition its (fits_each None s.revalidation its) replies (book_and_loans_of port old) s.now (known at.uses at.parked old.device) m may_meet s.meets
+  pub met : AreResolvedInMachine port disposition its replies (book_and_loans_of port old) s.book_and_loans_after (driver_state_of at.uses at.parked old.device) m
+  met = meet laws port disposition its (fits_each None s.revalidation its) replies (book_and_loans_of port old) s.book_and_loans_after (driver_state_of at.uses at.parked old.device) m may_meet s.are_resolved
 
-  pub left : IsLeft port disposition its (book_and_loans_of port old) s.now
-  left = fated laws port disposition its (fits_each None s.revalidation its) replies (book_and_loans_of port old) s.now
-      (record { here = of_requests port old.book; earlier = may_meet.earlier; ordered = at.ordered; accepted = at.accepted }) s.meets
+  pub left : IsLeft port disposition its (book_and_loans_of port old) s.book_and_loans_after
+  left = fated laws port disposition its (fits_each None s.revalidation its) replies (book_and_loans_of port old) s.book_and_loans_after
+      (record { here = of_requests port old.book; earlier = may_meet.earlier; ordered = at.ordered; accepted = at.accepted }) s.are_resolved
 
   abbrev z : Machine
   z = after m met.steps
@@ -171,35 +171,35 @@ module _ (laws : PrerequisiteLaws) (n : ℕ) (low : n < 4) (replies : List Reply
       by : (p : Revalidation) → s.revalidation ≡ p → found ≡ Unready Dead
       by SameDisk same = absurd (lives (λ dead. let y : SameDisk ≡ NoEnd = sym same ∙ dead in absurd cc))
       by DiskLost same = absurd (lives (λ dead. let y : DiskLost ≡ NoEnd = sym same ∙ dead in absurd cc))
-      by NoEnd same = subst (IsResetRevalidation was found) same s.expects
+      by NoEnd same = subst (IsResetRevalidation was found) same s.is_revalidation
 
   quiet : found ≢ Unready Dead → (e : PendingRequest) → keeps_frames_lent (disposition e) e ≡ false
-  quiet lives e = kept_dead_alone None s.revalidation e (λ dead. lives (subst (IsResetRevalidation was found) dead s.expects))
+  quiet lives e = kept_dead_alone None s.revalidation e (λ dead. lives (subst (IsResetRevalidation was found) dead s.is_revalidation))
 
   -- where no loan is kept, none is parked
   none_left : ((e : PendingRequest) → keeps_frames_lent (disposition e) e ≡ false) → met.parked n ≡ []
   none_left none =
-      none_parked port disposition its (fits_each None s.revalidation its) replies (book_and_loans_of port old) s.now (known at.uses at.parked old.device) m met none
+      none_parked port disposition its (fits_each None s.revalidation its) replies (book_and_loans_of port old) s.book_and_loans_after (driver_state_of at.uses at.parked old.device) m met none
       (λ id here. let w = at.its n (omega arith) id here in (w.0, in_requests port old.book w.0 w.1 w.4, w.2, w.3))
 
   abbrev new : ServerState
-  new = with_book_and_loans port s.now old
+  new = with_book_and_loans port s.book_and_loans_after old
 
   are_kept : QuarantineRelation new.ports new.kept z.kept
   are_kept = subst (QuarantineRelation new.ports new.kept) (sym met.kept)
       (more_kept port old.ports old.ports old.kept new.kept met.held m.kept at.kept
-      (get_or-set_same old.kept n s.now.kept [] (let four = at.four_kept in omega (arith, four, low)) ∙ met.loans)
-      (λ q ne. get_or-set_other old.kept n q s.now.kept [] ne) at.kept.dead dies met.two
+      (get_or-set_same old.kept n s.book_and_loans_after.kept [] (let four = at.four_kept in omega (arith, four, low)) ∙ met.loans)
+      (λ q ne. get_or-set_other old.kept n q s.book_and_loans_after.kept [] ne) at.kept.dead dies met.two
       (λ a b here there. absurd (nowhere a (subst (λ (loans : List Lending). Contains loans a) (at.unkept n (omega arith)) here))))
 
   -- ---- who is left
 
-  its_then : (q : ℕ) → n + 1 ≤ q → (id : RequestId) → Contains (met.parked q) id → (e : BookEntry) × Contains s.now.book e × (e.entry.id ≡ id) × (e.entry.issued ≡ true) × (e.entry.port.0 ≡ q)
+  its_then : (q : ℕ) → n + 1 ≤ q → (id : RequestId) → Contains (met.parked q) id → (e : BookEntry) × Contains s.book_and_loans_after.book e × (e.entry.id ≡ id) × (e.entry.issued ≡ true) × (e.entry.port.0 ≡ q)
   its_then q high id here =
       let other : q ≢ n = λ same. omega (arith, high, same) in
       let w = at.its q (omega (arith, high)) id (subst (λ (ids : List RequestId). Contains ids id) (met.others q other) here) in (
         w.0,
-        fates_spare laws disposition its replies (book_and_loans_of port old) s.now s.meets w.0 w.1 (λ r there same.
+        fates_spare laws disposition its replies (book_and_loans_of port old) s.book_and_loans_after s.are_resolved w.0 w.1 (λ r there same.
             let o = of_requests port old.book r there in
             let one : w.0 ≡ r = laws.one old.book w.0 r at.ordered w.1 o.0 same in
             other (sym w.4 ∙ ap (λ (x : BookEntry). x.entry.port.0) one ∙ ap (λ (p : Port). p.0) o.1)),
@@ -208,9 +208,9 @@ module _ (laws : PrerequisiteLaws) (n : ℕ) (low : n < 4) (replies : List Reply
         w.4,
       )
 
-  alive_then : (e : BookEntry) → Contains s.now.book e → e.entry.port.0 < n + 1 → HasItsDisk old.remembered old.ports e.entry.port.0
+  alive_then : (e : BookEntry) → Contains s.book_and_loans_after.book e → e.entry.port.0 < n + 1 → HasItsDisk old.remembered old.ports e.entry.port.0
   alive_then e here lt = ⊎_elim
-      (λ (same : e.entry.port.0 ≡ n). subst (HasItsDisk old.remembered old.ports) (sym same) (by same s.revalidation refl s.expects))
+      (λ (same : e.entry.port.0 ≡ n). subst (HasItsDisk old.remembered old.ports) (sym same) (by same s.revalidation refl s.is_revalidation))
       (λ (ne : e.entry.port.0 ≢ n). subst (λ (p : Port). HasItsDisk old.remembered old.ports p.0) (sym w.port) (at.alive w.was w.there (let own = ap (λ (p : Port). p.0) w.port in omega (arith, lt, ne, own))))
       (cases_eq e.entry.port.0 n)
     where
@@ -227,16 +227,16 @@ module _ (laws : PrerequisiteLaws) (n : ℕ) (low : n < 4) (replies : List Reply
       by own DiskLost is x = absurd (none own (λ same. let y : DiskLost ≡ SameDisk = sym is ∙ same in absurd cc))
       by own NoEnd is x = absurd (none own (λ same. let y : NoEnd ≡ SameDisk = sym is ∙ same in absurd cc))
 
-  leaves : (z.rows ≡ m.rows) × ((frame : Frame) → z.owner frame ≡ m.owner frame) × (z.next ≡ m.next)
+  leaves : (z.rows ≡ m.rows) × ((frame : Frame) → z.owner frame ≡ m.owner frame) × (z.next_id ≡ m.next_id)
   leaves = deciding_leaves port m met.steps met.own
 
   pub fated_one : IsFatedTo (n + 1) mid z
-  fated_one = subst (λ (c : ServerState). IsFatedTo (n + 1) c z) (sym s.server) (record {
-    four_kept = length-set old.kept n s.now.kept ∙ at.four_kept;
+  fated_one = subst (λ (c : ServerState). IsFatedTo (n + 1) c z) (sym s.server_is) (record {
+    four_kept = length-set old.kept n s.book_and_loans_after.kept ∙ at.four_kept;
     uses = at.uses;
     left = at.left;
     parked = met.parked;
-    knows = met.knows;
+    driver_relation = met.driver_relation;
     unparked = λ q lt lives. ⊎_elim
         (λ (same : q ≡ n). ap met.parked same ∙ none_left (quiet (λ dead. lives (ap (probe_result_of old.ports) same ∙ dead))))
         (λ (ne : q ≢ n). met.others q ne ∙ at.unparked q (omega (arith, lt, ne)) lives)
@@ -244,14 +244,14 @@ module _ (laws : PrerequisiteLaws) (n : ℕ) (low : n < 4) (replies : List Reply
     its = its_then;
     book = met.book;
     kept = are_kept;
-    unkept = λ q high. get_or-set_other old.kept n q s.now.kept [] (λ same. omega (arith, high, same)) ∙ at.unkept q (omega (arith, high));
+    unkept = λ q high. get_or-set_other old.kept n q s.book_and_loans_after.kept [] (λ same. omega (arith, high, same)) ∙ at.unkept q (omega (arith, high));
     rows = leaves.0 ∙ at.rows;
     owner = λ frame. leaves.1 frame ∙ at.owner frame ∙ ap (λ (owners : List (Option ClientId)). get_or owners frame.0 None) (sym left.owners);
     lent = met.lent;
     next = leaves.2 ∙ at.next;
     ordered = left.ordered;
     accepted = left.accepted;
-    marked = All-weaker (Contains s.now.book) (RevokedMarkInvariant old.grants) (λ e here. marked_from old.grants old.book at.marked e (left.from e here)) s.now.book (All-contains_itself s.now.book);
+    marked = All-weaker (Contains s.book_and_loans_after.book) (RevokedMarkInvariant old.grants) (λ e here. marked_from old.grants old.book at.marked e (left.from e here)) s.book_and_loans_after.book (All-contains_itself s.book_and_loans_after.book);
     alive = alive_then;
   })
 
@@ -273,12 +273,12 @@ Decides step = (port : Port) × IsResolveStep port step
 -- Requests of so many ports, of which the first has this number, met their fates by steps that decide on them; these are told by port, and then by id.
 pub record AreFated (n : ℕ) (found : List ProbeResult) (replies : List Reply) (old new : ServerState) (m : Machine) : Type 0 where
   pub steps : List Step
-  pub may : AllMay m steps
+  pub may : AllEnabled m steps
   pub backed : (d : Device) → IsBacked d d m steps
   pub fated : IsFatedTo (n + length found) new (after m steps)
   pub decides : All Decides steps
   pub answered : (e : Pending) (o : Outcome) → Contains steps (Answer e o) → HasFate old e (Complete o)
-  pub again : (e : Pending) → Contains steps (Again e) → HasFate old e Requeue
+  pub again : (e : Pending) → Contains steps (WaitAgain e) → HasFate old e Requeue
   pub answers : List (Pending × Outcome)
   pub permuted : IsPermutation answers (answers_of steps)
   pub ordered : AllPairs IsToldBefore answers
@@ -290,7 +290,7 @@ pub record AreFated (n : ℕ) (found : List ProbeResult) (replies : List Reply) 
 
 module _ (laws : PrerequisiteLaws) (n : ℕ) (low : n < 4) (found : ProbeResult) (rest : List ProbeResult) (replies its later : List Reply) (split : replies ≡ its ++ later) (old mid new : ServerState) (m : Machine) (reached : IsReachable m)
     (s : ResolvesPort (port_at n) its old mid) (at : IsFatedTo n old m) where
-  abbrev one : AreResolvedInMachine (port_at n) (disposition_of None s.revalidation) (requests_of (port_at n) old.book) its (book_and_loans_of (port_at n) old) s.now (known at.uses at.parked old.device) m
+  abbrev one : AreResolvedInMachine (port_at n) (disposition_of None s.revalidation) (requests_of (port_at n) old.book) its (book_and_loans_of (port_at n) old) s.book_and_loans_after (driver_state_of at.uses at.parked old.device) m
   one = met laws n low its old mid m reached s at
 
   -- a request of the port has its fate
@@ -303,15 +303,15 @@ module _ (laws : PrerequisiteLaws) (n : ℕ) (low : n < 4) (found : ProbeResult)
         entry = entry;
         from = was_itself old.book request its.0;
         revalidation = s.revalidation;
-        expects = subst (λ (p : Port). IsResetRevalidation (remembered_at old.remembered p.0) (probe_result_of old.ports p.0) s.revalidation) (sym own) s.expects;
+        expects = subst (λ (p : Port). IsResetRevalidation (remembered_at old.remembered p.0) (probe_result_of old.ports p.0) s.revalidation) (sym own) s.is_revalidation;
         disposition = is;
       }
 
-  one_left : IsLeft (port_at n) (disposition_of None s.revalidation) (requests_of (port_at n) old.book) (book_and_loans_of (port_at n) old) s.now
+  one_left : IsLeft (port_at n) (disposition_of None s.revalidation) (requests_of (port_at n) old.book) (book_and_loans_of (port_at n) old) s.book_and_loans_after
   one_left = left laws n low its old mid m reached s at
 
   mid_from : (e : BookEntry) → Contains mid.book e → WasIn old.book e
-  mid_from e here = one_left.from e (subst (λ (c : ServerState). Contains c.book e) s.server here)
+  mid_from e here = one_left.from e (subst (λ (c : ServerState). Contains c.book e) s.server_is here)
 
   as_before : (e : Pending) (f : Disposition) → HasFate mid e f → HasFate old e f
   as_before e f has = record {
@@ -319,41 +319,41 @@ module _ (laws : PrerequisiteLaws) (n : ℕ) (low : n < 4) (found : ProbeResult)
     entry = has.entry;
     from = was_more old.book mid.book has.request mid_from has.from;
     revalidation = has.revalidation;
-    expects = subst (λ (c : ServerState). IsResetRevalidation (remembered_at c.remembered e.request.port.0) (probe_result_of c.ports e.request.port.0) has.revalidation) s.server has.expects;
+    expects = subst (λ (c : ServerState). IsResetRevalidation (remembered_at c.remembered e.request.port.0) (probe_result_of c.ports e.request.port.0) has.revalidation) s.server_is has.expects;
     disposition = has.disposition;
   }
 
   -- those that are told first are of this port
-  told_here : All (λ a. a.0.request.port.0 ≡ n) one.tells.answers
-  told_here = All-weaker (Contains one.tells.answers) (λ a. a.0.request.port.0 ≡ n)
+  told_here : All (λ a. a.0.request.port.0 ≡ n) one.replies_match.answers
+  told_here = All-weaker (Contains one.replies_match.answers) (λ a. a.0.request.port.0 ≡ n)
       (λ a here.
-      let w = one.answered a.0 a.1 (answers_there one.steps a (Contains-permutation one.tells.answers (answers_of one.steps) a one.tells.same here)) in
+      let w = one.answered a.0 a.1 (answers_there one.steps a (Contains-permutation one.replies_match.answers (answers_of one.steps) a one.replies_match.is_permutation here)) in
       ap (λ (p : Port). p.0) (w.2.port ∙ (of_requests (port_at n) old.book w.0 w.1).1))
-      one.tells.answers (All-contains_itself one.tells.answers)
+      one.replies_match.answers (All-contains_itself one.replies_match.answers)
 
   pub fated_more : AreFated (n + 1) rest later mid new (after m one.steps) → AreFated n (found ∷ rest) replies old new m
   fated_more r = record {
     steps = r.steps ++ one.steps;
-    may = laws.basic.may m r.steps one.steps one.may r.may;
+    may = laws.basic.may m r.steps one.steps one.steps_are_enabled r.may;
     backed = λ d. laws.backed_parts d d d m one.steps r.steps (one.backed d) (r.backed d);
     fated = subst (IsFatedTo (n + length (found ∷ rest)) new) (sym (laws.basic.joined m r.steps one.steps)) (subst (λ (k : ℕ). IsFatedTo k new (after (after m one.steps) r.steps)) (omega arith) r.fated);
     decides = All-append Decides r.steps one.steps r.decides (All-weaker (IsResolveStep (port_at n)) Decides (λ step is. (port_at n, is)) one.steps one.own);
     answered = λ e o here. ⊎_elim (λ late. as_before e (Complete o) (r.answered e o late)) (λ early. its_fate e (Complete o) (one.answered e o early)) (Contains-append_cases r.steps one.steps (Answer e o) here);
-    again = λ e here. ⊎_elim (λ late. as_before e Requeue (r.again e late)) (λ early. its_fate e Requeue (one.again e early)) (Contains-append_cases r.steps one.steps (Again e) here);
-    answers = one.tells.answers ++ r.answers;
-    permuted = subst (IsPermutation (one.tells.answers ++ r.answers)) (sym (answers_append r.steps one.steps))
-        (IsPermutation-trans _ _ _ (IsPermutation-append_comm one.tells.answers r.answers) (IsPermutation-append _ _ _ _ r.permuted one.tells.same));
-    ordered = all_pairs_append IsToldBefore one.tells.answers r.answers one.tells.ordered r.ordered (λ a b here there.
-        let first = All-contains (λ x. x.0.request.port.0 ≡ n) one.tells.answers a told_here here in
+    again = λ e here. ⊎_elim (λ late. as_before e Requeue (r.again e late)) (λ early. its_fate e Requeue (one.again e early)) (Contains-append_cases r.steps one.steps (WaitAgain e) here);
+    answers = one.replies_match.answers ++ r.answers;
+    permuted = subst (IsPermutation (one.replies_match.answers ++ r.answers)) (sym (answers_append r.steps one.steps))
+        (IsPermutation-trans _ _ _ (IsPermutation-append_comm one.replies_match.answers r.answers) (IsPermutation-append _ _ _ _ r.permuted one.replies_match.is_permutation));
+    ordered = all_pairs_append IsToldBefore one.replies_match.answers r.answers one.replies_match.ordered r.ordered (λ a b here there.
+        let first = All-contains (λ x. x.0.request.port.0 ≡ n) one.replies_match.answers a told_here here in
         let later_on = All-contains (λ x. n + 1 ≤ x.0.request.port.0) r.answers b r.high there in
         inl (omega (arith, first, later_on)));
-    high = All-append (λ a. n ≤ a.0.request.port.0) one.tells.answers r.answers
-        (All-weaker (λ a. a.0.request.port.0 ≡ n) (λ a. n ≤ a.0.request.port.0) (λ a is. omega (arith, is)) one.tells.answers told_here)
+    high = All-append (λ a. n ≤ a.0.request.port.0) one.replies_match.answers r.answers
+        (All-weaker (λ a. a.0.request.port.0 ≡ n) (λ a. n ≤ a.0.request.port.0) (λ a is. omega (arith, is)) one.replies_match.answers told_here)
         (All-weaker (λ a. n + 1 ≤ a.0.request.port.0) (λ a. n ≤ a.0.request.port.0) (λ a is. omega (arith, is)) r.answers r.high);
-    told = split ∙ ap (λ (list : List Reply). list ++ later) one.tells.told ∙ ap (λ (list : List Reply). map reply_of one.tells.answers ++ list) r.told ∙ sym (map-append reply_of one.tells.answers r.answers);
+    told = split ∙ ap (λ (list : List Reply). list ++ later) one.replies_match.replies_are ∙ ap (λ (list : List Reply). map reply_of one.replies_match.answers ++ list) r.told ∙ sym (map-append reply_of one.replies_match.answers r.answers);
     from = λ e here. was_more old.book mid.book e (λ x there. mid_from x there) (r.from e here);
-    owners = r.owners ∙ ap (λ (c : ServerState). c.table.owners) s.server ∙ one_left.owners;
-    settings = r.settings ∙ ap (λ (c : ServerState). record c { table = new.table; kept = new.kept; book = new.book }) s.server;
+    owners = r.owners ∙ ap (λ (c : ServerState). c.table.owners) s.server_is ∙ one_left.owners;
+    settings = r.settings ∙ ap (λ (c : ServerState). record c { table = new.table; kept = new.kept; book = new.book }) s.server_is;
   }
 
 pub fate_all : PrerequisiteLaws → (found : List ProbeResult) (n : ℕ) → n + length found ≤ 4 → (replies : List Reply) (old new : ServerState) → ResolvePorts n found replies old new → (m : Machine) → IsReachable m → IsFatedTo n old m
@@ -365,7 +365,7 @@ fate_all laws [] n few replies old new (none, same) m reached at = record {
   fated = subst (λ (c : ServerState). IsFatedTo (n + 0) c m) (sym same) (subst (λ (k : ℕ). IsFatedTo k old m) (omega arith) at);
   decides = All-nil Decides;
   answered = λ e o here. absurd (nowhere (Answer e o) here);
-  again = λ e here. absurd (nowhere (Again e) here);
+  again = λ e here. absurd (nowhere (WaitAgain e) here);
   answers = [];
   permuted = IsPermutation-refl [];
   ordered = λ i j d lt below. absurd (omega (arith, lt, below));
@@ -379,4 +379,4 @@ fate_all laws (found ∷ rest) n few replies old new (mid, its, later, split, on
     let low : n < 4 = omega (arith, few) in
     let first = met laws n low its old mid m reached one at in
     fated_more laws n low found rest replies its later split old mid new m reached one at
-    (fate_all laws rest (n + 1) (omega (arith, few)) later mid new more (after m first.steps) (laws.basic.reached m first.steps reached first.may) (fated_one laws n low its old mid m reached one at))
+    (fate_all laws rest (n + 1) (omega (arith, few)) later mid new more (after m first.steps) (laws.basic.reached m first.steps reached first.steps_are_enabled) (fated_one laws n low its old mid m reached one at))

@@ -7,7 +7,7 @@ use Rattle.adapter.specs.Device.{Device}
 use Rattle.adapter.specs.Idle.{IsIdle}
 use Rattle.adapter.specs.Rules.{IsOn}
 use Rattle.refinement.specs.Relation.{port_at}
-use Rattle.refinement.specs.Driven.{TapeGrows, OnPortWriting, IsDrivenBy, SparesOtherPorts}
+use Rattle.refinement.specs.Fragments.{TapeGrows, IsPortAccessWriting, IsDrivenBy, SparesOtherPorts}
 use Rattle.ata_types.specs.declared.Port.{Port}
 use Rattle.ata_types.specs.declared.PortState.{PortState as ShownState}
 use Rattle.ata_types.specs.declared.PortState.TheVariants.{Ready as ReadyState}
@@ -16,15 +16,15 @@ use Rattle.hba_regs.specs.declared.reg.Reg.TheVariants.{Cap, Ghc, Pi}
 use Rattle.host_boot.specs.TakeOver.{FindsEachPort, SwitchesOnAndBoots, StopsAndBootsPort, ReadsCapOrPi, probe_result_of}
 use Rattle.host_boot.specs.declared.ProbeResult.{ProbeResult}
 use Rattle.host_boot.specs.declared.ProbeResult.TheVariants.{Ready, Unready, Unserved}
-use Rattle.port_boot.specs.States.{IsOfBoot}
+use Rattle.port_boot.specs.States.{IsBootAccess}
 use Rattle.port_control.specs.Ports.{IsCommandRegister}
 use Rattle.server_history.proofs.state.DrivenAccesses.{by_none, driven_as}
 use Rattle.server_history.proofs.recovery_turn.LinkResets.{IsBeside, commanding}
 use Rattle.server_history.proofs.any_turn.ShownTrouble.{grows_over}
 use Rattle.server_history.proofs.recovery_turn.FoundDisk.{SeesDevice, ready_sees, unready_sees}
 use Rattle.server_history.specs.Prerequisites.{PrerequisiteLaws}
-use Rattle.server_history.specs.Ended.{ResetLaws}
-use Rattle.server_history.specs.Server.{state_of}
+use Rattle.server_history.specs.ResetLaws.{ResetLaws}
+use Rattle.server_history.specs.ServerState.{state_of}
 
 -- A disk was in at some moment between the two.
 pub record SawDisk (port : Port) (old new : Device) : Type 0 where
@@ -50,17 +50,17 @@ module _ (laws : PrerequisiteLaws) where
 
   -- ---- one port's way
 
-  boot_of : (port : Port) (old new : Device) → IsDrivenBy (IsOfBoot port) old new → IsDrivenBy (SparesOtherPorts port) old new
-  boot_of port old new driven = driven_as (IsOfBoot port) (SparesOtherPorts port) old new (laws.booting_of port) driven
+  boot_of : (port : Port) (old new : Device) → IsDrivenBy (IsBootAccess port) old new → IsDrivenBy (SparesOtherPorts port) old new
+  boot_of port old new driven = driven_as (IsBootAccess port) (SparesOtherPorts port) old new (laws.booting_of port) driven
 
-  stopping_of : (port : Port) (old new : Device) → IsDrivenBy (OnPortWriting IsCommandRegister port) old new → IsDrivenBy (SparesOtherPorts port) old new
-  stopping_of port old new driven = boot_of port old new (driven_as (IsBeside port) (IsOfBoot port) old new (λ access is. is.0) (commanding laws port old new driven))
+  stopping_of : (port : Port) (old new : Device) → IsDrivenBy (IsPortAccessWriting IsCommandRegister port) old new → IsDrivenBy (SparesOtherPorts port) old new
+  stopping_of port old new driven = boot_of port old new (driven_as (IsBeside port) (IsBootAccess port) old new (λ access is. is.0) (commanding laws port old new driven))
 
   of_both : (port : Port) (old mid new : Device) → IsDrivenBy (SparesOtherPorts port) old mid → IsDrivenBy (SparesOtherPorts port) mid new → IsDrivenBy (SparesOtherPorts port) old new
   of_both port old mid new early late = record {
     accesses = early.accesses ++ late.accesses;
-    all = laws.basic.does_append early.accesses late.accesses old mid new early.all late.all;
-    only = All-append (SparesOtherPorts port) early.accesses late.accesses early.only late.only;
+    all_are_done = laws.basic.does_append early.accesses late.accesses old mid new early.all_are_done late.all_are_done;
+    accesses_are_of_kind = All-append (SparesOtherPorts port) early.accesses late.accesses early.accesses_are_of_kind late.accesses_are_of_kind;
   }
 
   through_of : (port : Port) (found : ProbeResult) (old new : Device) → StopsAndBootsPort port found old new → IsDrivenBy (SparesOtherPorts port) old new
@@ -69,17 +69,17 @@ module _ (laws : PrerequisiteLaws) where
   through_of port (Unready state) old new (stopped, stops, boots, first, last, sticks) = of_both port old stopped new (stopping_of port old stopped stops) (boot_of port stopped new boots)
 
   sees_saw : (port : Port) (old new : Device) → SeesDevice port old new → SawDisk port old new
-  sees_saw port old new s = record { seen = s.seen; accesses = s.early.accesses; does = s.early.all; present = s.own s.shows; later = grows_over laws s.late.accesses s.seen new s.late.all }
+  sees_saw port old new s = record { seen = s.seen; accesses = s.early.accesses; does = s.early.all_are_done; present = s.own s.shows; later = grows_over laws s.late.accesses s.seen new s.late.all_are_done }
 
   -- one that finds a disk
   through_saw : (port : Port) (found : ProbeResult) (old new : Device) → IsOn old → ((state : ShownState) → found ≡ Unready state → state ≢ ReadyState) → ShowsDisk (state_of found) → StopsAndBootsPort port found old new → SawDisk port old new
   through_saw port Unserved old new on other shows way = absurd shows
   through_saw port (Ready info) old new on other shows (stopped, stops, boots, gets, news) =
       let driven = stopping_of port old stopped stops in
-      saw_before port driven.accesses old stopped new driven.all (sees_saw port stopped new (ready_sees laws port stopped new (laws.of_on port old stopped on driven) gets))
+      saw_before port driven.accesses old stopped new driven.all_are_done (sees_saw port stopped new (ready_sees laws port stopped new (laws.of_on port old stopped on driven) gets))
   through_saw port (Unready state) old new on other shows (stopped, stops, boots, first, last, sticks) =
       let driven = stopping_of port old stopped stops in
-      saw_before port driven.accesses old stopped new driven.all
+      saw_before port driven.accesses old stopped new driven.all_are_done
       (sees_saw port stopped new (unready_sees laws port state stopped new (laws.of_on port old stopped on driven) (other state refl) first last shows))
 
   -- ---- one port after another
@@ -88,7 +88,7 @@ module _ (laws : PrerequisiteLaws) where
   go_grows first [] old new same = subst (TapeGrows old) (sym same) (laws.looks.tape.grows_none old)
   go_grows first (found ∷ rest) old new (mid, way, more) =
       let driven = through_of (port_at first) found old mid way in
-      laws.looks.tape.grows_more old mid new (grows_over laws driven.accesses old mid driven.all) (go_grows (first + 1) rest mid new more)
+      laws.looks.tape.grows_more old mid new (grows_over laws driven.accesses old mid driven.all_are_done) (go_grows (first + 1) rest mid new more)
 
   go_saw : (port : Port) (found : ProbeResult) → ((state : ShownState) → found ≡ Unready state → state ≢ ReadyState) → ShowsDisk (state_of found)
       → (first : ℕ) (ports : List ProbeResult) (k : ℕ) (old new : Device) → port.0 ≡ first + k → probe_result_of ports k ≡ found → IsOn old → FindsEachPort first ports old new → SawDisk port old new
@@ -99,7 +99,7 @@ module _ (laws : PrerequisiteLaws) where
       saw_after port old mid new (go_grows (first + 1) rest mid new more) (through_saw port found old mid on other shows own)
   go_saw port found other shows first (one ∷ rest) (suc k) old new at is on (mid, way, more) =
       let driven = through_of (port_at first) one old mid way in
-      saw_before port driven.accesses old mid new driven.all
+      saw_before port driven.accesses old mid new driven.all_are_done
       (go_saw port found other shows (first + 1) rest k mid new (omega (arith, at)) is (laws.of_on (port_at first) old mid on driven) more)
 
   -- ---- the whole
@@ -118,6 +118,6 @@ taken_saw laws port found other shows ports old new rest is way =
     let below : PrerequisiteLaws = laws.below in
     let on = laws.below.switches_on 0x80000000 old way.switched rest.no_reset refl refl way.switches in
     let surveys = driven_as ReadsCapOrPi (SparesOtherPorts port) way.switched way.surveyed (survey_of below port) way.surveys in
-    saw_before below port (Writing Ghc 0x80000000 ∷ surveys.accesses) old way.surveyed new (way.switched, way.switches, surveys.all)
+    saw_before below port (Writing Ghc 0x80000000 ∷ surveys.accesses) old way.surveyed new (way.switched, way.switches, surveys.all_are_done)
     (saw_after below port way.surveyed way.booted new (below.looks.tape.access_grows (Writing Ghc 0x80000002) way.booted new way.enables)
     (go_saw below port found other shows 0 ports port.0 way.surveyed way.booted (omega arith) is (below.of_on port way.switched way.surveyed on surveys) way.boots))

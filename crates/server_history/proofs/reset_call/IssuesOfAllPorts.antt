@@ -9,8 +9,8 @@ use Rattle.ata_types.specs.declared.Port.{Port}
 use Rattle.ata_types.specs.declared.PortState.TheVariants.{Absent, Ready as ReadyState}
 use Rattle.ata_types.specs.declared.request.RequestId.{RequestId}
 use Rattle.server_history.proofs.state.ListMembers.{map_in}
-use Rattle.block_machine.specs.Due.{NoneDue, due_of, of_port}
-use Rattle.block_machine.specs.Events.{AllMay, IsByDevice, IsIssuedIn, IssuesLast, issues_it}
+use Rattle.block_machine.specs.DueRequests.{NoneDue, due_of, requests_of_port}
+use Rattle.block_machine.specs.Events.{AllEnabled, IsByDevice, IsIssuedIn, IssuesLast, issues_id}
 use Rattle.block_machine.specs.Histories.{IsReachable}
 use Rattle.block_machine.specs.Expected.{after}
 use Rattle.block_machine.specs.Ports.{Ports}
@@ -23,7 +23,7 @@ use Rattle.host_boot.specs.TakeOver.{probe_result_of}
 use Rattle.host_boot.specs.declared.ProbeResult.{ProbeResult}
 use Rattle.host_boot.specs.declared.ProbeResult.TheVariants.{Ready, Unready, Unserved}
 use Rattle.identify.specs.declared.DiskInfo.{DiskInfo}
-use Rattle.request_queue.specs.Entries.{BookEntry, asks, asks_of, update_if_id, due_ids, has_id, issue}
+use Rattle.request_queue.specs.BookEntries.{BookEntry, as_unanswered, unanswered_of, update_if_id, due_ids, has_id, issued_entry}
 use Rattle.server_history.proofs.state.DueRequests.{same_book}
 use Rattle.server_history.proofs.any_turn.JoinedParts.{ready_or_not}
 use Rattle.server_history.proofs.recovery_turn.CallPart.{none_due_unready}
@@ -33,8 +33,8 @@ use Rattle.server_history.proofs.state.PortSlots.{ready_found}
 use Rattle.server_history.specs.Prerequisites.{PrerequisiteLaws}
 use Rattle.server_history.specs.Resets.{IssuePorts}
 use Rattle.commands.specs.Batches.{PlacedTask}
-use Rattle.server_history.specs.Served.{AllByDeviceOrIssue, IssuesAll, IssuesTogetherIfAny, PutsInSlots}
-use Rattle.server_history.specs.Server.{InCallInvariant, MachineRelation, SettledInvariant, ServerState, mode_in, ports_of, state_of}
+use Rattle.server_history.specs.IssuingAndAnswering.{AllByDeviceOrIssue, IssuesAll, IssuesTogetherIfAny, PutsInSlots}
+use Rattle.server_history.specs.ServerState.{InCallInvariant, MachineRelation, SettledInvariant, ServerState, mode_in, ports_of, state_of}
 
 -- the step is the device's, or issues a request of a ready port in the port's mode
 abbrev pub IsReissue : Ports → Step → Type 0
@@ -53,19 +53,19 @@ only_reissues ports mode port ready its (step ∷ steps) only = All-cons (IsReis
 
 -- ---- who was in the book
 
-issued_was : (id : RequestId) (book : List BookEntry) (e : BookEntry) → Contains (map (update_if_id id issue) book) e → WasIn book e
+issued_was : (id : RequestId) (book : List BookEntry) (e : BookEntry) → Contains (map (update_if_id id issued_entry) book) e → WasIn book e
 issued_was id book e here =
-    let w = map_in (update_if_id id issue) book e here in
+    let w = map_in (update_if_id id issued_entry) book e here in
     subst (WasIn book) (sym w.2) (by w.0 w.1 (has_id id w.0))
   where
-    by : (x : BookEntry) → Contains book x → (b : Bool) → WasIn book (if b then record x { entry = issue x.entry } else x)
+    by : (x : BookEntry) → Contains book x → (b : Bool) → WasIn book (if b then record x { entry = issued_entry x.entry } else x)
     by x here true = record { was = x; there = here; id = refl; client = refl; grant = refl; port = refl; op = refl; revoked = refl; waiting = λ waits. absurd (false≢true (sym waits)) }
     by x here false = was_itself book x here
 
 puts_from : (port : Port) (ids : List RequestId) (tasks : List PlacedTask) (old new : ServerState) → PutsInSlots port ids tasks old new → (e : BookEntry) → Contains new.book e → WasIn old.book e
 puts_from port [] [] old new none e here = was_itself old.book e (subst (λ (c : ServerState). Contains c.book e) none here)
 puts_from port (id ∷ ids) (t ∷ tasks) old new (mid, one, more) e here =
-    was_more old.book mid.book e (λ x there. issued_was id old.book x (subst (λ (c : ServerState). Contains c.book x) one.server there)) (puts_from port ids tasks mid new more e here)
+    was_more old.book mid.book e (λ x there. issued_was id old.book x (subst (λ (c : ServerState). Contains c.book x) one.server_is there)) (puts_from port ids tasks mid new more e here)
 puts_from port [] (t ∷ tasks) old new puts e here = absurd puts
 puts_from port (id ∷ ids) [] old new puts e here = absurd puts
 
@@ -83,7 +83,7 @@ module _ (laws : PrerequisiteLaws) (old : ServerState) (k : InCallInvariant old)
   -- On the ready ports below this number what was due was issued, which led to this server.
   pub record AreReissued (n : ℕ) (c : ServerState) : Type 0 where
     pub steps : List Step
-    pub may : AllMay m steps
+    pub may : AllEnabled m steps
     pub backed : IsBacked old.device c.device m steps
     pub stands : MachineRelation c (after m steps)
     pub kept : InCallInvariant c
@@ -92,7 +92,7 @@ module _ (laws : PrerequisiteLaws) (old : ServerState) (k : InCallInvariant old)
     pub last : IssuesLast steps
     pub from : (e : BookEntry) → Contains c.book e → WasIn old.book e
     pub issued : (id : RequestId) → IsIssuedIn id steps → (e : BookEntry) × Contains old.book e × (e.entry.id ≡ id) × (e.entry.port.0 < n)
-    pub none : (port : Port) → port.0 < n → IsReady port → NoneDue (mode_in old port) (asks_of c.book) port
+    pub none : (port : Port) → port.0 < n → IsReady port → NoneDue (mode_in old port) (unanswered_of c.book) port
     pub dues : (port : Port) → port.0 < n → IsReady port → IssuesDue (mode_in old port) steps (after m steps) port
 
   pub none_yet : AreReissued 0 old
@@ -141,7 +141,7 @@ module _ (laws : PrerequisiteLaws) (old : ServerState) (k : InCallInvariant old)
     port = port_at n
 
     abbrev ids : List RequestId
-    ids = due_ids (mode_in c port) port (asks_of c.book)
+    ids = due_ids (mode_in c port) port (unanswered_of c.book)
 
     abbrev stood : Machine
     stood = after m a.steps
@@ -164,23 +164,23 @@ module _ (laws : PrerequisiteLaws) (old : ServerState) (k : InCallInvariant old)
     -- one that is due is of the port
     its : (id : RequestId) → Contains ids id → (e : BookEntry) × Contains c.book e × (e.entry.id ≡ id) × (e.entry.port ≡ port)
     its id there =
-        let y = map_in (λ (u : Unanswered). u.id) (due_of (mode_in c port) port (asks_of c.book)) id there in
-        let own : y.0.port ≡ port = laws.own (mode_in c port) port (asks_of c.book) y.0 y.1 in
-        let due = (laws.exact (mode_in c port) port (asks_of c.book) y.0 own).0 y.1 in
-        let w = map_in (λ (e : BookEntry). asks e.entry) c.book y.0 due.here in
+        let y = map_in (λ (u : Unanswered). u.id) (due_of (mode_in c port) port (unanswered_of c.book)) id there in
+        let own : y.0.port ≡ port = laws.own (mode_in c port) port (unanswered_of c.book) y.0 y.1 in
+        let due = (laws.exact (mode_in c port) port (unanswered_of c.book) y.0 own).0 y.1 in
+        let w = map_in (λ (e : BookEntry). as_unanswered e.entry) c.book y.0 due.is_in_book in
         (w.0, w.1, ap (λ (u : Unanswered). u.id) (sym w.2) ∙ sym y.2, ap (λ (u : Unanswered). u.port) (sym w.2) ∙ own)
 
     -- one of another port isn't issued here, nor one of the port before
     not_here : (e : BookEntry) → Contains c.book e → e.entry.port.0 ≢ n → IsIssuedIn e.entry.id x.steps → ⊥
     not_here e here other i =
         let w = its e.entry.id (x.named e.entry.id i) in
-        let one : w.0 ≡ e = laws.one c.book w.0 e a.kept.ordered w.1 here w.2 in
+        let one : w.0 ≡ e = laws.one c.book w.0 e a.kept.book_is_in_order w.1 here w.2 in
         other (ap (λ (y : BookEntry). y.entry.port.0) (sym one) ∙ ap (λ (p : Port). p.0) w.3)
 
     not_before : (e : BookEntry) → Contains old.book e → n ≤ e.entry.port.0 → IsIssuedIn e.entry.id a.steps → ⊥
     not_before e here high i =
         let w = a.issued e.entry.id i in
-        let one : w.0 ≡ e = laws.one old.book w.0 e k.ordered w.1 here w.2 in
+        let one : w.0 ≡ e = laws.one old.book w.0 e k.book_is_in_order w.1 here w.2 in
         let lt = w.3 in
         let same = ap (λ (y : BookEntry). y.entry.port.0) one in omega (arith, lt, same, high)
 
@@ -190,58 +190,58 @@ module _ (laws : PrerequisiteLaws) (old : ServerState) (k : InCallInvariant old)
         let v = a.from w.0 w.1 in
         not_before v.was v.there (let own = ap (λ (p : Port). p.0) w.3 in let same = ap (λ (p : Port). p.0) v.port in omega (arith, own, same)) (subst (λ (i : RequestId). IsIssuedIn i a.steps) (sym w.2 ∙ v.id) early)
 
-    apart_same : (q : Port) → q.0 ≢ n → of_port q (asks_of mid.book) ≡ of_port q (asks_of c.book)
-    apart_same q ne = each_apart laws port ids c mid a.kept.ordered issues q (λ same. ne (ap (λ (p : Port). p.0) same))
+    apart_same : (q : Port) → q.0 ≢ n → requests_of_port q (unanswered_of mid.book) ≡ requests_of_port q (unanswered_of c.book)
+    apart_same q ne = each_apart laws port ids c mid a.kept.book_is_in_order issues q (λ same. ne (ap (λ (p : Port). p.0) same))
 
-    none_of_it : NoneDue (mode_in old port) (asks_of mid.book) port
-    none_of_it = subst (λ (mode : QueueMode). NoneDue mode (asks_of mid.book) port) (mode_same port) (each_done laws port (mode_in c port) ids c mid issues (laws.in_turn (mode_in c port) port (asks_of c.book) (laws.asked c.book a.kept.ordered)))
+    none_of_it : NoneDue (mode_in old port) (unanswered_of mid.book) port
+    none_of_it = subst (λ (mode : QueueMode). NoneDue mode (unanswered_of mid.book) port) (mode_same port) (each_done laws port (mode_in c port) ids c mid issues (laws.in_turn (mode_in c port) port (unanswered_of c.book) (laws.asked c.book a.kept.book_is_in_order)))
 
-    none_then : (q : Port) → q.0 < n + 1 → IsReady q → NoneDue (mode_in old q) (asks_of mid.book) q
+    none_then : (q : Port) → q.0 < n + 1 → IsReady q → NoneDue (mode_in old q) (unanswered_of mid.book) q
     none_then q lt its_ready = ⊎_elim
-        (λ (same : q.0 ≡ n). subst (λ (p : Port). NoneDue (mode_in old p) (asks_of mid.book) p) (ap port_at (sym same)) none_of_it)
-        (λ (ne : q.0 ≢ n). λ r own due. a.none q (omega (arith, lt, ne)) its_ready r own ((laws.same_due (mode_in old q) q (asks_of mid.book) (asks_of c.book) r (apart_same q ne) own).0 due))
+        (λ (same : q.0 ≡ n). subst (λ (p : Port). NoneDue (mode_in old p) (unanswered_of mid.book) p) (ap port_at (sym same)) none_of_it)
+        (λ (ne : q.0 ≢ n). λ r own due. a.none q (omega (arith, lt, ne)) its_ready r own ((laws.same_due (mode_in old q) q (unanswered_of mid.book) (unanswered_of c.book) r (apart_same q ne) own).0 due))
         (cases_eq q.0 n)
 
     -- what is asked of the machine's book
-    asks_then : map unanswered stood.book ≡ asks_of c.book
+    asks_then : map unanswered stood.book ≡ unanswered_of c.book
     asks_then = same_book c.book stood.book a.stands.book
 
-    asks_last : map unanswered (after stood x.steps).book ≡ asks_of mid.book
+    asks_last : map unanswered (after stood x.steps).book ≡ unanswered_of mid.book
     asks_last = same_book mid.book (after stood x.steps).book x.stands.book
 
     last_machine : map unanswered (after stood x.steps).book ≡ map unanswered (after m all).book
     last_machine = ap (λ (s : Machine). map unanswered s.book) (sym all_is)
 
     -- a request of the port isn't issued before
-    alike_here : (r : Unanswered) → Contains (map unanswered (after stood x.steps).book) r → r.port ≡ port → list_any (issues_it r.id) x.steps ≡ list_any (issues_it r.id) all
+    alike_here : (r : Unanswered) → Contains (map unanswered (after stood x.steps).book) r → r.port ≡ port → list_any (issues_id r.id) x.steps ≡ list_any (issues_id r.id) all
     alike_here r here own = ⊎_elim
-        (λ early. absurd (let w = map_in (λ (e : BookEntry). asks e.entry) mid.book r (subst (λ (us : List Unanswered). Contains us r) asks_last here) in
+        (λ early. absurd (let w = map_in (λ (e : BookEntry). as_unanswered e.entry) mid.book r (subst (λ (us : List Unanswered). Contains us r) asks_last here) in
         let v = a.from (each_from port ids c mid issues w.0 w.1).was (each_from port ids c mid issues w.0 w.1).there in
         let u = each_from port ids c mid issues w.0 w.1 in
         not_before v.was v.there
         (let p = ap (λ (y : Unanswered). y.port.0) (sym w.2) ∙ ap (λ (q : Port). q.0) own in let q = ap (λ (y : Port). y.0) u.port in let s = ap (λ (y : Port). y.0) v.port in omega (arith, p, q, s))
         (subst (λ (i : RequestId). IsIssuedIn i a.steps) (ap (λ (y : Unanswered). y.id) w.2 ∙ u.id ∙ v.id) early)))
-        (λ none. sym (any_append (issues_it r.id) x.steps a.steps ∙ ap (λ (b : Bool). list_any (issues_it r.id) x.steps || b) none ∙ or_none (list_any (issues_it r.id) x.steps)))
-        (cases_Bool (list_any (issues_it r.id) a.steps))
+        (λ none. sym (any_append (issues_id r.id) x.steps a.steps ∙ ap (λ (b : Bool). list_any (issues_id r.id) x.steps || b) none ∙ or_none (list_any (issues_id r.id) x.steps)))
+        (cases_Bool (list_any (issues_id r.id) a.steps))
 
     -- and one of another port isn't here
-    alike_other : (q : Port) → q.0 ≢ n → (r : Unanswered) → Contains (map unanswered stood.book) r → r.port ≡ q → list_any (issues_it r.id) a.steps ≡ list_any (issues_it r.id) all
+    alike_other : (q : Port) → q.0 ≢ n → (r : Unanswered) → Contains (map unanswered stood.book) r → r.port ≡ q → list_any (issues_id r.id) a.steps ≡ list_any (issues_id r.id) all
     alike_other q ne r here own = ⊎_elim
-        (λ late. absurd (let w = map_in (λ (e : BookEntry). asks e.entry) c.book r (subst (λ (us : List Unanswered). Contains us r) asks_then here) in
+        (λ late. absurd (let w = map_in (λ (e : BookEntry). as_unanswered e.entry) c.book r (subst (λ (us : List Unanswered). Contains us r) asks_then here) in
         not_here w.0 w.1 (λ same. ne (ap (λ (p : Port). p.0) (sym own) ∙ ap (λ (y : Unanswered). y.port.0) w.2 ∙ same)) (subst (λ (i : RequestId). IsIssuedIn i x.steps) (ap (λ (y : Unanswered). y.id) w.2) late)))
-        (λ none. sym (any_append (issues_it r.id) x.steps a.steps ∙ ap (λ (b : Bool). b || list_any (issues_it r.id) a.steps) none))
-        (cases_Bool (list_any (issues_it r.id) x.steps))
+        (λ none. sym (any_append (issues_id r.id) x.steps a.steps ∙ ap (λ (b : Bool). b || list_any (issues_id r.id) a.steps) none))
+        (cases_Bool (list_any (issues_id r.id) x.steps))
 
     dues_here : IssuesDue (mode_in old port) all (after m all) port
     dues_here = subst (λ (mode : QueueMode). IssuesDue mode all (after m all) port) (mode_same port)
-        (dues_carried laws (mode_in c port) x.steps all (after stood x.steps) (after m all) port (ap (of_port port) last_machine) alike_here
+        (dues_carried laws (mode_in c port) x.steps all (after stood x.steps) (after m all) port (ap (requests_of_port port) last_machine) alike_here
         (dues laws port c mid a.kept issues stood x port (λ ne. absurd (ne refl))))
 
     dues_then : (q : Port) → q.0 < n + 1 → IsReady q → IssuesDue (mode_in old q) all (after m all) q
     dues_then q lt its_ready = ⊎_elim
         (λ (same : q.0 ≡ n). subst (λ (p : Port). IssuesDue (mode_in old p) all (after m all) p) (ap port_at (sym same)) dues_here)
         (λ (ne : q.0 ≢ n). dues_carried laws (mode_in old q) a.steps all stood (after m all) q
-        (ap (of_port q) asks_then ∙ sym (apart_same q ne) ∙ ap (of_port q) (sym asks_last ∙ last_machine)) (alike_other q ne) (a.dues q (omega (arith, lt, ne)) its_ready))
+        (ap (requests_of_port q) asks_then ∙ sym (apart_same q ne) ∙ ap (requests_of_port q) (sym asks_last ∙ last_machine)) (alike_other q ne) (a.dues q (omega (arith, lt, ne)) its_ready))
         (cases_eq q.0 n)
 
     issued_then : (id : RequestId) → IsIssuedIn id all → (e : BookEntry) × Contains old.book e × (e.entry.id ≡ id) × (e.entry.port.0 < n + 1)
@@ -297,9 +297,9 @@ module _ (laws : PrerequisiteLaws) (old : ServerState) (k : InCallInvariant old)
   -- once all four ports had their turn, nothing is due
   pub settled_then : (new : ServerState) → AreReissued 4 new → SettledInvariant new
   settled_then new a = record {
-    kept = a.kept;
-    issued = λ port. ⊎_elim
-        (λ (ready : IsReady port). subst (λ (mode : QueueMode). NoneDue mode (asks_of new.book) port) (sym (ap (λ (s : ServerState). mode_in s port) a.settings)) (a.none port (ready_found old port.0 k ready).0 ready))
+    in_call_invariant = a.kept;
+    nothing_is_due = λ port. ⊎_elim
+        (λ (ready : IsReady port). subst (λ (mode : QueueMode). NoneDue mode (unanswered_of new.book) port) (sym (ap (λ (s : ServerState). mode_in s port) a.settings)) (a.none port (ready_found old port.0 k ready).0 ready))
         (λ unready. none_due_unready new a.kept port (λ ready. unready (ap (λ (s : ServerState). state_of (probe_result_of s.ports port.0)) (sym a.settings) ∙ ready)) (mode_in new port))
         (ready_or_not (state_of (probe_result_of old.ports port.0)));
   }

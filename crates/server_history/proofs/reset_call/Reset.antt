@@ -7,7 +7,7 @@ use Rattle.std.specs.List.{All, Contains, list_any}
 use Rattle.std.specs.List.Sorted.{IsPermutation}
 use Rattle.adapter.specs.Device.{Device}
 use Rattle.adapter.specs.declared.access.DeviceStep.{DeviceStep}
-use Rattle.refinement.specs.Driven.{TapeGrows}
+use Rattle.refinement.specs.Fragments.{TapeGrows}
 use Rattle.refinement.specs.Driver.{IsBacked}
 use Rattle.ata_types.specs.declared.Port.{Port}
 use Rattle.ata_types.specs.declared.PortState.{PortState as ShownState}
@@ -16,24 +16,24 @@ use Rattle.ata_types.specs.declared.request.Outcome.{Outcome}
 use Rattle.ata_types.specs.declared.request.Reply.{Reply}
 use Rattle.ata_types.specs.declared.request.RequestId.{RequestId}
 use Rattle.server_history.proofs.state.ListMembers.{contains_cases}
-use Rattle.block_machine.specs.Due.{of_port}
-use Rattle.block_machine.specs.Events.{AllAnswersLawful, AllMay, AnswersReset, AreStepsOfCall, UnpluggedLostDisk, EndsUndone, ShownDiskWasInOrCame, IsLawfulAnswer, IssuesLast, UnansweredKeepDisk, AbstractState, NoneStaysIssued, ReleasesOnce, Reset, ShowsDisk, RepliesMatch, AnswersAllUnplugged, WasIssued, WasReset, answers_of, issues_it, IsReadyAgain}
-use Rattle.block_machine.specs.Histories.{JointEvent, JointState, IsReachable, now}
+use Rattle.block_machine.specs.DueRequests.{requests_of_port}
+use Rattle.block_machine.specs.Events.{AllAnswersLawful, AllEnabled, AnswersReset, AreStepsOfCall, UnpluggedLostDisk, EndsUndone, ShownDiskWasInOrCame, IsLawfulAnswer, IssuesLast, UnansweredKeepDisk, AbstractState, NoneStaysIssued, ReleasesOnce, Reset, ShowsDisk, RepliesMatch, AnswersAllUnplugged, WasIssued, WasReset, answers_of, issues_id, IsReadyAgain}
+use Rattle.block_machine.specs.Histories.{JointEvent, JointState, IsReachable, joint_state_after}
 use Rattle.block_machine.specs.Expected.{after}
 use Rattle.block_machine.specs.Ports.{MayBecome, Ports, SameDisk}
 use Rattle.block_machine.specs.State.{Machine, Pending, unanswered}
-use Rattle.block_machine.specs.Steps.{Again, Answer, Release, Step}
+use Rattle.block_machine.specs.Steps.{WaitAgain, Answer, Release, Step}
 use Rattle.block_machine.specs.declared.due.QueueMode.{QueueMode}
 use Rattle.driver_history.specs.Evidence.{IsEvidenced, IsEvidencedOf}
 use Rattle.driver_history.specs.Histories.{BootsAnew, IssuesDue, LosesNoPortError, RunsWellAnew, IsPortServed, PortCorresponds}
-use Rattle.driver_history.specs.Trace.{IsOfPorts}
+use Rattle.driver_history.specs.AccessTrace.{IsOfPorts}
 use Rattle.hba_regs.specs.Bits.{bit}
 use Rattle.host_boot.specs.TakeOver.{IsServed, BacksProbeResult, StillBacksProbeResult, probe_result_of, wanted_of}
 use Rattle.host_boot.specs.declared.ProbeResult.{ProbeResult}
 use Rattle.host_boot.specs.declared.ProbeResult.TheVariants.{Ready, Unready, Unserved}
 use Rattle.identify.specs.declared.DiskInfo.{DiskInfo}
-use Rattle.request_queue.specs.Entries.{BookEntry, update_if_id}
-use Rattle.request_queue.specs.Machine.{EntryRelation}
+use Rattle.request_queue.specs.BookEntries.{BookEntry, update_if_id}
+use Rattle.request_queue.specs.BookRelation.{EntryRelation}
 use Rattle.request_queue.specs.declared.disposition.Disposition.{Disposition}
 use Rattle.request_queue.specs.declared.disposition.Disposition.TheVariants.{Complete, Requeue}
 use Rattle.request_queue.specs.declared.disposition.Revalidation.{Revalidation}
@@ -59,11 +59,11 @@ use Rattle.server_history.proofs.reset_call.FoundDisks.{SawDisk, saw_before, tak
 use Rattle.server_history.proofs.state.PortSlots.{issued_has, of_ready, ready_found}
 use Rattle.server_history.proofs.any_turn.TurnsInOrder.{belong_join, lawful_join}
 use Rattle.server_history.proofs.state.PairedLists.{at_right}
-use Rattle.server_history.specs.Ended.{ResetLaws}
+use Rattle.server_history.specs.ResetLaws.{ResetLaws}
 use Rattle.server_history.specs.Histories.{ExtendsSettled, LeadsToServer}
 use Rattle.server_history.proofs.reset_call.ResetDevice.{IsRebootedBy}
 use Rattle.server_history.specs.Resets.{IsResetRevalidation, IsReinitialized, IssuePorts, ResetsServer, ResolvePorts}
-use Rattle.server_history.specs.Server.{InCallInvariant, MachineRelation, SettledInvariant, ServerState, last_disk_in, last_disk_of, is_served, mode_in, ports_of, remembered_at, last_sectors_of, last_serial_of, state_of}
+use Rattle.server_history.specs.ServerState.{InCallInvariant, MachineRelation, SettledInvariant, ServerState, last_disk_in, last_disk_of, is_served, mode_in, ports_of, remembered_at, last_sectors_of, last_serial_of, state_of}
 use Rattle.server_history.specs.StuckServer.{ServerInvariant}
 use Rattle.server_history.specs.Turns.{joint_state_of, abstract_state_of}
 use Rattle.ata_types.specs.declared.request.Outcome.TheVariants as outcome
@@ -83,13 +83,13 @@ remembers (Unready state) remembered other = refl
 module _ (laws : ResetLaws) (s taken settled new : ServerState) (replies : List Reply) (booked : ServerInvariant s) (takes : IsReinitialized s taken) (settles : ResolvePorts 0 taken.ports replies taken settled) (issues : IssuePorts 0 taken.ports settled new)
     (by : IsRebootedBy s new replies) (first : JointState Device) (past : List (JointEvent Device DeviceStep)) (leads : LeadsToServer first past s) where
   abbrev was : AbstractState
-  was = (now first past).abstract
+  was = (joint_state_after first past).abstract
 
   abbrev m : Machine
   m = was.machine
 
   is : MachineRelation s m
-  is = leads.stands.machine
+  is = leads.stands.machine_stands_for_it
 
   same : was.ports ≡ ports_of s
   same = leads.stands.ports_are
@@ -132,11 +132,11 @@ module _ (laws : ResetLaws) (s taken settled new : ServerState) (replies : List 
   whole_is : after m steps ≡ after z a.steps
   whole_is = laws.below.basic.joined m a.steps base ∙ ap (λ (n : Machine). after n a.steps) base_is
 
-  base_may : AllMay m base
+  base_may : AllEnabled m base
   base_may = laws.below.basic.may m f.steps begun r.may f.may
 
-  may : AllMay m steps
-  may = laws.below.basic.may m a.steps base base_may (subst (λ (n : Machine). AllMay n a.steps) (sym base_is) a.may)
+  may : AllEnabled m steps
+  may = laws.below.basic.may m a.steps base base_may (subst (λ (n : Machine). AllEnabled n a.steps) (sym base_is) a.may)
 
   device_same : settled.device ≡ taken.device
   device_same = device_then laws s taken settled booked takes replies settles m reached is
@@ -181,13 +181,13 @@ module _ (laws : ResetLaws) (s taken settled new : ServerState) (replies : List 
     where
       not_served : (q : ℕ) → 4 ≤ q → (b : Bool) → is_served (probe_result_of s.ports q) ≡ b → is_served (probe_result_of s.ports q) ≡ false
       not_served q high false its = its
-      not_served q high true its = let low = booked.few q its in absurd (omega (arith, low, high))
+      not_served q high true its = let low = booked.few_are_served q its in absurd (omega (arith, low, high))
 
       pi_same : taken.device.pi ≡ s.device.pi
-      pi_same = takes.takes.same.pi ∙ takes.resets.same.pi
+      pi_same = takes.takes.adapter_is_kept.pi ∙ takes.resets.adapter_is_kept.pi
 
       by_device : port < 4 → is_served (probe_result_of taken.ports port) ≡ is_served (probe_result_of s.ports port)
-      by_device low = alike (probe_result_of takes.host.ports port) (ap (λ (ports : List ProbeResult). probe_result_of ports port) (ports_are laws s taken settled booked takes replies settles m reached is)) (takes.takes.stands port low)
+      by_device low = alike (probe_result_of takes.host.ports port) (ap (λ (ports : List ProbeResult). probe_result_of ports port) (ports_are laws s taken settled booked takes replies settles m reached is)) (takes.takes.results_are_backed port low)
         where
           over : IsServed (wanted_of s.wanted port) port taken.device → is_served (probe_result_of s.ports port) ≡ true
           over served = (booked.served port low).1 (served.0, ap (λ (pi : ℕ). bit pi port) (sym pi_same) ∙ served.1)
@@ -208,9 +208,9 @@ module _ (laws : ResetLaws) (s taken settled new : ServerState) (replies : List 
   -- it is of a port that was served
   of_served : (e : Pending) (disposition : Disposition) → HasFate taken e disposition → (ports_of s).served e.request.port ≡ true
   of_served e disposition has =
-      let here : Contains s.book has.from.was = subst (λ (book : List BookEntry). Contains book has.from.was) (ap (λ (c : ServerState). c.book) takes.server) has.from.there in
+      let here : Contains s.book has.from.was = subst (λ (book : List BookEntry). Contains book has.from.was) (ap (λ (c : ServerState). c.book) takes.server_is) has.from.there in
       subst (λ (p : Port). is_served (probe_result_of s.ports p.0) ≡ true) (sym (has.entry.port ∙ has.from.port))
-      (All-contains (λ (x : BookEntry). is_served (probe_result_of s.ports x.entry.port.0) ≡ true) s.book has.from.was booked.asked here)
+      (All-contains (λ (x : BookEntry). is_served (probe_result_of s.ports x.entry.port.0) ≡ true) s.book has.from.was booked.requests_are_of_served_ports here)
 
   -- its port is what it expects
   expects_new : (e : Pending) (disposition : Disposition) (has : HasFate taken e disposition) → IsResetRevalidation (last_disk_in s e.request.port) (probe_result_of new.ports e.request.port.0) has.revalidation
@@ -248,7 +248,7 @@ module _ (laws : ResetLaws) (s taken settled new : ServerState) (replies : List 
         now_is = ap (λ (x : ProbeResult). last_disk_of x (remembered_at new.remembered port.0)) found.1.1
 
         fit : StillBacksProbeResult (wanted_of new.wanted port.0) (Ready info) port.0 new.device
-        fit = subst (λ (x : ProbeResult). StillBacksProbeResult (wanted_of new.wanted port.0) x port.0 new.device) found.1.1 (new_kept.behind port.0 found.0).behind
+        fit = subst (λ (x : ProbeResult). StillBacksProbeResult (wanted_of new.wanted port.0) x port.0 new.device) found.1.1 (new_kept.port_invariant port.0 found.0).probe_result_is_backed
 
         serials : info.serial ≡ last_serial_of (last_disk_in s port)
         serials = sym (ap last_serial_of now_is) ∙ alike.0
@@ -258,13 +258,13 @@ module _ (laws : ResetLaws) (s taken settled new : ServerState) (replies : List 
 
         by_disk : (disk : Option DiskInfo) → last_disk_in s port ≡ disk → ⊥
         by_disk None update_if_id =
-            let long = fit.1.fit.tells.serial.size in
+            let long = fit.1.disk_is_fit.page_tells.serial.size in
             let short : length info.serial ≡ 0 = ap (λ (serial : List ℕ). length serial) (serials ∙ ap last_serial_of update_if_id) in omega (arith, long, short)
         by_disk (Some before) update_if_id = expects.1 before info update_if_id found.1.1 (serials ∙ ap last_serial_of update_if_id, counts ∙ ap last_sectors_of update_if_id)
 
   -- ---- what its steps are
 
-  again_ready : (e : Pending) → Contains f.steps (Again e) → (ports_of new).state e.request.port ≡ ReadyState
+  again_ready : (e : Pending) → Contains f.steps (WaitAgain e) → (ports_of new).state e.request.port ≡ ReadyState
   again_ready e here =
       let has = f.again e here in
       is_ready e.request.port (subst (IsResetRevalidation (last_disk_in s e.request.port) (probe_result_of new.ports e.request.port.0)) (why_again None has.revalidation has.request.entry has.disposition) (expects_new e Requeue has))
@@ -296,11 +296,11 @@ module _ (laws : ResetLaws) (s taken settled new : ServerState) (replies : List 
   belong : AreStepsOfCall {D = DeviceStep} Reset (ports_of new) steps
   belong = belong_join Reset (ports_of new) a.steps base late_belong base_belong
 
-  begun_none : (id : RequestId) → list_any (issues_it id) begun ≡ false
-  begun_none id = any_append (issues_it id) r.second (Release ∷ r.first) ∙ ap (λ (b : Bool). b || list_any (issues_it id) (Release ∷ r.first)) (devices_issue_none id r.second r.second_only) ∙ devices_issue_none id r.first r.first_only
+  begun_none : (id : RequestId) → list_any (issues_id id) begun ≡ false
+  begun_none id = any_append (issues_id id) r.second (Release ∷ r.first) ∙ ap (λ (b : Bool). b || list_any (issues_id id) (Release ∷ r.first)) (devices_issue_none id r.second r.second_only) ∙ devices_issue_none id r.first r.first_only
 
-  base_none : (id : RequestId) → list_any (issues_it id) base ≡ false
-  base_none id = any_append (issues_it id) f.steps begun ∙ ap (λ (b : Bool). b || list_any (issues_it id) begun) (decided_none id f.steps f.decides) ∙ begun_none id
+  base_none : (id : RequestId) → list_any (issues_id id) base ≡ false
+  base_none id = any_append (issues_id id) f.steps begun ∙ ap (λ (b : Bool). b || list_any (issues_id id) begun) (decided_none id f.steps f.decides) ∙ begun_none id
 
   last : IssuesLast steps
   last = last_then a.steps base a.last (none_last base base_none) base_none
@@ -369,7 +369,7 @@ module _ (laws : ResetLaws) (s taken settled new : ServerState) (replies : List 
   -- ---- what it says and does
 
   tells : RepliesMatch steps replies
-  tells = record { answers = f.answers; same = subst (IsPermutation f.answers) (sym answers_are) f.permuted; ordered = f.ordered; told = f.told }
+  tells = record { answers = f.answers; is_permutation = subst (IsPermutation f.answers) (sym answers_are) f.permuted; ordered = f.ordered; replies_are = f.told }
     where
       begun_answers : answers_of begun ≡ []
       begun_answers = answers_append r.second (Release ∷ r.first) ∙ ap (λ (list : List (Pending × Outcome)). list ++ answers_of (Release ∷ r.first)) (devices_answers r.second r.second_only) ∙ devices_answers r.first r.first_only
@@ -431,11 +431,11 @@ module _ (laws : ResetLaws) (s taken settled new : ServerState) (replies : List 
 
   unplugs : AnswersAllUnplugged steps (after m steps)
   unplugs = record {
-    emptied = λ e other here there own.
+    none_is_left = λ e other here there own.
         let lost = unplugged_expects e here in
         let has = subst (λ (p : Port). IsResetRevalidation (last_disk_in s p) (probe_result_of new.ports p.0) Same) own (left_expects other there) in
         lost.1 has.0 has.1 has.2 has.3 has.4;
-    alike = λ e other here there own. (unplugged_expects e here).0 (ap (λ (p : Port). probe_result_of new.ports p.0) (sym own) ∙ dead_expects other there);
+    none_is_told_dead = λ e other here there own. (unplugged_expects e here).0 (ap (λ (p : Port). probe_result_of new.ports p.0) (sym own) ∙ dead_expects other there);
   }
 
   finds : UnpluggedLostDisk steps (ports_of s) (ports_of new)
@@ -450,9 +450,9 @@ module _ (laws : ResetLaws) (s taken settled new : ServerState) (replies : List 
     where
       none_before : WasIssued z e.request.id → ⊥
       none_before w =
-          let h = at_right EntryRelation settled.book z.book stands.book w.pending w.here in
+          let h = at_right EntryRelation settled.book z.book stands.book w.pending w.is_in_book in
           let ready : state_of (probe_result_of settled.ports w.pending.request.port.0) ≡ ReadyState = ap (λ (p : Port). state_of (probe_result_of settled.ports p.0)) h.2.port ∙ of_ready settled kept h.0 h.1 in
-          let slot = issued_has settled z w.pending.request.port stands kept ready w.pending w.here refl w.issued in
+          let slot = issued_has settled z w.pending.request.port stands kept ready w.pending w.is_in_book refl w.issued in
           let y : None ≡ Some slot.used = sym (unused_then laws s taken settled booked takes replies settles m reached is w.pending.request.port.0 slot.slot) ∙ slot.used_is in absurd cc
 
   none_waits : (port : Port) → (ports_of new).state port ≢ ReadyState → (e : Pending) → Contains (after m steps).book e → e.request.port ≢ port
@@ -460,9 +460,9 @@ module _ (laws : ResetLaws) (s taken settled new : ServerState) (replies : List 
 
   becomes : (port : Port) → MayBecome (ports_of s) by.evidence (ports_of new) port
   becomes port = record {
-    served = ap is_served (found_new port.0 ∙ found_taken port.0) ∙ served_same port.0;
-    stuck = (by.stuck_all port, by.stuck_only port);
-    keeps = shows_same port;
+    served_is_kept = ap is_served (found_new port.0 ∙ found_taken port.0) ∙ served_same port.0;
+    dead_is_stuck = (by.stuck_all port, by.stuck_only port);
+    disk_is_kept = shows_same port;
   }
 
   abbrev end : AbstractState
@@ -483,63 +483,63 @@ module _ (laws : ResetLaws) (s taken settled new : ServerState) (replies : List 
       never : (state : ShownState) → probe_result_of takes.host.ports port.0 ≡ Unready state → state ≢ ReadyState
       never state update_if_id ready = ⊎_elim
           (λ (low : port.0 < 4). (subst (λ (x : ShownState). BacksProbeResult (wanted_of s.wanted port.0) (Unready x) port.0 taken.device) ready
-          (subst (λ (x : ProbeResult). BacksProbeResult (wanted_of s.wanted port.0) x port.0 taken.device) update_if_id (takes.takes.stands port.0 low))).1)
+          (subst (λ (x : ProbeResult). BacksProbeResult (wanted_of s.wanted port.0) x port.0 taken.device) update_if_id (takes.takes.results_are_backed port.0 low))).1)
           (λ (high : 4 ≤ port.0). absurd (let four = takes.four in let y : Unserved ≡ Unready state = sym (none_past takes.host.ports port.0 (omega (arith, four, high))) ∙ update_if_id in cc))
           (cases_lt port.0 4)
 
       grows : TapeGrows taken.device new.device
-      grows = subst (λ (d : Device). TapeGrows d new.device) device_same (a.backed.gained, a.backed.tape)
+      grows = subst (λ (d : Device). TapeGrows d new.device) device_same (a.backed.new_entries, a.backed.tape_is)
 
       saw : SawDisk port s.device taken.device
-      saw = saw_before laws.below port takes.resets.followed.driven.accesses s.device takes.idle taken.device takes.resets.followed.driven.all
-          (taken_saw laws port (probe_result_of takes.host.ports port.0) never (subst (λ (x : ProbeResult). ShowsDisk (state_of x)) found_is shows) takes.host.ports takes.idle taken.device takes.resets.idle refl takes.takes.way)
+      saw = saw_before laws.below port takes.resets.followed.is_driven.accesses s.device takes.idle_device taken.device takes.resets.followed.is_driven.all_are_done
+          (taken_saw laws port (probe_result_of takes.host.ports port.0) never (subst (λ (x : ProbeResult). ShowsDisk (state_of x)) found_is shows) takes.host.ports takes.idle_device taken.device takes.resets.idle refl takes.takes.switches_on_and_boots)
 
   answered : AnswersReset (abstract_state_of s m) by.evidence steps replies end
   answered = record {
-    tells = tells;
-    releases = releases;
-    unplugs = unplugs;
-    finds = finds;
-    issues = λ port ready. none_due new (after m steps) stands_new (mode_in new port) port (new_settled.issued port);
-    emptied = none_waits;
-    becomes = becomes;
-    anew = anew;
-    stopped = by.stopped;
-    disk = had;
+    replies_match = tells;
+    releases_once = releases;
+    answers_all_unplugged = unplugs;
+    unplugged_lost_disk = finds;
+    none_is_due = λ port ready. none_due new (after m steps) stands_new (mode_in new port) port (new_settled.nothing_is_due port);
+    empty_unless_ready = none_waits;
+    port_may_become = becomes;
+    none_stays_issued = anew;
+    served_are_stopped = by.stopped;
+    shown_disk_was_in_or_came = had;
   }
 
   was_is : abstract_state_of s m ≡ was
   was_is = ap (λ (ports : Ports). record { machine = m; ports = ports }) (sym same)
 
-  instant_is : joint_state_of s m ≡ with_device s.device (now first past)
+  instant_is : joint_state_of s m ≡ with_device s.device (joint_state_after first past)
   instant_is = ap (λ (abstract : AbstractState). record { device = s.device; abstract = abstract }) was_is
 
   disks : UnansweredKeepDisk was end
   disks e o here there same_id = subst (λ (ports : Ports). SameDisk ports (ports_of new) e.request.port) (sym same) (same_disk e.request.port (left_expects e here))
 
-  evidenced : IsEvidenced Reset (WasReset (Some replies)) by.accesses (with_device s.device (now first past)) (ports_of new) new.device by.evidence
+  evidenced : IsEvidenced Reset (WasReset (Some replies)) by.accesses (with_device s.device (joint_state_after first past)) (ports_of new) new.device by.evidence
   evidenced = record {
     faults = λ told here. absurd (nowhere told (subst (λ list. Contains list told) by.faults here));
     port = λ port. subst (λ (old : JointState Device). IsEvidencedOf Reset (WasReset (Some replies)) by.accesses old (ports_of new) new.device by.evidence port) instant_is (by.evidenced m port);
   }
 
-  port_part : (port : Port) → PortCorresponds (with_device s.device (now first past)) (happening_with by.evidence new.device Reset (WasReset (Some replies)) steps (ports_of new)) by.accesses port
+  port_part : (port : Port) → PortCorresponds (with_device s.device (joint_state_after first past)) (happening_with by.evidence new.device Reset (WasReset (Some replies)) steps (ports_of new)) by.accesses port
   port_part port = record {
-    finds = tt;
-    faults = tt;
-    probes = tt;
-    boots = subst (λ (old : JointState Device). BootsAnew Reset (WasReset (Some replies)) by.accesses old (ports_of new) new.device port) instant_is (by.boots m port);
-    port_error = subst (λ (old : JointState Device). LosesNoPortError by.evidence old (ports_of new) new.device port) instant_is (by.port_error m port);
-    well = subst (λ (old : JointState Device). RunsWellAnew by.evidence by.accesses old (ports_of new) new.device port) instant_is (by.well m port);
-    heeds = tt;
+    finds_done = tt;
+    plain_faults_are_told = tt;
+    probes_disk = tt;
+    boots_anew = subst (λ (old : JointState Device). BootsAnew Reset (WasReset (Some replies)) by.accesses old (ports_of new) new.device port) instant_is (by.boots m port);
+    loses_no_error = subst (λ (old : JointState Device). LosesNoPortError by.evidence old (ports_of new) new.device port) instant_is (by.port_error m port);
+    runs_well_anew = subst (λ (old : JointState Device). RunsWellAnew by.evidence by.accesses old (ports_of new) new.device port) instant_is (by.well m port);
+    handles_evidence = tt;
   }
 
   due_then : (port : Port) → (ports_of new).state port ≡ ReadyState → IssuesDue (mode_in new port) steps (after m steps) port
   due_then port ready =
       let there : state_of (probe_result_of settled.ports port.0) ≡ ReadyState = sym (ap state_of (found_new port.0)) ∙ ready in
       subst (λ (mode : QueueMode). IssuesDue mode steps (after m steps) port) (sym (ap (λ (c : ServerState). mode_in c port) a.settings))
-      (dues_carried laws.below (mode_in settled port) a.steps steps (after z a.steps) (after m steps) port (ap (λ (n : Machine). of_port port (map unanswered n.book)) (sym whole_is))
-      (λ u here own. sym (any_append (issues_it u.id) a.steps base ∙ ap (λ (b : Bool). list_any (issues_it u.id) a.steps || b) (base_none u.id) ∙ or_none (list_any (issues_it u.id) a.steps)))
+      (dues_carried laws.below (mode_in settled port) a.steps steps (after z a.steps) (after m steps) port (ap (λ (n : Machine). requests_of_port port (map unanswered n.book)) (sym whole_is))
+      (λ u here own. sym (any_append (issues_id u.id) a.steps base ∙ ap (λ (b : Bool). list_any (issues_id u.id) a.steps || b) (base_none u.id) ∙ or_none (list_any (issues_id u.id) a.steps)))
       (a.dues port (ready_found settled port.0 kept there).0 there))
 
   pub reset_event : (h : JointEvent Device DeviceStep) × (h.event.ask ≡ Reset) × (h.event.said ≡ WasReset (Some replies)) × LeadsToServer first (h ∷ past) new
@@ -557,6 +557,6 @@ module _ (laws : ResetLaws) (s taken settled new : ServerState) (replies : List 
 
 pub resets_add_given : ResetLaws → (s new : ServerState) (replies : List Reply) → IsRebootedBy s new replies → ServerInvariant s → ResetsServer replies s new → ExtendsSettled s new Reset (WasReset (Some replies))
 resets_add_given laws s new replies by booked resets = record {
-  settled = settled_at_last laws s resets.taken resets.settled booked resets.takes replies resets.settles booked.machine booked.reached booked.stands new resets.issues;
-  adds = λ first past leads. reset_event laws s resets.taken resets.settled new replies booked resets.takes resets.settles resets.issues by first past leads;
+  settled_invariant = settled_at_last laws s resets.taken resets.settled booked resets.takes replies resets.settles booked.machine booked.reached booked.machine_relation new resets.issues;
+  extends_history = λ first past leads. reset_event laws s resets.taken resets.settled new replies booked resets.takes resets.settles resets.issues by first past leads;
 }

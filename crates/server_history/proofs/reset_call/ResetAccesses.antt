@@ -14,27 +14,27 @@ use Rattle.adapter.specs.Device.{Device}
 use Rattle.adapter.specs.Rules.{IsOn}
 use Rattle.adapter.specs.Steps.{Steps}
 use Rattle.refinement.specs.Relation.{port_at}
-use Rattle.refinement.specs.Driven.{TapeGrows, OnPortWriting, IsDrivenBy, SparesOtherPorts}
+use Rattle.refinement.specs.Fragments.{TapeGrows, IsPortAccessWriting, IsDrivenBy, SparesOtherPorts}
 use Rattle.refinement.specs.Errors.{IsFatalOf}
 use Rattle.refinement.specs.PortFacts.{IsFaultOf, RunsWell}
 use Rattle.refinement.specs.Links.{NoPlugEvents, DoesNotWrite}
 use Rattle.error_recovery.specs.Evidence.{GainsSinceStart, HidesNoTrouble}
 use Rattle.driver_history.specs.Histories.{HasAeAndIe, IsPortServed}
-use Rattle.driver_history.specs.Parts.{HasTurnIn, IsOfOtherPort}
-use Rattle.driver_history.specs.Trace.{IsDriversOwn, IsOfPorts, ResetsLink}
-use Rattle.host_boot.specs.Resets.{BeginsReset, IsOfReset}
+use Rattle.driver_history.specs.PortTurn.{HasTurnIn, IsOfOtherPort}
+use Rattle.driver_history.specs.AccessTrace.{IsDriversOwn, IsOfPorts, ResetsLink}
+use Rattle.host_boot.specs.Resets.{BeginsReset, IsResetAccess}
 use Rattle.host_boot.specs.TakeOver.{SwitchesOnAndBoots, IsServed, ReadsCapOrPi, BacksProbeResult, probe_result_of, wanted_of}
 use Rattle.host_boot.specs.declared.ProbeResult.{ProbeResult}
 use Rattle.host_boot.specs.declared.ProbeResult.TheVariants.{Unserved, Ready, Unready}
 use Rattle.identify.specs.declared.DiskInfo.{DiskInfo}
-use Rattle.port_boot.specs.States.{BringsReady, IsOfBoot}
+use Rattle.port_boot.specs.States.{BringsReady, IsBootAccess}
 use Rattle.port_control.specs.Engines.{EngineSticks}
 use Rattle.port_control.specs.Ports.{IsCommandRegister}
-use Rattle.request_queue.specs.Entries.{asks_of, due_ids}
+use Rattle.request_queue.specs.BookEntries.{unanswered_of, due_ids}
 use Rattle.server_history.specs.Prerequisites.{PrerequisiteLaws}
 use Rattle.server_history.specs.Resets.{IsReinitialized, IssuePorts, ResetsServer, ResolvePorts}
 use Rattle.commands.specs.Batches.{IsBatchAccess}
-use Rattle.server_history.specs.Server.{ServerState, is_served, mode_in, ports_of}
+use Rattle.server_history.specs.ServerState.{ServerState, is_served, mode_in, ports_of}
 use Rattle.server_history.specs.StuckServer.{ServerInvariant}
 use Rattle.server_history.proofs.reset_call.BootedPorts.{DidBoot, IsOfFound, TookTurn, WentBy, command_boots, went_by}
 use Rattle.server_history.proofs.state.TurnAccesses.{issuing_turns}
@@ -53,7 +53,7 @@ use Rattle.server_history.proofs.recovery_turn.HealthyPort.{ready_well}
 pub settles_as : (port : ℕ) (found : List ProbeResult) (replies : List Reply) (old new : ServerState) → ResolvePorts port found replies old new → new ≡ record old { table = new.table; kept = new.kept; book = new.book }
 settles_as port [] replies old new is = is.1 ∙ ap (λ (n : ServerState). record old { table = n.table; kept = n.kept; book = n.book }) (sym is.1)
 settles_as port (found ∷ rest) replies old new (mid, its, later, are, one, more) =
-    settles_as (port + 1) rest later mid new more ∙ ap (λ (n : ServerState). record n { table = new.table; kept = new.kept; book = new.book }) one.server
+    settles_as (port + 1) rest later mid new more ∙ ap (λ (n : ServerState). record n { table = new.table; kept = new.kept; book = new.book }) one.server_is
 
 -- an access that issues requests of one of these ports, which is ready; the first of them has this number
 abbrev pub IsOfReady : ℕ → List ProbeResult → Access → Type 0
@@ -68,22 +68,22 @@ module _ (laws : PrerequisiteLaws) where
   issues_as port [] old new none = none ∙ ap (λ (n : ServerState). record old { device = n.device; slots = n.slots; book = n.book }) (sym none)
   issues_as port (Ready info ∷ rest) old new (mid, all, more) =
       issues_as (port + 1) rest mid new more
-      ∙ ap (λ (n : ServerState). record n { device = new.device; slots = new.slots; book = new.book }) (each_settings laws (port_at port) (due_ids (mode_in old (port_at port)) (port_at port) (asks_of old.book)) old mid all)
+      ∙ ap (λ (n : ServerState). record n { device = new.device; slots = new.slots; book = new.book }) (each_settings laws (port_at port) (due_ids (mode_in old (port_at port)) (port_at port) (unanswered_of old.book)) old mid all)
   issues_as port (Unserved ∷ rest) old new more = issues_as (port + 1) rest old new more
   issues_as port (Unready state ∷ rest) old new more = issues_as (port + 1) rest old new more
 
   -- and the accesses of that
   pub issues_driven : (first : ℕ) (found : List ProbeResult) (old new : ServerState) → IssuePorts first found old new → IsDrivenBy (IsOfReady first found) old.device new.device
-  issues_driven first [] old new none = record { accesses = []; all = ap (λ (n : ServerState). n.device) none; only = All-nil (IsOfReady first []) }
+  issues_driven first [] old new none = record { accesses = []; all_are_done = ap (λ (n : ServerState). n.device) none; accesses_are_of_kind = All-nil (IsOfReady first []) }
   issues_driven first (Ready info ∷ rest) old new (mid, all, more) =
-      let early = each_driven laws (port_at first) (due_ids (mode_in old (port_at first)) (port_at first) (asks_of old.book)) old mid all in
+      let early = each_driven laws (port_at first) (due_ids (mode_in old (port_at first)) (port_at first) (unanswered_of old.book)) old mid all in
       let late = issues_driven (first + 1) rest mid new more in
       record {
         accesses = early.accesses ++ late.accesses;
-        all = laws.basic.does_append early.accesses late.accesses old.device mid.device new.device early.all late.all;
-        only = All-append (IsOfReady first (Ready info ∷ rest)) early.accesses late.accesses
-            (All-weaker (IsBatchAccess (port_at first)) (IsOfReady first (Ready info ∷ rest)) (λ access is. (port_at first, 0, info, (omega arith), refl, is)) early.accesses early.only)
-            (All-weaker (IsOfReady (first + 1) rest) (IsOfReady first (Ready info ∷ rest)) (ready_later first (Ready info) rest) late.accesses late.only);
+        all_are_done = laws.basic.does_append early.accesses late.accesses old.device mid.device new.device early.all_are_done late.all_are_done;
+        accesses_are_of_kind = All-append (IsOfReady first (Ready info ∷ rest)) early.accesses late.accesses
+            (All-weaker (IsBatchAccess (port_at first)) (IsOfReady first (Ready info ∷ rest)) (λ access is. (port_at first, 0, info, (omega arith), refl, is)) early.accesses early.accesses_are_of_kind)
+            (All-weaker (IsOfReady (first + 1) rest) (IsOfReady first (Ready info ∷ rest)) (ready_later first (Ready info) rest) late.accesses late.accesses_are_of_kind);
       }
   issues_driven first (Unserved ∷ rest) old new more = driven_as (IsOfReady (first + 1) rest) (IsOfReady first (Unserved ∷ rest)) old.device new.device (ready_later first Unserved rest) (issues_driven (first + 1) rest old new more)
   issues_driven first (Unready state ∷ rest) old new more =
@@ -113,7 +113,7 @@ written_same Bohc v d other = refl
 
 module _ (laws : PrerequisiteLaws) where
   steps_same : (old new : Device) → old.hr ≡ false → Steps old new → new.ie ≡ old.ie
-  steps_same old new off steps = ((laws.basic.keeps old new steps).on off).ie
+  steps_same old new off steps = ((laws.basic.keeps old new steps).keeps_outside_reset off).ie
 
   interrupts_one : (access : Access) (old new : Device) → old.hr ≡ false → DoesNotWrite Ghc access → Does access old new → new.ie ≡ old.ie
   interrupts_one (Reading r v) old new off spares does = ap (λ (d : Device). d.ie) does.effect ∙ noted_same r v does.mid ∙ steps_same old does.mid off does.steps
@@ -131,7 +131,7 @@ module _ (laws : PrerequisiteLaws) where
 
 -- ---- kinds of accesses
 
-reset_own : (access : Access) → IsOfReset access → IsDriversOwn access
+reset_own : (access : Access) → IsResetAccess access → IsDriversOwn access
 reset_own (Reading r v) is = tt
 reset_own (Writing r v) is = tt
 reset_own (Loading at bytes) is = absurd is
@@ -150,7 +150,7 @@ survey_spares (Loading at bytes) is = tt
 survey_spares (Storing at bytes) is = tt
 
 module _ (Such : Port → Type 0) where
-  reset_of : (access : Access) → IsOfReset access → IsOfPorts Such access
+  reset_of : (access : Access) → IsResetAccess access → IsOfPorts Such access
   reset_of (Reading (Px port r) v) is = absurd is
   reset_of (Reading r v) is = tt
   reset_of (Writing (Px port r) v) is = absurd is
@@ -207,13 +207,13 @@ module _ (laws : PrerequisiteLaws) (s new : ServerState) (replies : List Reply) 
   abbrev pub ports : List ProbeResult
   ports = t.host.ports
 
-  abbrev way : SwitchesOnAndBoots ports t.idle r.taken.device
-  way = t.takes.way
+  abbrev way : SwitchesOnAndBoots ports t.idle_device r.taken.device
+  way = t.takes.switches_on_and_boots
 
   -- ---- what it is then
 
   ports_taken : r.taken.ports ≡ ports
-  ports_taken = ap (λ (n : ServerState). n.ports) t.server
+  ports_taken = ap (λ (n : ServerState). n.ports) t.server_is
 
   settled : r.settled ≡ record r.taken { table = r.settled.table; kept = r.settled.kept; book = r.settled.book }
   settled = settles_as 0 r.taken.ports replies r.taken r.settled r.settles
@@ -237,7 +237,7 @@ module _ (laws : PrerequisiteLaws) (s new : ServerState) (replies : List Reply) 
       (subst (λ (found : List ProbeResult). IsDrivenBy (IsOfReady 0 found) r.settled.device new.device) ports_taken (issues_driven laws 0 r.taken.ports r.settled new r.issues))
 
   abbrev first : List Access
-  first = t.resets.followed.driven.accesses
+  first = t.resets.followed.is_driven.accesses
 
   abbrev survey : List Access
   survey = way.surveys.accesses
@@ -249,24 +249,24 @@ module _ (laws : PrerequisiteLaws) (s new : ServerState) (replies : List Reply) 
   accesses = first ++ (Writing Ghc 0x80000000 ∷ (survey ++ (went.driven.accesses ++ last)))
 
   last_does : DoesAll last way.booted new.device
-  last_does = (r.taken.device, way.enables, issues.all)
+  last_does = (r.taken.device, way.enables, issues.all_are_done)
 
   pub does : DoesAll accesses s.device new.device
-  does = laws.basic.does_append first (Writing Ghc 0x80000000 ∷ (survey ++ (went.driven.accesses ++ last))) s.device t.idle new.device t.resets.followed.driven.all (
+  does = laws.basic.does_append first (Writing Ghc 0x80000000 ∷ (survey ++ (went.driven.accesses ++ last))) s.device t.idle_device new.device t.resets.followed.is_driven.all_are_done (
     way.switched,
     way.switches,
-    laws.basic.does_append survey (went.driven.accesses ++ last) way.switched way.surveyed new.device way.surveys.all
-        (laws.basic.does_append went.driven.accesses last way.surveyed way.booted new.device went.driven.all last_does),
+    laws.basic.does_append survey (went.driven.accesses ++ last) way.switched way.surveyed new.device way.surveys.all_are_done
+        (laws.basic.does_append went.driven.accesses last way.surveyed way.booted new.device went.driven.all_are_done last_does),
   )
 
-  each : (P : Access → Type 0) → ((access : Access) → IsOfReset access → P access) → P (Writing Ghc 0x80000000) → ((access : Access) → ReadsCapOrPi access → P access)
+  each : (P : Access → Type 0) → ((access : Access) → IsResetAccess access → P access) → P (Writing Ghc 0x80000000) → ((access : Access) → ReadsCapOrPi access → P access)
       → ((access : Access) → IsOfFound 0 ports access → P access) → P (Writing Ghc 0x80000002) → ((access : Access) → IsOfReady 0 ports access → P access) → All P accesses
   each P resets on surveys boots enables issuing =
-      All-append P first (Writing Ghc 0x80000000 ∷ (survey ++ (went.driven.accesses ++ last))) (All-weaker IsOfReset P resets first t.resets.followed.driven.only)
+      All-append P first (Writing Ghc 0x80000000 ∷ (survey ++ (went.driven.accesses ++ last))) (All-weaker IsResetAccess P resets first t.resets.followed.is_driven.accesses_are_of_kind)
       (All-cons P (Writing Ghc 0x80000000) (survey ++ (went.driven.accesses ++ last)) on
-      (All-append P survey (went.driven.accesses ++ last) (All-weaker ReadsCapOrPi P surveys survey way.surveys.only)
-      (All-append P went.driven.accesses last (All-weaker (IsOfFound 0 ports) P boots went.driven.accesses went.driven.only)
-      (All-cons P (Writing Ghc 0x80000002) issues.accesses enables (All-weaker (IsOfReady 0 ports) P issuing issues.accesses issues.only)))))
+      (All-append P survey (went.driven.accesses ++ last) (All-weaker ReadsCapOrPi P surveys survey way.surveys.accesses_are_of_kind)
+      (All-append P went.driven.accesses last (All-weaker (IsOfFound 0 ports) P boots went.driven.accesses went.driven.accesses_are_of_kind)
+      (All-cons P (Writing Ghc 0x80000002) issues.accesses enables (All-weaker (IsOfReady 0 ports) P issuing issues.accesses issues.accesses_are_of_kind)))))
 
   -- ---- whose they are
 
@@ -275,20 +275,20 @@ module _ (laws : PrerequisiteLaws) (s new : ServerState) (replies : List Reply) 
 
   served_then : (port : ℕ) → port < 4 → (found : ProbeResult) → found ≢ Unserved → BacksProbeResult (wanted_of s.wanted port) found port r.taken.device → IsServed (wanted_of s.wanted port) port s.device
   served_then port low Unserved other stands = absurd (other refl)
-  served_then port low (Ready info) other stands = (stands.0.0, ap (λ (pi : ℕ). bit pi port) (sym t.resets.same.pi) ∙ ap (λ (pi : ℕ). bit pi port) (sym t.takes.same.pi) ∙ stands.0.1)
-  served_then port low (Unready state) other stands = (stands.0.0, ap (λ (pi : ℕ). bit pi port) (sym t.resets.same.pi) ∙ ap (λ (pi : ℕ). bit pi port) (sym t.takes.same.pi) ∙ stands.0.1)
+  served_then port low (Ready info) other stands = (stands.0.0, ap (λ (pi : ℕ). bit pi port) (sym t.resets.adapter_is_kept.pi) ∙ ap (λ (pi : ℕ). bit pi port) (sym t.takes.adapter_is_kept.pi) ∙ stands.0.1)
+  served_then port low (Unready state) other stands = (stands.0.0, ap (λ (pi : ℕ). bit pi port) (sym t.resets.adapter_is_kept.pi) ∙ ap (λ (pi : ℕ). bit pi port) (sym t.takes.adapter_is_kept.pi) ∙ stands.0.1)
 
   -- a port that was found to be anything was served before
   pub was_served : (port : ℕ) → port < 4 → probe_result_of ports port ≢ Unserved → is_served (probe_result_of s.ports port) ≡ true
-  was_served port low other = (k.served port low).1 (served_then port low (probe_result_of ports port) other (t.takes.stands port low))
+  was_served port low other = (k.served port low).1 (served_then port low (probe_result_of ports port) other (t.takes.results_are_backed port low))
 
   -- and one that was served is found to be something
   pub is_found : (port : ℕ) → is_served (probe_result_of s.ports port) ≡ true → probe_result_of ports port ≢ Unserved
   is_found port served unserved =
-      let low = k.few port served in
+      let low = k.few_are_served port served in
       let its = (k.served port low).0 served in
-      (subst (λ (f : ProbeResult). BacksProbeResult (wanted_of s.wanted port) f port r.taken.device) unserved (t.takes.stands port low)).0
-      (its.0, ap (λ (pi : ℕ). bit pi port) t.takes.same.pi ∙ ap (λ (pi : ℕ). bit pi port) t.resets.same.pi ∙ its.1)
+      (subst (λ (f : ProbeResult). BacksProbeResult (wanted_of s.wanted port) f port r.taken.device) unserved (t.takes.results_are_backed port low)).0
+      (its.0, ap (λ (pi : ℕ). bit pi port) t.takes.adapter_is_kept.pi ∙ ap (λ (pi : ℕ). bit pi port) t.resets.adapter_is_kept.pi ∙ its.1)
 
   number_is : (port : Port) (n : ℕ) → port.0 ≡ 0 + n → n ≡ port.0
   number_is port n at = omega (arith, at)
@@ -310,7 +310,7 @@ module _ (laws : PrerequisiteLaws) (s new : ServerState) (replies : List Reply) 
       (λ access (port, n, info, at, is, its). its_of (IsPortServed (ports_of s)) port (serves port n at (ready_other n info is)) access (laws.issuing_of port access its))
 
   pub begins : BeginsReset accesses
-  begins = record { rest = _; here = ap (λ (list : List Access). list ++ (Writing Ghc 0x80000000 ∷ (survey ++ (went.driven.accesses ++ last)))) t.resets.awaited.here }
+  begins = record { rest = _; accesses_are = ap (λ (list : List Access). list ++ (Writing Ghc 0x80000000 ∷ (survey ++ (went.driven.accesses ++ last)))) t.resets.awaited.accesses_are }
 
   -- ---- the adapter
 
@@ -319,19 +319,19 @@ module _ (laws : PrerequisiteLaws) (s new : ServerState) (replies : List Reply) 
 
   pub tells : HasAeAndIe new.device
   tells =
-      let spares = All-weaker (IsOfReady 0 ports) (DoesNotWrite Ghc) issuing_host issues.accesses issues.only in (
-        on_over laws issues.accesses r.taken.device new.device t.takes.on (All-weaker (DoesNotWrite Ghc) StaysOn stays_on issues.accesses spares) issues.all,
-        interrupts_over laws issues.accesses r.taken.device new.device t.takes.on spares issues.all ∙ t.takes.interrupts,
+      let spares = All-weaker (IsOfReady 0 ports) (DoesNotWrite Ghc) issuing_host issues.accesses issues.accesses_are_of_kind in (
+        on_over laws issues.accesses r.taken.device new.device t.takes.adapter_is_on (All-weaker (DoesNotWrite Ghc) StaysOn stays_on issues.accesses spares) issues.all_are_done,
+        interrupts_over laws issues.accesses r.taken.device new.device t.takes.adapter_is_on spares issues.all_are_done ∙ t.takes.ie_is_set,
       )
 
   surveyed_on : IsOn way.surveyed
   surveyed_on =
-      let switched = laws.switches_on 0x80000000 t.idle way.switched t.resets.idle.no_reset refl refl way.switches in
-      on_over laws survey way.switched way.surveyed switched (All-weaker ReadsCapOrPi StaysOn (λ access is. stays_on access (survey_spares access is)) survey way.surveys.only) way.surveys.all
+      let switched = laws.switches_on 0x80000000 t.idle_device way.switched t.resets.idle.no_reset refl refl way.switches in
+      on_over laws survey way.switched way.surveyed switched (All-weaker ReadsCapOrPi StaysOn (λ access is. stays_on access (survey_spares access is)) survey way.surveys.accesses_are_of_kind) way.surveys.all_are_done
 
   last_leaves : (port : Port) → All (LeavesTrouble port) last
   last_leaves port = All-cons (LeavesTrouble port) (Writing Ghc 0x80000002) issues.accesses (enabling_leaves port)
-      (All-weaker (IsOfReady 0 ports) (LeavesTrouble port) (λ access (q, n, info, at, is, its). issuing_leaves q port access its) issues.accesses issues.only)
+      (All-weaker (IsOfReady 0 ports) (LeavesTrouble port) (λ access (q, n, info, at, is, its). issuing_leaves q port access its) issues.accesses issues.accesses_are_of_kind)
 
   -- ---- a port
 
@@ -345,7 +345,7 @@ module _ (laws : PrerequisiteLaws) (s new : ServerState) (replies : List Reply) 
     -- what resets its link in its part does so in the whole
     pub resets : ResetsLink port turn.turn.turn → ResetsLink port accesses
     resets is =
-        let later = All-weaker (IsOfOtherPort port) (DoesNotWrite (Px port Sctl)) (λ access other. (other_leaves laws port access other).3) its.later its.others_later in
+        let later = All-weaker (IsOfOtherPort port) (DoesNotWrite (Px port Sctl)) (λ access other. (other_leaves laws port access other).3) its.later its.later_are_of_others in
         let part = subst (ResetsLink port) turn.all (resets_more port its.before its.turn its.later is later) in
         resets_since port first (Writing Ghc 0x80000000 ∷ (survey ++ (went.driven.accesses ++ last))) (resets_since port (Writing Ghc 0x80000000 ∷ []) (survey ++ (went.driven.accesses ++ last))
         (resets_more port survey went.driven.accesses last part (All-weaker (LeavesTrouble port) (DoesNotWrite (Px port Sctl)) (λ access leaves. leaves.3) last (last_leaves port))))
@@ -369,26 +369,26 @@ module _ (laws : PrerequisiteLaws) (s new : ServerState) (replies : List Reply) 
       gets = did.1.2
 
       start_on : IsOn its.start
-      start_on = on_over laws its.before way.surveyed its.start surveyed_on (All-weaker (IsOfOtherPort port) StaysOn (λ access other. (other_leaves laws port access other).4) its.before its.others) its.first
+      start_on = on_over laws its.before way.surveyed its.start surveyed_on (All-weaker (IsOfOtherPort port) StaysOn (λ access other. (other_leaves laws port access other).4) its.before its.earlier_are_of_others) its.leads_to_start
 
       stopped_on : IsOn stopped
-      stopped_on = laws.of_on port its.start stopped start_on (driven_as (OnPortWriting IsCommandRegister port) (SparesOtherPorts port) its.start stopped (λ access x. laws.booting_of port access (command_boots port access x)) did.1.1)
+      stopped_on = laws.of_on port its.start stopped start_on (driven_as (IsPortAccessWriting IsCommandRegister port) (SparesOtherPorts port) its.start stopped (λ access x. laws.booting_of port access (command_boots port access x)) did.1.1)
 
       end_on : IsOn its.end
-      end_on = laws.of_on port stopped its.end stopped_on (driven_as (IsOfBoot port) (SparesOtherPorts port) stopped its.end (laws.booting_of port) (ready_resets laws port stopped its.end gets).driven)
+      end_on = laws.of_on port stopped its.end stopped_on (driven_as (IsBootAccess port) (SparesOtherPorts port) stopped its.end (laws.booting_of port) (ready_resets laws port stopped its.end gets).driven)
 
       early : TapeGrows s.device stopped
       early =
-          laws.looks.tape.grows_more s.device t.idle stopped (grows_over laws first s.device t.idle t.resets.followed.driven.all)
-          (laws.looks.tape.grows_more t.idle way.switched stopped (laws.looks.tape.access_grows (Writing Ghc 0x80000000) t.idle way.switched way.switches)
-          (laws.looks.tape.grows_more way.switched way.surveyed stopped (grows_over laws survey way.switched way.surveyed way.surveys.all)
-          (laws.looks.tape.grows_more way.surveyed its.start stopped (grows_over laws its.before way.surveyed its.start its.first) (grows_over laws did.1.1.accesses its.start stopped did.1.1.all))))
+          laws.looks.tape.grows_more s.device t.idle_device stopped (grows_over laws first s.device t.idle_device t.resets.followed.is_driven.all_are_done)
+          (laws.looks.tape.grows_more t.idle_device way.switched stopped (laws.looks.tape.access_grows (Writing Ghc 0x80000000) t.idle_device way.switched way.switches)
+          (laws.looks.tape.grows_more way.switched way.surveyed stopped (grows_over laws survey way.switched way.surveyed way.surveys.all_are_done)
+          (laws.looks.tape.grows_more way.surveyed its.start stopped (grows_over laws its.before way.surveyed its.start its.leads_to_start) (grows_over laws did.1.1.accesses its.start stopped did.1.1.all_are_done))))
 
       later : IsDrivenBy (LeavesTrouble port) its.end new.device
       later = record {
         accesses = its.later ++ last;
-        all = laws.basic.does_append its.later last its.end way.booted new.device its.last last_does;
-        only = All-append (LeavesTrouble port) its.later last (All-weaker (IsOfOtherPort port) (LeavesTrouble port) (other_leaves laws port) its.later its.others_later) (last_leaves port);
+        all_are_done = laws.basic.does_append its.later last its.end way.booted new.device its.leads_to_new last_does;
+        accesses_are_of_kind = All-append (LeavesTrouble port) its.later last (All-weaker (IsOfOtherPort port) (LeavesTrouble port) (other_leaves laws port) its.later its.later_are_of_others) (last_leaves port);
       }
 
       -- what came since ST was set is shown

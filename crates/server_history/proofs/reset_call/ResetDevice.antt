@@ -9,9 +9,9 @@ use Rattle.block_machine.specs.Ports.{Evidence, SameDisk}
 use Rattle.block_machine.specs.State.{Machine}
 use Rattle.driver_history.specs.Evidence.{IsEvidencedOf}
 use Rattle.driver_history.specs.Histories.{BootsAnew, HasAeAndIe, LosesNoPortError, RunsWellAnew, IsPortServed}
-use Rattle.driver_history.specs.Trace.{IsDriversOwn, IsOfPorts}
+use Rattle.driver_history.specs.AccessTrace.{IsDriversOwn, IsOfPorts}
 use Rattle.host_boot.specs.Resets.{BeginsReset}
-use Rattle.server_history.specs.Server.{ServerState, ports_of}
+use Rattle.server_history.specs.ServerState.{ServerState, ports_of}
 use Rattle.server_history.specs.Turns.{joint_state_of}
 
 -- The device's part in a reset that ended, whatever machine stands for the server. The accesses begin with the reset, and use registers of served ports alone; the adapter is on then, and

@@ -17,8 +17,8 @@ use Rattle.block_machine.specs.Ports.{Evidence, Ports, SameDisk}
 use Rattle.block_machine.specs.State.{Machine}
 use Rattle.driver_history.specs.Evidence.{IsEvidencedOf}
 use Rattle.driver_history.specs.Histories.{LosesNoPortError, RunsWellAnew, IsPortServed}
-use Rattle.driver_history.specs.Parts.{IsOfOtherPort}
-use Rattle.driver_history.specs.Trace.{IsOfPorts, LeavesEngine, ResetsLink}
+use Rattle.driver_history.specs.PortTurn.{IsOfOtherPort}
+use Rattle.driver_history.specs.AccessTrace.{IsOfPorts, LeavesEngine, ResetsLink}
 use Rattle.host_boot.specs.TakeOver.{BacksProbeResult, probe_result_of, wanted_of}
 use Rattle.host_boot.specs.declared.ProbeResult.{ProbeResult}
 use Rattle.host_boot.specs.declared.ProbeResult.TheVariants.{Unserved, Ready, Unready}
@@ -27,7 +27,7 @@ use Rattle.port_control.specs.Engines.{EngineSticks}
 use Rattle.server_history.specs.Prerequisites.{PrerequisiteLaws}
 use Rattle.server_history.proofs.reset_call.ResetDevice.{IsRebootedBy}
 use Rattle.server_history.specs.Resets.{IsReinitialized, ResetsServer}
-use Rattle.server_history.specs.Server.{ServerState, is_served, ports_of, state_of}
+use Rattle.server_history.specs.ServerState.{ServerState, is_served, ports_of, state_of}
 use Rattle.server_history.specs.StuckServer.{ServerInvariant}
 use Rattle.server_history.specs.Turns.{joint_state_of}
 use Rattle.server_history.proofs.recovery_turn.MendedPort.{dead_is}
@@ -127,7 +127,7 @@ module _ (laws : PrerequisiteLaws) (s new : ServerState) (replies : List Reply) 
   never_ready : (port : Port) → probe_result_of ports port.0 ≡ Unready ReadyState → ⊥
   never_ready port is =
       (subst (λ (f : ProbeResult). BacksProbeResult (wanted_of s.wanted port.0) f port.0 r.taken.device) is
-      (t.takes.stands port.0 (low_found port (λ unserved. let z : Unready ReadyState ≡ Unserved = sym is ∙ unserved in cc)))).1
+      (t.takes.results_are_backed port.0 (low_found port (λ unserved. let z : Unready ReadyState ≡ Unserved = sym is ∙ unserved in cc)))).1
 
   ready_info : (port : Port) → new_ports.state port ≡ ReadyState → (info : DiskInfo) × (probe_result_of ports port.0 ≡ Ready info)
   ready_info port ready = by (probe_result_of ports port.0) refl
@@ -180,7 +180,7 @@ module _ (laws : PrerequisiteLaws) (s new : ServerState) (replies : List Reply) 
   evidence = record (told_by s.device old_ports) { lost = chosen is_lost four; stopped = chosen old_ports.served four; stuck = chosen is_dead four }
 
   stopped_all : (port : Port) → old_ports.served port ≡ true → Contains evidence.stopped port
-  stopped_all port served = is_chosen old_ports.served four port (in_four port (k.few port.0 served)) served
+  stopped_all port served = is_chosen old_ports.served four port (in_four port (k.few_are_served port.0 served)) served
 
   stuck_all : (port : Port) → new_ports.state port ≡ DeadState → Contains evidence.stuck port
   stuck_all port dead = is_chosen is_dead four port (in_four port (dead_low port dead)) (is_left_if (dead_or_not (new_ports.state port)) dead)
@@ -189,7 +189,7 @@ module _ (laws : PrerequisiteLaws) (s new : ServerState) (replies : List Reply) 
   stuck_only port here = left_is (dead_or_not (new_ports.state port)) (chosen_is is_dead four port here)
 
   lost_all : (port : Port) → old_ports.served port ≡ true → new_ports.state port ≢ DeadState → (new_ports.state port ≡ ReadyState → SameDisk old_ports new_ports port → ⊥) → Contains evidence.lost port
-  lost_all port served lives other = is_chosen is_lost four port (in_four port (k.few port.0 served)) (is_left_if (lost_or_not port) (served, lives, other))
+  lost_all port served lives other = is_chosen is_lost four port (in_four port (k.few_are_served port.0 served)) (is_left_if (lost_or_not port) (served, lives, other))
 
   lost_only : (port : Port) → Contains evidence.lost port → IsLostAnew port
   lost_only port here = left_is (lost_or_not port) (chosen_is is_lost four port here)
@@ -216,18 +216,18 @@ module _ (laws : PrerequisiteLaws) (s new : ServerState) (replies : List Reply) 
     counted : (new.device.port port.0).notes.engine_count ≡ MOST_READINGS
     counted =
         let issuing = issues laws s new replies k r in
-        ap (λ (n : Notes). n.engine_count) (notes_over laws port issuing.accesses r.taken.device new.device t.takes.on (All-weaker (IsOfReady 0 ports) (IsOfOtherPort port) others issuing.accesses issuing.only) issuing.all)
-        ∙ (subst (λ (f : ProbeResult). BacksProbeResult (wanted_of s.wanted port.0) f port.0 r.taken.device) (dead_found port dead) (t.takes.stands port.0 (dead_low port dead))).1.1
+        ap (λ (n : Notes). n.engine_count) (notes_over laws port issuing.accesses r.taken.device new.device t.takes.adapter_is_on (All-weaker (IsOfReady 0 ports) (IsOfOtherPort port) others issuing.accesses issuing.accesses_are_of_kind) issuing.all_are_done)
+        ∙ (subst (λ (f : ProbeResult). BacksProbeResult (wanted_of s.wanted port.0) f port.0 r.taken.device) (dead_found port dead) (t.takes.results_are_backed port.0 (dead_low port dead))).1.1
 
   -- ---- what is vouched for
 
   evidenced : (m : Machine) (port : Port) → IsEvidencedOf Reset (WasReset (Some replies)) list (joint_state_of s m) new_ports new.device evidence port
   evidenced m port =
-      let told = evidenced_of four Reset (WasReset (Some replies)) [] (joint_state_of s m) new_ports new.device port (λ ready. in_four port (k.few port.0 (served_ready port ready))) (All-nil (LeavesEngine port)) in
+      let told = evidenced_of four Reset (WasReset (Some replies)) [] (joint_state_of s m) new_ports new.device port (λ ready. in_four port (k.few_are_served port.0 (served_ready port ready))) (All-nil (LeavesEngine port)) in
       record {
         lost = λ here. let lost = lost_only port here in inr (inr (inr (lost.1, lost.2)));
-        gone_all = told.gone_all;
-        gone_only = told.gone_only;
+        link_changed_all = told.link_changed_all;
+        link_changed_only = told.link_changed_only;
         failed_all = told.failed_all;
         failed_only = told.failed_only;
         fatal_all = told.fatal_all;
@@ -263,9 +263,9 @@ module _ (laws : PrerequisiteLaws) (s new : ServerState) (replies : List Reply) 
   port_error m port = record {
     errors = λ ready _. inl (inl (stopped_all port (served_ready port ready)));
     changes = λ tends _. inl (inl (stopped_all port tends.0));
-    fault = λ ready. let its = ready_info port ready in (shows laws s new replies k r port (ready_low port its.0 its.1) its.0 its.1).fault;
-    fatal = λ ready. let its = ready_info port ready in (shows laws s new replies k r port (ready_low port its.0 its.1) its.0 its.1).fatal;
-    disk = λ ready. let its = ready_info port ready in (shows laws s new replies k r port (ready_low port its.0 its.1) its.0 its.1).disk;
+    fault = λ ready. let its = ready_info port ready in (shows laws s new replies k r port (ready_low port its.0 its.1) its.0 its.1).fault_is_shown;
+    fatal = λ ready. let its = ready_info port ready in (shows laws s new replies k r port (ready_low port its.0 its.1) its.0 its.1).fatal_is_shown;
+    disk = λ ready. let its = ready_info port ready in (shows laws s new replies k r port (ready_low port its.0 its.1) its.0 its.1).plug_is_shown;
   }
 
   well : (m : Machine) (port : Port) → RunsWellAnew evidence list (joint_state_of s m) new_ports new.device port

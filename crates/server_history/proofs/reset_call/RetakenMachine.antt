@@ -9,36 +9,36 @@ use Rattle.adapter.specs.Access.{Access}
 use Rattle.adapter.specs.Device.{Device}
 use Rattle.adapter.specs.Idle.{IsIdle}
 use Rattle.refinement.specs.Acts.{act_steps}
-use Rattle.refinement.specs.Driven.{IsSimulatedTo, known}
+use Rattle.refinement.specs.Fragments.{IsSimulatedChangingUses, driver_state_of}
 use Rattle.refinement.specs.Driver.{IsBacked, DriverState, DriverRelation}
 use Rattle.refinement.specs.Slots.{Free, Serves, SlotStates}
-use Rattle.refinement.specs.Spares.{SparesBook}
+use Rattle.refinement.specs.SparedBook.{SparesBook}
 use Rattle.ata_types.specs.declared.request.ClientId.{ClientId}
 use Rattle.ata_types.specs.declared.request.Frame.{Frame}
 use Rattle.ata_types.specs.declared.request.RequestId.{RequestId}
 use Rattle.server_history.proofs.state.ListMembers.{into_map, map_in, none_of, in_filter}
-use Rattle.block_machine.specs.Confined.{WithinLimits}
-use Rattle.block_machine.specs.Events.{AllByDevice, AllMay}
+use Rattle.block_machine.specs.Confinement.{WithinLimits}
+use Rattle.block_machine.specs.Events.{AllByDevice, AllEnabled}
 use Rattle.block_machine.specs.Histories.{IsReachable}
 use Rattle.block_machine.specs.Expected.{after}
 use Rattle.block_machine.specs.State.{Machine, Pending}
 use Rattle.block_machine.specs.Steps.{Release, Step, after_step, is_lent_to}
 use Rattle.dma_frames.specs.Loan.{Lending}
-use Rattle.dma_frames.specs.Table.{Table, lent_to, owner_of}
+use Rattle.dma_frames.specs.FrameTables.{FrameOwnership, lent_to, owner_of}
 use Rattle.host_boot.specs.TakeOver.{unused_slots}
 use Rattle.host_boot.specs.declared.ProbeResult.{ProbeResult}
-use Rattle.request_queue.specs.Entries.{BookEntry, IsAccepted, BookIsInOrder}
-use Rattle.request_queue.specs.Machine.{BookRelation, EntryRelation}
+use Rattle.request_queue.specs.BookEntries.{BookEntry, IsAccepted, BookIsInOrder}
+use Rattle.request_queue.specs.BookRelation.{BookRelation, EntryRelation}
 use Rattle.server_history.proofs.plain_calls.Acceptances.{any_in}
 use Rattle.server_history.proofs.state.HistorySteps.{book_on, still_kept}
 use Rattle.server_history.proofs.state.FirstMembers.{nowhere}
 use Rattle.server_history.proofs.state.PairedLists.{at_left}
 use Rattle.server_history.specs.Prerequisites.{PrerequisiteLaws}
-use Rattle.server_history.specs.Ended.{ResetLaws}
-use Rattle.server_history.specs.Kept.{IsKeptIn, TakesBack}
+use Rattle.server_history.specs.ResetLaws.{ResetLaws}
+use Rattle.server_history.specs.KeptLoans.{IsKeptIn, TakesBack}
 use Rattle.server_history.specs.ErrorHandling.{requests_of}
 use Rattle.server_history.specs.Resets.{IsReinitialized, MayResolve}
-use Rattle.server_history.specs.Server.{QuarantineRelation, MachineRelation, ServerState, quarantined_at}
+use Rattle.server_history.specs.ServerState.{QuarantineRelation, MachineRelation, ServerState, quarantined_at}
 use Rattle.server_history.specs.StuckServer.{ServerInvariant}
 
 -- ---- stretches of the device
@@ -47,16 +47,16 @@ use Rattle.server_history.specs.StuckServer.{ServerInvariant}
 pub record IsStretch (k later : DriverState) (m : Machine) : Type 0 where
   pub steps : List Step
   pub only : AllByDevice steps
-  pub may : AllMay m steps
+  pub may : AllEnabled m steps
   pub backed : IsBacked k.device later.device m steps
-  pub knows : DriverRelation (after m steps) later
+  pub driver_relation : DriverRelation (after m steps) later
 
-pub stretch : {May : Access → Type 0} {Fits : SlotStates → Type 0} {next : SlotStates → SlotStates} {old new : Device} → PrerequisiteLaws → IsSimulatedTo May Fits next old new → (uses : SlotStates) (parked : ℕ → List RequestId) → Fits uses → (m : Machine) → IsReachable m
-    → DriverRelation m (known uses parked old) → IsStretch (known uses parked old) (known (next uses) parked new) m
+pub stretch : {May : Access → Type 0} {Fits : SlotStates → Type 0} {next : SlotStates → SlotStates} {old new : Device} → PrerequisiteLaws → IsSimulatedChangingUses May Fits next old new → (uses : SlotStates) (parked : ℕ → List RequestId) → Fits uses → (m : Machine) → IsReachable m
+    → DriverRelation m (driver_state_of uses parked old) → IsStretch (driver_state_of uses parked old) (driver_state_of (next uses) parked new) m
 stretch {May} {Fits} {next} {old} {new} laws a uses parked fits m reached knows =
-    let c = a.comes (record { uses = uses; parked = parked }) m reached knows fits in
-    let g = laws.slots.acts_go c.acts (known uses parked old) (known (next uses) parked new) m knows c.done in
-    record { steps = act_steps c.acts; only = c.tells.only; may = g.may; backed = g.backed; knows = g.knows }
+    let c = a.acts_reach (record { uses = uses; parked = parked }) m reached knows fits in
+    let g = laws.slots.acts_go c.acts (driver_state_of uses parked old) (driver_state_of (next uses) parked new) m knows c.acts_are_done in
+    record { steps = act_steps c.acts; only = c.tells.only; may = g.steps_are_enabled; backed = g.is_backed; driver_relation = g.driver_relation }
 
 -- ---- an idle adapter
 
@@ -87,28 +87,28 @@ abbrev all_ids : Machine → ℕ → List RequestId
 all_ids m port = map (λ (e : Pending). e.request.id) m.book ++ map (λ (e : Pending). e.request.id) m.kept
 
 -- Where the adapter is idle, every slot was given up.
-gives_up : (k : DriverState) (m : Machine) → DriverRelation m k → IsIdle k.device → DriverRelation m (known unused_slots (all_ids m) k.device)
+gives_up : (k : DriverState) (m : Machine) → DriverRelation m k → IsIdle k.device → DriverRelation m (driver_state_of unused_slots (all_ids m) k.device)
 gives_up k m knows rest = record {
-  agrees = record {
-    slot = λ port slot. let p = rest.port port in record { issued = p.ci slot; free = p.taken slot; unarmed = p.sact slot };
-    apart = λ port slot other_port other_slot id serves. let z : Free ≡ Serves id = serves in absurd cc;
-    received = knows.agrees.received;
-    disk = knows.agrees.disk;
-    memory = knows.agrees.memory;
-    sectors = knows.agrees.sectors;
-    lasting = knows.agrees.lasting;
+  state_relation = record {
+    relates_slots = λ port slot. let p = rest.ports_are_idle port in record { issued = p.ci slot; free = p.taken slot; unarmed = p.sact slot };
+    serve_apart = λ port slot other_port other_slot id serves. let z : Free ≡ Serves id = serves in absurd cc;
+    received_areas_are_placed = knows.state_relation.received_areas_are_placed;
+    disks_are_same = knows.state_relation.disks_are_same;
+    memory_is_same = knows.state_relation.memory_is_same;
+    sectors_are_same = knows.state_relation.sectors_are_same;
+    has_lasting = knows.state_relation.has_lasting;
   };
-  have = λ port e moves own. inl (⊎_elim
+  have_slots = λ port e moves own. inl (⊎_elim
       (λ booked. Contains-append_left (map (λ (x : Pending). x.request.id) m.book) (map (λ (x : Pending). x.request.id) m.kept) e.request.id (into_map (λ (x : Pending). x.request.id) m.book e booked.0))
       (λ held. Contains-append_right (map (λ (x : Pending). x.request.id) m.book) (map (λ (x : Pending). x.request.id) m.kept) e.request.id (into_map (λ (x : Pending). x.request.id) m.kept e held))
       moves);
 }
 
 -- Where none is kept, only issued requests have to be remembered as parked.
-parks_issued : (uses : SlotStates) (parked : ℕ → List RequestId) (d : Device) (m : Machine) → DriverRelation m (known uses parked d) → m.kept ≡ [] → DriverRelation m (known uses (issued_on m) d)
+parks_issued : (uses : SlotStates) (parked : ℕ → List RequestId) (d : Device) (m : Machine) → DriverRelation m (driver_state_of uses parked d) → m.kept ≡ [] → DriverRelation m (driver_state_of uses (issued_on m) d)
 parks_issued uses parked d m knows none = record {
-  agrees = knows.agrees;
-  have = λ port e moves own. inl (⊎_elim
+  state_relation = knows.state_relation;
+  have_slots = λ port e moves own. inl (⊎_elim
       (λ booked. in_issued m port e booked.0 booked.1 own)
       (λ held. absurd (nowhere e (subst (λ (es : List Pending). Contains es e) none held)))
       moves);
@@ -117,10 +117,10 @@ parks_issued uses parked d m knows none = record {
 -- ---- the kept loans
 
 -- What the machine lends once the kept requests' frames are given back is what the server lends.
-module _ (laws : ResetLaws) (found : List ProbeResult) (kept : List (List Lending)) (table later : Table) (m : Machine) (reached : IsReachable m) (lent : (frame : Frame) → m.lent frame ≡ lent_to table frame) (are : QuarantineRelation found kept m.kept)
+module _ (laws : ResetLaws) (found : List ProbeResult) (kept : List (List Lending)) (table later : FrameOwnership) (m : Machine) (reached : IsReachable m) (lent : (frame : Frame) → m.lent frame ≡ lent_to table frame) (are : QuarantineRelation found kept m.kept)
     (back : TakesBack table later (IsKeptIn kept)) where
   limits : WithinLimits m
-  limits = subst WithinLimits (sym reached.is) (laws.below.living.limits reached.first reached.past reached.starts reached.legal)
+  limits = subst WithinLimits (sym reached.leads_to_machine) (laws.below.living.limits reached.initial_machine reached.steps_since reached.is_initial reached.is_legal)
 
   is_lent : (id : RequestId) (o : Option RequestId) → is_lent_to id o ≡ true → o ≡ Some id
   is_lent id None is = absurd (false≢true is)
@@ -129,7 +129,7 @@ module _ (laws : ResetLaws) (found : List ProbeResult) (kept : List (List Lendin
   -- its frames are lent to it
   lent_out : (e : Pending) → Contains m.kept e → (frame : Frame) → Contains e.request.asked.frames.items frame → m.lent frame ≡ Some e.request.id
   lent_out e here frame (i, small, is) =
-      ap m.lent (sym is ∙ get_or_default e.request.asked.frames.items i _ _ small) ∙ limits.lent e (inr here) i small
+      ap m.lent (sym is ∙ get_or_default e.request.asked.frames.items i _ _ small) ∙ limits.frames_are_lent e (inr here) i small
 
   -- the machine's kept request lends this frame
   by_kept : (frame : Frame) → (e : Pending) → Contains m.kept e → is_lent_to e.request.id (m.lent frame) ≡ true → (loan : Lending) × IsKeptIn kept loan × Contains loan.frames frame
@@ -143,10 +143,10 @@ module _ (laws : ResetLaws) (found : List ProbeResult) (kept : List (List Lendin
       (λ (some : list_any (λ (e : Pending). is_lent_to e.request.id (m.lent frame)) m.kept ≡ true).
       let w = any_in (λ (e : Pending). is_lent_to e.request.id (m.lent frame)) m.kept some in
       let l = by_kept frame w.0 w.1 w.2 in
-      cond-true (list_any (λ (e : Pending). is_lent_to e.request.id (m.lent frame)) m.kept) None (m.lent frame) some ∙ sym (back.none l.0 frame l.1 l.2))
+      cond-true (list_any (λ (e : Pending). is_lent_to e.request.id (m.lent frame)) m.kept) None (m.lent frame) some ∙ sym (back.their_frames_are_free l.0 frame l.1 l.2))
       (λ (none : list_any (λ (e : Pending). is_lent_to e.request.id (m.lent frame)) m.kept ≡ false).
       cond-false (list_any (λ (e : Pending). is_lent_to e.request.id (m.lent frame)) m.kept) None (m.lent frame) none ∙ lent frame
-      ∙ sym (back.others frame (λ loan its there. not_kept none loan its there)))
+      ∙ sym (back.other_loans_are_kept frame (λ loan its there. not_kept none loan its there)))
       (cases_Bool (list_any (λ (e : Pending). is_lent_to e.request.id (m.lent frame)) m.kept))
     where
       not_kept : list_any (λ (e : Pending). is_lent_to e.request.id (m.lent frame)) m.kept ≡ false → (loan : Lending) → IsKeptIn kept loan → Contains loan.frames frame → ⊥
@@ -164,19 +164,19 @@ pub record IsRetaken (s taken : ServerState) (uses : SlotStates) (m : Machine) :
   pub first_only : AllByDevice first
   pub second : List Step
   pub second_only : AllByDevice second
-  pub may : AllMay m (second ++ Release ∷ first)
+  pub may : AllEnabled m (second ++ Release ∷ first)
   pub backed : IsBacked s.device taken.device m (second ++ Release ∷ first)
-  pub knows : DriverRelation (after m (second ++ Release ∷ first)) (known uses (issued_on (after m (second ++ Release ∷ first))) taken.device)
+  pub driver_relation : DriverRelation (after m (second ++ Release ∷ first)) (driver_state_of uses (issued_on (after m (second ++ Release ∷ first))) taken.device)
   pub book : BookRelation s.book (after m (second ++ Release ∷ first)).book
   pub kept : (after m (second ++ Release ∷ first)).kept ≡ []
   pub rows : (after m (second ++ Release ∷ first)).rows ≡ s.grants
   pub owner : (frame : Frame) → (after m (second ++ Release ∷ first)).owner frame ≡ owner_of s.table frame
   pub lent : (frame : Frame) → (after m (second ++ Release ∷ first)).lent frame ≡ lent_to taken.table frame
-  pub next : (after m (second ++ Release ∷ first)).next ≡ s.last + 1
+  pub next : (after m (second ++ Release ∷ first)).next_id ≡ s.last_id + 1
 
 module _ (laws : ResetLaws) (s taken : ServerState) (takes : IsReinitialized s taken) (m : Machine) (reached : IsReachable m) (is : MachineRelation s m) where
-  abbrev down : IsStretch (known is.uses is.parked s.device) (known is.uses is.parked takes.idle) m
-  down = stretch laws.below takes.resets.followed is.uses is.parked tt m reached is.knows
+  abbrev down : IsStretch (driver_state_of is.uses is.parked s.device) (driver_state_of is.uses is.parked takes.idle_device) m
+  down = stretch laws.below takes.resets.followed is.uses is.parked tt m reached is.driver_relation
 
   abbrev idle : Machine
   idle = after m down.steps
@@ -188,7 +188,7 @@ module _ (laws : ResetLaws) (s taken : ServerState) (takes : IsReinitialized s t
   down_spares = laws.below.basic.spares m down.steps down.only
 
   idle_kept : QuarantineRelation s.ports s.kept idle.kept
-  idle_kept = still_kept laws.below s.ports s.kept m.kept idle.kept down_spares.kept is.kept
+  idle_kept = still_kept laws.below s.ports s.kept m.kept idle.kept down_spares.kept is.quarantine_relation
 
   abbrev free : Machine
   free = after_step idle Release
@@ -196,11 +196,11 @@ module _ (laws : ResetLaws) (s taken : ServerState) (takes : IsReinitialized s t
   free_reached : IsReachable free
   free_reached = laws.below.basic.reached idle (Release ∷ []) idle_reached (tt, tt)
 
-  free_knows : DriverRelation free (known unused_slots (all_ids idle) takes.idle)
-  free_knows = laws.released (known unused_slots (all_ids idle) takes.idle) idle (all_ids idle) idle_reached (gives_up (known is.uses is.parked takes.idle) idle down.knows takes.resets.idle)
+  free_knows : DriverRelation free (driver_state_of unused_slots (all_ids idle) takes.idle_device)
+  free_knows = laws.released (driver_state_of unused_slots (all_ids idle) takes.idle_device) idle (all_ids idle) idle_reached (gives_up (driver_state_of is.uses is.parked takes.idle_device) idle down.driver_relation takes.resets.idle)
       (λ e here port slot serves. let z : Free ≡ Serves e.request.id = serves in absurd cc) (λ port other here lives. here)
 
-  abbrev up : IsStretch (known unused_slots (all_ids idle) takes.idle) (known takes.takes.uses (all_ids idle) taken.device) free
+  abbrev up : IsStretch (driver_state_of unused_slots (all_ids idle) takes.idle_device) (driver_state_of takes.takes.uses (all_ids idle) taken.device) free
   up = stretch laws.below takes.takes.followed unused_slots (all_ids idle) refl free free_reached free_knows
 
   abbrev last : Machine
@@ -220,7 +220,7 @@ module _ (laws : ResetLaws) (s taken : ServerState) (takes : IsReinitialized s t
 
   lent_then : (frame : Frame) → last.lent frame ≡ lent_to taken.table frame
   lent_then frame = ap (λ f. f frame) up_spares.lent
-      ∙ lends_then laws s.ports s.kept s.table taken.table idle idle_reached (λ f. ap (λ g. g f) down_spares.lent ∙ is.lent f) idle_kept takes.back frame
+      ∙ lends_then laws s.ports s.kept s.table taken.table idle idle_reached (λ f. ap (λ g. g f) down_spares.lent ∙ is.lent f) idle_kept takes.loans_are_taken_back frame
 
   pub retaken : IsRetaken s taken takes.takes.uses m
   retaken = record {
@@ -229,21 +229,21 @@ module _ (laws : ResetLaws) (s taken : ServerState) (takes : IsReinitialized s t
     second = up.steps;
     second_only = up.only;
     may = laws.below.basic.may m up.steps (Release ∷ down.steps) (down.may, tt) up.may;
-    backed = laws.below.backed_parts s.device takes.idle taken.device m (Release ∷ down.steps) up.steps
-        (laws.below.backed_parts s.device takes.idle takes.idle m down.steps (Release ∷ []) down.backed (laws.below.backed_own takes.idle idle Release (λ none. none))) up.backed;
-    knows = subst (λ (n : Machine). DriverRelation n (known takes.takes.uses (issued_on n) taken.device)) (sym last_is) (parks_issued takes.takes.uses (all_ids idle) taken.device last up.knows none_kept);
+    backed = laws.below.backed_parts s.device takes.idle_device taken.device m (Release ∷ down.steps) up.steps
+        (laws.below.backed_parts s.device takes.idle_device takes.idle_device m down.steps (Release ∷ []) down.backed (laws.below.backed_own takes.idle_device idle Release (λ none. none))) up.backed;
+    driver_relation = subst (λ (n : Machine). DriverRelation n (driver_state_of takes.takes.uses (issued_on n) taken.device)) (sym last_is) (parks_issued takes.takes.uses (all_ids idle) taken.device last up.driver_relation none_kept);
     book = subst (λ (n : Machine). BookRelation s.book n.book) (sym last_is) (book_on s.book free.book last.book up_spares.book (book_on s.book m.book idle.book down_spares.book is.book));
     kept = ap (λ (n : Machine). n.kept) last_is ∙ none_kept;
     rows = ap (λ (n : Machine). n.rows) last_is ∙ up_spares.rows ∙ down_spares.rows ∙ is.rows;
     owner = λ frame. ap (λ (n : Machine). n.owner frame) last_is ∙ ap (λ f. f frame) up_spares.owner ∙ ap (λ f. f frame) down_spares.owner ∙ is.owner frame;
     lent = λ frame. ap (λ (n : Machine). n.lent frame) last_is ∙ lent_then frame;
-    next = ap (λ (n : Machine). n.next) last_is ∙ up_spares.next ∙ down_spares.next ∙ is.next;
+    next = ap (λ (n : Machine). n.next_id) last_is ∙ up_spares.next ∙ down_spares.next ∙ is.next;
   }
 
 -- ---- its requests may meet their fates
 
 -- so each is as it was accepted still
-accepted_then : (old new : Table) (entries : List BookEntry) (m : Machine) → WithinLimits m → BookRelation entries m.book → ((frame : Frame) → m.lent frame ≡ lent_to new frame) → new.owners ≡ old.owners
+accepted_then : (old new : FrameOwnership) (entries : List BookEntry) (m : Machine) → WithinLimits m → BookRelation entries m.book → ((frame : Frame) → m.lent frame ≡ lent_to new frame) → new.owners ≡ old.owners
     → All (IsAccepted old) entries → All (IsAccepted new) entries
 accepted_then old new entries m limits book lent owners accepted i d small =
     let e = get_or entries i d in
@@ -252,20 +252,20 @@ accepted_then old new entries m limits book lent owners accepted i d small =
     record {
       client_from = a.client_from;
       client_to = a.client_to;
-      sectors = a.sectors;
-      below = a.below;
-      frames = a.frames;
-      clients = a.clients;
-      own = λ k f inside. ap (λ (list : List (Option ClientId)). get_or list (get_or e.frames k f).0 None) owners ∙ a.own k f inside;
-      apart = a.apart;
-      lent = subst (λ (frames : List Frame). All (λ f. lent_to new f ≡ Some e.entry.id) frames) y.2.frames
+      count_is_allowed = a.count_is_allowed;
+      range_is_below_2_48 = a.range_is_below_2_48;
+      frame_count_is = a.frame_count_is;
+      frames_are_clients = a.frames_are_clients;
+      frames_are_own = λ k f inside. ap (λ (list : List (Option ClientId)). get_or list (get_or e.frames k f).0 None) owners ∙ a.frames_are_own k f inside;
+      frames_are_distinct = a.frames_are_distinct;
+      frames_are_lent = subst (λ (frames : List Frame). All (λ f. lent_to new f ≡ Some e.entry.id) frames) y.2.frames
           (λ k f inside. let g = get_or y.0.request.asked.frames.items k f in
-          sym (lent g) ∙ ap m.lent (get_or_default y.0.request.asked.frames.items k f _ inside) ∙ limits.lent y.0 (inl y.1) k inside ∙ ap Some y.2.id);
+          sym (lent g) ∙ ap m.lent (get_or_default y.0.request.asked.frames.items k f _ inside) ∙ limits.frames_are_lent y.0 (inl y.1) k inside ∙ ap Some y.2.id);
     }
 
 module _ (laws : ResetLaws) (s taken : ServerState) (booked : ServerInvariant s) (takes : IsReinitialized s taken) where
   its : IsRetaken s taken takes.takes.uses booked.machine
-  its = retaken laws s taken takes booked.machine booked.reached booked.stands
+  its = retaken laws s taken takes booked.machine booked.reached booked.machine_relation
 
   abbrev end : Machine
   end = after booked.machine (its.second ++ Release ∷ its.first)
@@ -273,19 +273,19 @@ module _ (laws : ResetLaws) (s taken : ServerState) (booked : ServerInvariant s)
   end_limits : WithinLimits end
   end_limits =
       let r = laws.below.basic.reached booked.machine (its.second ++ Release ∷ its.first) booked.reached its.may in
-      subst WithinLimits (sym r.is) (laws.below.living.limits r.first r.past r.starts r.legal)
+      subst WithinLimits (sym r.leads_to_machine) (laws.below.living.limits r.initial_machine r.steps_since r.is_initial r.is_legal)
 
   pub book_same : taken.book ≡ s.book
-  book_same = ap (λ (t : ServerState). t.book) takes.server
+  book_same = ap (λ (t : ServerState). t.book) takes.server_is
 
   pub accepted_still : All (IsAccepted taken.table) s.book
-  accepted_still = accepted_then s.table taken.table s.book end end_limits its.book its.lent takes.back.owners booked.accepted
+  accepted_still = accepted_then s.table taken.table s.book end end_limits its.book its.lent takes.loans_are_taken_back.owners_are_kept booked.requests_are_accepted
 
   pub may_settle : MayResolve taken
   may_settle = record {
     four_kept = takes.four_kept;
-    ordered = subst BookIsInOrder (sym book_same) booked.ordered;
-    accepted = subst (All (IsAccepted taken.table)) (sym book_same) accepted_still;
+    book_is_in_order = subst BookIsInOrder (sym book_same) booked.book_is_in_order;
+    requests_are_accepted = subst (All (IsAccepted taken.table)) (sym book_same) accepted_still;
     places = λ port. subst (λ (book : List BookEntry). length (quarantined_at taken.kept port.0) + count_by (λ (e : BookEntry). e.entry.issued) (requests_of port book) ≤ 32) (sym book_same)
         (subst (λ (loans : List Lending). length loans + count_by (λ (e : BookEntry). e.entry.issued) (requests_of port s.book) ≤ 32) (sym (takes.unkept port.0)) (let few = booked.places port in omega (arith, few)));
   }

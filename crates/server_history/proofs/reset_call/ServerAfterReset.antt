@@ -18,8 +18,8 @@ use Rattle.host_boot.specs.TakeOver.{IsUnusedOrDead, IsUnusedOrDead, TakesOver, 
 use Rattle.host_boot.specs.declared.ProbeResult.{ProbeResult}
 use Rattle.host_boot.specs.declared.ProbeResult.TheVariants.{Unready}
 use Rattle.identify.specs.declared.wanted.Wanted.{Wanted}
-use Rattle.request_queue.specs.Entries.{BookEntry}
-use Rattle.request_queue.specs.Machine.{BookRelation, EntryRelation}
+use Rattle.request_queue.specs.BookEntries.{BookEntry}
+use Rattle.request_queue.specs.BookRelation.{BookRelation, EntryRelation}
 use Rattle.server_history.proofs.start.NewServer.{left_as, none_are_kept}
 use Rattle.server_history.proofs.failed_reset.ServerBook.{all_settle_on}
 use Rattle.server_history.proofs.reset_call.FatesOfAllPorts.{AreFated, HasItsDisk, IsFatedTo, fate_all}
@@ -28,10 +28,10 @@ use Rattle.server_history.proofs.start.TakenOverPorts.{behind, four, ports_on, s
 use Rattle.server_history.proofs.reset_call.IssuesOfAllPorts.{AreReissued, all_reissued, settled_then}
 use Rattle.server_history.proofs.dispositions.RemainingBook.{WasIn}
 use Rattle.server_history.proofs.reset_call.RetakenMachine.{IsRetaken, issued_in, issued_on, may_settle, retaken}
-use Rattle.server_history.specs.Ended.{ResetLaws}
+use Rattle.server_history.specs.ResetLaws.{ResetLaws}
 use Rattle.server_history.proofs.state.PairedLists.{at_right}
 use Rattle.server_history.specs.Resets.{IsReinitialized, IssuePorts, MayResolve, ResolvePorts}
-use Rattle.server_history.specs.Server.{SlotsInvariant, InCallInvariant, MachineRelation, SettledInvariant, ServerState, is_served, mode_at, probed_mode, state_of, used_for, RevokedMarkInvariant}
+use Rattle.server_history.specs.ServerState.{SlotsInvariant, InCallInvariant, MachineRelation, SettledInvariant, ServerState, is_served, mode_at, probed_mode, state_of, used_for, RevokedMarkInvariant}
 use Rattle.server_history.specs.StuckServer.{ServerInvariant}
 
 module _ (laws : ResetLaws) (s taken settled : ServerState) (booked : ServerInvariant s) (takes : IsReinitialized s taken) (replies : List Reply) (settles : ResolvePorts 0 taken.ports replies taken settled) (m : Machine) (reached : IsReachable m)
@@ -51,7 +51,7 @@ module _ (laws : ResetLaws) (s taken settled : ServerState) (booked : ServerInva
   -- ---- what was taken over
 
   pub ports_are : taken.ports ≡ takes.host.ports
-  ports_are = ap (λ (c : ServerState). c.ports) takes.server
+  ports_are = ap (λ (c : ServerState). c.ports) takes.server_is
 
   may : MayResolve taken
   may = may_settle laws s taken booked takes
@@ -60,24 +60,24 @@ module _ (laws : ResetLaws) (s taken settled : ServerState) (booked : ServerInva
   begin = record {
     four_kept = takes.four_kept;
     uses = takes.takes.uses;
-    left = λ port slot. subst (λ (ports : List ProbeResult). IsUnusedOrDead ports takes.takes.uses port slot) (sym ports_are) (takes.takes.left port slot);
+    left = λ port slot. subst (λ (ports : List ProbeResult). IsUnusedOrDead ports takes.takes.uses port slot) (sym ports_are) (takes.takes.slots_are_unused port slot);
     parked = issued_on mid;
-    knows = its_retaken.knows;
+    driver_relation = its_retaken.driver_relation;
     unparked = λ port lt. absurd (omega (arith, lt));
     its = λ port high id here.
         let p = issued_in mid port id here in
         let h = at_right EntryRelation s.book mid.book its_retaken.book p.0 p.1 in
-        (h.0, subst (λ (book : List BookEntry). Contains book h.0) (sym (ap (λ (c : ServerState). c.book) takes.server)) h.1, sym h.2.id ∙ p.2, sym h.2.issued ∙ p.3, ap (λ (q : Port). q.0) (sym h.2.port) ∙ p.4);
-    book = subst (λ (book : List BookEntry). BookRelation book mid.book) (sym (ap (λ (c : ServerState). c.book) takes.server)) its_retaken.book;
+        (h.0, subst (λ (book : List BookEntry). Contains book h.0) (sym (ap (λ (c : ServerState). c.book) takes.server_is)) h.1, sym h.2.id ∙ p.2, sym h.2.issued ∙ p.3, ap (λ (q : Port). q.0) (sym h.2.port) ∙ p.4);
+    book = subst (λ (book : List BookEntry). BookRelation book mid.book) (sym (ap (λ (c : ServerState). c.book) takes.server_is)) its_retaken.book;
     kept = none_are_kept taken.ports taken.kept mid.kept its_retaken.kept takes.unkept;
     unkept = λ port high. takes.unkept port;
-    rows = its_retaken.rows ∙ sym (ap (λ (c : ServerState). c.grants) takes.server);
-    owner = λ frame. its_retaken.owner frame ∙ ap (λ (owners : List (Option ClientId)). get_or owners frame.0 None) (sym takes.back.owners);
+    rows = its_retaken.rows ∙ sym (ap (λ (c : ServerState). c.grants) takes.server_is);
+    owner = λ frame. its_retaken.owner frame ∙ ap (λ (owners : List (Option ClientId)). get_or owners frame.0 None) (sym takes.loans_are_taken_back.owners_are_kept);
     lent = its_retaken.lent;
-    next = its_retaken.next ∙ ap (λ (k : ℕ). k + 1) (sym (ap (λ (c : ServerState). c.last) takes.server));
-    ordered = may.ordered;
-    accepted = may.accepted;
-    marked = subst (λ (c : ServerState). All (RevokedMarkInvariant c.grants) c.book) (sym takes.server) booked.marked;
+    next = its_retaken.next ∙ ap (λ (k : ℕ). k + 1) (sym (ap (λ (c : ServerState). c.last_id) takes.server_is));
+    ordered = may.book_is_in_order;
+    accepted = may.requests_are_accepted;
+    marked = subst (λ (c : ServerState). All (RevokedMarkInvariant c.grants) c.book) (sym takes.server_is) booked.revoked_marks_agree;
     alive = λ e here lt. absurd (omega (arith, lt));
   }
 
@@ -103,12 +103,12 @@ module _ (laws : ResetLaws) (s taken settled : ServerState) (booked : ServerInva
 
   -- who is left was unanswered before
   pub was_in : (e : BookEntry) → Contains settled.book e → WasIn s.book e
-  was_in e here = subst (λ (book : List BookEntry). WasIn book e) (ap (λ (c : ServerState). c.book) takes.server) (its_fated.from e here)
+  was_in e here = subst (λ (book : List BookEntry). WasIn book e) (ap (λ (c : ServerState). c.book) takes.server_is) (its_fated.from e here)
 
   pub low : (e : BookEntry) → Contains settled.book e → e.entry.port.0 < 4
   low e here =
       let w = was_in e here in
-      subst (λ (p : Port). p.0 < 4) (sym w.port) (booked.few w.was.entry.port.0 (All-contains (λ (x : BookEntry). is_served (probe_result_of s.ports x.entry.port.0) ≡ true) s.book w.was booked.asked w.there))
+      subst (λ (p : Port). p.0 < 4) (sym w.port) (booked.few_are_served w.was.entry.port.0 (All-contains (λ (x : BookEntry). is_served (probe_result_of s.ports x.entry.port.0) ≡ true) s.book w.was booked.requests_are_of_served_ports w.there))
 
   unparked : (port : ℕ) → probe_result_of settled.ports port ≢ Unready Dead → all_fated.parked port ≡ []
   unparked port lives = ⊎_elim
@@ -122,12 +122,12 @@ module _ (laws : ResetLaws) (s taken settled : ServerState) (booked : ServerInva
   pub stands_regained : MachineRelation settled z
   stands_regained = record {
     uses = all_fated.uses;
-    used = λ port slot. left_as settled.ports settled.ports settled.slots all_fated.uses port slot refl (unused_then port slot) (all_fated.left port slot);
+    are_uses_of = λ port slot. left_as settled.ports settled.ports settled.slots all_fated.uses port slot refl (unused_then port slot) (all_fated.left port slot);
     parked = all_fated.parked;
     unparked = unparked;
-    knows = all_fated.knows;
+    driver_relation = all_fated.driver_relation;
     book = all_fated.book;
-    kept = all_fated.kept;
+    quarantine_relation = all_fated.kept;
     rows = all_fated.rows;
     owner = all_fated.owner;
     lent = all_fated.lent;
@@ -140,29 +140,29 @@ module _ (laws : ResetLaws) (s taken settled : ServerState) (booked : ServerInva
   -- ---- what it keeps
 
   pub wanted_then : settled.wanted ≡ s.wanted
-  wanted_then = ap (λ (c : ServerState). c.wanted) its_fated.settings ∙ ap (λ (c : ServerState). c.wanted) takes.server
+  wanted_then = ap (λ (c : ServerState). c.wanted) its_fated.settings ∙ ap (λ (c : ServerState). c.wanted) takes.server_is
 
   pub device_then : settled.device ≡ taken.device
   device_then = ap (λ (c : ServerState). c.device) its_fated.settings
 
-  over : TakesOver settled.wanted takes.host takes.idle settled.device
-  over = subst (λ (d : Device). TakesOver settled.wanted takes.host takes.idle d) (sym device_then) (subst (λ (wanted : List Wanted). TakesOver wanted takes.host takes.idle taken.device) (sym wanted_then) takes.takes)
+  over : TakesOver settled.wanted takes.host takes.idle_device settled.device
+  over = subst (λ (d : Device). TakesOver settled.wanted takes.host takes.idle_device d) (sym device_then) (subst (λ (wanted : List Wanted). TakesOver wanted takes.host takes.idle_device taken.device) (sym wanted_then) takes.takes)
 
   size_then : settled.device.size ≡ s.device.size
-  size_then = over.same.size ∙ takes.resets.same.size
+  size_then = over.adapter_is_kept.size ∙ takes.resets.adapter_is_kept.size
 
   pub its_disk : (e : BookEntry) → Contains settled.book e → HasItsDisk settled.remembered settled.ports e.entry.port.0
   its_disk e here = all_fated.alive e here (low e here)
 
   pub keeps_all : InCallInvariant settled
   keeps_all = record {
-    on = over.on;
-    room = let room = booked.room in let size = size_then in omega (arith, room, size);
-    there = λ port served.
-        let below = four laws.taken settled takes.host takes.idle takes.resets.idle over ports_then takes.four port served in
-        (below, served_there (wanted_of settled.wanted port) (probe_result_of settled.ports port) port settled.device (behind laws.taken settled takes.host takes.idle takes.resets.idle over ports_then takes.four port below) served);
-    behind = ports_on laws.taken settled takes.host takes.idle takes.resets.idle over ports_then takes.four laws.below;
-    four = ap (λ (c : ServerState). length c.slots) its_fated.settings ∙ takes.four_slots;
+    adapter_is_on = over.adapter_is_on;
+    driver_memory_fits = let room = booked.driver_memory_fits in let size = size_then in omega (arith, room, size);
+    served_ports_exist = λ port served.
+        let below = four laws.taken settled takes.host takes.idle_device takes.resets.idle over ports_then takes.four port served in
+        (below, served_there (wanted_of settled.wanted port) (probe_result_of settled.ports port) port settled.device (behind laws.taken settled takes.host takes.idle_device takes.resets.idle over ports_then takes.four port below) served);
+    port_invariant = ports_on laws.taken settled takes.host takes.idle_device takes.resets.idle over ports_then takes.four laws.below;
+    four_slots = ap (λ (c : ServerState). length c.slots) its_fated.settings ∙ takes.four_slots;
     four_modes = ap (λ (c : ServerState). length c.modes) its_fated.settings ∙ takes.four_modes;
     four_remembered = ap (λ (c : ServerState). length c.remembered) its_fated.settings ∙ takes.four_remembered;
     four_kept = all_fated.four_kept;
@@ -171,28 +171,28 @@ module _ (laws : ResetLaws) (s taken settled : ServerState) (booked : ServerInva
         (takes.modes port below ∙ ap (λ (ports : List ProbeResult). probed_mode taken.device.cap (probe_result_of ports port)) (sym ports_are));
     slots = λ port below. subst (λ (c : ServerState). SlotsInvariant c.ports c.modes c.slots port) (sym its_fated.settings)
         (record { places = takes.places port below; usable = takes.usable port below; unused = λ slot high. takes.unused port slot });
-    kinds = λ port slot used e its. absurd (let y : None ≡ Some used = sym (unused_then port.0 slot) ∙ its in cc);
-    commands = λ port slot used its. absurd (let y : None ≡ Some used = sym (unused_then port slot) ∙ its in cc);
-    alone = λ port slot used its. absurd (let y : None ≡ Some used = sym (unused_then port slot) ∙ its in cc);
-    rows = subst (All IsValidRow) (sym (ap (λ (c : ServerState). c.grants) its_fated.settings ∙ ap (λ (c : ServerState). c.grants) takes.server)) booked.rows;
-    owners = λ frame client own.
-        let o = booked.owners frame client (ap (λ (list : List (Option ClientId)). get_or list frame.0 None) (sym (its_fated.owners ∙ takes.back.owners)) ∙ own) in
+    slots_queue_as_asked = λ port slot used e its. absurd (let y : None ≡ Some used = sym (unused_then port.0 slot) ∙ its in cc);
+    slots_store_commands = λ port slot used its. absurd (let y : None ≡ Some used = sym (unused_then port slot) ∙ its in cc);
+    plain_stands_alone = λ port slot used its. absurd (let y : None ≡ Some used = sym (unused_then port slot) ∙ its in cc);
+    rows_are_valid = subst (All IsValidRow) (sym (ap (λ (c : ServerState). c.grants) its_fated.settings ∙ ap (λ (c : ServerState). c.grants) takes.server_is)) booked.rows_are_valid;
+    owned_frames_are_clients = λ frame client own.
+        let o = booked.owned_frames_are_clients frame client (ap (λ (list : List (Option ClientId)). get_or list frame.0 None) (sym (its_fated.owners ∙ takes.loans_are_taken_back.owners_are_kept)) ∙ own) in
         (o.0, subst (λ (n : ℕ). 4096 * frame.0 + 4096 ≤ n) (sym size_then) o.1);
-    accepted = all_fated.accepted;
-    marked = all_fated.marked;
-    ordered = all_fated.ordered;
-    handed_out = All-weaker (Contains settled.book) (λ (e : BookEntry). e.entry.id.0 ≤ settled.last)
+    requests_are_accepted = all_fated.accepted;
+    revoked_marks_agree = all_fated.marked;
+    book_is_in_order = all_fated.ordered;
+    ids_were_handed_out = All-weaker (Contains settled.book) (λ (e : BookEntry). e.entry.id.0 ≤ settled.last_id)
         (λ e here.
         let w = was_in e here in
-        let most = All-contains (λ (x : BookEntry). x.entry.id.0 ≤ s.last) s.book w.was booked.handed_out w.there in
+        let most = All-contains (λ (x : BookEntry). x.entry.id.0 ≤ s.last_id) s.book w.was booked.ids_were_handed_out w.there in
         let id = ap (λ (i : RequestId). i.0) w.id in
-        let last = ap (λ (c : ServerState). c.last) its_fated.settings ∙ ap (λ (c : ServerState). c.last) takes.server in omega (arith, most, id, last))
+        let last = ap (λ (c : ServerState). c.last_id) its_fated.settings ∙ ap (λ (c : ServerState). c.last_id) takes.server_is in omega (arith, most, id, last))
         settled.book (All-contains_itself settled.book);
-    ready = All-weaker (Contains settled.book) (λ (e : BookEntry). state_of (probe_result_of settled.ports e.entry.port.0) ≡ ReadyState)
+    requests_are_of_ready_ports = All-weaker (Contains settled.book) (λ (e : BookEntry). state_of (probe_result_of settled.ports e.entry.port.0) ≡ ReadyState)
         (λ e here. ap state_of (its_disk e here).3) settled.book (All-contains_itself settled.book);
     machine = z;
     reached = z_reached;
-    stands = stands_regained;
+    machine_relation = stands_regained;
   }
 
   -- ---- what is due is issued

@@ -13,11 +13,11 @@ use Rattle.ata_types.specs.declared.request.Reply.{Reply}
 use Rattle.ata_types.specs.declared.request.RequestId.{RequestId}
 use Rattle.adapter.specs.Device.{Device}
 use Rattle.adapter.specs.declared.access.DeviceStep.{DeviceStep}
-use Rattle.refinement.specs.Driven.{IsDrivenBy}
+use Rattle.refinement.specs.Fragments.{IsDrivenBy}
 use Rattle.refinement.specs.Links.{DoesNotWrite}
-use Rattle.block_machine.specs.Due.{NoneDue}
-use Rattle.block_machine.specs.Events.{AnswersRevoke, AbstractState, RevokeOf, WasRevoked, answers_of, issues_it}
-use Rattle.block_machine.specs.Histories.{JointState, IsReachable, now}
+use Rattle.block_machine.specs.DueRequests.{NoneDue}
+use Rattle.block_machine.specs.Events.{AnswersRevoke, AbstractState, RevokeOf, WasRevoked, answers_of, issues_id}
+use Rattle.block_machine.specs.Histories.{JointState, IsReachable, joint_state_after}
 use Rattle.block_machine.specs.Expected.{IsValidRow, after}
 use Rattle.block_machine.specs.Ports.{Ports}
 use Rattle.block_machine.specs.Rules.{without_row}
@@ -26,16 +26,16 @@ use Rattle.block_machine.specs.State.{Machine}
 use Rattle.block_machine.specs.Steps.{Step, Answer}
 use Rattle.block_machine.specs.declared.due.QueueMode.{QueueMode}
 use Rattle.driver_history.specs.Histories.{IssuesDue, IsIssuingAccess}
-use Rattle.driver_history.specs.Trace.{ClearsNoError, LeavesEngine}
+use Rattle.driver_history.specs.AccessTrace.{ClearsNoError, LeavesEngine}
 use Rattle.hba_regs.specs.declared.reg.Reg.TheVariants.{Ghc}
 use Rattle.host_boot.specs.TakeOver.{probe_result_of}
-use Rattle.request_queue.specs.Entries.{asks_of, due_ids}
+use Rattle.request_queue.specs.BookEntries.{unanswered_of, due_ids}
 use Rattle.server_history.specs.Prerequisites.{PrerequisiteLaws}
 use Rattle.server_history.specs.Histories.{ExtendsSettled, ExtendsHistory}
-use Rattle.server_history.specs.Revoked.{RevokesGrant}
+use Rattle.server_history.specs.Revoking.{RevokesGrant}
 use Rattle.commands.specs.Batches.{IsBatchAccess}
-use Rattle.server_history.specs.Served.{IssuesAll, IssuesTogetherIfAny}
-use Rattle.server_history.specs.Server.{InCallInvariant, MachineRelation, SettledInvariant, ServerState, mode_in, ports_of, state_of}
+use Rattle.server_history.specs.IssuingAndAnswering.{IssuesAll, IssuesTogetherIfAny}
+use Rattle.server_history.specs.ServerState.{InCallInvariant, MachineRelation, SettledInvariant, ServerState, mode_in, ports_of, state_of}
 use Rattle.server_history.proofs.any_turn.JoinedParts.{ready_or_not}
 use Rattle.server_history.proofs.plain_calls.Acceptances.{issuing_clears_none, issuing_spares_host}
 use Rattle.server_history.proofs.plain_calls.IssueRounds.{AreIssued, any_append, belong_on, dues, dues_carried, each_driven, each_issued, each_settings, last_on, lawful_on, or_none, settled}
@@ -65,7 +65,7 @@ module _ (laws : PrerequisiteLaws) (s : ServerState) (client : ClientId) (number
   module _ (new : ServerState) (new_is : ports_of new ≡ ports_of s) (rows_are : new.grants ≡ then_is.grants) (old : AbstractState) (ports_are : old.ports ≡ ports_of s) (h : MayRevoke s old.machine) (late : List Step)
       (none : (e : machine.Pending) (o : Outcome) → Contains late (Answer e o) → ⊥) (unanswered : answers_of (late ++ revoked.steps laws s client number replies mid r old.machine h) ≡ answers_of (revoked.steps laws s client number replies mid r old.machine h))
       (stands : MachineRelation new (after old.machine (late ++ revoked.steps laws s client number replies mid r old.machine h)))
-      (issued : (q : Port) → (ports_of new).state q ≡ ReadyState → NoneDue (mode_in new q) (asks_of new.book) q) where
+      (issued : (q : Port) → (ports_of new).state q ≡ ReadyState → NoneDue (mode_in new q) (unanswered_of new.book) q) where
     abbrev early : List Step
     early = revoked.steps laws s client number replies mid r old.machine h
 
@@ -74,22 +74,22 @@ module _ (laws : PrerequisiteLaws) (s : ServerState) (client : ClientId) (number
 
     pub answers : AnswersRevoke client number old (late ++ early) replies (record { machine = after old.machine (late ++ early); ports = ports_of new })
     answers = record {
-      there = revoked.has_row laws s client number replies mid r old.machine h;
+      has_row = revoked.has_row laws s client number replies mid r old.machine h;
       rows = stands.rows ∙ rows_are ∙ ap (without_row client number) (sym h.stands.rows);
-      tells = let t = revoked.tells_replies laws s client number replies mid r old.machine h in
-          record { answers = t.answers; same = subst (IsPermutation t.answers) (sym unanswered) t.same; ordered = t.ordered; told = t.told };
-      told = λ e. (
+      replies_match = let t = revoked.tells_replies laws s client number replies mid r old.machine h in
+          record { answers = t.answers; is_permutation = subst (IsPermutation t.answers) (sym unanswered) t.is_permutation; ordered = t.ordered; replies_are = t.replies_are };
+      waiting_are_revoked = λ e. (
         λ there. revoked.only laws s client number replies mid r old.machine h e Revoked (early_answer e Revoked there),
         λ of. Contains-append_right late early (Answer e Revoked) (revoked.all laws s client number replies mid r old.machine h e of.0 of.1 of.2),
       );
-      same = ports_same old.ports (ports_of new) (ports_are ∙ sym new_is);
-      issues = λ q ready. none_due new (after old.machine (late ++ early)) stands (mode_in new q) q (issued q ready);
+      ports_are_same = ports_same old.ports (ports_of new) (ports_are ∙ sym new_is);
+      none_is_due = λ q ready. none_due new (after old.machine (late ++ early)) stands (mode_in new q) q (issued q ready);
     }
 
   -- ---- where the port isn't ready, nothing is issued, and there is no access
 
   module _ (holds : IsHolding then_is) (goes : GoesTo s s.device) (unready : state_of (probe_result_of s.ports port.0) ≢ ReadyState)
-      (issued : (q : Port) → (ports_of s).state q ≡ ReadyState → NoneDue (mode_in s q) (asks_of r.now.book) q) (may : (m : Machine) → IsReachable m → MachineRelation s m → MayRevoke s m) where
+      (issued : (q : Port) → (ports_of s).state q ≡ ReadyState → NoneDue (mode_in s q) (unanswered_of r.now.book) q) (may : (m : Machine) → IsReachable m → MachineRelation s m → MayRevoke s m) where
     pub quiet_event : ExtendsHistory s then_is (RevokeOf client number) (WasRevoked (Some replies))
     quiet_event first past leads =
         lead_by laws first past s then_is (RevokeOf client number) (WasRevoked (Some replies)) steps refl refl leads holds
@@ -103,18 +103,18 @@ module _ (laws : PrerequisiteLaws) (s : ServerState) (client : ClientId) (number
         (refl, (revoked.has_row laws s client number replies mid r m h, All-nil (IsIssuingAccess port), λ other. refl))
         (λ q. All-nil (LeavesEngine q))
         (λ q ready. none_issued then_is (after m steps) stands steps (revoked.issue_none laws s client number replies mid r m h) (mode_in s q) q (issued q ready))
-        (λ q. record { finds = tt; faults = tt; probes = tt; boots = tt; port_error = goes.port_error old.abstract leads.stands.ports_are q; well = λ i. absurd (uninterrupted s.device old.abstract.ports q i); heeds = uninterrupted s.device old.abstract.ports q })
+        (λ q. record { finds_done = tt; plain_faults_are_told = tt; probes_disk = tt; boots_anew = tt; loses_no_error = goes.port_error old.abstract leads.stands.ports_are q; runs_well_anew = λ i. absurd (uninterrupted s.device old.abstract.ports q i); handles_evidence = uninterrupted s.device old.abstract.ports q })
         (revoked.backed laws s client number replies mid r m h)
         stands
       where
         old : JointState Device
-        old = now first past
+        old = joint_state_after first past
 
         m : Machine
         m = old.abstract.machine
 
         h : MayRevoke s m
-        h = may m (reached laws first past s leads) leads.stands.machine
+        h = may m (reached laws first past s leads) leads.stands.machine_stands_for_it
 
         steps : List Step
         steps = revoked.steps laws s client number replies mid r m h
@@ -126,26 +126,26 @@ module _ (laws : PrerequisiteLaws) (s : ServerState) (client : ClientId) (number
 
   module _ (t : SettledInvariant s) where
     abbrev k : InCallInvariant s
-    k = t.kept
+    k = t.in_call_invariant
 
     may : (m : Machine) → IsReachable m → MachineRelation s m → MayRevoke s m
-    may m was is = record { ordered = k.ordered; accepted = k.accepted; marked = k.marked; reached = was; stands = is }
+    may m was is = record { ordered = k.book_is_in_order; accepted = k.requests_are_accepted; marked = k.revoked_marks_agree; reached = was; stands = is }
 
     kept : InCallInvariant then_is
     kept = revoked_kept laws s client number replies mid r k
 
-    apart : (q : Port) → q ≢ port → NoneDue (mode_in s q) (asks_of r.now.book) q
-    apart = none_other laws s client number replies mid r k t.issued
+    apart : (q : Port) → q ≢ port → NoneDue (mode_in s q) (unanswered_of r.now.book) q
+    apart = none_other laws s client number replies mid r k t.nothing_is_due
 
     port_low : port.0 < 4
-    port_low = let low = (All-contains IsValidRow s.grants r.has.0 k.rows r.has.1).port in omega (arith, low)
+    port_low = let low = (All-contains IsValidRow s.grants r.has.0 k.rows_are_valid r.has.1).port in omega (arith, low)
 
     module _ (new : ServerState) (issues : IssuesAll port then_is new) where
       settles : SettledInvariant new
       settles = settled laws port then_is new kept apart issues
 
       abbrev ids : List RequestId
-      ids = due_ids (mode_in s port) port (asks_of r.now.book)
+      ids = due_ids (mode_in s port) port (unanswered_of r.now.book)
 
       same : new ≡ record then_is { device = new.device; slots = new.slots; book = new.book }
       same = each_settings laws port ids then_is new issues
@@ -159,7 +159,7 @@ module _ (laws : PrerequisiteLaws) (s : ServerState) (client : ClientId) (number
       quiet : state_of (probe_result_of s.ports port.0) ≢ ReadyState → ExtendsHistory s new (RevokeOf client number) (WasRevoked (Some replies))
       quiet other =
           subst (λ (n : ServerState). ExtendsHistory s n (RevokeOf client number) (WasRevoked (Some replies))) (sym (with_issue_undone other))
-          (quiet_event (holding then_is kept) (stays laws s k) other (λ q ready. (subst SettledInvariant (with_issue_undone other) settles).issued q) may)
+          (quiet_event (holding then_is kept) (stays laws s k) other (λ q ready. (subst SettledInvariant (with_issue_undone other) settles).nothing_is_due q) may)
 
       module _ (ready : state_of (probe_result_of s.ports port.0) ≡ ReadyState) where
         driven : IsDrivenBy (IsBatchAccess port) s.device new.device
@@ -167,38 +167,38 @@ module _ (laws : PrerequisiteLaws) (s : ServerState) (client : ClientId) (number
 
         event : ExtendsHistory s new (RevokeOf client number) (WasRevoked (Some replies))
         event first past leads =
-            lead_by laws first past s new (RevokeOf client number) (WasRevoked (Some replies)) (x.steps ++ early) (ap (λ (n : ServerState). n.wanted) same) (ap ports_of same) leads (holding new settles.kept)
+            lead_by laws first past s new (RevokeOf client number) (WasRevoked (Some replies)) (x.steps ++ early) (ap (λ (n : ServerState). n.wanted) same) (ap ports_of same) leads (holding new settles.in_call_invariant)
             (laws.basic.may m x.steps early (revoked.may laws s client number replies mid r m h) x.may)
             (belong_on mode port {D = DeviceStep} (RevokeOf client number) (ports_of new) (λ p own. (its_ready p own, its_mode p own)) x.steps early x.only (revoked.belong laws s client number replies mid r m h (ports_of new)))
             (last_on mode port x.steps early x.only x.last (revoked.last laws s client number replies mid r m h) (λ id late first_too. false≢true (sym (revoked.issue_none laws s client number replies mid r m h id) ∙ first_too)))
             (lawful_on mode port old.abstract no_evidence (ports_of new) x.steps early x.only (revoked.lawful laws s client number replies mid r m h old.abstract no_evidence (ports_of new)))
-            (answers new (ap ports_of same) (ap (λ (n : ServerState). n.grants) same) old.abstract leads.stands.ports_are h x.steps (no_answer_issuing mode port x.steps x.only) (issuing_answers mode port x.steps early x.only) stands (λ q on. settles.issued q))
+            (answers new (ap ports_of same) (ap (λ (n : ServerState). n.grants) same) old.abstract leads.stands.ports_are h x.steps (no_answer_issuing mode port x.steps x.only) (issuing_answers mode port x.steps early x.only) stands (λ q on. settles.nothing_is_due q))
             tt
             driven.accesses
-            (driven.all, (revoked.has_row laws s client number replies mid r m h, All-weaker (IsBatchAccess port) (IsIssuingAccess port) (λ access here. issuing_is port port_low access here) driven.accesses driven.only, λ other. absurd (other its_state)))
-            (λ q. All-weaker (IsBatchAccess port) (LeavesEngine q) (issuing_leaves laws port q) driven.accesses driven.only)
+            (driven.all_are_done, (revoked.has_row laws s client number replies mid r m h, All-weaker (IsBatchAccess port) (IsIssuingAccess port) (λ access here. issuing_is port port_low access here) driven.accesses driven.accesses_are_of_kind, λ other. absurd (other its_state)))
+            (λ q. All-weaker (IsBatchAccess port) (LeavesEngine q) (issuing_leaves laws port q) driven.accesses driven.accesses_are_of_kind)
             (λ q is_ready. due_now q)
             (λ q. record {
-              finds = tt;
-              faults = tt;
-              probes = tt;
-              boots = tt;
-              port_error = laws.calls.ordinary q (with_device s.device old) new.device driven.accesses (told_by s.device old.abstract.ports) (ports_of new) k.on driven.all
-                  (All-weaker (IsBatchAccess port) (DoesNotWrite Ghc) (issuing_spares_host port) driven.accesses driven.only) (All-weaker (IsBatchAccess port) (ClearsNoError q) (issuing_clears_none port q) driven.accesses driven.only);
-              well = λ i. absurd (uninterrupted s.device old.abstract.ports q i);
-              heeds = uninterrupted s.device old.abstract.ports q;
+              finds_done = tt;
+              plain_faults_are_told = tt;
+              probes_disk = tt;
+              boots_anew = tt;
+              loses_no_error = laws.calls.ordinary q (with_device s.device old) new.device driven.accesses (told_by s.device old.abstract.ports) (ports_of new) k.adapter_is_on driven.all_are_done
+                  (All-weaker (IsBatchAccess port) (DoesNotWrite Ghc) (issuing_spares_host port) driven.accesses driven.accesses_are_of_kind) (All-weaker (IsBatchAccess port) (ClearsNoError q) (issuing_clears_none port q) driven.accesses driven.accesses_are_of_kind);
+              runs_well_anew = λ i. absurd (uninterrupted s.device old.abstract.ports q i);
+              handles_evidence = uninterrupted s.device old.abstract.ports q;
             })
             (laws.backed_parts s.device s.device new.device m early x.steps (revoked.backed laws s client number replies mid r m h) x.backed)
             stands
           where
             old : JointState Device
-            old = now first past
+            old = joint_state_after first past
 
             m : Machine
             m = old.abstract.machine
 
             h : MayRevoke s m
-            h = may m (reached laws first past s leads) leads.stands.machine
+            h = may m (reached laws first past s leads) leads.stands.machine_stands_for_it
 
             early : List Step
             early = revoked.steps laws s client number replies mid r m h
@@ -229,7 +229,7 @@ module _ (laws : PrerequisiteLaws) (s : ServerState) (client : ClientId) (number
                 subst (λ (takes : QueueMode). IssuesDue takes (x.steps ++ early) (after m (x.steps ++ early)) q) (sym (mode_is q))
                 (subst (λ (n : Machine). IssuesDue (mode_in s q) (x.steps ++ early) n q) (sym (laws.basic.joined m x.steps early))
                 (dues_carried laws (mode_in s q) x.steps (x.steps ++ early) (after (after m early) x.steps) (after (after m early) x.steps) q refl
-                (λ u here own. sym (any_append (issues_it u.id) x.steps early ∙ ap (λ (b : Bool). list_any (issues_it u.id) x.steps || b) (revoked.issue_none laws s client number replies mid r m h u.id) ∙ or_none (list_any (issues_it u.id) x.steps)))
+                (λ u here own. sym (any_append (issues_id u.id) x.steps early ∙ ap (λ (b : Bool). list_any (issues_id u.id) x.steps || b) (revoked.issue_none laws s client number replies mid r m h u.id) ∙ or_none (list_any (issues_id u.id) x.steps)))
                 (dues laws port then_is new kept issues (after m early) x q (apart q))))
 
       pub adds : ExtendsHistory s new (RevokeOf client number) (WasRevoked (Some replies))
@@ -237,11 +237,11 @@ module _ (laws : PrerequisiteLaws) (s : ServerState) (client : ClientId) (number
 
 revocation_by : (laws : PrerequisiteLaws) (s mid new : ServerState) (client : ClientId) (number : ℕ) (replies : List Reply) → SettledInvariant s → (each : RevokesEach client number replies s mid) → IssuesAll each.has.0.port mid new
     → ExtendsSettled s new (RevokeOf client number) (WasRevoked (Some replies))
-revocation_by laws s mid new client number replies t each i = record { settled = settles laws s client number replies mid each t new issues; adds = adds laws s client number replies mid each t new issues }
+revocation_by laws s mid new client number replies t each i = record { settled_invariant = settles laws s client number replies mid each t new issues; extends_history = adds laws s client number replies mid each t new issues }
   where
     issues : IssuesAll each.has.0.port (with_revoked client number mid.table each.now.book s) new
     issues = subst (λ (n : ServerState). IssuesAll each.has.0.port n new) each.server i
 
-pub revocation : PrerequisiteLaws → (s mid new : ServerState) (client : ClientId) (number : ℕ) (replies : List Reply) → SettledInvariant s → (r : RevokesGrant client number replies s mid) → IssuesAll r.has.0.port mid new
+pub revocation : PrerequisiteLaws → (s mid new : ServerState) (client : ClientId) (number : ℕ) (replies : List Reply) → SettledInvariant s → (r : RevokesGrant client number replies s mid) → IssuesAll r.has_grant_row.0.port mid new
     → ExtendsSettled s new (RevokeOf client number) (WasRevoked (Some replies))
-revocation laws s mid new client number replies t r i = revocation_by laws s mid new client number replies t (revokes_each laws s mid client number replies t.kept.ordered t.kept.accepted r) i
+revocation laws s mid new client number replies t r i = revocation_by laws s mid new client number replies t (revokes_each laws s mid client number replies t.in_call_invariant.book_is_in_order t.in_call_invariant.requests_are_accepted r) i

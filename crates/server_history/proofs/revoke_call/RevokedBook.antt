@@ -6,10 +6,10 @@ use Rattle.std.proofs.lemmas.List.Elements.{All-contains}
 use Rattle.std.proofs.lemmas.List.Kept.{AllPairs-filter}
 use Rattle.ata_types.specs.declared.request.ClientId.{ClientId}
 use Rattle.ata_types.specs.declared.request.Outcome.TheVariants.{Aborted, Revoked}
-use Rattle.request_queue.specs.Entries.{BookEntry, IsEarlier, BookIsInOrder, marked_under, waits_under}
+use Rattle.request_queue.specs.BookEntries.{BookEntry, IsEarlier, BookIsInOrder, marked_under, waits_under}
 use Rattle.request_queue.specs.declared.PendingRequest.{PendingRequest}
-use Rattle.server_history.specs.Revoked.{with_grant_revoked}
-use Rattle.server_history.specs.Server.{RevokedMarkInvariant, ServerState, RevokedMarkAgrees}
+use Rattle.server_history.specs.Revoking.{with_grant_revoked}
+use Rattle.server_history.specs.ServerState.{RevokedMarkInvariant, ServerState, RevokedMarkAgrees}
 use Rattle.server_history.proofs.dispositions.FittingFates.{AllFit, ends_fits}
 use Rattle.server_history.proofs.plain_calls.IssueRounds.{not_true}
 use Rattle.server_history.proofs.revoke_call.RevokedEach.{ends_revoked, waiting_under}
@@ -98,7 +98,7 @@ module _ (client : ClientId) (number : ℕ) where
     fit e there = ends_fits e.entry Revoked (λ is. let z : Revoked ≡ Aborted = is in absurd cc) (λ is. is_marked e there)
 
     pub earlier : BookIsInOrder old.book → AllPairs IsEarlier requests
-    earlier ordered = AllPairs-filter IsEarlier (λ (x : BookEntry). waits_under client number x.entry) old.book ordered.ordered
+    earlier ordered = AllPairs-filter IsEarlier (λ (x : BookEntry). waits_under client number x.entry) old.book ordered.ids_rise
 
     module _ (marked : All (RevokedMarkInvariant s.grants) s.book) where
       -- marks tell which grants are there then

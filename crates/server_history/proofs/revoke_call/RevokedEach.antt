@@ -5,16 +5,16 @@ use Rattle.ata_types.specs.declared.request.ClientId.{ClientId}
 use Rattle.ata_types.specs.declared.request.Outcome.TheVariants.{Revoked}
 use Rattle.ata_types.specs.declared.request.Reply.{Reply}
 use Rattle.block_machine.specs.Rules.{HasRow}
-use Rattle.dma_frames.specs.Table.{LendsOnly, Table}
-use Rattle.request_queue.specs.Entries.{BookEntry, IsAccepted, BookIsInOrder, waits_under}
+use Rattle.dma_frames.specs.FrameTables.{LendsOnly, FrameOwnership}
+use Rattle.request_queue.specs.BookEntries.{BookEntry, IsAccepted, BookIsInOrder, waits_under}
 use Rattle.request_queue.specs.Dispositions.{BookAndLoans, AreResolved}
 use Rattle.request_queue.specs.declared.PendingRequest.{PendingRequest}
 use Rattle.request_queue.specs.declared.disposition.Disposition.{Disposition}
 use Rattle.request_queue.specs.declared.disposition.Disposition.TheVariants.{Complete}
 use Rattle.server_history.specs.Prerequisites.{PrerequisiteLaws}
 use Rattle.server_history.specs.ErrorHandling.{book_and_loans_of}
-use Rattle.server_history.specs.Revoked.{RevokesGrant, with_grant_revoked}
-use Rattle.server_history.specs.Server.{ServerState}
+use Rattle.server_history.specs.Revoking.{RevokesGrant, with_grant_revoked}
+use Rattle.server_history.specs.ServerState.{ServerState}
 
 -- each is told Revoked
 abbrev pub ends_revoked : PendingRequest → Disposition
@@ -25,7 +25,7 @@ abbrev pub waiting_under : ClientId → ℕ → List BookEntry → List BookEntr
 waiting_under client number book = filter (λ (e : BookEntry). waits_under client number e.entry) book
 
 -- the server without the grant, with this book and these loans
-abbrev pub with_revoked : ClientId → ℕ → Table → List BookEntry → ServerState → ServerState
+abbrev pub with_revoked : ClientId → ℕ → FrameOwnership → List BookEntry → ServerState → ServerState
 with_revoked client number table book s = record (with_grant_revoked client number s) { table = table; book = book }
 
 -- They met that fate one after another, and the table that this led to has the same lent as the server's.
@@ -39,11 +39,11 @@ pub record RevokesEach (client : ClientId) (number : ℕ) (replies : List Reply)
 abbrev pub revokes_each : PrerequisiteLaws → (s new : ServerState) (client : ClientId) (number : ℕ) (replies : List Reply) → BookIsInOrder s.book → All (IsAccepted s.table) s.book → RevokesGrant client number replies s new → RevokesEach client number replies s new
 revokes_each laws s new client number replies ordered accepted r =
     let old = with_grant_revoked client number s in
-    let each = laws.answered_each (waits_under client number) Revoked (λ e. refl) (book_and_loans_of r.has.0.port old) (laws.marked s.book client number ordered) (laws.still_marked s.table s.book client number accepted) replies (book_and_loans_of r.has.0.port new) r.answers in
+    let each = laws.answered_each (waits_under client number) Revoked (λ e. refl) (book_and_loans_of r.has_grant_row.0.port old) (laws.marked s.book client number ordered) (laws.still_marked s.table s.book client number accepted) replies (book_and_loans_of r.has_grant_row.0.port new) r.answers in
     record {
-      has = r.has;
+      has = r.has_grant_row;
       now = each.0;
       meets = each.1;
       lends = each.4;
-      server = r.server ∙ (λ i. with_revoked client number new.table (sym each.2 i) s);
+      server = r.server_is ∙ (λ i. with_revoked client number new.table (sym each.2 i) s);
     }

@@ -14,24 +14,24 @@ use Rattle.ata_types.specs.declared.request.Outcome.TheVariants.{Revoked}
 use Rattle.ata_types.specs.declared.request.Reply.{Reply}
 use Rattle.ata_types.specs.declared.request.RequestId.{RequestId}
 use Rattle.adapter.specs.declared.access.DeviceStep.{DeviceStep}
-use Rattle.refinement.specs.Driven.{known}
+use Rattle.refinement.specs.Fragments.{driver_state_of}
 use Rattle.refinement.specs.Driver.{HasNoSlot, IsBacked, DriverState}
-use Rattle.block_machine.specs.Events.{AllAnswersLawful, AllMay, AreStepsOfCall, IsLawfulAnswer, IssuesLast, AbstractState, RevokeOf, RepliesMatch, answers_of, issues_it}
+use Rattle.block_machine.specs.Events.{AllAnswersLawful, AllEnabled, AreStepsOfCall, IsLawfulAnswer, IssuesLast, AbstractState, RevokeOf, RepliesMatch, answers_of, issues_id}
 use Rattle.block_machine.specs.Histories.{IsReachable}
 use Rattle.block_machine.specs.Expected.{after}
 use Rattle.block_machine.specs.Ports.{Evidence, Ports}
 use Rattle.block_machine.specs.Rules.{HasRow, IsSameGrantName, without_row}
 use Rattle.block_machine.specs.State.{Machine, Pending}
-use Rattle.block_machine.specs.Steps.{Step, Again, Answer, Revoke, after_step}
+use Rattle.block_machine.specs.Steps.{Step, WaitAgain, Answer, Revoke, after_step}
 use Rattle.host_boot.specs.TakeOver.{probe_result_of}
-use Rattle.request_queue.specs.Entries.{BookEntry, IsAccepted, BookIsInOrder, asks_of}
-use Rattle.request_queue.specs.Machine.{BookRelation, EntryRelation}
+use Rattle.request_queue.specs.BookEntries.{BookEntry, IsAccepted, BookIsInOrder, unanswered_of}
+use Rattle.request_queue.specs.BookRelation.{BookRelation, EntryRelation}
 use Rattle.request_queue.specs.declared.disposition.Disposition.TheVariants.{Complete, Requeue}
 use Rattle.server_history.specs.Prerequisites.{PrerequisiteLaws}
-use Rattle.server_history.specs.Dispositions.{IsResolveStep, AreResolvable, AreResolvedInMachine}
+use Rattle.server_history.specs.ResolvedRequests.{IsResolveStep, AreResolvable, AreResolvedInMachine}
 use Rattle.server_history.specs.ErrorHandling.{book_and_loans_of}
-use Rattle.server_history.specs.Revoked.{with_grant_revoked}
-use Rattle.server_history.specs.Server.{QuarantineRelation, RevokedMarkInvariant, MachineRelation, ServerState}
+use Rattle.server_history.specs.Revoking.{with_grant_revoked}
+use Rattle.server_history.specs.ServerState.{QuarantineRelation, RevokedMarkInvariant, MachineRelation, ServerState}
 use Rattle.server_history.proofs.any_turn.JoinedParts.{answers_append}
 use Rattle.server_history.proofs.any_turn.TurnsInOrder.{belong_join, lawful_join}
 use Rattle.server_history.proofs.dispositions.MetFates.{meet, nobody}
@@ -41,7 +41,7 @@ use Rattle.server_history.proofs.plain_calls.AcceptableRequests.{on_its_port}
 use Rattle.server_history.proofs.plain_calls.IssueRounds.{any_append, or_none}
 use Rattle.server_history.proofs.recovery_turn.MendedMachine.{deciding_leaves, fates_owners}
 use Rattle.server_history.proofs.recovery_turn.SparedPorts.{IsNoneOf, fates_apart, none_of_one}
-use Rattle.block_machine.specs.Due.{of_port}
+use Rattle.block_machine.specs.DueRequests.{requests_of_port}
 use Rattle.server_history.proofs.revoke_call.RevokedEach.{RevokesEach, ends_revoked, waiting_under, with_revoked}
 use Rattle.server_history.proofs.revoke_call.RevokedBook.{WaitsUnder, earlier, fit, in_requests, mark_is, of_requests, tells, true_mark, was_there}
 use Rattle.server_history.proofs.state.AnswerSteps.{IsAnswerOf, answer_told, answered_or_left, answered_stood, answers_belong, answers_issue_none, answers_lawful}
@@ -112,7 +112,7 @@ module _ (laws : PrerequisiteLaws) (s : ServerState) (client : ClientId) (number
   n_book = laws.revokes s.book m client number is.book
 
   abbrev k : DriverState
-  k = known is.uses is.parked s.device
+  k = driver_state_of is.uses is.parked s.device
 
   -- those that wait under the grant are on its port
   its_port : (e : BookEntry) → Contains requests e → e.entry.port ≡ port
@@ -134,16 +134,16 @@ module _ (laws : PrerequisiteLaws) (s : ServerState) (client : ClientId) (number
   unserved e there =
       let w = of_requests client number s e there in
       let p = at_left EntryRelation old.book n.book n_book e w.0 in
-      subst (HasNoSlot is.uses) p.2.id (laws.slots.waiting is.uses m s.device reached is.knows.agrees p.0 p.1 (p.2.issued ∙ w.1.waits))
+      subst (HasNoSlot is.uses) p.2.id (laws.slots.waiting is.uses m s.device reached is.driver_relation.state_relation p.0 p.1 (p.2.issued ∙ w.1.waits))
 
   may_meet : AreResolvable port ends_revoked requests (book_and_loans_of port old) k n
   may_meet = record {
     reached = n_reached;
-    knows = laws.slots.revoked_agrees k m client number is.knows;
+    driver_relation = laws.slots.revoked_agrees k m client number is.driver_relation;
     book = n_book;
     lent = is.lent;
-    ordered = old_ordered;
-    accepted = old_accepted;
+    book_is_in_order = old_ordered;
+    requests_are_accepted = old_accepted;
     here = here;
     marked = λ e there. tells_of n.rows old.grants e.entry n_rows (tells client number s marked e (here e there).0);
     earlier = earlier client number s old_ordered;
@@ -190,13 +190,13 @@ module _ (laws : PrerequisiteLaws) (s : ServerState) (client : ClientId) (number
   same_kept : z.kept ≡ m.kept
   same_kept = met.kept ∙ ap (λ (held : List Pending). held ++ m.kept) none_held
 
-  leaves : (z.rows ≡ n.rows) × ((frame : Frame) → z.owner frame ≡ n.owner frame) × (z.next ≡ n.next)
+  leaves : (z.rows ≡ n.rows) × ((frame : Frame) → z.owner frame ≡ n.owner frame) × (z.next_id ≡ n.next_id)
   leaves = deciding_leaves port n met.steps met.own
 
   stands_z : MachineRelation new z
   stands_z = record {
     uses = is.uses;
-    used = is.used;
+    are_uses_of = is.are_uses_of;
     parked = met.parked;
     unparked = λ q alive. ⊎_elim
         (λ (same : q ≡ port.0).
@@ -205,12 +205,12 @@ module _ (laws : PrerequisiteLaws) (s : ServerState) (client : ClientId) (number
         nowhere id (subst (λ (ids : List RequestId). Contains ids id) (is.unparked port.0 (λ dead. alive (ap (probe_result_of s.ports) same ∙ dead))) (met.still id there).0)))
         (λ (other : q ≢ port.0). met.others q other ∙ is.unparked q alive)
         (cases_eq q port.0);
-    knows = met.knows;
+    driver_relation = met.driver_relation;
     book = met.book;
-    kept = subst (QuarantineRelation s.ports s.kept) (sym same_kept) is.kept;
+    quarantine_relation = subst (QuarantineRelation s.ports s.kept) (sym same_kept) is.quarantine_relation;
     rows = leaves.0 ∙ n_rows;
-    owner = λ frame. leaves.1 frame ∙ is.owner frame ∙ ap (λ (owners : List (Option ClientId)). get_or owners frame.0 None) (sym (r.lends.owners ∙ fates_owners ends_revoked requests replies (book_and_loans_of port old) r.now r.meets));
-    lent = λ frame. met.lent frame ∙ sym (r.lends.others frame (nowhere frame));
+    owner = λ frame. leaves.1 frame ∙ is.owner frame ∙ ap (λ (owners : List (Option ClientId)). get_or owners frame.0 None) (sym (r.lends.owners_are_kept ∙ fates_owners ends_revoked requests replies (book_and_loans_of port old) r.now r.meets));
+    lent = λ frame. met.lent frame ∙ sym (r.lends.others_are_kept frame (nowhere frame));
     next = leaves.2 ∙ is.next;
   }
 
@@ -225,7 +225,7 @@ module _ (laws : PrerequisiteLaws) (s : ServerState) (client : ClientId) (number
       let same : Complete Revoked ≡ Complete o = x.3 in
       let is : o ≡ Revoked = cc in
       (is, x.2.issued ∙ (of_requests client number s x.0 x.1).1.waits)
-  its_step (Again e) there own = let x = met.again e there in let same : Complete Revoked ≡ Requeue = x.3 in absurd cc
+  its_step (WaitAgain e) there own = let x = met.again e there in let same : Complete Revoked ≡ Requeue = x.3 in absurd cc
   its_step step there own = absurd own
 
   all_answers : All (IsAnswerOf IsRevoked) met.steps
@@ -234,8 +234,8 @@ module _ (laws : PrerequisiteLaws) (s : ServerState) (client : ClientId) (number
   joined : after m steps ≡ z
   joined = laws.basic.joined m met.steps (Revoke client number ∷ [])
 
-  pub may : AllMay m steps
-  may = laws.basic.may m met.steps (Revoke client number ∷ []) (tt, has_row) met.may
+  pub may : AllEnabled m steps
+  may = laws.basic.may m met.steps (Revoke client number ∷ []) (tt, has_row) met.steps_are_enabled
 
   pub stands : MachineRelation new (after m steps)
   stands = subst (MachineRelation new) (sym joined) stands_z
@@ -244,11 +244,11 @@ module _ (laws : PrerequisiteLaws) (s : ServerState) (client : ClientId) (number
   reached_then = laws.basic.reached m steps reached may
 
   -- what is asked of another port is as it was
-  pub apart : (q : Port) → q ≢ port → of_port q (asks_of r.now.book) ≡ of_port q (asks_of s.book)
+  pub apart : (q : Port) → q ≢ port → requests_of_port q (unanswered_of r.now.book) ≡ requests_of_port q (unanswered_of s.book)
   apart q ne =
       fates_apart laws q ends_revoked requests replies (book_and_loans_of port old) r.now r.meets
-      (All-weaker (Contains requests) (λ (e : BookEntry). IsNoneOf q e.entry.id (asks_of old.book)) (λ e there. none_of_one laws q port old.book ne old_ordered e (here e there)) requests (All-contains_itself requests))
-      ∙ ap (of_port q) (laws.asks_marked s.book client number)
+      (All-weaker (Contains requests) (λ (e : BookEntry). IsNoneOf q e.entry.id (unanswered_of old.book)) (λ e there. none_of_one laws q port old.book ne old_ordered e (here e there)) requests (All-contains_itself requests))
+      ∙ ap (requests_of_port q) (laws.asks_marked s.book client number)
 
   pub backed : IsBacked s.device s.device m steps
   backed = laws.backed_parts s.device s.device s.device m (Revoke client number ∷ []) met.steps (laws.backed_own s.device m (Revoke client number) (λ none. none)) (met.backed s.device)
@@ -257,8 +257,8 @@ module _ (laws : PrerequisiteLaws) (s : ServerState) (client : ClientId) (number
   belong ports = belong_join (RevokeOf client number) ports met.steps (Revoke client number ∷ [])
       (answers_belong IsRevoked (RevokeOf client number) ports (λ e o told. told.0) met.steps all_answers) (tt, inr (refl, refl))
 
-  pub issue_none : (id : RequestId) → list_any (issues_it id) steps ≡ false
-  issue_none id = any_append (issues_it id) met.steps (Revoke client number ∷ []) ∙ or_none (list_any (issues_it id) met.steps) ∙ answers_issue_none IsRevoked id met.steps all_answers
+  pub issue_none : (id : RequestId) → list_any (issues_id id) steps ≡ false
+  issue_none id = any_append (issues_id id) met.steps (Revoke client number ∷ []) ∙ or_none (list_any (issues_id id) met.steps) ∙ answers_issue_none IsRevoked id met.steps all_answers
 
   pub last : IssuesLast steps
   last = none_last steps issue_none
@@ -271,7 +271,7 @@ module _ (laws : PrerequisiteLaws) (s : ServerState) (client : ClientId) (number
       told_lawful e o is waits = subst (IsLawfulAnswer then_at evidence ports e) (sym is) (inl waits)
 
   pub tells_replies : RepliesMatch steps replies
-  tells_replies = record { answers = met.tells.answers; same = subst (IsPermutation met.tells.answers) (sym (answers_append met.steps (Revoke client number ∷ []) ∙ append-nil (answers_of met.steps))) met.tells.same; ordered = met.tells.ordered; told = met.tells.told }
+  tells_replies = record { answers = met.replies_match.answers; is_permutation = subst (IsPermutation met.replies_match.answers) (sym (answers_append met.steps (Revoke client number ∷ []) ∙ append-nil (answers_of met.steps))) met.replies_match.is_permutation; ordered = met.replies_match.ordered; replies_are = met.replies_match.replies_are }
 
   -- ---- who is answered
 
@@ -289,7 +289,7 @@ module _ (laws : PrerequisiteLaws) (s : ServerState) (client : ClientId) (number
       let first = answered_first e o there in
       let x = met.answered e o first in
       let w = (of_requests client number s x.0 x.1).1 in (
-        answered_stood IsRevoked n met.steps all_answers met.may e o first,
+        answered_stood IsRevoked n met.steps all_answers met.steps_are_enabled e o first,
         (answer_told IsRevoked met.steps all_answers e o first).1,
         (x.2.client ∙ w.client_is, x.2.grant ∙ w.grant_is),
       )
@@ -299,7 +299,7 @@ module _ (laws : PrerequisiteLaws) (s : ServerState) (client : ClientId) (number
     where
       told : (x : Pending) × (o : Outcome) × Contains met.steps (Answer x o) × (x.request.id.0 ≡ e.request.id.0) → Contains met.steps (Answer e Revoked)
       told (x, o, here, same) =
-          let one : x ≡ e = laws.basic.one m reached x e (answered_stood IsRevoked n met.steps all_answers met.may x o here) there same in
+          let one : x ≡ e = laws.basic.one m reached x e (answered_stood IsRevoked n met.steps all_answers met.steps_are_enabled x o here) there same in
           subst (λ (y : Pending). Contains met.steps (Answer y Revoked)) one
           (subst (λ (p : Outcome). Contains met.steps (Answer x p)) (answer_told IsRevoked met.steps all_answers x o here).0 here)
 

@@ -9,15 +9,15 @@ use Rattle.ata_types.specs.declared.request.ClientId.{ClientId}
 use Rattle.ata_types.specs.declared.request.Op.{Op}
 use Rattle.ata_types.specs.declared.request.Reply.{Reply}
 use Rattle.ata_types.specs.declared.request.RequestId.{RequestId}
-use Rattle.block_machine.specs.Due.{NoneDue, is_plain}
+use Rattle.block_machine.specs.DueRequests.{NoneDue, is_plain}
 use Rattle.block_machine.specs.Expected.{IsValidRow, after}
 use Rattle.block_machine.specs.Rules.{is_same_grant_name, without_row}
 use Rattle.host_boot.specs.TakeOver.{probe_result_of}
-use Rattle.request_queue.specs.Entries.{BookEntry, all_marked_under, asks_of, IsAccepted}
+use Rattle.request_queue.specs.BookEntries.{BookEntry, all_marked_under, unanswered_of, IsAccepted}
 use Rattle.server_history.specs.Prerequisites.{PrerequisiteLaws}
 use Rattle.server_history.specs.ErrorHandling.{book_and_loans_of}
-use Rattle.server_history.specs.Revoked.{with_grant_revoked}
-use Rattle.server_history.specs.Server.{InCallInvariant, ServerState, is_served, quarantined_at, mode_in, state_of}
+use Rattle.server_history.specs.Revoking.{with_grant_revoked}
+use Rattle.server_history.specs.ServerState.{InCallInvariant, ServerState, is_served, quarantined_at, mode_in, state_of}
 use Rattle.server_history.specs.StuckServer.{StuckInvariant, ServerInvariant}
 use Rattle.server_history.proofs.failed_reset.StuckInstant.{booked_then}
 use Rattle.server_history.proofs.dispositions.RemainingBook.{IsLeft}
@@ -26,7 +26,7 @@ use Rattle.server_history.proofs.revoke_call.RevokedMachine as revoked
 use Rattle.server_history.proofs.revoke_call.RevokedMachine.{MayRevoke}
 use Rattle.server_history.proofs.state.HistorySteps.{kept_then}
 use Rattle.server_history.proofs.state.LoanCounts.{issued_of, marked_issued}
-use Rattle.dma_frames.specs.Table.{lent_to}
+use Rattle.dma_frames.specs.FrameTables.{lent_to}
 use Rattle.ata_types.specs.declared.request.Frame.{Frame}
 
 module _ (laws : PrerequisiteLaws) (s : ServerState) (client : ClientId) (number : ℕ) (replies : List Reply) (mid : ServerState) (r : RevokesEach client number replies s mid) where
@@ -42,7 +42,7 @@ module _ (laws : PrerequisiteLaws) (s : ServerState) (client : ClientId) (number
 
   module _ (k : InCallInvariant s) where
     pub may_revoke : MayRevoke s k.machine
-    may_revoke = record { ordered = k.ordered; accepted = k.accepted; marked = k.marked; reached = k.reached; stands = k.stands }
+    may_revoke = record { ordered = k.book_is_in_order; accepted = k.requests_are_accepted; marked = k.revoked_marks_agree; reached = k.reached; stands = k.machine_relation }
 
     abbrev Left : Type 0
     Left = (e : BookEntry) → Contains r.now.book e → (was : BookEntry) × Contains s.book was × (e.entry.id ≡ was.entry.id) × (e.entry.port ≡ was.entry.port) × (e.entry.op ≡ was.entry.op)
@@ -51,57 +51,57 @@ module _ (laws : PrerequisiteLaws) (s : ServerState) (client : ClientId) (number
     before = revoked.before laws s client number replies mid r k.machine may_revoke
 
     pub revoked_kept : InCallInvariant (with_revoked client number mid.table r.now.book s)
-    revoked_kept = kept_then s s.device (without_row client number s.grants) mid.table s.slots r.now.book s.last k (rows_then k.rows) k.on (record { telling = refl; size = refl; cap = refl; pi = refl }) k.behind (r.lends.owners ∙ left.owners) k.four k.slots
+    revoked_kept = kept_then s s.device (without_row client number s.grants) mid.table s.slots r.now.book s.last_id k (rows_then k.rows_are_valid) k.adapter_is_on (record { telling = refl; size = refl; cap = refl; pi = refl }) k.port_invariant (r.lends.owners_are_kept ∙ left.owners) k.four_slots k.slots
         (λ q slot used e its here same.
         let b = before e here in
-        k.kinds q slot used b.0 its b.1 (sym b.2 ∙ same) ∙ ap (λ (o : Op). not (is_plain (mode_in s q) o)) (sym b.4))
-        k.commands k.alone (still_accepted left.accepted) left.ordered (revoked.marked_then laws s client number replies mid r k.machine may_revoke)
-        (revoked.each_left laws s client number replies mid r k.machine may_revoke (λ e. e.entry.id.0 ≤ s.last) (λ e here.
+        k.slots_queue_as_asked q slot used b.0 its b.1 (sym b.2 ∙ same) ∙ ap (λ (o : Op). not (is_plain (mode_in s q) o)) (sym b.4))
+        k.slots_store_commands k.plain_stands_alone (still_accepted left.accepted) left.ordered (revoked.marked_then laws s client number replies mid r k.machine may_revoke)
+        (revoked.each_left laws s client number replies mid r k.machine may_revoke (λ e. e.entry.id.0 ≤ s.last_id) (λ e here.
         let b = before e here in
-        let low = All-contains (λ (x : BookEntry). x.entry.id.0 ≤ s.last) s.book b.0 k.handed_out b.1 in
+        let low = All-contains (λ (x : BookEntry). x.entry.id.0 ≤ s.last_id) s.book b.0 k.ids_were_handed_out b.1 in
         let id = ap (λ (i : RequestId). i.0) b.2 in omega (arith, low, id)))
         (revoked.each_left laws s client number replies mid r k.machine may_revoke (λ e. state_of (probe_result_of s.ports e.entry.port.0) ≡ ReadyState) (λ e here.
         let b = before e here in
-        ap (λ (q : Port). state_of (probe_result_of s.ports q.0)) b.3 ∙ All-contains (λ (x : BookEntry). state_of (probe_result_of s.ports x.entry.port.0) ≡ ReadyState) s.book b.0 k.ready b.1))
+        ap (λ (q : Port). state_of (probe_result_of s.ports q.0)) b.3 ∙ All-contains (λ (x : BookEntry). state_of (probe_result_of s.ports x.entry.port.0) ≡ ReadyState) s.book b.0 k.requests_are_of_ready_ports b.1))
         (after k.machine (revoked.steps laws s client number replies mid r k.machine may_revoke)) (revoked.reached_then laws s client number replies mid r k.machine may_revoke)
         (revoked.stands laws s client number replies mid r k.machine may_revoke)
       where
         left : IsLeft r.has.0.port ends_revoked (waiting_under client number (with_grant_revoked client number s).book) (book_and_loans_of r.has.0.port (with_grant_revoked client number s)) r.now
         left = revoked.left laws s client number replies mid r k.machine may_revoke
 
-    pub none_other : ((q : Port) → NoneDue (mode_in s q) (asks_of s.book) q) → (q : Port) → q ≢ r.has.0.port → NoneDue (mode_in s q) (asks_of r.now.book) q
+    pub none_other : ((q : Port) → NoneDue (mode_in s q) (unanswered_of s.book) q) → (q : Port) → q ≢ r.has.0.port → NoneDue (mode_in s q) (unanswered_of r.now.book) q
     none_other none q ne u own due =
-        none q u own ((laws.same_due (mode_in s q) q (asks_of r.now.book) (asks_of s.book) u (revoked.apart laws s client number replies mid r k.machine may_revoke q ne) own).0 due)
+        none q u own ((laws.same_due (mode_in s q) q (unanswered_of r.now.book) (unanswered_of s.book) u (revoked.apart laws s client number replies mid r k.machine may_revoke q ne) own).0 due)
 
   -- ---- one whose adapter is off
 
   module _ (t : StuckInvariant s) where
     abbrev b : ServerInvariant s
-    b = t.booked
+    b = t.server_invariant
 
     pub may_revoke_off : MayRevoke s b.machine
-    may_revoke_off = record { ordered = b.ordered; accepted = b.accepted; marked = b.marked; reached = b.reached; stands = b.stands }
+    may_revoke_off = record { ordered = b.book_is_in_order; accepted = b.requests_are_accepted; marked = b.revoked_marks_agree; reached = b.reached; stands = b.machine_relation }
 
     pub revoked_stalled : StuckInvariant (with_revoked client number mid.table r.now.book s)
     revoked_stalled = record {
-      booked = booked_then s (without_row client number s.grants) mid.table s.kept r.now.book b (rows_then b.rows) (r.lends.owners ∙ left.owners) b.four_kept
+      server_invariant = booked_then s (without_row client number s.grants) mid.table s.kept r.now.book b (rows_then b.rows_are_valid) (r.lends.owners_are_kept ∙ left.owners) b.four_kept
           (λ q.
           let fewer : issued_of q r.now.book ≤ issued_of q (all_marked_under client number s.book) = left.fewer q in
           let same = marked_issued q client number s.book in
           let were : length (quarantined_at s.kept q.0) + issued_of q s.book ≤ 32 = b.places q in
           omega (arith, fewer, same, were))
           (still_accepted left.accepted) left.ordered (revoked.marked_then laws s client number replies mid r b.machine may_revoke_off)
-          (revoked.each_left laws s client number replies mid r b.machine may_revoke_off (λ e. e.entry.id.0 ≤ s.last) (λ e here.
+          (revoked.each_left laws s client number replies mid r b.machine may_revoke_off (λ e. e.entry.id.0 ≤ s.last_id) (λ e here.
           let x = revoked.before laws s client number replies mid r b.machine may_revoke_off e here in
-          let low = All-contains (λ (y : BookEntry). y.entry.id.0 ≤ s.last) s.book x.0 b.handed_out x.1 in
+          let low = All-contains (λ (y : BookEntry). y.entry.id.0 ≤ s.last_id) s.book x.0 b.ids_were_handed_out x.1 in
           let id = ap (λ (i : RequestId). i.0) x.2 in omega (arith, low, id)))
           (revoked.each_left laws s client number replies mid r b.machine may_revoke_off (λ e. is_served (probe_result_of s.ports e.entry.port.0) ≡ true) (λ e here.
           let x = revoked.before laws s client number replies mid r b.machine may_revoke_off e here in
-          ap (λ (q : Port). is_served (probe_result_of s.ports q.0)) x.3 ∙ All-contains (λ (y : BookEntry). is_served (probe_result_of s.ports y.entry.port.0) ≡ true) s.book x.0 b.asked x.1))
+          ap (λ (q : Port). is_served (probe_result_of s.ports q.0)) x.3 ∙ All-contains (λ (y : BookEntry). is_served (probe_result_of s.ports y.entry.port.0) ≡ true) s.book x.0 b.requests_are_of_served_ports x.1))
           (after b.machine (revoked.steps laws s client number replies mid r b.machine may_revoke_off)) (revoked.reached_then laws s client number replies mid r b.machine may_revoke_off)
           (revoked.stands laws s client number replies mid r b.machine may_revoke_off);
-      off = t.off;
-      dead = t.dead;
+      adapter_is_not_on = t.adapter_is_not_on;
+      served_ports_are_dead = t.served_ports_are_dead;
     }
       where
         left : IsLeft r.has.0.port ends_revoked (waiting_under client number (with_grant_revoked client number s).book) (book_and_loans_of r.has.0.port (with_grant_revoked client number s)) r.now

@@ -13,18 +13,18 @@ use Rattle.ata_types.specs.declared.request.RequestId.{RequestId}
 use Rattle.adapter.specs.Device.{Device}
 use Rattle.adapter.specs.Idle.{IsIdle, TellsDisks}
 use Rattle.refinement.specs.Relation.{SameSectors}
-use Rattle.refinement.specs.Returning.{replug_candidates}
-use Rattle.refinement.specs.Driven.{known}
-use Rattle.refinement.specs.Driver.{DriverRelation, idle}
+use Rattle.refinement.specs.Replug.{replug_candidates}
+use Rattle.refinement.specs.Fragments.{driver_state_of}
+use Rattle.refinement.specs.Driver.{DriverRelation, idle_driver_state}
 use Rattle.refinement.specs.Slots.{Free, SlotStates}
-use Rattle.refinement.specs.Spares.{AllFurther, SparesBook}
+use Rattle.refinement.specs.SparedBook.{AllFurther, SparesBook}
 use Rattle.block_machine.specs.Histories.{IsReachable}
 use Rattle.block_machine.specs.Expected.{after, IsValidRow, IsInitial}
 use Rattle.block_machine.specs.Ports.{PortsWellFormed, IsValidMode}
 use Rattle.block_machine.specs.State.{DiskBytes, Machine, Pending}
 use Rattle.block_machine.specs.Rules.{DifferInName}
 use Rattle.dma_frames.specs.Loan.{Lending}
-use Rattle.dma_frames.specs.Table.{owner_of}
+use Rattle.dma_frames.specs.FrameTables.{owner_of}
 use Rattle.host_boot.specs.TakeOver.{StillBacksProbeResult, IsUnusedOrDead, BacksProbeResult, TakesOver, probe_result_of, wanted_of}
 use Rattle.host_boot.specs.declared.ProbeResult.{ProbeResult}
 use Rattle.host_boot.specs.declared.ProbeResult.TheVariants.{Unserved, Ready, Unready}
@@ -39,13 +39,13 @@ use Rattle.refinement.specs.PortFacts.{RunsWell, Undisturbed}
 use Rattle.server_history.proofs.state.PortSlots.{its_mode, ready_found, stood_mode}
 use Rattle.server_history.proofs.state.ServerInstant.{holds_with, slots}
 use Rattle.server_history.specs.Prerequisites.{PrerequisiteLaws}
-use Rattle.server_history.specs.Ended.{TakeOverLaws}
+use Rattle.server_history.specs.ResetLaws.{TakeOverLaws}
 use Rattle.server_history.specs.Histories.{StartsHistory}
-use Rattle.block_machine.specs.Due.{NoneDue}
-use Rattle.request_queue.specs.Entries.{BookEntry, IsAccepted, BookIsInOrder, asks_of}
-use Rattle.request_queue.specs.Machine.{BookRelation}
-use Rattle.slots.specs.Uses.{PortSlots}
-use Rattle.server_history.specs.Server.{ServerState, AreUsesOf, InCallInvariant, MachineRelation, IsNewServer, PortInvariant, SettledInvariant, IsUsedAs, is_served, QuarantineRelation, DifferInRequest, quarantined_at, mode_in, ports_of, state_of, slot_state_of, used_for, RevokedMarkInvariant}
+use Rattle.block_machine.specs.DueRequests.{NoneDue}
+use Rattle.request_queue.specs.BookEntries.{BookEntry, IsAccepted, BookIsInOrder, unanswered_of}
+use Rattle.request_queue.specs.BookRelation.{BookRelation}
+use Rattle.slots.specs.SlotUses.{PortSlots}
+use Rattle.server_history.specs.ServerState.{ServerState, AreUsesOf, InCallInvariant, MachineRelation, IsNewServer, PortInvariant, SettledInvariant, IsUsedAs, is_served, QuarantineRelation, DifferInRequest, quarantined_at, mode_in, ports_of, state_of, slot_state_of, used_for, RevokedMarkInvariant}
 use Rattle.server_history.proofs.state.FollowedAccesses.{followed_adds}
 use Rattle.server_history.proofs.start.TakenOverPorts.{behind, found_is, four, none_past, ports_on, served_there}
 use Rattle.server_history.proofs.state.FirstMembers.{nowhere}
@@ -64,25 +64,25 @@ machine_of d rows owner = record {
   disk_ids = λ port. (d.port port.0).disk.name;
   sizes = λ port. (d.port port.0).disk.size;
   disks = λ port. told_bytes (d.port port.0).disk.sectors;
-  aside = λ port k. replug_candidates d.tape (d.port port.0).lasting port.0 k;
+  blocks_since_flush = λ port k. replug_candidates d.tape (d.port port.0).lasting port.0 k;
   book = [];
   kept = [];
   lent = λ frame. None;
   memory = λ frame b. d.memory (4096 * frame.0 + b);
   rows = rows;
   owner = owner;
-  next = 1;
+  next_id = 1;
 }
 
 machine_knows : PrerequisiteLaws → (d : Device) (rows : List GrantRow) (owner : Frame → Option ClientId) → IsInitial (machine_of d rows owner) → IsIdle d
-    → TellsDisks d → DriverRelation (machine_of d rows owner) (idle d)
+    → TellsDisks d → DriverRelation (machine_of d rows owner) (idle_driver_state d)
 machine_knows laws d rows owner start is told =
     laws.idle_agrees (machine_of d rows owner) d start is (λ q. record { present = refl; id = refl; size = refl }) (λ f b low small. refl) sectors (λ _ port k. refl)
   where
     sectors : d.telling ≡ true → (port : ℕ) → SameSectors (machine_of d rows owner) (d.port port).disk port
     sectors tells q =
         let t = told tells q in
-        record { told = t.0; tells = t.1; same = λ k b inside small. sym (ap (λ (s : Option (ℕ → List ℕ)). told_bytes s k b) t.1) }
+        record { told_sectors = t.0; disk_tells = t.1; bytes_are_same = λ k b inside small. sym (ap (λ (s : Option (ℕ → List ℕ)). told_bytes s k b) t.1) }
 
 -- ---- steps of the device
 
@@ -125,10 +125,10 @@ cause_is wanted (Unready state) port cause d s is = unfit_numbered cause port d 
 -- what is known of ports at each moment of a call makes them fit
 pub kept_fit : (s : ServerState) → InCallInvariant s → PortsWellFormed (ports_of s)
 kept_fit s k = record {
-  few = λ port served. (k.there port.0 served).0;
-  absent = λ port other. absent_is (probe_result_of s.ports port.0) other;
-  slots = λ port ready. (its_mode s port.0 k (ready_found s port.0 k ready).0).0;
-  causes = λ port cause is. caused (probe_result_of s.ports port.0) port cause is refl;
+  few_are_served = λ port served. (k.served_ports_exist port.0 served).0;
+  unserved_are_absent = λ port other. absent_is (probe_result_of s.ports port.0) other;
+  modes_are_valid = λ port ready. (its_mode s port.0 k (ready_found s port.0 k ready).0).0;
+  causes_are_valid = λ port cause is. caused (probe_result_of s.ports port.0) port cause is refl;
 }
   where
     absent_is : (f : ProbeResult) → is_served f ≡ false → state_of f ≡ Absent
@@ -141,7 +141,7 @@ kept_fit s k = record {
     caused (Ready info) port cause is e = absurd (let z : ReadyState ≡ Unfit cause = is in cc)
     caused (Unready state) port cause is e =
         cause_is (wanted_of s.wanted port.0) (Unready state) port.0 cause s.device
-        (subst (λ (f : ProbeResult). StillBacksProbeResult (wanted_of s.wanted port.0) f port.0 s.device) e (k.behind port.0 (k.there port.0 (ap is_served e)).0).behind) is
+        (subst (λ (f : ProbeResult). StillBacksProbeResult (wanted_of s.wanted port.0) f port.0 s.device) e (k.port_invariant port.0 (k.served_ports_exist port.0 (ap is_served e)).0).probe_result_is_backed) is
 
 -- ---- slots
 
@@ -166,10 +166,10 @@ none_are_kept found kept requests none empty = record {
 -- no requests are in order
 none_in_order : BookIsInOrder []
 none_in_order = record {
-  ordered = λ i j d lt small. absurd (omega (arith, small));
-  clients = λ k d small. absurd (omega (arith, small));
-  few = λ client. omega arith;
-  issues = λ k d small. absurd (omega (arith, small));
+  ids_rise = λ i j d lt small. absurd (omega (arith, small));
+  clients_are_valid = λ k d small. absurd (omega (arith, small));
+  clients_have_few = λ client. omega arith;
+  issues_are_few = λ k d small. absurd (omega (arith, small));
 }
 
 -- ---- the whole
@@ -198,40 +198,40 @@ module _ (below : PrerequisiteLaws) (laws : TakeOverLaws) (s : ServerState) (hos
     next = refl;
     few = n.few;
     rows = n.names;
-    configured = λ row here. All-contains (λ (row : GrantRow). IsValidRow row) s.grants row n.rows here;
-    owned = λ frame client own. let c = n.clients frame client own in (c.0, c.1, (n.owners frame client own).0, c.2);
+    configured = λ row here. All-contains (λ (row : GrantRow). IsValidRow row) s.grants row n.rows_are_valid here;
+    owned = λ frame client own. let c = n.clients frame client own in (c.0, c.1, (n.owned_frames_are_clients frame client own).0, c.2);
   }
 
   reached_first : IsReachable first_machine
-  reached_first = record { first = first_machine; past = []; starts = start; legal = tt; is = refl }
+  reached_first = record { initial_machine = first_machine; steps_since = []; is_initial = start; is_legal = tt; leads_to_machine = refl }
 
   uses_are : AreUsesOf s taken.uses
-  uses_are port slot = left_as host.ports s.ports s.slots taken.uses port slot (found_as port) (n.unused port slot) (taken.left port slot)
+  uses_are port slot = left_as host.ports s.ports s.slots taken.uses port slot (found_as port) (n.unused port slot) (taken.slots_are_unused port slot)
 
-  stands_for : (m : Machine) → IsInitial m → SparesBook first_machine m → DriverRelation m (known taken.uses (λ port. []) s.device) → MachineRelation s m
+  stands_for : (m : Machine) → IsInitial m → SparesBook first_machine m → DriverRelation m (driver_state_of taken.uses (λ port. []) s.device) → MachineRelation s m
   stands_for m begun spares knows = record {
     uses = taken.uses;
-    used = uses_are;
+    are_uses_of = uses_are;
     parked = λ port. [];
     unparked = λ port alive. refl;
-    knows = knows;
+    driver_relation = knows;
     book = subst (λ (book : List BookEntry). BookRelation book m.book) (sym n.book) (subst (λ (es : List Pending). BookRelation [] es) (sym begun.book) tt);
-    kept = none_are_kept s.ports s.kept m.kept begun.kept n.unkept;
+    quarantine_relation = none_are_kept s.ports s.kept m.kept begun.kept n.unkept;
     rows = spares.rows;
     owner = λ frame. ap (λ (owner : Frame → Option ClientId). owner frame) spares.owner;
     lent = λ frame. begun.lent frame ∙ sym (n.lent frame);
-    next = begun.next ∙ ap (λ (k : ℕ). k + 1) (sym n.last);
+    next = begun.next ∙ ap (λ (k : ℕ). k + 1) (sym n.last_id);
   }
 
   ports_fit : PortsWellFormed (ports_of s)
   ports_fit = record {
-    few = λ port served. low_as port.0 served;
-    absent = λ port other. absent_is (probe_result_of s.ports port.0) other;
-    slots = λ port ready. ⊎_elim
-        (λ (low : port.0 < 4). subst IsValidMode (sym (n.modes port.0 low)) (stood_mode (wanted_of s.wanted port.0) (probe_result_of s.ports port.0) port.0 s.device (ports_as port.0 low).behind).0)
+    few_are_served = λ port served. low_as port.0 served;
+    unserved_are_absent = λ port other. absent_is (probe_result_of s.ports port.0) other;
+    modes_are_valid = λ port ready. ⊎_elim
+        (λ (low : port.0 < 4). subst IsValidMode (sym (n.modes port.0 low)) (stood_mode (wanted_of s.wanted port.0) (probe_result_of s.ports port.0) port.0 s.device (ports_as port.0 low).probe_result_is_backed).0)
         (λ (high : 4 ≤ port.0). absurd (let z : Absent ≡ ReadyState = sym (ap state_of (found_as port.0 ∙ none_past host.ports port.0 (let l = n.four in omega (arith, l, high)))) ∙ ready in cc))
         (cases_lt port.0 4);
-    causes = λ port cause is. ⊎_elim
+    causes_are_valid = λ port cause is. ⊎_elim
         (λ (low : port.0 < 4). cause_is (wanted_of s.wanted port.0) (probe_result_of s.ports port.0) port.0 cause s.device (stood port.0 low) is)
         (λ (high : 4 ≤ port.0). absurd (let z : Absent ≡ Unfit cause = sym (ap state_of (found_as port.0 ∙ none_past host.ports port.0 (let l = n.four in omega (arith, l, high)))) ∙ is in cc))
         (cases_lt port.0 4);
@@ -244,51 +244,51 @@ module _ (below : PrerequisiteLaws) (laws : TakeOverLaws) (s : ServerState) (hos
 
   kept_by : (m : Machine) → IsReachable m → MachineRelation s m → InCallInvariant s
   kept_by m reached stands = record {
-    on = taken.on;
-    room = n.room;
-    there = λ port served. let low = low_as port served in (low, served_there (wanted_of s.wanted port) (probe_result_of s.ports port) port s.device (stood port low) served);
-    behind = ports_as;
-    rows = n.rows;
-    owners = n.owners;
-    four = n.four_slots;
+    adapter_is_on = taken.adapter_is_on;
+    driver_memory_fits = n.driver_memory_fits;
+    served_ports_exist = λ port served. let low = low_as port served in (low, served_there (wanted_of s.wanted port) (probe_result_of s.ports port) port s.device (stood port low) served);
+    port_invariant = ports_as;
+    rows_are_valid = n.rows_are_valid;
+    owned_frames_are_clients = n.owned_frames_are_clients;
+    four_slots = n.four_slots;
     four_modes = n.four_modes;
     four_remembered = n.four_remembered;
     four_kept = n.four_kept;
     few_kept = λ port. let none = ap length (n.unkept port) in omega (arith, none);
     slots = λ port low. record { places = n.places port low; usable = n.usable port low; unused = λ slot high. n.unused port slot };
     modes = n.modes;
-    kinds = λ port slot used e is. absurd (let z : None ≡ Some used = sym (n.unused port.0 slot) ∙ is in cc);
-    commands = λ port slot used is. absurd (let z : None ≡ Some used = sym (n.unused port slot) ∙ is in cc);
-    alone = λ port slot used is. absurd (let z : None ≡ Some used = sym (n.unused port slot) ∙ is in cc);
-    accepted = subst (λ (book : List BookEntry). All (IsAccepted s.table) book) (sym n.book) (All-nil (IsAccepted s.table));
-    ordered = subst BookIsInOrder (sym n.book) none_in_order;
-    marked = subst (λ (book : List BookEntry). All (RevokedMarkInvariant s.grants) book) (sym n.book) (All-nil (RevokedMarkInvariant s.grants));
-    handed_out = subst (λ (book : List BookEntry). All (λ e. e.entry.id.0 ≤ s.last) book) (sym n.book) (All-nil (λ (e : BookEntry). e.entry.id.0 ≤ s.last));
-    ready = subst (λ (book : List BookEntry). All (λ e. state_of (probe_result_of s.ports e.entry.port.0) ≡ ReadyState) book) (sym n.book) (All-nil (λ (e : BookEntry). state_of (probe_result_of s.ports e.entry.port.0) ≡ ReadyState));
+    slots_queue_as_asked = λ port slot used e is. absurd (let z : None ≡ Some used = sym (n.unused port.0 slot) ∙ is in cc);
+    slots_store_commands = λ port slot used is. absurd (let z : None ≡ Some used = sym (n.unused port slot) ∙ is in cc);
+    plain_stands_alone = λ port slot used is. absurd (let z : None ≡ Some used = sym (n.unused port slot) ∙ is in cc);
+    requests_are_accepted = subst (λ (book : List BookEntry). All (IsAccepted s.table) book) (sym n.book) (All-nil (IsAccepted s.table));
+    book_is_in_order = subst BookIsInOrder (sym n.book) none_in_order;
+    revoked_marks_agree = subst (λ (book : List BookEntry). All (RevokedMarkInvariant s.grants) book) (sym n.book) (All-nil (RevokedMarkInvariant s.grants));
+    ids_were_handed_out = subst (λ (book : List BookEntry). All (λ e. e.entry.id.0 ≤ s.last_id) book) (sym n.book) (All-nil (λ (e : BookEntry). e.entry.id.0 ≤ s.last_id));
+    requests_are_of_ready_ports = subst (λ (book : List BookEntry). All (λ e. state_of (probe_result_of s.ports e.entry.port.0) ≡ ReadyState) book) (sym n.book) (All-nil (λ (e : BookEntry). state_of (probe_result_of s.ports e.entry.port.0) ≡ ReadyState));
     machine = m;
     reached = reached;
-    stands = stands;
+    machine_relation = stands;
   }
 
   -- nothing is asked, so nothing is due
-  none_due : (port : Port) → NoneDue (mode_in s port) (asks_of s.book) port
-  none_due port = subst (λ (book : List BookEntry). NoneDue (mode_in s port) (asks_of book) port) (sym n.book) (λ r own due. nowhere r due.here)
+  none_due : (port : Port) → NoneDue (mode_in s port) (unanswered_of s.book) port
+  none_due port = subst (λ (book : List BookEntry). NoneDue (mode_in s port) (unanswered_of book) port) (sym n.book) (λ r own due. nowhere r due.is_in_book)
 
   pub new_server : SettledInvariant s × StartsHistory s
   new_server =
-      let x = (followed_adds below taken.followed (λ port slot. Free) (λ port. []) refl).adds first_machine reached_first (machine_knows below d s.grants (owner_of s.table) start is told) in
+      let x = (followed_adds below taken.followed (λ port slot. Free) (λ port. []) refl).simulates first_machine reached_first (machine_knows below d s.grants (owner_of s.table) start is told) in
       let later : Machine = after first_machine x.0 in
       let spares : SparesBook first_machine later = below.basic.spares first_machine x.0 x.3.only in
       let begun : IsInitial later = start_on first_machine later start spares in
       let stands : MachineRelation s later = stands_for later begun spares x.2 in
       let reached : IsReachable later = below.basic.reached first_machine x.0 reached_first x.1 in
       let kept : InCallInvariant s = kept_by later reached stands in (
-        record { kept = kept; issued = none_due },
+        record { in_call_invariant = kept; nothing_is_due = none_due },
         (
           record { device = s.device; abstract = record { machine = later; ports = ports_of s } },
           record {
-            history = ((begun, ports_fit), ((slots s kept later reached stands, holds_with s kept later reached stands), (kept.on, taken.interrupts)));
-            stands = record { device_is = refl; ports_are = refl; machine = stands };
+            history = ((begun, ports_fit), ((slots s kept later reached stands, holds_with s kept later reached stands), (kept.adapter_is_on, taken.ie_is_set)));
+            stands = record { device_is = refl; ports_are = refl; machine_stands_for_it = stands };
           },
         ),
       )
@@ -299,4 +299,4 @@ pub new_well : TakeOverLaws → (s : ServerState) (host : Host) (idle : Device) 
     → state_of (probe_result_of s.ports port.0) ≡ ReadyState → Undisturbed port.0 idle s.device → RunsWell (s.device.port port.0)
 new_well laws s host idle port k rest taken same ready calm =
     let found = (ready_found s port.0 k ready).1 in
-    laws.well s.wanted host port.0 found.0 idle s.device rest taken (ap (λ (ports : List ProbeResult). probe_result_of ports port.0) (sym same) ∙ found.1) calm
+    laws.port_runs_well s.wanted host port.0 found.0 idle s.device rest taken (ap (λ (ports : List ProbeResult). probe_result_of ports port.0) (sym same) ∙ found.1) calm

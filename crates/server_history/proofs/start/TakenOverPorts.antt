@@ -17,10 +17,10 @@ use Rattle.host_boot.specs.declared.Host.{Host}
 use Rattle.identify.specs.Wanted.{serial_of}
 use Rattle.identify.specs.declared.DiskInfo.{DiskInfo}
 use Rattle.identify.specs.declared.wanted.Wanted.{Wanted}
-use Rattle.port_boot.specs.States.{BacksState, HasDiskIfShown}
+use Rattle.port_boot.specs.States.{BacksState, ShownDiskIsIn}
 use Rattle.server_history.specs.Prerequisites.{PrerequisiteLaws}
-use Rattle.server_history.specs.Ended.{TakeOverLaws}
-use Rattle.server_history.specs.Server.{PortInvariant, ServerState, is_served, state_of}
+use Rattle.server_history.specs.ResetLaws.{TakeOverLaws}
+use Rattle.server_history.specs.ServerState.{PortInvariant, ServerState, is_served, state_of}
 
 -- ports past the fourth aren't served
 pub none_past : (ports : List ProbeResult) (port : ℕ) → length ports ≤ port → probe_result_of ports port ≡ Unserved
@@ -38,8 +38,8 @@ ready_runs wanted (Ready info) port d s recorded is = (
     cr = s.1.runs.cr;
     fre = s.1.runs.fre;
     bases = s.1.runs.bases;
-    saw = s.1.saw.1;
-    recorded = recorded info refl s.1.runs.st;
+    device_was_seen = s.1.device_was_seen.1;
+    faults_are_recorded = recorded info refl s.1.runs.st;
   },
   s.1.runs.sact,
 )
@@ -59,7 +59,7 @@ module _ (laws : TakeOverLaws) (s : ServerState) (host : Host) (d : Device) (is 
   found_is port = ap (λ (ports : List ProbeResult). probe_result_of ports port) same
 
   pub behind : (port : ℕ) → port < 4 → BacksProbeResult (wanted_of s.wanted port) (probe_result_of s.ports port) port s.device
-  behind port below = subst (λ (f : ProbeResult). BacksProbeResult (wanted_of s.wanted port) f port s.device) (sym (found_is port)) (taken.stands port below)
+  behind port below = subst (λ (f : ProbeResult). BacksProbeResult (wanted_of s.wanted port) f port s.device) (sym (found_is port)) (taken.results_are_backed port below)
 
   pub four : (port : ℕ) → is_served (probe_result_of s.ports port) ≡ true → port < 4
   four port served = ⊎_elim
@@ -72,7 +72,7 @@ module _ (laws : TakeOverLaws) (s : ServerState) (host : Host) (d : Device) (is 
   shown_as port (Ready info) e bad = absurd bad
   shown_as port (Unready state) e bad = laws.shown s.wanted host port state d s.device is taken bad (sym (found_is port) ∙ e)
 
-  own_as : (port : ℕ) (f : ProbeResult) → probe_result_of s.ports port ≡ f → state_of f ≡ ReadyState → HasDiskIfShown (s.device.port port)
+  own_as : (port : ℕ) (f : ProbeResult) → probe_result_of s.ports port ≡ f → state_of f ≡ ReadyState → ShownDiskIsIn (s.device.port port)
   own_as port Unserved e ready = let z : Absent ≡ ReadyState = ready in absurd cc
   own_as port (Ready info) e ready = laws.own s.wanted host port info d s.device is taken (sym (found_is port) ∙ e)
   own_as port (Unready state) e ready = absurd (not_ready state ready (subst (λ (f : ProbeResult). BacksProbeResult (wanted_of s.wanted port) f port s.device) e (behind port (four port (ap is_served e)))))
@@ -82,7 +82,7 @@ module _ (laws : TakeOverLaws) (s : ServerState) (host : Host) (d : Device) (is 
 
   halts_as : (port : ℕ) → port < 4 → (f : ProbeResult) → probe_result_of s.ports port ≡ f → state_of f ≡ ReadyState → HaltIsOfTaken (s.device.port port)
   halts_as port below Unserved e ready = let z : Absent ≡ ReadyState = ready in absurd cc
-  halts_as port below (Ready info) e ready = taken.halts port below info (sym (found_is port) ∙ e)
+  halts_as port below (Ready info) e ready = taken.halt_is_of_taken port below info (sym (found_is port) ∙ e)
   halts_as port below (Unready state) e ready = absurd (not_ready state ready (subst (λ (f : ProbeResult). BacksProbeResult (wanted_of s.wanted port) f port s.device) e (behind port below)))
     where
       not_ready : (state : PortState) → state ≡ ReadyState → BacksProbeResult (wanted_of s.wanted port) (Unready state) port s.device → ⊥
@@ -94,9 +94,9 @@ module _ (laws : TakeOverLaws) (s : ServerState) (host : Host) (d : Device) (is 
 
   pub ports_on : PrerequisiteLaws → (port : ℕ) → port < 4 → PortInvariant s.wanted s.ports port s.device
   ports_on laws_below port below = record {
-    behind = laws_below.recovery.stands_begin (wanted_of s.wanted port) (probe_result_of s.ports port) port s.device (behind port below);
-    runs = λ ready. (running port below ready).0;
-    shown = shown_as port (probe_result_of s.ports port) refl;
-    own = own_as port (probe_result_of s.ports port) refl;
-    halts = halts_as port below (probe_result_of s.ports port) refl;
+    probe_result_is_backed = laws_below.recovery.stands_begin (wanted_of s.wanted port) (probe_result_of s.ports port) port s.device (behind port below);
+    engine_runs = λ ready. (running port below ready).0;
+    shows_disk_if_in = shown_as port (probe_result_of s.ports port) refl;
+    has_disk_if_shown = own_as port (probe_result_of s.ports port) refl;
+    halt_is_of_taken = halts_as port below (probe_result_of s.ports port) refl;
   }

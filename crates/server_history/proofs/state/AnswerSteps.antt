@@ -10,25 +10,25 @@ use Rattle.ata_types.specs.declared.request.Reply.{Reply}
 use Rattle.ata_types.specs.declared.request.RequestId.{RequestId}
 use Rattle.adapter.specs.declared.access.DeviceStep.{DeviceStep}
 use Rattle.block_machine.specs.declared.due.QueueMode.{QueueMode}
-use Rattle.block_machine.specs.Events.{AllByDevice, AllAnswersLawful, AllMay, AbstractCall, AreStepsOfCall, IsByDevice, IsLawfulAnswer, IsByServer, AbstractState, answers_of, issues_it, reply_of}
+use Rattle.block_machine.specs.Events.{AllByDevice, AllAnswersLawful, AllEnabled, AbstractCall, AreStepsOfCall, IsByDevice, IsLawfulAnswer, IsByServer, AbstractState, answers_of, issues_id, reply_of}
 use Rattle.block_machine.specs.Expected.{after}
 use Rattle.block_machine.specs.Ports.{Evidence, Ports}
 use Rattle.block_machine.specs.State.{Pending, Machine}
-use Rattle.block_machine.specs.Steps.{Step, Issue, Answer, May, after_step}
+use Rattle.block_machine.specs.Steps.{Step, Issue, Answer, IsEnabled, after_step}
 use Rattle.server_history.proofs.state.ListMembers.{contains_cases, contains_here, contains_there, in_filter, without_in}
-use Rattle.request_queue.specs.Entries.{BookEntry}
-use Rattle.server_history.specs.Served.{HasEnded, AllByDeviceOrIssue, ok_answers_of, done_reply}
+use Rattle.request_queue.specs.BookEntries.{BookEntry}
+use Rattle.server_history.specs.IssuingAndAnswering.{HasEnded, AllByDeviceOrIssue, ok_answers_of, done_reply}
 use Rattle.server_history.specs.Prerequisites.{PrerequisiteLaws}
 use Rattle.server_history.proofs.state.FirstMembers.{nowhere}
 
 -- ---- steps
 
 -- steps that may come may come in two parts
-pub may_parts : PrerequisiteLaws → (m : Machine) (late early : List Step) → AllMay m (late ++ early) → AllMay m early × AllMay (after m early) late
+pub may_parts : PrerequisiteLaws → (m : Machine) (late early : List Step) → AllEnabled m (late ++ early) → AllEnabled m early × AllEnabled (after m early) late
 may_parts laws m [] early may = (may, tt)
 may_parts laws m (step ∷ late) early may =
     let x = may_parts laws m late early may.0 in
-    (x.0, (x.1, subst (λ (n : Machine). May n step) (laws.basic.joined m late early) may.1))
+    (x.0, (x.1, subst (λ (n : Machine). IsEnabled n step) (laws.basic.joined m late early) may.1))
 
 -- ---- answers
 
@@ -82,14 +82,14 @@ told_so port (e ∷ requests) (p ∷ ended) each =
     ∙ ap (λ (replies : List Reply). reply_of (p, Ok) ∷ replies) (told_so port requests ended each.1)
 
 -- who is answered was unanswered before
-pub ended_stood : PrerequisiteLaws → (m : Machine) (ended : List Pending) → AllMay m (ok_answers_of ended) → (p : Pending) → Contains ended p → Contains m.book p
+pub ended_stood : PrerequisiteLaws → (m : Machine) (ended : List Pending) → AllEnabled m (ok_answers_of ended) → (p : Pending) → Contains ended p → Contains m.book p
 ended_stood laws m [] may p here = absurd (nowhere p here)
 ended_stood laws m (x ∷ ended) may p here = ⊎_elim
     (λ (is : p ≡ x). subst (Contains m.book) (sym is) parts.0.1.0)
     (λ (there : Contains ended p). (without_in x.request.id m.book p (ended_stood laws (after_step m (Answer x Ok)) ended parts.1 p there)).0)
     (contains_cases x ended p here)
   where
-    parts : AllMay m (Answer x Ok ∷ []) × AllMay (after_step m (Answer x Ok)) (ok_answers_of ended)
+    parts : AllEnabled m (Answer x Ok ∷ []) × AllEnabled (after_step m (Answer x Ok)) (ok_answers_of ended)
     parts = may_parts laws m (ok_answers_of ended) (Answer x Ok ∷ []) may
 
 -- nor do steps that issue requests
@@ -116,7 +116,7 @@ module _ (Told : Pending → Outcome → Type 0) where
       (answers_belong ask ports own steps (All-tail (IsAnswerOf Told) (Answer e o) steps all), inr (own e o (All-head (IsAnswerOf Told) (Answer e o) steps all)))
   answers_belong ask ports own (step ∷ steps) all = absurd (All-head (IsAnswerOf Told) step steps all)
 
-  pub answers_issue_none : (id : RequestId) (steps : List Step) → All (IsAnswerOf Told) steps → list_any (issues_it id) steps ≡ false
+  pub answers_issue_none : (id : RequestId) (steps : List Step) → All (IsAnswerOf Told) steps → list_any (issues_id id) steps ≡ false
   answers_issue_none id [] all = refl
   answers_issue_none id (Answer e o ∷ steps) all = answers_issue_none id steps (All-tail (IsAnswerOf Told) (Answer e o) steps all)
   answers_issue_none id (step ∷ steps) all = absurd (All-head (IsAnswerOf Told) step steps all)
@@ -136,7 +136,7 @@ module _ (Told : Pending → Outcome → Type 0) where
   left_stood m (step ∷ steps) all e here = absurd (All-head (IsAnswerOf Told) step steps all)
 
   -- and so was who is answered
-  pub answered_stood : (m : Machine) (steps : List Step) → All (IsAnswerOf Told) steps → AllMay m steps → (e : Pending) (o : Outcome) → Contains steps (Answer e o) → Contains m.book e
+  pub answered_stood : (m : Machine) (steps : List Step) → All (IsAnswerOf Told) steps → AllEnabled m steps → (e : Pending) (o : Outcome) → Contains steps (Answer e o) → Contains m.book e
   answered_stood m [] all may e o here = absurd (nowhere (Answer e o) here)
   answered_stood m (Answer x p ∷ steps) all may e o here = ⊎_elim
       (λ (is : Answer e o ≡ Answer x p).

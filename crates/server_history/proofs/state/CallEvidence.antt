@@ -13,17 +13,17 @@ use Rattle.refinement.specs.Relation.{port_at}
 use Rattle.block_machine.specs.Events.{AbstractCall, CallResult, AbstractState, AllAnswersLawful}
 use Rattle.block_machine.specs.Histories.{JointState}
 use Rattle.block_machine.specs.Ports.{Ports, Evidence, IsStoppedOrStuck}
-use Rattle.block_machine.specs.Steps.{Step, Again, Answer}
+use Rattle.block_machine.specs.Steps.{Step, WaitAgain, Answer}
 use Rattle.ata_types.specs.declared.request.Outcome.TheVariants as outcome
 use Rattle.server_history.proofs.state.ListMembers.{contains_cases, contains_here, contains_there}
 use Rattle.error_recovery.specs.Evidence.{ShowsFatal}
 use Rattle.driver_history.specs.Evidence.{IsEvidenced, IsEvidencedOf, ShowsChange, ShowsFailure}
-use Rattle.driver_history.specs.Trace.{LeavesEngine}
+use Rattle.driver_history.specs.AccessTrace.{LeavesEngine}
 use Rattle.server_history.proofs.state.FirstMembers.{nowhere}
 
 -- no item in any list
 abbrev pub no_evidence : Evidence
-no_evidence = record { faults = []; lost = []; gone = []; failed = []; fatal = []; stopped = []; stuck = [] }
+no_evidence = record { faults = []; lost = []; link_changed = []; failed = []; fatal = []; stopped = []; stuck = [] }
 
 -- ---- ports that are chosen by what they show
 
@@ -114,7 +114,7 @@ ready_that shows d ports port = is_ready (ports.state port) && shows (d.port por
 -- what is told of these ports, where it began with this device, and ports were this
 abbrev pub told_of : List Port → Device → Ports → Evidence
 told_of list d ports = record no_evidence {
-  gone = chosen (ready_that shows_loss d ports) list;
+  link_changed = chosen (ready_that shows_loss d ports) list;
   failed = chosen (ready_that shows_failure d ports) list;
   fatal = chosen (ready_that shows_fatal d ports) list;
 }
@@ -125,10 +125,10 @@ told_by d ports = told_of four d ports
 
 pub unfatal : (p : DevicePort) → shows_fatal p ≡ true → ShowsFatal p
 unfatal p h = ⊎_elim
-    (λ a. record { place = 27; from = omega arith; to = omega arith; set = a })
+    (λ a. record { place = 27; from = omega arith; to = omega arith; cause_is_set = a })
     (λ more. ⊎_elim
-    (λ a. record { place = 28; from = omega arith; to = omega arith; set = a })
-    (λ a. record { place = 29; from = omega arith; to = omega arith; set = a })
+    (λ a. record { place = 28; from = omega arith; to = omega arith; cause_is_set = a })
+    (λ a. record { place = 29; from = omega arith; to = omega arith; cause_is_set = a })
     (or_cases (p.is 28) (p.is 29) more))
     (or_cases (p.is 27) (p.is 28 || p.is 29) h)
 
@@ -139,10 +139,10 @@ fatal_shows p f = by (cases_eq f.place 27)
     P place = p.is place ≡ true
 
     by : (f.place ≡ 27) ⊎ (f.place ≢ 27) → shows_fatal p ≡ true
-    by (inl e) = or_left (p.is 27) (p.is 28 || p.is 29) (subst P e f.set)
+    by (inl e) = or_left (p.is 27) (p.is 28 || p.is 29) (subst P e f.cause_is_set)
     by (inr a) = or_right (p.is 27) (p.is 28 || p.is 29) (⊎_elim
-        (λ e. or_left (p.is 28) (p.is 29) (subst P e f.set))
-        (λ b. or_right (p.is 28) (p.is 29) (subst P (let low = f.from in let high = f.to in omega (arith, low, high, a, b)) f.set))
+        (λ e. or_left (p.is 28) (p.is 29) (subst P e f.cause_is_set))
+        (λ b. or_right (p.is 28) (p.is 29) (subst P (let low = f.from in let high = f.to in omega (arith, low, high, a, b)) f.cause_is_set))
         (cases_eq f.place 28))
 
 pub unfailed : (p : DevicePort) → shows_failure p ≡ true → ShowsFailure p
@@ -184,8 +184,8 @@ pub evidenced_of : (list : List Port) (ask : AbstractCall DeviceStep) (said : Ca
     → IsEvidencedOf ask said accesses old ports new (told_of list old.device old.abstract.ports) port
 evidenced_of list ask said accesses old ports new port there leaves = record {
   lost = λ here. absurd (nowhere port here);
-  gone_all = λ ready loss. is_named list old.device old.abstract.ports shows_loss port (there ready) ready (loss_shows (old.device.port port.0) (⊎_elim (λ change. inl change) (λ out. inr out.0) loss));
-  gone_only = λ here.
+  link_changed_all = λ ready loss. is_named list old.device old.abstract.ports shows_loss port (there ready) ready (loss_shows (old.device.port port.0) (⊎_elim (λ change. inl change) (λ out. inr out.0) loss));
+  link_changed_only = λ here.
       let x = named_is list old.device old.abstract.ports shows_loss port here in
       (x.0, ⊎_elim (λ change. inl change) (λ out. inr (inl out)) (unlost (old.device.port port.0) x.1));
   failed_all = λ ready failure. is_named list old.device old.abstract.ports shows_failure port (there ready) ready (failure_shows (old.device.port port.0) failure);
@@ -223,5 +223,5 @@ module _ (d : Device) (ports : Ports) where
   lawful_told old after (Answer e outcome.Unplugged ∷ steps) l = (lawful_told old after steps l.0, l.1)
   lawful_told old after (Answer e outcome.Revoked ∷ steps) l = (lawful_told old after steps l.0, l.1)
   lawful_told old after (Answer e outcome.PortDead ∷ steps) l = (lawful_told old after steps l.0, l.1)
-  lawful_told old after (Again e ∷ steps) l = (lawful_told old after steps l.0, l.1)
+  lawful_told old after (WaitAgain e ∷ steps) l = (lawful_told old after steps l.0, l.1)
   lawful_told old after (step ∷ steps) l = lawful_told old after steps l

@@ -4,7 +4,7 @@ use Rattle.std.specs.List.{All}
 use Rattle.std.proofs.lemmas.Bool.{cond-true, cond-false}
 use Rattle.std.proofs.lemmas.List.Elements.{All-head, All-tail, All-cons, All-nil}
 use Rattle.ata_types.specs.declared.request.RequestId.{RequestId}
-use Rattle.request_queue.specs.Entries.{BookEntry, update_if_id, has_id}
+use Rattle.request_queue.specs.BookEntries.{BookEntry, update_if_id, has_id}
 use Rattle.request_queue.specs.declared.PendingRequest.{PendingRequest}
 
 -- what a change keeps of each it keeps of all

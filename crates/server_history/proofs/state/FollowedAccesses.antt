@@ -9,28 +9,28 @@ use Rattle.adapter.specs.Access.{Access}
 use Rattle.adapter.specs.Device.{Device}
 use Rattle.adapter.specs.declared.command.Operation.{Operation}
 use Rattle.refinement.specs.Acts.{Act, act_steps}
-use Rattle.refinement.specs.Driven.{IsSimulatedTo, NoneWrites, GainsNoMove, known}
-use Rattle.refinement.specs.Driver.{ByDevice, DriverRelation}
+use Rattle.refinement.specs.Fragments.{IsSimulatedChangingUses, NoneWrites, GainsNoMove, driver_state_of}
+use Rattle.refinement.specs.Driver.{IsBackedByDeviceAlone, DriverRelation}
 use Rattle.refinement.specs.Slots.{Own, SlotState, SlotStates, op_of}
 use Rattle.block_machine.specs.Histories.{IsReachable, IsSimulatedBySteps}
 use Rattle.block_machine.specs.State.{Machine}
 use Rattle.server_history.specs.Prerequisites.{PrerequisiteLaws}
 
-module _ (laws : PrerequisiteLaws) {May : Access → Type 0} {Fits : SlotStates → Type 0} {next : SlotStates → SlotStates} {old new : Device} (followed : IsSimulatedTo May Fits next old new) (uses : SlotStates) (parked : ℕ → List RequestId) where
+module _ (laws : PrerequisiteLaws) {May : Access → Type 0} {Fits : SlotStates → Type 0} {next : SlotStates → SlotStates} {old new : Device} (followed : IsSimulatedChangingUses May Fits next old new) (uses : SlotStates) (parked : ℕ → List RequestId) where
   -- the device alone makes steps
-  pub followed_adds : Fits uses → IsSimulatedBySteps DriverRelation (known uses parked old) (known (next uses) parked new) (ByDevice old new)
+  pub followed_adds : Fits uses → IsSimulatedBySteps DriverRelation (driver_state_of uses parked old) (driver_state_of (next uses) parked new) (IsBackedByDeviceAlone old new)
   followed_adds fits = record {
-    adds = λ m reached knows.
-        let c = followed.comes (record { uses = uses; parked = parked }) m reached knows fits in
-        let g = laws.slots.acts_go c.acts (known uses parked old) (known (next uses) parked new) m knows c.done in
-        (act_steps c.acts, g.may, g.knows, record { backed = g.backed; only = c.tells.only });
+    simulates = λ m reached knows.
+        let c = followed.acts_reach (record { uses = uses; parked = parked }) m reached knows fits in
+        let g = laws.slots.acts_go c.acts (driver_state_of uses parked old) (driver_state_of (next uses) parked new) m knows c.acts_are_done in
+        (act_steps c.acts, g.steps_are_enabled, g.driver_relation, record { is_backed = g.is_backed; only = c.tells.only });
   }
 
   -- where they write neither PxCI nor PxSACT of a port, no page comes there for a command of the driver's own that slot 0 hasn't
-  pub followed_silent : (m : Machine) → Fits uses → IsReachable m → DriverRelation m (known uses parked old) → (port : Port) (o : Operation) → op_of o ≡ None
+  pub followed_silent : (m : Machine) → Fits uses → IsReachable m → DriverRelation m (driver_state_of uses parked old) → (port : Port) (o : Operation) → op_of o ≡ None
       → NoneWrites May (Px port Ci) → NoneWrites May (Px port Sact) → (uses port.0 0 ≡ Own o → ⊥) → GainsNoMove port.0 o old new
   followed_silent m fits reached knows port o own issues arms none =
-      let c = followed.comes (record { uses = uses; parked = parked }) m reached knows fits in
-      laws.slots.acts_silent c.acts (known uses parked old) (known (next uses) parked new) m port.0 o own reached knows none
+      let c = followed.acts_reach (record { uses = uses; parked = parked }) m reached knows fits in
+      laws.slots.acts_silent c.acts (driver_state_of uses parked old) (driver_state_of (next uses) parked new) m port.0 o own reached knows none
       (All-weaker (λ (act : Act). act.later.uses port.0 ≡ uses port.0) (λ (act : Act). act.later.uses port.0 0 ≡ Own o → ⊥)
-      (λ act same is. none (ap (λ (f : ℕ → SlotState). f 0) (sym same) ∙ is)) c.acts (c.tells.kept port issues arms)) c.done
+      (λ act same is. none (ap (λ (f : ℕ → SlotState). f 0) (sym same) ∙ is)) c.acts (c.tells.kept port issues arms)) c.acts_are_done

@@ -11,32 +11,32 @@ use Rattle.adapter.specs.Access.{Access}
 use Rattle.adapter.specs.Device.{Device}
 use Rattle.adapter.specs.Rules.{IsOn}
 use Rattle.adapter.specs.declared.access.DeviceStep.{DeviceStep}
-use Rattle.refinement.specs.Driven.{known}
+use Rattle.refinement.specs.Fragments.{driver_state_of}
 use Rattle.refinement.specs.Driver.{DriverRelation, IsBacked}
 use Rattle.refinement.specs.Links.{SameAdapter}
-use Rattle.refinement.specs.Spares.{AllFurther, IsFurther, SparesBook}
-use Rattle.block_machine.specs.Events.{AbstractCall, CallResult, AllMay, AllByDevice, AreStepsOfCall, IssuesLast, AllAnswersLawful, IsAnswered, UnansweredKeepDisk}
-use Rattle.block_machine.specs.Histories.{JointState, JointEvent, IsHistory, IsReachable, now}
+use Rattle.refinement.specs.SparedBook.{AllFurther, IsFurther, SparesBook}
+use Rattle.block_machine.specs.Events.{AbstractCall, CallResult, AllEnabled, AllByDevice, AreStepsOfCall, IssuesLast, AllAnswersLawful, IsAnswered, UnansweredKeepDisk}
+use Rattle.block_machine.specs.Histories.{JointState, JointEvent, IsHistory, IsReachable, joint_state_after}
 use Rattle.block_machine.specs.Expected.{IsValidRow, after}
 use Rattle.block_machine.specs.Ports.{Ports, PortsWellFormed, Evidence, SamePorts, SameDisk}
 use Rattle.block_machine.specs.State.{Machine, Pending}
 use Rattle.block_machine.specs.Steps.{Step}
 use Rattle.dma_frames.specs.Loan.{Lending}
-use Rattle.dma_frames.specs.Table.{Table}
+use Rattle.dma_frames.specs.FrameTables.{FrameOwnership}
 use Rattle.host_boot.specs.TakeOver.{probe_result_of}
 use Rattle.host_boot.specs.declared.ProbeResult.{ProbeResult}
 use Rattle.driver_history.specs.Evidence.{IsEvidenced}
-use Rattle.driver_history.specs.Heeding.{OnlyFailedPortsRequeueIn}
+use Rattle.driver_history.specs.EvidenceHandling.{OnlyFailedPortsRequeueIn}
 use Rattle.driver_history.specs.Histories.{IsFirstInstant, ExplainsAccesses, IssuesAllDue, CallCorresponds, PortCorresponds}
-use Rattle.driver_history.specs.Trace.{LeavesEngine}
+use Rattle.driver_history.specs.AccessTrace.{LeavesEngine}
 use Rattle.driver_history.specs.PortInvariants.{DriverInvariant}
 use Rattle.server_history.specs.Histories.{LeadsToServer}
-use Rattle.request_queue.specs.Entries.{BookEntry, IsAccepted, BookIsInOrder}
-use Rattle.request_queue.specs.Machine.{BookRelation, EntryRelation, range_of}
-use Rattle.slots.specs.Uses.{PortSlots}
-use Rattle.server_history.specs.Server.{HasStoredCommand, StandsAlone, SlotsInvariant, ServerState, InCallInvariant, MachineRelation, PortInvariant, probed_mode, mode_in, quarantined_at, QuarantineRelation, ports_of, state_of, used_for, RevokedMarkInvariant}
+use Rattle.request_queue.specs.BookEntries.{BookEntry, IsAccepted, BookIsInOrder}
+use Rattle.request_queue.specs.BookRelation.{BookRelation, EntryRelation, range_of}
+use Rattle.slots.specs.SlotUses.{PortSlots}
+use Rattle.server_history.specs.ServerState.{HasStoredCommand, StandsAlone, SlotsInvariant, ServerState, InCallInvariant, MachineRelation, PortInvariant, probed_mode, mode_in, quarantined_at, QuarantineRelation, ports_of, state_of, used_for, RevokedMarkInvariant}
 use Rattle.slots.specs.declared.SlotUse.{SlotUse}
-use Rattle.block_machine.specs.Due.{is_plain}
+use Rattle.block_machine.specs.DueRequests.{is_plain}
 use Rattle.server_history.proofs.state.ServerInstant.{holds_with, slots}
 use Rattle.server_history.proofs.state.CallEvidence.{evidenced, lawful_told, no_evidence, told_by}
 use Rattle.server_history.specs.Prerequisites.{PrerequisiteLaws}
@@ -84,16 +84,16 @@ still_kept laws found kept olds news further are = record {
 -- ---- the machine that stands for a server
 
 pub machine_with : PrerequisiteLaws → (s : ServerState) (new : Device) (m later : Machine) → (is : MachineRelation s m) → SparesBook m later
-    → DriverRelation later (known is.uses is.parked new)
+    → DriverRelation later (driver_state_of is.uses is.parked new)
     → MachineRelation (record s { device = new }) later
 machine_with laws s new m later is spares knows = record {
   uses = is.uses;
-  used = is.used;
+  are_uses_of = is.are_uses_of;
   parked = is.parked;
   unparked = is.unparked;
-  knows = knows;
+  driver_relation = knows;
   book = book_on s.book m.book later.book spares.book is.book;
-  kept = still_kept laws s.ports s.kept m.kept later.kept spares.kept is.kept;
+  quarantine_relation = still_kept laws s.ports s.kept m.kept later.kept spares.kept is.quarantine_relation;
   rows = spares.rows ∙ is.rows;
   owner = λ frame. ap (λ f. f frame) spares.owner ∙ is.owner frame;
   lent = λ frame. ap (λ f. f frame) spares.lent ∙ is.lent frame;
@@ -102,56 +102,56 @@ machine_with laws s new m later is spares knows = record {
 
 -- it goes on over steps of the device
 pub machine_on : PrerequisiteLaws → (s : ServerState) (new : Device) (m : Machine) (steps : List Step) → (is : MachineRelation s m) → AllByDevice steps
-    → DriverRelation (after m steps) (known is.uses is.parked new)
+    → DriverRelation (after m steps) (driver_state_of is.uses is.parked new)
     → MachineRelation (record s { device = new }) (after m steps)
 machine_on laws s new m steps is own knows = machine_with laws s new m (after m steps) is (laws.basic.spares m steps own) knows
 
 -- ---- what a server keeps
 
 -- a server with this device, these grants, loans, slots and book
-pub kept_then : (s : ServerState) (device : Device) (grants : List GrantRow) (table : Table) (slots : List PortSlots) (book : List BookEntry) (last : ℕ) → InCallInvariant s → All IsValidRow grants → IsOn device → SameAdapter s.device device
+pub kept_then : (s : ServerState) (device : Device) (grants : List GrantRow) (table : FrameOwnership) (slots : List PortSlots) (book : List BookEntry) (last : ℕ) → InCallInvariant s → All IsValidRow grants → IsOn device → SameAdapter s.device device
     → ((port : ℕ) → port < 4 → PortInvariant s.wanted s.ports port device) → table.owners ≡ s.table.owners → length slots ≡ 4 → ((port : ℕ) → port < 4 → SlotsInvariant s.ports s.modes slots port)
     → ((port : Port) (slot : ℕ) (used : SlotUse) (e : BookEntry) → used_for slots port.0 slot ≡ Some used → Contains book e → e.entry.id ≡ used.id → used.queued ≡ not (is_plain (mode_in s port) e.entry.op))
     → ((port slot : ℕ) (used : SlotUse) → used_for slots port slot ≡ Some used → HasStoredCommand used.queued device port slot)
     → ((port slot : ℕ) (used : SlotUse) → used_for slots port slot ≡ Some used → used.queued ≡ false → StandsAlone slots port slot)
     → All (IsAccepted table) book → BookIsInOrder book → All (RevokedMarkInvariant grants) book → All (λ e. e.entry.id.0 ≤ last) book → All (λ e. state_of (probe_result_of s.ports e.entry.port.0) ≡ ReadyState) book → (m : Machine) → IsReachable m
-    → MachineRelation (record s { device = device; grants = grants; table = table; slots = slots; book = book; last = last }) m
-    → InCallInvariant (record s { device = device; grants = grants; table = table; slots = slots; book = book; last = last })
+    → MachineRelation (record s { device = device; grants = grants; table = table; slots = slots; book = book; last_id = last }) m
+    → InCallInvariant (record s { device = device; grants = grants; table = table; slots = slots; book = book; last_id = last })
 kept_then s device grants table used_now book last k rows on same behind owners four used kinds commands alone accepted ordered marked handed_out ready m reached is = record {
-  on = on;
-  room = subst (λ (n : ℕ). DRIVER_BYTES ≤ n) (sym same.size) k.room;
-  there = λ port served. let t = k.there port served in (t.0, ap (λ (pi : ℕ). bit pi port) same.pi ∙ t.1);
-  behind = behind;
-  four = four;
+  adapter_is_on = on;
+  driver_memory_fits = subst (λ (n : ℕ). DRIVER_BYTES ≤ n) (sym same.size) k.driver_memory_fits;
+  served_ports_exist = λ port served. let t = k.served_ports_exist port served in (t.0, ap (λ (pi : ℕ). bit pi port) same.pi ∙ t.1);
+  port_invariant = behind;
+  four_slots = four;
   four_modes = k.four_modes;
   four_remembered = k.four_remembered;
   four_kept = k.four_kept;
   few_kept = k.few_kept;
   modes = λ port low. k.modes port low ∙ ap (λ (cap : ℕ). probed_mode cap (probe_result_of s.ports port)) (sym same.cap);
   slots = used;
-  kinds = kinds;
-  commands = commands;
-  alone = alone;
-  rows = rows;
-  owners = λ frame client own.
-      let o = k.owners frame client (ap (λ (list : List (Option ClientId)). get_or list frame.0 None) (sym owners) ∙ own) in
+  slots_queue_as_asked = kinds;
+  slots_store_commands = commands;
+  plain_stands_alone = alone;
+  rows_are_valid = rows;
+  owned_frames_are_clients = λ frame client own.
+      let o = k.owned_frames_are_clients frame client (ap (λ (list : List (Option ClientId)). get_or list frame.0 None) (sym owners) ∙ own) in
       (o.0, subst (λ (n : ℕ). 4096 * frame.0 + 4096 ≤ n) (sym same.size) o.1);
-  accepted = accepted;
-  ordered = ordered;
-  marked = marked;
-  handed_out = handed_out;
-  ready = ready;
+  requests_are_accepted = accepted;
+  book_is_in_order = ordered;
+  revoked_marks_agree = marked;
+  ids_were_handed_out = handed_out;
+  requests_are_of_ready_ports = ready;
   machine = m;
   reached = reached;
-  stands = is;
+  machine_relation = is;
 }
 
 -- the same with another device alone
 pub kept_on : PrerequisiteLaws → (s : ServerState) (new : Device) → (k : InCallInvariant s) → IsOn new → SameAdapter s.device new
-    → ((port : ℕ) → port < 4 → PortInvariant s.wanted s.ports port new) → ((port slot : ℕ) (used : SlotUse) → used_for s.slots port slot ≡ Some used → HasStoredCommand used.queued new port slot) → (steps : List Step) → AllMay k.machine steps
+    → ((port : ℕ) → port < 4 → PortInvariant s.wanted s.ports port new) → ((port slot : ℕ) (used : SlotUse) → used_for s.slots port slot ≡ Some used → HasStoredCommand used.queued new port slot) → (steps : List Step) → AllEnabled k.machine steps
     → MachineRelation (record s { device = new }) (after k.machine steps) → InCallInvariant (record s { device = new })
 kept_on laws s new k on same behind commands steps may is =
-    kept_then s new s.grants s.table s.slots s.book s.last k k.rows on same behind refl k.four k.slots k.kinds commands k.alone k.accepted k.ordered k.marked k.handed_out k.ready (after k.machine steps) (laws.basic.reached k.machine steps k.reached may) is
+    kept_then s new s.grants s.table s.slots s.book s.last_id k k.rows_are_valid on same behind refl k.four_slots k.slots k.slots_queue_as_asked commands k.plain_stands_alone k.requests_are_accepted k.book_is_in_order k.revoked_marks_agree k.ids_were_handed_out k.requests_are_of_ready_ports (after k.machine steps) (laws.basic.reached k.machine steps k.reached may) is
 
 -- ---- events
 
@@ -184,17 +184,17 @@ holding s k m reached is = (slots s k m reached is, holds_with s k m reached is)
 -- a call, with what its event needs
 pub lead_with : PrerequisiteLaws → (first : JointState Device) (past : List (JointEvent Device DeviceStep)) (s new : ServerState) (ask : AbstractCall DeviceStep) (said : CallResult) (evidence : Evidence) (steps : List Step)
     → new.wanted ≡ s.wanted → LeadsToServer first past s → IsHolding new → PortsWellFormed (ports_of new)
-    → AllMay (now first past).abstract.machine steps → AreStepsOfCall ask (ports_of new) steps → IssuesLast steps
-    → AllAnswersLawful (now first past).abstract evidence (ports_of new) steps
-    → UnansweredKeepDisk (now first past).abstract (record { machine = after (now first past).abstract.machine steps; ports = ports_of new })
-    → IsAnswered ask said (now first past).abstract evidence steps (record { machine = after (now first past).abstract.machine steps; ports = ports_of new })
+    → AllEnabled (joint_state_after first past).abstract.machine steps → AreStepsOfCall ask (ports_of new) steps → IssuesLast steps
+    → AllAnswersLawful (joint_state_after first past).abstract evidence (ports_of new) steps
+    → UnansweredKeepDisk (joint_state_after first past).abstract (record { machine = after (joint_state_after first past).abstract.machine steps; ports = ports_of new })
+    → IsAnswered ask said (joint_state_after first past).abstract evidence steps (record { machine = after (joint_state_after first past).abstract.machine steps; ports = ports_of new })
     → OnlyFailedPortsRequeueIn ask evidence steps
-    → (accesses : List Access) → ExplainsAccesses (now first past).abstract ask said accesses s.device new.device
-    → IsEvidenced ask said accesses (with_device s.device (now first past)) (ports_of new) new.device evidence
-    → ((port : Port) → IssuesAllDue ask steps (after (now first past).abstract.machine steps) (ports_of new) port)
-    → ((port : Port) → PortCorresponds (with_device s.device (now first past)) (happening_with evidence new.device ask said steps (ports_of new)) accesses port)
-    → IsBacked s.device new.device (now first past).abstract.machine steps
-    → MachineRelation new (after (now first past).abstract.machine steps)
+    → (accesses : List Access) → ExplainsAccesses (joint_state_after first past).abstract ask said accesses s.device new.device
+    → IsEvidenced ask said accesses (with_device s.device (joint_state_after first past)) (ports_of new) new.device evidence
+    → ((port : Port) → IssuesAllDue ask steps (after (joint_state_after first past).abstract.machine steps) (ports_of new) port)
+    → ((port : Port) → PortCorresponds (with_device s.device (joint_state_after first past)) (happening_with evidence new.device ask said steps (ports_of new)) accesses port)
+    → IsBacked s.device new.device (joint_state_after first past).abstract.machine steps
+    → MachineRelation new (after (joint_state_after first past).abstract.machine steps)
     → (h : JointEvent Device DeviceStep) × (h.event.ask ≡ ask) × (h.event.said ≡ said) × LeadsToServer first (h ∷ past) new
 lead_with laws first past s new ask said evidence steps wanted_is leads holds fit may belong last lawful disks answered grounded accesses came evidenced issues parts backed stands = (
   h,
@@ -203,15 +203,15 @@ lead_with laws first past s new ask said evidence steps wanted_is leads holds fi
   record {
     history = (
       subst (λ wanted. IsHistory (IsFirstInstant wanted) (CallCorresponds wanted) first past) (sym wanted_is) leads.history,
-      record { may = may; belong = belong; last = last; lawful = lawful; fit = fit; disks = disks; answered = answered },
+      record { steps_are_enabled = may; steps_are_of_call = belong; issues_are_last = last; answers_are_lawful = lawful; ports_are_well_formed = fit; unanswered_keep_disk = disks; is_answered = answered },
       subst (λ (d : Device). CallCorresponds new.wanted (with_device d old) h) (sym leads.stands.device_is) ties,
     );
-    stands = record { device_is = refl; ports_are = refl; machine = stands };
+    stands = record { device_is = refl; ports_are = refl; machine_stands_for_it = stands };
   },
 )
   where
     old : JointState Device
-    old = now first past
+    old = joint_state_after first past
 
     h : JointEvent Device DeviceStep
     h = happening_with evidence new.device ask said steps (ports_of new)
@@ -225,28 +225,28 @@ lead_with laws first past s new ask said evidence steps wanted_is leads holds fi
     ties : CallCorresponds new.wanted (with_device s.device old) h
     ties = record {
       accesses = accesses;
-      came = came;
-      backed = backed;
-      evidenced = evidenced;
-      grounded = grounded;
-      issues = issues;
-      port = parts;
-      holds = holds later reached stands;
+      accesses_are_explained = came;
+      is_backed = backed;
+      is_evidenced = evidenced;
+      only_failed_requeue = grounded;
+      issues_all_due = issues;
+      ports_correspond = parts;
+      invariant_holds = holds later reached stands;
     }
 
 -- one in which no port is stopped, and each is what it was
 pub lead_by : PrerequisiteLaws → (first : JointState Device) (past : List (JointEvent Device DeviceStep)) (s new : ServerState) (ask : AbstractCall DeviceStep) (said : CallResult) (steps : List Step)
     → new.wanted ≡ s.wanted → ports_of new ≡ ports_of s → LeadsToServer first past s → IsHolding new
-    → AllMay (now first past).abstract.machine steps → AreStepsOfCall ask (ports_of new) steps → IssuesLast steps
-    → AllAnswersLawful (now first past).abstract no_evidence (ports_of new) steps
-    → IsAnswered ask said (now first past).abstract (told_by s.device (now first past).abstract.ports) steps (record { machine = after (now first past).abstract.machine steps; ports = ports_of new })
-    → OnlyFailedPortsRequeueIn ask (told_by s.device (now first past).abstract.ports) steps
-    → (accesses : List Access) → ExplainsAccesses (now first past).abstract ask said accesses s.device new.device
+    → AllEnabled (joint_state_after first past).abstract.machine steps → AreStepsOfCall ask (ports_of new) steps → IssuesLast steps
+    → AllAnswersLawful (joint_state_after first past).abstract no_evidence (ports_of new) steps
+    → IsAnswered ask said (joint_state_after first past).abstract (told_by s.device (joint_state_after first past).abstract.ports) steps (record { machine = after (joint_state_after first past).abstract.machine steps; ports = ports_of new })
+    → OnlyFailedPortsRequeueIn ask (told_by s.device (joint_state_after first past).abstract.ports) steps
+    → (accesses : List Access) → ExplainsAccesses (joint_state_after first past).abstract ask said accesses s.device new.device
     → ((port : Port) → All (LeavesEngine port) accesses)
-    → ((port : Port) → IssuesAllDue ask steps (after (now first past).abstract.machine steps) (ports_of new) port)
-    → ((port : Port) → PortCorresponds (with_device s.device (now first past)) (happening (with_device s.device (now first past)) new.device ask said steps (ports_of new)) accesses port)
-    → IsBacked s.device new.device (now first past).abstract.machine steps
-    → MachineRelation new (after (now first past).abstract.machine steps)
+    → ((port : Port) → IssuesAllDue ask steps (after (joint_state_after first past).abstract.machine steps) (ports_of new) port)
+    → ((port : Port) → PortCorresponds (with_device s.device (joint_state_after first past)) (happening (with_device s.device (joint_state_after first past)) new.device ask said steps (ports_of new)) accesses port)
+    → IsBacked s.device new.device (joint_state_after first past).abstract.machine steps
+    → MachineRelation new (after (joint_state_after first past).abstract.machine steps)
     → (h : JointEvent Device DeviceStep) × (h.event.ask ≡ ask) × (h.event.said ≡ said) × LeadsToServer first (h ∷ past) new
 lead_by laws first past s new ask said steps wanted_is ports_is leads holds may belong last lawful answered grounded accesses came leaves issues parts backed stands =
     lead_with laws first past s new ask said (told_by s.device old.abstract.ports) steps wanted_is leads holds (subst PortsWellFormed ports fit) may belong last
@@ -257,7 +257,7 @@ lead_by laws first past s new ask said steps wanted_is ports_is leads holds may 
     issues parts backed stands
   where
     old : JointState Device
-    old = now first past
+    old = joint_state_after first past
 
     ports : old.abstract.ports ≡ ports_of new
     ports = leads.stands.ports_are ∙ sym ports_is

@@ -8,7 +8,7 @@ use Rattle.std.specs.List.{Contains, filter, list_any}
 use Rattle.slab.proofs.SlabLemmas.{Contains-cons, Contains-cons_cases}
 use Rattle.ata_types.specs.declared.request.RequestId.{RequestId}
 use Rattle.block_machine.specs.State.{Pending}
-use Rattle.block_machine.specs.Steps.{at, without}
+use Rattle.block_machine.specs.Steps.{update_pending, without_pending}
 
 pub contains_here : {X : Type 0} (y : X) (ys : List X) (x : X) → x ≡ y → Contains (y ∷ ys) x
 contains_here y ys x e = subst (Contains (y ∷ ys)) (sym e) (Contains-append_left (y ∷ []) ys y (Contains-push [] y))
@@ -32,7 +32,7 @@ into_map f xs x h =
     (h.0, omega (arith, lt, long), get_or-map f xs h.0 x (f x) lt ∙ ap f h.2)
 
 -- what `at` leaves of a request
-pub at_cases : (id : RequestId) (f : Pending → Pending) (e : Pending) → ((e.request.id.0 ≡ id.0) × (at id f e ≡ f e)) ⊎ ((e.request.id.0 ≢ id.0) × (at id f e ≡ e))
+pub at_cases : (id : RequestId) (f : Pending → Pending) (e : Pending) → ((e.request.id.0 ≡ id.0) × (update_pending id f e ≡ f e)) ⊎ ((e.request.id.0 ≢ id.0) × (update_pending id f e ≡ e))
 at_cases id f e = ⊎_elim
     (λ (same : e.request.id.0 ≡ id.0). inl (same, cond-true (e.request.id.0 == id.0) (f e) e (eq-eqb e.request.id.0 id.0 same)))
     (λ (other : e.request.id.0 ≢ id.0). inr (other, cond-false (e.request.id.0 == id.0) (f e) e (ne_eqb e.request.id.0 id.0 other)))
@@ -72,11 +72,11 @@ filter_in p xs x h =
     (All-contains (Contains xs) (filter p xs) x (All-filter p (Contains xs) xs (All-contains_itself xs)) h, All-contains (λ z. p z ≡ true) (filter p xs) x (filter_passes p xs) h)
 
 -- another request than the one that goes stays, and no other does
-pub without_in : (id : RequestId) (es : List Pending) (e : Pending) → Contains (without id es) e → Contains es e × (e.request.id.0 ≢ id.0)
+pub without_in : (id : RequestId) (es : List Pending) (e : Pending) → Contains (without_pending id es) e → Contains es e × (e.request.id.0 ≢ id.0)
 without_in id es e h =
     let kept = filter_in (λ x. not (x.request.id.0 == id.0)) es e h in
     (kept.0, eqb-false e.request.id.0 id.0 (not-true (e.request.id.0 == id.0) kept.1))
 
-pub without_into : (id : RequestId) (es : List Pending) (e : Pending) → e.request.id ≢ id → Contains es e → Contains (without id es) e
+pub without_into : (id : RequestId) (es : List Pending) (e : Pending) → e.request.id ≢ id → Contains es e → Contains (without_pending id es) e
 without_into id es e ne here =
     in_filter (λ x. not (x.request.id.0 == id.0)) es e here (ap not (ne_eqb e.request.id.0 id.0 (λ same. ne (ap (λ (n : ℕ). record { 0 = n }) same))))

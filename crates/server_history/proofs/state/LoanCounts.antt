@@ -10,7 +10,7 @@ use Rattle.ata_types.specs.declared.request.Outcome.{Outcome}
 use Rattle.ata_types.specs.declared.request.Outcome.TheVariants as outcome
 use Rattle.ata_types.specs.declared.request.RequestId.{RequestId}
 use Rattle.server_history.proofs.state.ListMembers.{contains_cases}
-use Rattle.request_queue.specs.Entries.{BookEntry, all_marked_under, update_if_id, has_id, is_of_port, marked_under, requeued_entry}
+use Rattle.request_queue.specs.BookEntries.{BookEntry, all_marked_under, update_if_id, has_id, is_of_port, marked_under, requeued_entry}
 use Rattle.request_queue.specs.Dispositions.{keeps_loan}
 use Rattle.request_queue.specs.declared.PendingRequest.{PendingRequest}
 use Rattle.server_history.specs.ErrorHandling.{requests_of}

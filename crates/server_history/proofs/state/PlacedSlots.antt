@@ -2,14 +2,14 @@
 use Rattle.std.proofs.Common.{ℕ, ◌≡◌, ◌≢◌, ◌≤◌, ◌<◌, List, get_or, length, ◌⊎◌, Option, None, Some, inl, inr, sym, ap, ◌∙◌, subst, ⊎_elim, arith}
 use Rattle.std.proofs.lemmas.Bool.{cases_eq}
 use Rattle.std.proofs.lemmas.List.{get_or-set_same, get_or-set_other, length-set}
-use Rattle.refinement.specs.Slots.{SlotState, SlotStates, put}
+use Rattle.refinement.specs.Slots.{SlotState, SlotStates, set_slot_state}
 use Rattle.block_machine.specs.declared.due.QueueMode.{QueueMode}
 use Rattle.host_boot.specs.TakeOver.{probe_result_of}
 use Rattle.host_boot.specs.declared.ProbeResult.{ProbeResult}
 use Rattle.server_history.specs.Prerequisites.{PrerequisiteLaws}
-use Rattle.slots.specs.Uses.{PortSlots, with_use}
+use Rattle.slots.specs.SlotUses.{PortSlots, with_use}
 use Rattle.slots.specs.declared.SlotUse.{SlotUse}
-use Rattle.server_history.specs.Server.{SlotsInvariant, IsUsedAs, mode_at, no_slots, usable_slots_of, slot_state_of, used_for, with_slot}
+use Rattle.server_history.specs.ServerState.{SlotsInvariant, IsUsedAs, mode_at, no_slots, usable_slots_of, slot_state_of, used_for, with_slot}
 
 -- it is this slot, or another
 pub its_or_other : (port slot q k : ℕ) → ((q ≡ port) × (k ≡ slot)) ⊎ (q ≡ port → k ≡ slot → ⊥)
@@ -38,10 +38,10 @@ module _ (slots : List PortSlots) (port slot : ℕ) (used : Option SlotUse) (low
 
   -- where its uses are what they were but for this slot
   pub placed_uses : PrerequisiteLaws → (found : List ProbeResult) (uses : SlotStates) → ((q k : ℕ) → IsUsedAs (probe_result_of found q) (used_for slots q k) (uses q k))
-      → (q k : ℕ) → IsUsedAs (probe_result_of found q) (used_for (with_slot slots port slot used) q k) (put uses port slot (slot_state_of used) q k)
+      → (q k : ℕ) → IsUsedAs (probe_result_of found q) (used_for (with_slot slots port slot used) q k) (set_slot_state uses port slot (slot_state_of used) q k)
   placed_uses laws found uses was q k = ⊎_elim
       (λ (at : (q ≡ port) × (k ≡ slot)).
-      λ _. ap (λ (p : ℕ). put uses port slot (slot_state_of used) p k) at.0 ∙ ap (λ (n : ℕ). put uses port slot (slot_state_of used) port n) at.1 ∙ laws.slots.put_here uses port slot (slot_state_of used)
+      λ _. ap (λ (p : ℕ). set_slot_state uses port slot (slot_state_of used) p k) at.0 ∙ ap (λ (n : ℕ). set_slot_state uses port slot (slot_state_of used) port n) at.1 ∙ laws.slots.put_here uses port slot (slot_state_of used)
       ∙ ap slot_state_of (sym placed_same ∙ ap (λ (n : ℕ). used_for (with_slot slots port slot used) port n) (sym at.1) ∙ ap (λ (p : ℕ). used_for (with_slot slots port slot used) p k) (sym at.0)))
       (λ (there : q ≡ port → k ≡ slot → ⊥).
       let U : SlotState → Type 0 = λ u. IsUsedAs (probe_result_of found q) (used_for (with_slot slots port slot used) q k) u in

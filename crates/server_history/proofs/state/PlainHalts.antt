@@ -13,17 +13,17 @@ use Rattle.adapter.specs.Device.{Device, Halt, DevicePort, FetchedCommand}
 use Rattle.adapter.specs.Device.Halt.{HaltedPlain, HaltedQueued, LogOnly, NotHalted}
 use Rattle.adapter.specs.Steps.{halt_after_start}
 use Rattle.refinement.specs.Acts.{DriverSlots, driver_state}
-use Rattle.refinement.specs.Driven.{AnyUse, IsSimulated}
+use Rattle.refinement.specs.Fragments.{AnyUse, IsSimulated}
 use Rattle.refinement.specs.Halting.{HaltIsOfTaken, HaltOfTakenIfSt}
 use Rattle.refinement.specs.Links.{DoesNotWrite}
-use Rattle.refinement.specs.Recovering.{WorksPlainly}
-use Rattle.refinement.specs.Slots.{IsEmptySlot, RelatesSlot, Stage, SlotState}
+use Rattle.refinement.specs.HaltRecovery.{WorksPlainly}
+use Rattle.refinement.specs.Slots.{IsEmptySlot, RelatesSlot, IsInSomeStage, SlotState}
 use Rattle.block_machine.specs.State.{Pending}
 use Rattle.error_recovery.specs.Recovery.{RunsAgain}
 use Rattle.host_boot.specs.TakeOver.{probe_result_of}
 use Rattle.server_history.specs.Prerequisites.{PrerequisiteLaws}
 use Rattle.server_history.specs.ErrorHandling.{AreAllQueuedAs}
-use Rattle.server_history.specs.Server.{ServerState, InCallInvariant, slots_at, state_of, used_for}
+use Rattle.server_history.specs.ServerState.{ServerState, InCallInvariant, slots_at, state_of, used_for}
 use Rattle.server_history.proofs.state.PortSlots.{IsServedBy, free_unused, served_request, serves_used, used_or_not}
 use Rattle.slots.specs.declared.SlotUse.{SlotUse}
 
@@ -32,7 +32,7 @@ and_false true = refl
 and_false false = refl
 
 -- a plain request's command sets no bit of PxSACT, and is what is taken
-plain_stage : (memory : ℕ → ℕ) (p : DevicePort) (port slot : ℕ) (e : Pending) (c : Meaning) (places : List ℕ) → Stage memory p port slot e c places → is_queued c.operation ≡ false
+plain_stage : (memory : ℕ → ℕ) (p : DevicePort) (port slot : ℕ) (e : Pending) (c : Meaning) (places : List ℕ) → IsInSomeStage memory p port slot e c places → is_queued c.operation ≡ false
     → (p.sact slot ≡ false) × ((t : FetchedCommand) → p.taken slot ≡ Some t → is_queued t.meaning.operation ≡ false)
 plain_stage memory p port slot e c places (inl waits) plain = (waits.sact ∙ plain, λ t is. let z : None ≡ Some t = sym waits.free ∙ is in absurd cc)
 plain_stage memory p port slot e c places (inr (inl taken)) plain = (
@@ -50,25 +50,25 @@ module _ (laws : PrerequisiteLaws) (s : ServerState) (k : InCallInvariant s) (po
   each : (slot : ℕ) → ((s.device.port port.0).sact slot ≡ false) × ((t : FetchedCommand) → (s.device.port port.0).taken slot ≡ Some t → is_queued t.meaning.operation ≡ false)
   each slot = ⊎_elim
       (λ (u : (used : SlotUse) × (used_for s.slots port.0 slot ≡ Some used)).
-      let b : IsServedBy s k.machine port.0 slot u.0.id = served_request s k.machine port.0 slot k.stands ready u.0.id (serves_used s k.machine port.0 k.stands ready slot u.0 u.1) in
-      let c = k.commands port.0 slot u.0 u.1 in
-      let one = (laws.slots.one_said s.device.memory (s.device.port port.0).bases.clb slot b.serves.command c.command b.serves.places c.places b.serves.told.says c.stored.told.says).0 in
+      let b : IsServedBy s k.machine port.0 slot u.0.id = served_request s k.machine port.0 slot k.machine_relation ready u.0.id (serves_used s k.machine port.0 k.machine_relation ready slot u.0 u.1) in
+      let c = k.slots_store_commands port.0 slot u.0 u.1 in
+      let one = (laws.slots.one_said s.device.memory (s.device.port port.0).bases.clb slot b.serves.command c.command b.serves.places c.places b.serves.slot_decodes_to.decodes_to c.stored.slot_decodes_to.decodes_to).0 in
       plain_stage s.device.memory (s.device.port port.0) port.0 slot b.serves.pending b.serves.command b.serves.places b.serves.stage
       (ap (λ (y : Meaning). is_queued y.operation) one ∙ c.kind ∙ alike slot u.0 u.1))
       (λ none.
       let f : IsEmptySlot (s.device.port port.0) slot = subst (λ (u : SlotState). RelatesSlot k.machine s.device.memory s.device.tape (s.device.port port.0) port.0 slot u)
-      (free_unused s k.machine port.0 k.stands ready slot none) (k.stands.knows.agrees.slot port.0 slot) in
+      (free_unused s k.machine port.0 k.machine_relation ready slot none) (k.machine_relation.driver_relation.state_relation.relates_slots port.0 slot) in
       (f.unarmed, λ t is. let z : None ≡ Some t = sym f.free ∙ is in absurd cc))
       (used_or_not (used_for s.slots port.0 slot))
 
   pub works_plainly : HaltIsOfTaken (s.device.port port.0) → WorksPlainly (s.device.port port.0)
-  works_plainly h = record { restarts = by (s.device.port port.0).halt refl; unarmed = λ slot. (each slot).0; plain = λ slot t is. (each slot).1 t is }
+  works_plainly h = record { start_ends_halt = by (s.device.port port.0).halt refl; unarmed = λ slot. (each slot).0; plain = λ slot t is. (each slot).1 t is }
     where
       by : (halt : Halt) → (s.device.port port.0).halt ≡ halt → halt_after_start (s.device.port port.0).halt ≡ NotHalted
       by NotHalted is = ap halt_after_start is
       by HaltedPlain is = ap halt_after_start is
-      by HaltedQueued is = let q = h.queued is in absurd (false≢true (sym ((each q.0).1 q.1 q.2) ∙ q.3))
-      by LogOnly is = absurd (h.unlogged is)
+      by HaltedQueued is = let q = h.queued_is_taken is in absurd (false≢true (sym ((each q.0).1 q.1 q.2) ∙ q.3))
+      by LogOnly is = absurd (h.is_not_log_only is)
 
 -- ---- where a halt is of a taken command
 
@@ -76,12 +76,12 @@ module _ (laws : PrerequisiteLaws) (s : ServerState) (k : InCallInvariant s) (po
 pub followed_halts : PrerequisiteLaws → (port : Port) (May : Access → Type 0) (s : ServerState) (k : InCallInvariant s) (new : Device) → (f : IsSimulated May AnyUse s.device new) → ((access : Access) → May access → DoesNotWrite (Px port Cmd) access)
     → HaltOfTakenIfSt (s.device.port port.0) → HaltOfTakenIfSt (new.port port.0)
 followed_halts laws port May s k new f spares h =
-    let slots : DriverSlots = record { uses = k.stands.uses; parked = k.stands.parked } in
-    let c = f.comes slots k.machine k.reached k.stands.knows tt in
-    laws.port_error.halts_acts port c.acts (driver_state slots s.device) (driver_state slots new) k.machine k.reached k.stands.knows c.done
-    (subst (All (DoesNotWrite (Px port Cmd))) (sym c.accesses_are) (All-weaker May (DoesNotWrite (Px port Cmd)) spares f.driven.accesses f.driven.only)) h
+    let slots : DriverSlots = record { uses = k.machine_relation.uses; parked = k.machine_relation.parked } in
+    let c = f.acts_reach slots k.machine k.reached k.machine_relation.driver_relation tt in
+    laws.port_error.halts_acts port c.acts (driver_state slots s.device) (driver_state slots new) k.machine k.reached k.machine_relation.driver_relation c.acts_are_done
+    (subst (All (DoesNotWrite (Px port Cmd))) (sym c.accesses_are) (All-weaker May (DoesNotWrite (Px port Cmd)) spares f.is_driven.accesses f.is_driven.accesses_are_of_kind)) h
 
 -- and so it is once a port was recovered
 pub again_halts : PrerequisiteLaws → (queued : Bool) (port : ℕ) (old new : Device) → RunsAgain queued port old new → (queued ≡ false → WorksPlainly (old.port port)) → HaltIsOfTaken (new.port port)
-again_halts laws true port old new again plainly = laws.port_error.halts_calm (new.port port) (again.ended refl)
-again_halts laws false port old new again plainly = laws.port_error.halts_plain (new.port port) (again.plain refl (plainly refl))
+again_halts laws true port old new again plainly = laws.port_error.halts_calm (new.port port) (again.queued_halt_ends refl)
+again_halts laws false port old new again plainly = laws.port_error.halts_plain (new.port port) (again.works_plainly refl (plainly refl))

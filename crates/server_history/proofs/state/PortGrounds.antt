@@ -3,7 +3,7 @@ use Rattle.std.proofs.Common.{ℕ, ◌≡◌, ◌≢◌, ap}
 use Rattle.ata_types.specs.declared.PortState.TheVariants.{Dead}
 use Rattle.adapter.specs.Device.{Device}
 use Rattle.adapter.specs.declared.command.Operation.TheVariants.{Identify}
-use Rattle.refinement.specs.Driven.{LeavesPort, GainsNoMove}
+use Rattle.refinement.specs.Fragments.{LeavesPort, GainsNoMove}
 use Rattle.refinement.specs.Links.{SameAdapter}
 use Rattle.host_boot.specs.TakeOver.{LeavesFoundPort, StillBacksProbeResult}
 use Rattle.host_boot.specs.declared.ProbeResult.{ProbeResult}

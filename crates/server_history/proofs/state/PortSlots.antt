@@ -15,23 +15,23 @@ use Rattle.adapter.specs.Commands.{Meaning}
 use Rattle.hba_regs.specs.Bits.{bit}
 use Rattle.adapter.specs.Device.{Device, DevicePort}
 use Rattle.adapter.specs.declared.command.Operation.{Operation}
-use Rattle.block_machine.specs.Due.{is_plain}
+use Rattle.block_machine.specs.DueRequests.{is_plain}
 use Rattle.block_machine.specs.Ports.{IsValidMode}
 use Rattle.block_machine.specs.State.{Machine, Pending}
 use Rattle.block_machine.specs.Steps.{MayStillMove, NoneQuarantined}
 use Rattle.block_machine.specs.declared.due.QueueMode.{QueueMode}
-use Rattle.refinement.specs.Slots.{Free, Own, Serves, SlotState, IsDropped, IsEnded, IsOver, RelatesSlot, ServesRequest, Stage}
+use Rattle.refinement.specs.Slots.{Free, Own, Serves, SlotState, IsDropped, IsEnded, IsOver, RelatesSlot, ServesRequest, IsInSomeStage}
 use Rattle.host_boot.specs.TakeOver.{StillBacksProbeResult, probe_result_of, wanted_of}
 use Rattle.host_boot.specs.declared.ProbeResult.{ProbeResult}
 use Rattle.host_boot.specs.declared.ProbeResult.TheVariants.{Unserved, Ready, Unready}
 use Rattle.identify.specs.declared.DiskInfo.{DiskInfo}
-use Rattle.request_queue.specs.Entries.{BookEntry}
-use Rattle.request_queue.specs.Machine.{EntryRelation}
+use Rattle.request_queue.specs.BookEntries.{BookEntry}
+use Rattle.request_queue.specs.BookRelation.{EntryRelation}
 use Rattle.std.proofs.lemmas.List.{get_or_past}
-use Rattle.slots.specs.Uses.{PortSlots, use_at}
+use Rattle.slots.specs.SlotUses.{PortSlots, use_at}
 use Rattle.slots.specs.declared.SlotUse.{SlotUse}
-use Rattle.server_history.specs.Served.{is_used}
-use Rattle.server_history.specs.Server.{ServerState, InCallInvariant, MachineRelation, IsUsedAs, is_served, mode_at, probed_mode, no_slots, slots_at, state_of, usable_slots_of, slot_state_of, used_for}
+use Rattle.server_history.specs.IssuingAndAnswering.{is_used}
+use Rattle.server_history.specs.ServerState.{ServerState, InCallInvariant, MachineRelation, IsUsedAs, is_served, mode_at, probed_mode, no_slots, slots_at, state_of, usable_slots_of, slot_state_of, used_for}
 use Rattle.server_history.proofs.state.PairedLists.{at_right}
 use Rattle.server_history.proofs.state.FirstMembers.{nowhere}
 
@@ -42,7 +42,7 @@ pub ready_found : (s : ServerState) (port : ℕ) → InCallInvariant s → state
 ready_found s port k ready = by (probe_result_of s.ports port) refl
   where
     low : is_served (probe_result_of s.ports port) ≡ true → port < 4
-    low served = (k.there port served).0
+    low served = (k.served_ports_exist port served).0
 
     by : (found : ProbeResult) → probe_result_of s.ports port ≡ found → (port < 4) × ((info : DiskInfo) × (probe_result_of s.ports port ≡ Ready info))
     by Unserved is = let x : Absent ≡ ReadyState = sym (ap state_of is) ∙ ready in absurd cc
@@ -50,7 +50,7 @@ ready_found s port k ready = by (probe_result_of s.ports port) refl
     by (Unready state) is =
         let state_is : state ≡ ReadyState = sym (ap state_of is) ∙ ready in
         let P : ProbeResult → Type 0 = λ f. StillBacksProbeResult (wanted_of s.wanted port) f port s.device in
-        absurd (subst P (is ∙ ap Unready state_is) (k.behind port (low (ap is_served is))).behind).1
+        absurd (subst P (is ∙ ap Unready state_is) (k.port_invariant port (low (ap is_served is))).probe_result_is_backed).1
 
 -- it isn't dead
 pub not_dead : (s : ServerState) (port : ℕ) → state_of (probe_result_of s.ports port) ≡ ReadyState → probe_result_of s.ports port ≢ Unready Dead
@@ -58,7 +58,7 @@ not_dead s port ready is = let z : Dead ≡ ReadyState = sym (ap state_of is) �
 
 -- a request of the book is of a ready port
 pub of_ready : (s : ServerState) → InCallInvariant s → (e : BookEntry) → Contains s.book e → state_of (probe_result_of s.ports e.entry.port.0) ≡ ReadyState
-of_ready s k e here = All-contains (λ (x : BookEntry). state_of (probe_result_of s.ports x.entry.port.0) ≡ ReadyState) s.book e k.ready here
+of_ready s k e here = All-contains (λ (x : BookEntry). state_of (probe_result_of s.ports x.entry.port.0) ≡ ReadyState) s.book e k.requests_are_of_ready_ports here
 
 -- ---- how a port takes commands
 
@@ -69,7 +69,7 @@ TakesSome _ = Unit {0}
 
 takes_some : (wanted : Wanted) (found : ProbeResult) (port : ℕ) (d : Device) → StillBacksProbeResult wanted found port d → TakesSome found
 takes_some wanted Unserved port d behind = tt
-takes_some wanted (Ready info) port d behind = let depth = behind.1.fit.tells.depth in omega (arith, depth)
+takes_some wanted (Ready info) port d behind = let depth = behind.1.disk_is_fit.page_tells.depth in omega (arith, depth)
 takes_some wanted (Unready state) port d behind = tt
 
 some_min : (a b : ℕ) → 1 ≤ a → 1 ≤ b → 1 ≤ min a b
@@ -105,7 +105,7 @@ stood_mode wanted found port d behind = mode_fit d.cap found (takes_some wanted 
 
 pub its_mode : (s : ServerState) (port : ℕ) → InCallInvariant s → port < 4 → IsValidMode (mode_at s.modes port) × ((mode_at s.modes port).usable ≤ s.device.cap / 256 % 32 + 1)
 its_mode s port k low =
-    subst (λ (m : QueueMode). IsValidMode m × (m.usable ≤ s.device.cap / 256 % 32 + 1)) (sym (k.modes port low)) (stood_mode (wanted_of s.wanted port) (probe_result_of s.ports port) port s.device (k.behind port low).behind)
+    subst (λ (m : QueueMode). IsValidMode m × (m.usable ≤ s.device.cap / 256 % 32 + 1)) (sym (k.modes port low)) (stood_mode (wanted_of s.wanted port) (probe_result_of s.ports port) port s.device (k.port_invariant port low).probe_result_is_backed)
 
 -- a ready port may use the slots of its mode
 pub usable_ready : (s : ServerState) (port : ℕ) (k : InCallInvariant s) → state_of (probe_result_of s.ports port) ≡ ReadyState → usable_slots_of (probe_result_of s.ports port) (mode_at s.modes port) ≡ (mode_at s.modes port).usable
@@ -135,7 +135,7 @@ not_own found (Some used) u o other is own = let z : Serves used.id ≡ Own o = 
 
 -- no request is kept of a port that isn't dead
 pub none_kept : (s : ServerState) (m : Machine) (port : Port) → MachineRelation s m → probe_result_of s.ports port.0 ≢ Unready Dead → NoneQuarantined m port
-none_kept s m port is other e here own = other (ap (λ (q : Port). probe_result_of s.ports q.0) (sym own) ∙ is.kept.dead e here)
+none_kept s m port is other e here own = other (ap (λ (q : Port). probe_result_of s.ports q.0) (sym own) ∙ is.quarantine_relation.dead e here)
 
 -- used, or not
 pub used_or_not : (used : Option SlotUse) → ((u : SlotUse) × (used ≡ Some u)) ⊎ (used ≡ None)
@@ -166,7 +166,7 @@ used_there s port slot u k used = (
     low = ⊎_elim
         (λ (small : port < 4). small)
         (λ (high : 4 ≤ port).
-        let four = k.four in
+        let four = k.four_slots in
         let none = get_or_past s.slots port no_slots (omega (arith, four, high)) in
         let z : None ≡ Some u = sym (ap (λ (x : PortSlots). use_at x slot) none) ∙ used in absurd cc)
         (cases_lt port 4)
@@ -190,7 +190,7 @@ busy_used (Some u) busy = (u, refl)
 module _ (s : ServerState) (m : Machine) (port : ℕ) (is : MachineRelation s m) (ready : state_of (probe_result_of s.ports port) ≡ ReadyState) where
   -- a slot of a ready port is used as the server has it
   pub ready_use : (slot : ℕ) → is.uses port slot ≡ slot_state_of (used_for s.slots port slot)
-  ready_use slot = is.used port slot (not_dead s port ready)
+  ready_use slot = is.are_uses_of port slot (not_dead s port ready)
 
   pub serves_used : (slot : ℕ) (u : SlotUse) → used_for s.slots port slot ≡ Some u → is.uses port slot ≡ Serves u.id
   serves_used slot u used = ready_use slot ∙ ap slot_state_of used
@@ -209,13 +209,13 @@ module _ (s : ServerState) (m : Machine) (port : ℕ) (is : MachineRelation s m)
 pub still_booked : (s : ServerState) (m : Machine) (port : ℕ) → MachineRelation s m → state_of (probe_result_of s.ports port) ≡ ReadyState → (e : Pending) → MayStillMove m e → e.request.port.0 ≡ port
     → Contains m.book e × (e.issued ≡ true)
 still_booked s m port is ready e (inl booked) own = booked
-still_booked s m port is ready e (inr kept) own = absurd (not_dead s port ready (ap (λ (q : ℕ). probe_result_of s.ports q) (sym own) ∙ is.kept.dead e kept))
+still_booked s m port is ready e (inr kept) own = absurd (not_dead s port ready (ap (λ (q : ℕ). probe_result_of s.ports q) (sym own) ∙ is.quarantine_relation.dead e kept))
 
 -- what the machine has of the request that a slot serves
 pub served_by : (s : ServerState) (m : Machine) (port slot : ℕ) → (is : MachineRelation s m) → (id : RequestId) → is.uses port slot ≡ Serves id
     → ServesRequest m s.device.memory (s.device.port port) port slot id
 served_by s m port slot is id serves =
-    subst (λ (u : SlotState). RelatesSlot m s.device.memory s.device.tape (s.device.port port) port slot u) serves (is.knows.agrees.slot port slot)
+    subst (λ (u : SlotState). RelatesSlot m s.device.memory s.device.tape (s.device.port port) port slot u) serves (is.driver_relation.state_relation.relates_slots port slot)
 
 -- A request that a slot serves: in the machine, and in the server's book.
 pub record IsServedBy (s : ServerState) (m : Machine) (port slot : ℕ) (id : RequestId) : Type 0 where
@@ -231,7 +231,7 @@ pub record IsServedBy (s : ServerState) (m : Machine) (port slot : ℕ) (id : Re
 pub served_request : (s : ServerState) (m : Machine) (port slot : ℕ) → (is : MachineRelation s m) → state_of (probe_result_of s.ports port) ≡ ReadyState → (id : RequestId) → is.uses port slot ≡ Serves id → IsServedBy s m port slot id
 served_request s m port slot is ready id serves =
     let x : ServesRequest m s.device.memory (s.device.port port) port slot id = served_by s m port slot is id serves in
-    let booked = still_booked s m port is ready x.pending x.moves x.port_is in
+    let booked = still_booked s m port is ready x.pending x.may_still_move x.port_is in
     let e = at_right EntryRelation s.book m.book is.book x.pending booked.0 in
     record {
       serves = x;
@@ -271,7 +271,7 @@ issued_has s m port is k ready e here own issued = ⊎_elim
     (λ (w : (slot : ℕ) × (is.uses port.0 slot ≡ Serves e.request.id)).
     let x = used_serves s m port.0 is ready w.0 e.request.id w.1 in
     record { slot = w.0; small = used_small s port.0 w.0 x.0 k ready x.1; used = x.0; used_is = x.1; id_is = x.2 })
-    (is.knows.have port.0 e (inl (here, issued)) (ap (λ (p : Port). p.0) own))
+    (is.driver_relation.have_slots port.0 e (inl (here, issued)) (ap (λ (p : Port). p.0) own))
 
 -- ---- a slot is given up
 
@@ -280,7 +280,7 @@ abbrev pub CommandsAreOver : Port → ℕ → Device → Type 0
 CommandsAreOver port done d = (slot : ℕ) → slot < 32 → bit done slot ≡ true → IsOver (d.port port.0) slot
 
 -- a command that is over has ended, or was dropped
-pub stage_over : (memory : ℕ → ℕ) (p : DevicePort) (port slot : ℕ) (e : Pending) (c : Meaning) (places : List ℕ) → Stage memory p port slot e c places → IsOver p slot → IsEnded p slot e ⊎ IsDropped p slot e
+pub stage_over : (memory : ℕ → ℕ) (p : DevicePort) (port slot : ℕ) (e : Pending) (c : Meaning) (places : List ℕ) → IsInSomeStage memory p port slot e c places → IsOver p slot → IsEnded p slot e ⊎ IsDropped p slot e
 stage_over memory p port slot e c places (inl w) over = absurd (false≢true (sym over.issued ∙ w.issued))
 stage_over memory p port slot e c places (inr (inl t)) over = let x : None ≡ Some t.command = sym over.free ∙ t.taken in absurd cc
 stage_over memory p port slot e c places (inr (inr left)) over = left

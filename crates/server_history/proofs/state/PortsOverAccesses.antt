@@ -8,7 +8,7 @@ use Rattle.adapter.specs.Device.{Device}
 use Rattle.adapter.specs.Rules.{IsOn}
 use Rattle.adapter.specs.declared.command.Operation.TheVariants.{Identify}
 use Rattle.refinement.specs.Relation.{port_at}
-use Rattle.refinement.specs.Driven.{IsDrivenBy, SparesOtherPorts, LeavesPort, GainsNoMove}
+use Rattle.refinement.specs.Fragments.{IsDrivenBy, SparesOtherPorts, LeavesPort, GainsNoMove}
 use Rattle.refinement.specs.Halting.{HaltOfTakenIfSt}
 use Rattle.refinement.specs.Links.{SameAdapter}
 use Rattle.server_history.proofs.state.DrivenAccesses.{by_one}
@@ -16,9 +16,9 @@ use Rattle.host_boot.specs.TakeOver.{StillBacksProbeResult, probe_result_of, wan
 use Rattle.host_boot.specs.declared.ProbeResult.{ProbeResult}
 use Rattle.host_boot.specs.declared.ProbeResult.TheVariants.{Unserved, Ready, Unready}
 use Rattle.identify.specs.declared.wanted.Wanted.{Wanted}
-use Rattle.port_control.specs.Services.{IsService}
+use Rattle.port_control.specs.ServiceAccesses.{IsServiceAccess}
 use Rattle.server_history.specs.Prerequisites.{PrerequisiteLaws}
-use Rattle.server_history.specs.Server.{PortInvariant, state_of}
+use Rattle.server_history.specs.ServerState.{PortInvariant, state_of}
 use Rattle.server_history.proofs.state.PortGrounds.{left_on, ready_on}
 use Rattle.server_history.proofs.state.RunningPorts.{runs_on, shown_on}
 
@@ -36,7 +36,7 @@ bytes_of port (Storing at bytes) is = tt
 bytes_of port (Reading r v) is = absurd is
 bytes_of port (Writing r v) is = absurd is
 
-pub bytes_serve : (access : Access) → IsOfBytes access → IsService access
+pub bytes_serve : (access : Access) → IsOfBytes access → IsServiceAccess access
 bytes_serve (Loading at bytes) is = tt
 bytes_serve (Storing at bytes) is = tt
 bytes_serve (Reading r v) is = absurd is
@@ -51,16 +51,16 @@ bytes_leave laws access old new is on does port =
 -- ---- what stands behind a port
 
 -- over accesses that serve ports, where the port is left to the device, unless it is ready, and a halt is of a taken command still
-pub port_on : PrerequisiteLaws → (wanted : List Wanted) (found : List ProbeResult) (port : ℕ) (old new : Device) → SameAdapter old new → IsOn old → IsDrivenBy IsService old new
+pub port_on : PrerequisiteLaws → (wanted : List Wanted) (found : List ProbeResult) (port : ℕ) (old new : Device) → SameAdapter old new → IsOn old → IsDrivenBy IsServiceAccess old new
     → (state_of (probe_result_of found port) ≢ ReadyState → LeavesPort (old.port port) (new.port port))
     → (probe_result_of found port ≢ Unready Dead → GainsNoMove port Identify old new) → (HaltOfTakenIfSt (old.port port) → HaltOfTakenIfSt (new.port port)) → PortInvariant wanted found port old → PortInvariant wanted found port new
 port_on laws wanted found port old new same on by left silent halts is =
     record {
-      behind = behind (probe_result_of found port) left silent is.behind;
-      runs = λ ready. runs_on laws (port_at port) old new on by (is.runs ready);
-      shown = λ bad. shown_on laws (port_at port) old new on by (is.shown bad);
-      own = λ ready. laws.recovery.own_on port by.accesses old new by.all (is.own ready);
-      halts = λ ready. halts (λ _. is.halts ready) (runs_on laws (port_at port) old new on by (is.runs ready)).st;
+      probe_result_is_backed = behind (probe_result_of found port) left silent is.probe_result_is_backed;
+      engine_runs = λ ready. runs_on laws (port_at port) old new on by (is.engine_runs ready);
+      shows_disk_if_in = λ bad. shown_on laws (port_at port) old new on by (is.shows_disk_if_in bad);
+      has_disk_if_shown = λ ready. laws.recovery.own_on port by.accesses old new by.all_are_done (is.has_disk_if_shown ready);
+      halt_is_of_taken = λ ready. halts (λ _. is.halt_is_of_taken ready) (runs_on laws (port_at port) old new on by (is.engine_runs ready)).st;
     }
   where
     behind : (f : ProbeResult) → (state_of f ≢ ReadyState → LeavesPort (old.port port) (new.port port)) → (f ≢ Unready Dead → GainsNoMove port Identify old new)

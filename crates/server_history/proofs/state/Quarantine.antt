@@ -5,34 +5,34 @@ use Rattle.std.proofs.lemmas.List.{get_or_default}
 use Rattle.ata_types.specs.declared.PortState.TheVariants.{Dead}
 use Rattle.ata_types.specs.declared.request.Frame.{Frame}
 use Rattle.ata_types.specs.declared.request.RequestId.{RequestId}
-use Rattle.block_machine.specs.Confined.{WasAccepted, WithinLimits}
+use Rattle.block_machine.specs.Confinement.{WasAccepted, WithinLimits}
 use Rattle.block_machine.specs.Histories.{IsReachable}
 use Rattle.block_machine.specs.State.{Machine, Pending}
 use Rattle.block_machine.specs.Steps.{HoldsFrames}
 use Rattle.dma_frames.specs.Loan.{Lending}
-use Rattle.dma_frames.specs.Table.{lent_to}
+use Rattle.dma_frames.specs.FrameTables.{lent_to}
 use Rattle.host_boot.specs.TakeOver.{probe_result_of}
 use Rattle.host_boot.specs.declared.ProbeResult.TheVariants.{Unready}
-use Rattle.request_queue.specs.Entries.{BookEntry}
-use Rattle.request_queue.specs.Machine.{EntryRelation}
-use Rattle.server_history.specs.Basics.{FrameHolderLaws}
-use Rattle.server_history.specs.Server.{ServerState, InCallInvariant, IsLentOut, MachineRelation, quarantined_at}
+use Rattle.request_queue.specs.BookEntries.{BookEntry}
+use Rattle.request_queue.specs.BookRelation.{EntryRelation}
+use Rattle.server_history.specs.BasicLaws.{FrameHolderLaws}
+use Rattle.server_history.specs.ServerState.{ServerState, InCallInvariant, IsLentOut, MachineRelation, quarantined_at}
 use Rattle.server_history.proofs.state.PairedLists.{at_left}
 
 module _ (laws : FrameHolderLaws) (s : ServerState) (m : Machine) (reached : IsReachable m) (stands : MachineRelation s m) where
-  accepted : (e : Pending) → HoldsFrames m e → WasAccepted reached.first reached.past e.request
-  accepted e lives = laws.lived reached.first reached.past e reached.starts reached.legal (subst (λ (x : Machine). HoldsFrames x e) reached.is lives)
+  accepted : (e : Pending) → HoldsFrames m e → WasAccepted reached.initial_machine reached.steps_since e.request
+  accepted e lives = laws.lived reached.initial_machine reached.steps_since e reached.is_initial reached.is_legal (subst (λ (x : Machine). HoldsFrames x e) reached.leads_to_machine lives)
 
   -- one id is one request
   same_request : (a b : Pending) → HoldsFrames m a → HoldsFrames m b → a.request.id ≡ b.request.id → a.request ≡ b.request
-  same_request a b left right same = laws.one reached.first reached.past a.request b.request (accepted a left) (accepted b right) same
+  same_request a b left right same = laws.one reached.initial_machine reached.steps_since a.request b.request (accepted a left) (accepted b right) same
 
   within : WithinLimits m
-  within = subst WithinLimits (sym reached.is) (laws.limits reached.first reached.past reached.starts reached.legal)
+  within = subst WithinLimits (sym reached.leads_to_machine) (laws.limits reached.initial_machine reached.steps_since reached.is_initial reached.is_legal)
 
   module _ (port : ℕ) (loan : Lending) (here : Contains (quarantined_at s.kept port) loan) where
     its : (e : Pending) × Contains m.kept e × (e.request.port.0 ≡ port) × (loan.request ≡ e.request.id) × (loan.frames ≡ e.request.asked.frames.items)
-    its = let e = stands.kept.whose port loan here in (e.0, e.1, e.2, e.3.0, e.3.1)
+    its = let e = stands.quarantine_relation.whose port loan here in (e.0, e.1, e.2, e.3.0, e.3.1)
 
     -- its frames are lent to its request
     pub lent_out : IsLentOut s.table loan
@@ -43,7 +43,7 @@ module _ (laws : FrameHolderLaws) (s : ServerState) (m : Machine) (reached : IsR
             let f = get_or its.0.request.asked.frames.items i d in
             sym (stands.lent f)
             ∙ ap m.lent (get_or_default its.0.request.asked.frames.items i d _ small)
-            ∙ within.lent its.0 (inr its.1) i small ∙ ap Some (sym its.3)
+            ∙ within.frames_are_lent its.0 (inr its.1) i small ∙ ap Some (sym its.3)
 
     -- its request isn't unanswered
     pub answered : (e : BookEntry) → Contains s.book e → e.entry.id ≢ loan.request
@@ -54,7 +54,7 @@ module _ (laws : FrameHolderLaws) (s : ServerState) (m : Machine) (reached : IsR
     -- a loan of that request is this one
     pub one_loan : (other : ℕ) (b : Lending) → Contains (quarantined_at s.kept other) b → loan.request ≡ b.request → (port ≡ other) × (loan ≡ b)
     one_loan other b there same =
-        let y = stands.kept.whose other b there in
+        let y = stands.quarantine_relation.whose other b there in
         let one : its.0.request ≡ y.0.request = same_request its.0 y.0 (inr its.1) (inr y.1) (sym its.3 ∙ same ∙ y.3.0) in
         let frames : loan.frames ≡ b.frames = its.4 ∙ ap (λ r. r.asked.frames.items) one ∙ sym y.3.1 in
         (sym its.2 ∙ ap (λ r. r.port.0) one ∙ y.2, λ i. record { frames = frames i; request = same i })
@@ -66,5 +66,5 @@ module _ (laws : FrameHolderLaws) (s : ServerState) (m : Machine) (reached : IsR
 pub none_alive : (s : ServerState) → InCallInvariant s → (port : ℕ) → probe_result_of s.ports port ≢ Unready Dead → (loans : List Lending) → quarantined_at s.kept port ≡ loans → loans ≡ []
 none_alive s k port alive [] is = refl
 none_alive s k port alive (loan ∷ rest) is =
-    let e = k.stands.kept.whose port loan (subst (λ (list : List Lending). Contains list loan) (sym is) (0, omega arith, refl)) in
-    absurd (alive (ap (λ (q : ℕ). probe_result_of s.ports q) (sym e.2) ∙ k.stands.kept.dead e.0 e.1))
+    let e = k.machine_relation.quarantine_relation.whose port loan (subst (λ (list : List Lending). Contains list loan) (sym is) (0, omega arith, refl)) in
+    absurd (alive (ap (λ (q : ℕ). probe_result_of s.ports q) (sym e.2) ∙ k.machine_relation.quarantine_relation.dead e.0 e.1))

@@ -3,10 +3,10 @@ use Rattle.std.proofs.Common.{ℕ, ◌≡◌, ◌∙◌, ◌&&◌, ◌==◌, Boo
 use Rattle.std.proofs.lemmas.Bool.{false≢true}
 use Rattle.ata_types.specs.declared.grant.GrantRow.{GrantRow}
 use Rattle.ata_types.specs.declared.request.ClientId.{ClientId}
-use Rattle.block_machine.specs.Rules.{Names, is_same_grant_name, without_row}
-use Rattle.request_queue.specs.Entries.{BookEntry, marked_under, waits_under}
+use Rattle.block_machine.specs.Rules.{HasGrantName, is_same_grant_name, without_row}
+use Rattle.request_queue.specs.BookEntries.{BookEntry, marked_under, waits_under}
 use Rattle.request_queue.specs.declared.PendingRequest.{PendingRequest}
-use Rattle.server_history.specs.Server.{RevokedMarkInvariant, RevokedMarkAgrees}
+use Rattle.server_history.specs.ServerState.{RevokedMarkInvariant, RevokedMarkAgrees}
 use Rattle.server_history.proofs.state.ListMembers.{filter_in, in_filter}
 
 module _ (rows : List GrantRow) (client : ClientId) (number : ℕ) where
@@ -14,7 +14,7 @@ module _ (rows : List GrantRow) (client : ClientId) (number : ℕ) where
   stays row = not (is_same_grant_name client number row.client row.number)
 
   -- a row is the one that goes just if a request is under that grant that names it
-  row_under : (r : PendingRequest) (row : GrantRow) → Names r.client r.grant row → is_same_grant_name client number row.client row.number ≡ is_same_grant_name client number r.client r.grant
+  row_under : (r : PendingRequest) (row : GrantRow) → HasGrantName r.client r.grant row → is_same_grant_name client number row.client row.number ≡ is_same_grant_name client number r.client r.grant
   row_under r row named = λ i. (named.0 i).0 == client.0 && named.1 i == number
 
   pub tells_then : (r : PendingRequest) → RevokedMarkAgrees rows r → RevokedMarkAgrees (without_row client number rows) (marked_under client number r)

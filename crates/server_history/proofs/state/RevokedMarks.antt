@@ -6,10 +6,10 @@ use Rattle.ata_types.specs.declared.request.Outcome.{Outcome}
 use Rattle.ata_types.specs.declared.request.Outcome.TheVariants as outcome
 use Rattle.block_machine.specs.State.{Machine, Pending}
 use Rattle.block_machine.specs.Steps.{HasGrant, GrantAllowsOutcome}
-use Rattle.request_queue.specs.Entries.{BookEntry, issue}
-use Rattle.request_queue.specs.Machine.{EntryRelation}
+use Rattle.request_queue.specs.BookEntries.{BookEntry, issued_entry}
+use Rattle.request_queue.specs.BookRelation.{EntryRelation}
 use Rattle.request_queue.specs.declared.PendingRequest.{PendingRequest}
-use Rattle.server_history.specs.Server.{RevokedMarkInvariant, RevokedMarkAgrees}
+use Rattle.server_history.specs.ServerState.{RevokedMarkInvariant, RevokedMarkAgrees}
 
 -- ---- in the machine
 
@@ -37,7 +37,7 @@ tells_of rows grants r same tells = subst (λ (list : List GrantRow). RevokedMar
 
 -- ---- as requests are issued, and get older
 
-pub issued_marked : (rows : List GrantRow) (e : BookEntry) → RevokedMarkInvariant rows e → RevokedMarkInvariant rows (record e { entry = issue e.entry })
+pub issued_marked : (rows : List GrantRow) (e : BookEntry) → RevokedMarkInvariant rows e → RevokedMarkInvariant rows (record e { entry = issued_entry e.entry })
 issued_marked rows e m = record { tells = (m.tells.0, m.tells.1); waiting = λ waits. absurd (false≢true (sym waits)) }
 
 pub older_marked : (rows : List GrantRow) (e : BookEntry) (age : ℕ) → RevokedMarkInvariant rows e → RevokedMarkInvariant rows (record e { entry = record (e.entry) { age = age } })

@@ -11,12 +11,12 @@ use Rattle.adapter.specs.Access.{Access, Does, Reads, note}
 use Rattle.adapter.specs.Access.Access.{Reading, Writing, Loading, Storing}
 use Rattle.adapter.specs.Device.{Notes, DevicePort, Device}
 use Rattle.adapter.specs.Rules.{IsOn}
-use Rattle.refinement.specs.Driven.{IsDrivenBy}
+use Rattle.refinement.specs.Fragments.{IsDrivenBy}
 use Rattle.refinement.specs.Links.{ShowsDiskIfIn, LeavesControls, DoesNotWrite}
-use Rattle.refinement.specs.Noted.{DoesNotRead}
+use Rattle.refinement.specs.PortNotes.{DoesNotRead}
 use Rattle.port_control.specs.Ports.{programmed}
 use Rattle.refinement.specs.Relation.{port_at}
-use Rattle.port_control.specs.Services.{IsService}
+use Rattle.port_control.specs.ServiceAccesses.{IsServiceAccess}
 use Rattle.driver_history.specs.PortInvariants.{EngineRuns}
 use Rattle.server_history.specs.Prerequisites.{PrerequisiteLaws}
 use Rattle.server_history.proofs.state.DrivenAccesses.{kept_over}
@@ -59,7 +59,7 @@ link_still laws port access old new on spares does saw = by access spares does
     by (Storing at bytes) its did = spared (Storing at bytes) its did tt
     by (Reading r v) its did = read r v did
 
-each : PrerequisiteLaws → (port : Port) (access : Access) (old new : Device) → IsOn old → IsService access → Does access old new → Holds port.0 old → Holds port.0 new
+each : PrerequisiteLaws → (port : Port) (access : Access) (old new : Device) → IsOn old → IsServiceAccess access → Does access old new → Holds port.0 old → Holds port.0 new
 each laws port access old new on is does h =
     let left : LeavesControls access port (old.port port.0) (new.port port.0) = laws.looks.access_controls port access old new on.no_reset does in
     let command = left.command (laws.looking.services_spare port Cmd (λ e. cc) (λ e. cc) (λ e. cc) access is) in
@@ -76,28 +76,28 @@ each laws port access old new on is does h =
     }
 
 -- over accesses that serve ports the adapter stays on, with what each of them keeps
-on_over : PrerequisiteLaws → (Kept : Device → Type 0) → ((access : Access) (old new : Device) → IsOn old → IsService access → Does access old new → Kept old → Kept new)
-    → (old new : Device) → IsOn old → IsDrivenBy IsService old new → Kept old → Kept new
+on_over : PrerequisiteLaws → (Kept : Device → Type 0) → ((access : Access) (old new : Device) → IsOn old → IsServiceAccess access → Does access old new → Kept old → Kept new)
+    → (old new : Device) → IsOn old → IsDrivenBy IsServiceAccess old new → Kept old → Kept new
 on_over laws Kept keeps old new on driven here =
-    (kept_over (λ d. IsOn d × Kept d) IsService
+    (kept_over (λ d. IsOn d × Kept d) IsServiceAccess
     (λ access a b is does w. (laws.looks.access_on access a b w.0 (λ v same. absurd (subst (DoesNotWrite Ghc) same (laws.looking.services_spare_host access is) refl)) does, keeps access a b w.0 is does w.1))
     old new driven (on, here)).1
 
 -- a device shows still, or none is in
-pub shown_on : PrerequisiteLaws → (port : Port) (old new : Device) → IsOn old → IsDrivenBy IsService old new → ShowsDiskIfIn (old.port port.0) → ShowsDiskIfIn (new.port port.0)
+pub shown_on : PrerequisiteLaws → (port : Port) (old new : Device) → IsOn old → IsDrivenBy IsServiceAccess old new → ShowsDiskIfIn (old.port port.0) → ShowsDiskIfIn (new.port port.0)
 shown_on laws port old new on driven =
     on_over laws (λ d. ShowsDiskIfIn (d.port port.0))
     (λ access a b ready is does. laws.looking.shown_stays port access a b ready.no_reset (laws.looking.services_spare port Sctl (λ e. cc) (λ e. cc) (λ e. cc) access is) does) old new on driven
 
-pub runs_on : PrerequisiteLaws → (port : Port) (old new : Device) → IsOn old → IsDrivenBy IsService old new → EngineRuns port.0 old → EngineRuns port.0 new
+pub runs_on : PrerequisiteLaws → (port : Port) (old new : Device) → IsOn old → IsDrivenBy IsServiceAccess old new → EngineRuns port.0 old → EngineRuns port.0 new
 runs_on laws port old new on driven r = record {
   st = h.st;
   cr = h.cr;
   fre = h.fre;
   bases = h.bases;
-  saw = h.saw;
-  recorded = laws.looking.services_recorded port.0 old new driven (λ _. r.recorded) h.st;
+  device_was_seen = h.saw;
+  faults_are_recorded = laws.looking.services_recorded port.0 old new driven (λ _. r.faults_are_recorded) h.st;
 }
   where
     h : Holds port.0 new
-    h = on_over laws (Holds port.0) (each laws port) old new on driven (record { st = r.st; cr = r.cr; fre = r.fre; bases = r.bases; saw = r.saw })
+    h = on_over laws (Holds port.0) (each laws port) old new on driven (record { st = r.st; cr = r.cr; fre = r.fre; bases = r.bases; saw = r.device_was_seen })

@@ -10,20 +10,20 @@ use Rattle.adapter.specs.Device.{Device}
 use Rattle.refinement.specs.Acts.{DriverSlots}
 use Rattle.refinement.specs.Links.{ShowsDiskIfIn}
 use Rattle.refinement.specs.Slots.{Free}
-use Rattle.block_machine.specs.Due.{is_plain}
+use Rattle.block_machine.specs.DueRequests.{is_plain}
 use Rattle.block_machine.specs.declared.due.QueueMode.{QueueMode}
 use Rattle.block_machine.specs.Histories.{JointState, IsReachable}
 use Rattle.block_machine.specs.State.{Machine, Pending}
-use Rattle.driver_history.specs.PortInvariants.{HasNothingInSlots, ReadySlotsInvariant, PortStateInvariant, DriverInvariantWith, IsFreeOrServes, IsQueuedAsAsked, HasNoUnanswered, EngineRuns, ServesIn}
+use Rattle.driver_history.specs.PortInvariants.{HasNothingInSlots, ReadySlotsInvariant, PortStateInvariant, DriverInvariantWith, IsFreeOrServes, IsQueuedAsAsked, HasNoUnanswered, EngineRuns, SlotServesUnanswered}
 use Rattle.host_boot.specs.TakeOver.{FoundBadDisk, IsServed as IsServedPort, StillBacksProbeResult, probe_result_of, wanted_of}
 use Rattle.host_boot.specs.declared.ProbeResult.{ProbeResult}
 use Rattle.host_boot.specs.declared.ProbeResult.TheVariants.{Unserved, Ready, Unready}
 use Rattle.identify.specs.declared.DiskInfo.{DiskInfo}
 use Rattle.identify.specs.declared.wanted.Wanted.{Wanted}
-use Rattle.request_queue.specs.Entries.{BookEntry}
-use Rattle.request_queue.specs.Machine.{EntryRelation}
+use Rattle.request_queue.specs.BookEntries.{BookEntry}
+use Rattle.request_queue.specs.BookRelation.{EntryRelation}
 use Rattle.slots.specs.declared.SlotUse.{SlotUse}
-use Rattle.server_history.specs.Server.{StandsAlone, ServerState, InCallInvariant, MachineRelation, is_served, mode_at, probed_mode, mode_in, ports_of, last_disk_in, last_disk_of, remembered_at, last_sectors_of, last_serial_of, state_of, trims_of, usable_slots_of, slot_state_of, used_for}
+use Rattle.server_history.specs.ServerState.{StandsAlone, ServerState, InCallInvariant, MachineRelation, is_served, mode_at, probed_mode, mode_in, ports_of, last_disk_in, last_disk_of, remembered_at, last_sectors_of, last_serial_of, state_of, trims_of, usable_slots_of, slot_state_of, used_for}
 use Rattle.server_history.proofs.state.PortSlots.{free_unused, none_kept, not_dead, of_ready, ready_use, usable_ready, used_serves}
 use Rattle.server_history.proofs.state.PairedLists.{at_right}
 
@@ -58,10 +58,10 @@ module _ (s : ServerState) (k : InCallInvariant s) (m : Machine) (reached : IsRe
     -- a port that isn't ready uses no slot
     nothing : (f : ProbeResult) → probe_result_of s.ports port.0 ≡ f → usable_slots_of f (mode_at s.modes port.0) ≡ 0 → f ≢ Unready Dead → HasNothingInSlots slots port.0
     nothing f e none other = record {
-      free = λ slot.
-          is.used port.0 slot (alive f e other)
+      all_are_free = λ slot.
+          is.are_uses_of port.0 slot (alive f e other)
           ∙ ap slot_state_of ((k.slots port.0 low).unused slot (subst (λ (n : ℕ). n ≤ slot) (sym (ap (λ (x : ProbeResult). usable_slots_of x (mode_at s.modes port.0)) e ∙ none)) (omega arith)));
-      unparked = is.unparked port.0 (alive f e other);
+      none_is_parked = is.unparked port.0 (alive f e other);
     }
 
     module _ (info : DiskInfo) (found : probe_result_of s.ports port.0 ≡ Ready info) where
@@ -75,104 +75,104 @@ module _ (s : ServerState) (k : InCallInvariant s) (m : Machine) (reached : IsRe
       mode = mode_in s port
 
       -- a slot that serves a request is used for it, and the request is in the book
-      serving : (slot : ℕ) (e : Pending) → ServesIn slots instant port slot e → (u : SlotUse) × (used_for s.slots port.0 slot ≡ Some u) × ((h : BookEntry) × Contains s.book h × EntryRelation h e × (h.entry.id ≡ u.id))
+      serving : (slot : ℕ) (e : Pending) → SlotServesUnanswered slots instant port slot e → (u : SlotUse) × (used_for s.slots port.0 slot ≡ Some u) × ((h : BookEntry) × Contains s.book h × EntryRelation h e × (h.entry.id ≡ u.id))
       serving slot e serves =
           let u = used_serves s m port.0 is ready slot e.request.id serves.serves in
-          let h = at_right EntryRelation s.book m.book is.book e serves.here in
+          let h = at_right EntryRelation s.book m.book is.book e serves.is_in_book in
           (u.0, u.1, (h.0, h.1, h.2, sym h.2.id ∙ sym u.2))
 
       -- whether a command is queued
-      kind_is : (slot : ℕ) (e : Pending) → ServesIn slots instant port slot e → (u : SlotUse) → used_for s.slots port.0 slot ≡ Some u → u.queued ≡ not (is_plain mode e.request.asked.op)
+      kind_is : (slot : ℕ) (e : Pending) → SlotServesUnanswered slots instant port slot e → (u : SlotUse) → used_for s.slots port.0 slot ≡ Some u → u.queued ≡ not (is_plain mode e.request.asked.op)
       kind_is slot e serves u used =
           let x = serving slot e serves in
           let same : Some x.0 ≡ Some u = sym x.1 ∙ used in
           let alike : x.0 ≡ u = cc in
-          k.kinds port slot u x.2.0 used x.2.1 (x.2.3 ∙ ap (λ (v : SlotUse). v.id) alike) ∙ ap (λ (o : Op). not (is_plain mode o)) (sym x.2.2.op)
+          k.slots_queue_as_asked port slot u x.2.0 used x.2.1 (x.2.3 ∙ ap (λ (v : SlotUse). v.id) alike) ∙ ap (λ (o : Op). not (is_plain mode o)) (sym x.2.2.op)
 
-      kind : (slot : ℕ) (e : Pending) → ServesIn slots instant port slot e → e.ended ≡ false → IsQueuedAsAsked mode s.device port.0 slot e
+      kind : (slot : ℕ) (e : Pending) → SlotServesUnanswered slots instant port slot e → e.ended ≡ false → IsQueuedAsAsked mode s.device port.0 slot e
       kind slot e serves unended =
           let x = serving slot e serves in
-          let h = k.commands port.0 slot x.0 x.1 in
-          record { command = h.command; places = h.places; told = h.stored.told; kind = h.kind ∙ kind_is slot e serves x.0 x.1 }
+          let h = k.slots_store_commands port.0 slot x.0 x.1 in
+          record { command = h.command; places = h.places; slot_decodes_to = h.stored.slot_decodes_to; kind = h.kind ∙ kind_is slot e serves x.0 x.1 }
 
       -- a slot beyond the usable ones is free
       unused : (slot : ℕ) → mode.usable ≤ slot → is.uses port.0 slot ≡ Free
       unused slot high = free_unused s m port.0 is ready slot ((k.slots port.0 low).unused slot (subst (λ (n : ℕ). n ≤ slot) (sym (usable_ready s port.0 k ready)) high))
 
       -- a plain one is alone
-      alone : (slot : ℕ) (e : Pending) → ServesIn slots instant port slot e → is_plain mode e.request.asked.op ≡ true → (slot ≡ 0) × ((other : ℕ) → other ≢ 0 → is.uses port.0 other ≡ Free)
+      alone : (slot : ℕ) (e : Pending) → SlotServesUnanswered slots instant port slot e → is_plain mode e.request.asked.op ≡ true → (slot ≡ 0) × ((other : ℕ) → other ≢ 0 → is.uses port.0 other ≡ Free)
       alone slot e serves plain = (a.0, λ other ne. free_unused s m port.0 is ready other (a.1 other ne))
         where
           x : (u : SlotUse) × (used_for s.slots port.0 slot ≡ Some u) × ((h : BookEntry) × Contains s.book h × EntryRelation h e × (h.entry.id ≡ u.id))
           x = serving slot e serves
 
           a : StandsAlone s.slots port.0 slot
-          a = k.alone port.0 slot x.0 x.1 (kind_is slot e serves x.0 x.1 ∙ ap not plain)
+          a = k.plain_stands_alone port.0 slot x.0 x.1 (kind_is slot e serves x.0 x.1 ∙ ap not plain)
 
       requests : ReadySlotsInvariant slots instant port mode
       requests = record {
-        clients = λ slot. subst IsFreeOrServes (sym (ready_use s m port.0 is ready slot)) (clients (used_for s.slots port.0 slot));
-        low = unused;
-        unparked = is.unparked port.0 (not_dead s port.0 ready);
-        kinds = kind;
-        alone = alone;
+        slots_serve_clients = λ slot. subst IsFreeOrServes (sym (ready_use s m port.0 is ready slot)) (clients (used_for s.slots port.0 slot));
+        unusable_are_free = unused;
+        none_is_parked = is.unparked port.0 (not_dead s port.0 ready);
+        commands_are_as_asked = kind;
+        plain_is_alone = alone;
       }
 
     shown_as : (f : ProbeResult) → probe_result_of s.ports port.0 ≡ f → FoundBadDisk (state_of f) → ShowsDiskIfIn (s.device.port port.0)
-    shown_as f e bad = (k.behind port.0 low).shown (subst (λ (x : ProbeResult). FoundBadDisk (state_of x)) (sym e) bad)
+    shown_as f e bad = (k.port_invariant port.0 low).shows_disk_if_in (subst (λ (x : ProbeResult). FoundBadDisk (state_of x)) (sym e) bad)
 
     of : (f : ProbeResult) → probe_result_of s.ports port.0 ≡ f → StillBacksProbeResult (wanted_of s.wanted port.0) f port.0 s.device → (state_of f ≡ ReadyState → EngineRuns port.0 s.device)
         → PortStateInvariant (wanted_of s.wanted port.0) slots instant port (is_served f) (state_of f)
     of Unserved e behind runs = record {
-      absent = ap state_of e;
-      idle = behind.1;
-      slots = nothing Unserved e refl (λ x. cc);
-      waits = none_waits port (λ ready. let z : Absent ≡ ReadyState = sym (ap state_of e) ∙ ready in absurd cc);
-      kept = none_kept s m port is (alive Unserved e (λ x. cc));
+      state_is_absent = ap state_of e;
+      port_is_idle = behind.1;
+      has_nothing_in_slots = nothing Unserved e refl (λ x. cc);
+      has_no_unanswered = none_waits port (λ ready. let z : Absent ≡ ReadyState = sym (ap state_of e) ∙ ready in absurd cc);
+      none_is_quarantined = none_kept s m port is (alive Unserved e (λ x. cc));
     }
     of (Ready info) e behind runs = record {
-      on = k.on;
-      runs = runs refl;
+      adapter_is_on = k.adapter_is_on;
+      engine_runs = runs refl;
       info = info;
-      disk = behind.1;
-      shows = record { serial = ap last_serial_of (disk_is info e); sectors = ap last_sectors_of (disk_is info e); trims = ap trims_of e; mode = k.modes port.0 low ∙ ap (probed_mode s.device.cap) e };
-      slots = requests info e;
-      kept = none_kept s m port is (alive (Ready info) e (λ x. cc));
+      has_fit_disk = behind.1;
+      shows_disk_info = record { serial = ap last_serial_of (disk_is info e); sectors = ap last_sectors_of (disk_is info e); trims = ap trims_of e; mode = k.modes port.0 low ∙ ap (probed_mode s.device.cap) e };
+      slots_invariant = requests info e;
+      none_is_quarantined = none_kept s m port is (alive (Ready info) e (λ x. cc));
     }
     of (Unready ReadyState) e behind runs = absurd behind.1
     of (Unready Absent) e behind runs = record {
-      on = k.on;
-      ends = behind.1;
-      shown = λ bad. absurd bad;
-      slots = nothing (Unready Absent) e refl (λ x. cc);
-      waits = none_waits port (λ ready. let z : Absent ≡ ReadyState = sym (ap state_of e) ∙ ready in absurd cc);
-      kept = none_kept s m port is (alive (Unready Absent) e (λ x. cc));
+      adapter_is_on = k.adapter_is_on;
+      backs_state = behind.1;
+      shows_disk_if_in = λ bad. absurd bad;
+      has_nothing_in_slots = nothing (Unready Absent) e refl (λ x. cc);
+      has_no_unanswered = none_waits port (λ ready. let z : Absent ≡ ReadyState = sym (ap state_of e) ∙ ready in absurd cc);
+      none_is_quarantined = none_kept s m port is (alive (Unready Absent) e (λ x. cc));
     }
     of (Unready Foreign) e behind runs = record {
-      on = k.on;
-      ends = behind.1;
-      shown = λ bad. shown_as (Unready Foreign) e bad;
-      slots = nothing (Unready Foreign) e refl (λ x. cc);
-      waits = none_waits port (λ ready. let z : Foreign ≡ ReadyState = sym (ap state_of e) ∙ ready in absurd cc);
-      kept = none_kept s m port is (alive (Unready Foreign) e (λ x. cc));
+      adapter_is_on = k.adapter_is_on;
+      backs_state = behind.1;
+      shows_disk_if_in = λ bad. shown_as (Unready Foreign) e bad;
+      has_nothing_in_slots = nothing (Unready Foreign) e refl (λ x. cc);
+      has_no_unanswered = none_waits port (λ ready. let z : Foreign ≡ ReadyState = sym (ap state_of e) ∙ ready in absurd cc);
+      none_is_quarantined = none_kept s m port is (alive (Unready Foreign) e (λ x. cc));
     }
     of (Unready (Unfit n)) e behind runs = record {
-      on = k.on;
-      ends = behind.1;
-      shown = λ bad. shown_as (Unready (Unfit n)) e bad;
-      slots = nothing (Unready (Unfit n)) e refl (λ x. cc);
-      waits = none_waits port (λ ready. let z : Unfit n ≡ ReadyState = sym (ap state_of e) ∙ ready in absurd cc);
-      kept = none_kept s m port is (alive (Unready (Unfit n)) e (λ x. cc));
+      adapter_is_on = k.adapter_is_on;
+      backs_state = behind.1;
+      shows_disk_if_in = λ bad. shown_as (Unready (Unfit n)) e bad;
+      has_nothing_in_slots = nothing (Unready (Unfit n)) e refl (λ x. cc);
+      has_no_unanswered = none_waits port (λ ready. let z : Unfit n ≡ ReadyState = sym (ap state_of e) ∙ ready in absurd cc);
+      none_is_quarantined = none_kept s m port is (alive (Unready (Unfit n)) e (λ x. cc));
     }
     of (Unready Dead) e behind runs = record {
-      why = inl behind.1;
-      waits = λ on. none_waits port (λ ready. let z : Dead ≡ ReadyState = sym (ap state_of e) ∙ ready in absurd cc);
+      is_backed_or_off = inl behind.1;
+      has_no_unanswered = λ on. none_waits port (λ ready. let z : Dead ≡ ReadyState = sym (ap state_of e) ∙ ready in absurd cc);
     }
 
   pub holds_with : DriverInvariantWith s.wanted slots instant
   holds_with = record {
-    knows = is.knows;
-    served = λ port low. served_is (wanted_of s.wanted port.0) (probe_result_of s.ports port.0) port.0 s.device (k.behind port.0 low).behind;
-    on = inl k.on;
-    port = λ port low. let b = k.behind port.0 low in of port low (probe_result_of s.ports port.0) refl b.behind b.runs;
+    driver_relation = is.driver_relation;
+    served = λ port low. served_is (wanted_of s.wanted port.0) (probe_result_of s.ports port.0) port.0 s.device (k.port_invariant port.0 low).probe_result_is_backed;
+    adapter_is_on = inl k.adapter_is_on;
+    ports_hold = λ port low. let b = k.port_invariant port.0 low in of port low (probe_result_of s.ports port.0) refl b.probe_result_is_backed b.engine_runs;
   }

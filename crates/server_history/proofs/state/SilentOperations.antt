@@ -4,7 +4,7 @@ use Rattle.std.proofs.lemmas.List.Elements.{All-append, All-nil}
 use Rattle.adapter.specs.Device.{Device}
 use Rattle.adapter.specs.declared.command.Operation.{Operation}
 use Rattle.adapter.specs.declared.tape.Entry.{Entry}
-use Rattle.refinement.specs.Driven.{GainsNoMove}
+use Rattle.refinement.specs.Fragments.{GainsNoMove}
 use Rattle.refinement.specs.Slots.{IsMove}
 
 module _ (port : ℕ) (o : Operation) where

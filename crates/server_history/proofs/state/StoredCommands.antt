@@ -13,12 +13,12 @@ use Rattle.hba_regs.specs.declared.reg.Reg.TheVariants.{Px}
 use Rattle.adapter.specs.Access.{Access}
 use Rattle.adapter.specs.Access.Access.{Storing, Writing}
 use Rattle.refinement.specs.Links.{DoesNotWrite}
-use Rattle.refinement.specs.Places.{IsTableByte}
-use Rattle.refinement.specs.Readying.{LeavesStored}
-use Rattle.command_table.specs.Written.{IsBlockStore, IsStoreWithBlock, IsTableStore}
+use Rattle.refinement.specs.MemoryLayout.{IsTableByte}
+use Rattle.refinement.specs.ReadySlots.{LeavesStored}
+use Rattle.command_table.specs.TableStores.{IsBlockStore, IsStoreWithBlock, IsTableStore}
 use Rattle.commands.specs.Batches.{IsBatchAccess, IsStoreForBatch, PlacedTask, StoresThenWritesAll}
 use Rattle.commands.specs.Tasks.{IsStoreFor, issuing_writes}
-use Rattle.port_control.specs.Services.{IsService}
+use Rattle.port_control.specs.ServiceAccesses.{IsServiceAccess}
 use Rattle.server_history.specs.Prerequisites.{PrerequisiteLaws}
 use Rattle.server_history.proofs.state.TransferAccesses.{issuing_serves}
 
@@ -65,13 +65,13 @@ never_both port slot other k place a b c d apart x y = ⊎_elim
     other_port ne (inr h) (inr i) = omega (arith, a, b, c, d, ne, h.0, h.1, i.0, i.1)
 
 -- an access that serves ports leaves what is stored for a slot, if its store misses header and table
-pub service_leaves_stored : PrerequisiteLaws → (other : Port) (k : ℕ) (access : Access) → IsService access
+pub service_leaves_stored : PrerequisiteLaws → (other : Port) (k : ℕ) (access : Access) → IsServiceAccess access
     → ((at : ℕ) (bytes : List ℕ) (place : ℕ) → access ≡ Storing at bytes → IsTableByte other.0 k place → at ≤ place → place < at + length bytes → ⊥) → LeavesStored other k access
 service_leaves_stored laws other k access is misses = record {
-  host = laws.looking.services_spare_host access is;
-  start = λ v e. absurd (subst (DoesNotWrite (Px other Cmd)) e (laws.looking.services_spare other Cmd (λ e. cc) (λ e. cc) (λ e. cc) access is) refl);
-  list = laws.looking.services_spare other Clb (λ e. cc) (λ e. cc) (λ e. cc) access is;
-  table = λ at bytes e place t from to. misses at bytes place e t from to;
+  ghc_is_not_written = laws.looking.services_spare_host access is;
+  st_is_not_cleared = λ v e. absurd (subst (DoesNotWrite (Px other Cmd)) e (laws.looking.services_spare other Cmd (λ e. cc) (λ e. cc) (λ e. cc) access is) refl);
+  clb_is_not_written = laws.looking.services_spare other Clb (λ e. cc) (λ e. cc) (λ e. cc) access is;
+  table_is_not_stored_to = λ at bytes e place t from to. misses at bytes place e t from to;
 }
 
 -- the block of a trim is no byte of a header or table

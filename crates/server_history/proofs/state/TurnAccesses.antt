@@ -17,18 +17,18 @@ use Rattle.adapter.specs.Device.{Device}
 use Rattle.adapter.specs.Memory as memory
 use Rattle.adapter.specs.Rules.{IsOn}
 use Rattle.adapter.specs.Steps.{Steps}
-use Rattle.refinement.specs.Driven.{IsSoleBit, IsDrivenBy, SparesOtherPorts}
+use Rattle.refinement.specs.Fragments.{IsSoleBit, IsDrivenBy, SparesOtherPorts}
 use Rattle.refinement.specs.PortFacts.{RunsWell, Undisturbed}
-use Rattle.command_table.specs.Written.{IsStoreWithBlock, IsTableStore}
+use Rattle.command_table.specs.TableStores.{IsStoreWithBlock, IsTableStore}
 use Rattle.driver_history.specs.Histories.{IsIssuingAccess}
 use Rattle.commands.specs.Batches.{IsBatchAccess}
-use Rattle.driver_history.specs.Trace.{IsDriversOwn, DoesNotWriteCmd, LeavesEngine, ReadsCiAndSact}
+use Rattle.driver_history.specs.AccessTrace.{IsDriversOwn, DoesNotWriteCmd, LeavesEngine, ReadsCiAndSact}
 use Rattle.server_history.specs.Prerequisites.{PrerequisiteLaws}
-use Rattle.server_history.specs.Served.{PollsSlots, IsEmptyMask, HasTurnWithoutError, IsMaskOf, is_used}
-use Rattle.slots.specs.Uses.{PortSlots, use_at}
+use Rattle.server_history.specs.IssuingAndAnswering.{PollsSlots, IsEmptyMask, HasTurnWithoutError, IsMaskOf, is_used}
+use Rattle.slots.specs.SlotUses.{PortSlots, use_at}
 use Rattle.server_history.proofs.state.TransferAccesses.{both_read, issuing_serves}
-use Rattle.port_control.specs.Looks.{LooksAt}
-use Rattle.port_control.specs.Services.{IsService}
+use Rattle.port_control.specs.PortEvents.{TakesEvent}
+use Rattle.port_control.specs.ServiceAccesses.{IsServiceAccess}
 use Rattle.port_control.specs.declared.events.PortEvent.{PortEvent}
 use Rattle.port_control.specs.declared.events.PortEvent.TheVariants.{NoEvent}
 
@@ -43,7 +43,7 @@ none_loaded old new steps = record { steps = steps; shows = refl }
 
 -- it serves ports, is of this one, and what it loads or stores is the driver's own
 abbrev pub IsTurn : Port → Access → Type 0
-IsTurn port access = IsService access × (IsDriversOwn access × SparesOtherPorts port access)
+IsTurn port access = IsServiceAccess access × (IsDriversOwn access × SparesOtherPorts port access)
 
 -- header and table of a slot lie in the driver's frames
 pub table_own : (port slot at : ℕ) (bytes : List ℕ) → port < 4 → slot < 32 → IsTableStore port slot (Storing at bytes) → at + length bytes ≤ DRIVER_BYTES
@@ -71,7 +71,7 @@ issuing_turns laws port low access here = (issuing_serves port access here, (own
     own (Loading at bytes) on = absurd on
 
 -- what serves ports writes neither PxCMD nor PxSCTL, nor GHC
-service_leaves : PrerequisiteLaws → (port : Port) (access : Access) → IsService access → LeavesEngine port access
+service_leaves : PrerequisiteLaws → (port : Port) (access : Access) → IsServiceAccess access → LeavesEngine port access
 service_leaves laws port access here = (laws.looking.services_spare port Cmd (λ e. cc) (λ e. cc) (λ e. cc) access here, laws.looking.services_spare port Sctl (λ e. cc) (λ e. cc) (λ e. cc) access here)
 
 pub issuing_leaves : PrerequisiteLaws → (port other : Port) (access : Access) → IsBatchAccess port access → LeavesEngine other access
@@ -120,8 +120,8 @@ module _ (port : Port) where
       (All-cons (IsTurn port) (Writing reg.Is own) (Reading (Px port Ssts) status ∷ []) (inl refl, (tt, alone))
       (All-cons (IsTurn port) (Reading (Px port Ssts) status) [] (tt, (tt, refl)) (All-nil (IsTurn port)))))
 
-  pub look_does : (look : PortEvent) (old new : Device) → (l : LooksAt port look old new) → DoesAll (look_list l.causes l.own l.status) old new
-  look_does look old new l = (l.seen, l.reads, (l.cleared, l.clears, (l.acknowledged, l.acknowledges, (new, l.shows, refl))))
+  pub look_does : (look : PortEvent) (old new : Device) → (l : TakesEvent port look old new) → DoesAll (look_list l.causes l.port_mask l.status) old new
+  look_does look old new l = (l.seen, l.reads, (l.cleared, l.clears, (l.acknowledged, l.acknowledges, (new, l.reads_status, refl))))
 
   -- The accesses of a turn. Where the port goes well, the look tells nothing; and where slots were checked, they read the masks.
   pub record TurnList (slots : PortSlots) (replies : List Reply) (old new : Device) (t : HasTurnWithoutError port slots replies old new) : Type 0 where
@@ -129,18 +129,18 @@ module _ (port : Port) where
     pub of : All (SparesOtherPorts port) driven.accesses
     pub own : All IsDriversOwn driven.accesses
     pub leaves : All (LeavesEngine port) driven.accesses
-    pub calm : IsOn old → RunsWell (old.port port.0) → Undisturbed port.0 old new → t.look ≡ NoEvent
+    pub no_disturbance : IsOn old → RunsWell (old.port port.0) → Undisturbed port.0 old new → t.look ≡ NoEvent
     pub masks : t.look ≡ NoEvent → IsBusy slots → (mask : ℕ) × IsMaskOf slots mask × ((c : PollsSlots port slots mask replies t.seen new) × ReadsCiAndSact port c.reads.issued c.reads.active driven.accesses)
 
   module _ (laws : PrerequisiteLaws) (low : port.0 < 4) (slots : PortSlots) (replies : List Reply) (old new : Device) (t : HasTurnWithoutError port slots replies old new) where
     of_all : (driven : IsDrivenBy (IsTurn port) old new) → All (SparesOtherPorts port) driven.accesses
-    of_all driven = All-weaker (IsTurn port) (SparesOtherPorts port) (λ access is. is.1.1) driven.accesses driven.only
+    of_all driven = All-weaker (IsTurn port) (SparesOtherPorts port) (λ access is. is.1.1) driven.accesses driven.accesses_are_of_kind
 
     own_all : (driven : IsDrivenBy (IsTurn port) old new) → All IsDriversOwn driven.accesses
-    own_all driven = All-weaker (IsTurn port) IsDriversOwn (λ access is. is.1.0) driven.accesses driven.only
+    own_all driven = All-weaker (IsTurn port) IsDriversOwn (λ access is. is.1.0) driven.accesses driven.accesses_are_of_kind
 
     leaves_all : (driven : IsDrivenBy (IsTurn port) old new) → All (LeavesEngine port) driven.accesses
-    leaves_all driven = All-weaker (IsTurn port) (LeavesEngine port) (turn_leaves laws port port) driven.accesses driven.only
+    leaves_all driven = All-weaker (IsTurn port) (LeavesEngine port) (turn_leaves laws port port) driven.accesses driven.accesses_are_of_kind
 
     -- it was looked at, and that was all
     looked : (replies ≡ []) × (new ≡ t.seen) → (t.look ≡ NoEvent → IsBusy slots → ⊥) → TurnList slots replies old new t
@@ -149,15 +149,15 @@ module _ (port : Port) where
       of = of_all driven;
       own = own_all driven;
       leaves = leaves_all driven;
-      calm = λ on well undisturbed. (laws.looking.looks_well port t.look old t.seen on t.looks well (subst (Undisturbed port.0 old) stop.1 undisturbed)).0;
+      no_disturbance = λ on well undisturbed. (laws.looking.looks_well port t.look old t.seen on t.looks well (subst (Undisturbed port.0 old) stop.1 undisturbed)).0;
       masks = λ is busy. absurd (never is busy);
     }
       where
         driven : IsDrivenBy (IsTurn port) old new
         driven = subst (IsDrivenBy (IsTurn port) old) (sym stop.1) (record {
-          accesses = look_list t.looks.causes t.looks.own t.looks.status;
-          all = look_does t.look old t.seen t.looks;
-          only = look_turns t.looks.causes t.looks.own t.looks.status t.looks.alone;
+          accesses = look_list t.looks.causes t.looks.port_mask t.looks.status;
+          all_are_done = look_does t.look old t.seen t.looks;
+          accesses_are_of_kind = look_turns t.looks.causes t.looks.port_mask t.looks.status t.looks.is_sole_bit;
         })
 
     module _ (some : IsEmptyMask t.checked.mask → ⊥) where
@@ -166,29 +166,29 @@ module _ (port : Port) where
 
       -- the accesses that come after the masks
       more : IsDrivenBy (IsTurn port) c.read new
-      more = record { accesses = c.over.accesses; all = c.over.all; only = λ i e small. issuing_turns laws port low _ (c.over.only i e small) }
+      more = record { accesses = c.over.accesses; all_are_done = c.over.all_are_done; accesses_are_of_kind = λ i e small. issuing_turns laws port low _ (c.over.accesses_are_of_kind i e small) }
 
       abbrev early : List Access
-      early = look_list t.looks.causes t.looks.own t.looks.status
+      early = look_list t.looks.causes t.looks.port_mask t.looks.status
 
       abbrev late : List Access
       late = Reading (Px port Ci) c.reads.issued ∷ Reading (Px port Sact) c.reads.active ∷ more.accesses
 
       leaves : All (DoesNotWriteCmd port) early
-      leaves i e small = (turn_leaves laws port port _ (look_turns t.looks.causes t.looks.own t.looks.status t.looks.alone i e small)).0
+      leaves i e small = (turn_leaves laws port port _ (look_turns t.looks.causes t.looks.port_mask t.looks.status t.looks.is_sole_bit i e small)).0
 
       checked_driven : IsDrivenBy (IsTurn port) old new
       checked_driven = record {
         accesses = early ++ late;
-        all = laws.basic.does_append early late old t.seen new (look_does t.look old t.seen t.looks) (let r = both_read port t.checked.mask c.done t.seen c.read c.reads in (r.0, r.1, (c.read, r.2, more.all)));
-        only = All-append (IsTurn port) early late (look_turns t.looks.causes t.looks.own t.looks.status t.looks.alone)
+        all_are_done = laws.basic.does_append early late old t.seen new (look_does t.look old t.seen t.looks) (let r = both_read port t.checked.mask c.done t.seen c.read c.reads in (r.0, r.1, (c.read, r.2, more.all_are_done)));
+        accesses_are_of_kind = All-append (IsTurn port) early late (look_turns t.looks.causes t.looks.port_mask t.looks.status t.looks.is_sole_bit)
             (All-cons (IsTurn port) (Reading (Px port Ci) c.reads.issued) (Reading (Px port Sact) c.reads.active ∷ more.accesses) (tt, (tt, refl))
-            (All-cons (IsTurn port) (Reading (Px port Sact) c.reads.active) more.accesses (tt, (tt, refl)) more.only));
+            (All-cons (IsTurn port) (Reading (Px port Sact) c.reads.active) more.accesses (tt, (tt, refl)) more.accesses_are_of_kind));
       }
 
       masks_there : ReadsCiAndSact port c.reads.issued c.reads.active checked_driven.accesses
       unfolding checked_driven
-      masks_there = record { before = early; later = more.accesses; here = refl; running = leaves }
+      masks_there = record { before = early; later = more.accesses; accesses_are_split = refl; cmd_is_unwritten_before = leaves }
 
     with_masks : (IsEmptyMask t.checked.mask → ⊥) → TurnList slots replies old new t
     with_masks some = record {
@@ -196,13 +196,13 @@ module _ (port : Port) where
       of = of_all (checked_driven some);
       own = own_all (checked_driven some);
       leaves = leaves_all (checked_driven some);
-      calm = λ _ _ _. t.quiet;
-      masks = λ _ _. (t.checked.mask, t.checked.its, (c some, masks_there some));
+      no_disturbance = λ _ _ _. t.look_is_no_event;
+      masks = λ _ _. (t.checked.mask, t.checked.is_mask_of, (c some, masks_there some));
     }
 
     pub turn_list : TurnList slots replies old new t
     turn_list =
         ⊎_elim
-        (λ (none : IsEmptyMask t.checked.mask). looked (t.checked.idle none) (λ _ busy. unmasked slots t.checked.mask t.checked.its none busy))
+        (λ (none : IsEmptyMask t.checked.mask). looked (t.checked.idle none) (λ _ busy. unmasked slots t.checked.mask t.checked.is_mask_of none busy))
         (λ some. with_masks (λ none. false≢true (sym (none some.0 some.1) ∙ some.2)))
         (none_or_some 32 t.checked.mask)

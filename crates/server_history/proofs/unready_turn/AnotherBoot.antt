@@ -14,9 +14,9 @@ use Rattle.adapter.specs.Device.{Device}
 use Rattle.adapter.specs.Rules.{HasPort, IsOn}
 use Rattle.adapter.specs.declared.command.Operation.TheVariants.{ReadLog}
 use Rattle.refinement.specs.Acts.{DriverSlots}
-use Rattle.refinement.specs.Driven.{RelatesWith, AnyUse, IsSimulated, SparesOtherPorts, GainsNoMove}
+use Rattle.refinement.specs.Fragments.{RelatesWith, AnyUse, IsSimulated, SparesOtherPorts, GainsNoMove}
 use Rattle.block_machine.specs.Ports.{IsStoppedOrStuck, IsServiced}
-use Rattle.driver_history.specs.Trace.{IsDriversOwn}
+use Rattle.driver_history.specs.AccessTrace.{IsDriversOwn}
 use Rattle.error_recovery.specs.Recovery.{EndsAsNext, StopsForReset, IsRecoveryAccess}
 use Rattle.error_recovery.specs.declared.Next.{Next}
 use Rattle.error_recovery.specs.declared.Next.TheVariants as next
@@ -29,10 +29,10 @@ use Rattle.identify.specs.declared.wanted.Wanted.{Wanted}
 use Rattle.port_boot.specs.States.{IsBootable}
 use Rattle.port_control.specs.Ports.{IsStopped}
 use Rattle.port_control.specs.declared.Stopped.{Stopped}
-use Rattle.port_control.specs.Looks.{IsLooking}
+use Rattle.port_control.specs.PortEvents.{IsEventAccess}
 use Rattle.server_history.specs.Prerequisites.{PrerequisiteLaws}
 use Rattle.server_history.specs.ErrorHandling.{IsRevalidated}
-use Rattle.server_history.specs.Server.{InCallInvariant, ServerState, last_disk_in, last_disk_of, is_served, no_slots, plain_mode, ports_of, remembered_at, last_sectors_of, last_serial_of, state_of}
+use Rattle.server_history.specs.ServerState.{InCallInvariant, ServerState, last_disk_in, last_disk_of, is_served, no_slots, plain_mode, ports_of, remembered_at, last_sectors_of, last_serial_of, state_of}
 use Rattle.server_history.specs.Probing.{BootsUnreadyPort, IsProbedAnew}
 use Rattle.server_history.specs.Turns.{LeavesOthers}
 use Rattle.port_control.specs.declared.events.PortError.TheVariants.{TimedOut}
@@ -53,26 +53,26 @@ use Rattle.server_history.proofs.dispositions.RemainingBook.{was_itself}
 -- where it isn't dead, it is no ready one either
 pub never_ready : (s : ServerState) (port : Port) (state : PortState) → InCallInvariant s → probe_result_of s.ports port.0 ≡ Unready state → state ≢ ReadyState
 never_ready s port state k is ready =
-    absurd (subst (λ (f : ProbeResult). StillBacksProbeResult (wanted_of s.wanted port.0) f port.0 s.device) (is ∙ ap Unready ready) (k.behind port.0 (k.there port.0 (ap is_served is)).0).behind).1
+    absurd (subst (λ (f : ProbeResult). StillBacksProbeResult (wanted_of s.wanted port.0) f port.0 s.device) (is ∙ ap Unready ready) (k.port_invariant port.0 (k.served_ports_exist port.0 (ap is_served is)).0).probe_result_is_backed).1
 
 -- it is served
 pub its_service : (s : ServerState) (port : Port) (state : PortState) → InCallInvariant s → probe_result_of s.ports port.0 ≡ Unready state → IsServed (wanted_of s.wanted port.0) port.0 s.device
-its_service s port state k is = (subst (λ (f : ProbeResult). StillBacksProbeResult (wanted_of s.wanted port.0) f port.0 s.device) is (k.behind port.0 (k.there port.0 (ap is_served is)).0).behind).0
+its_service s port state k is = (subst (λ (f : ProbeResult). StillBacksProbeResult (wanted_of s.wanted port.0) f port.0 s.device) is (k.port_invariant port.0 (k.served_ports_exist port.0 (ap is_served is)).0).probe_result_is_backed).0
 
 -- the accesses of a look
-pub looking_part : PrerequisiteLaws → (port : Port) (access : Access) → IsLooking port access → IsPart port access
+pub looking_part : PrerequisiteLaws → (port : Port) (access : Access) → IsEventAccess port access → IsPart port access
 looking_part laws port access is = (own access is, laws.looking.looking_of port access is)
   where
-    own : (access : Access) → IsLooking port access → IsDriversOwn access
+    own : (access : Access) → IsEventAccess port access → IsDriversOwn access
     own (Reading r v) is = tt
     own (Writing r v) is = tt
     own (Loading at bytes) is = absurd is
     own (Storing at bytes) is = absurd is
 
 module _ (laws : PrerequisiteLaws) (s : ServerState) (seen : Device) (port : Port) (state : PortState) (k : InCallInvariant s) (is : probe_result_of s.ports port.0 ≡ Unready state) (lives : state ≢ DeadState)
-    (looks : IsSimulated (IsLooking port) AnyUse s.device seen) where
+    (looks : IsSimulated (IsEventAccess port) AnyUse s.device seen) where
   pub low : port.0 < 4
-  low = (k.there port.0 (ap is_served is)).0
+  low = (k.served_ports_exist port.0 (ap is_served is)).0
 
   -- the look leaves the other ports
   passed : Passes s port (slots_of s k) seen
@@ -82,8 +82,8 @@ module _ (laws : PrerequisiteLaws) (s : ServerState) (seen : Device) (port : Por
   pub may_give_up : IsOn seen × HasPort seen port.0 × RelatesWith AnyUse seen
   may_give_up = (
     passed.on,
-    still_there port.0 s.device seen (same_over laws port s.device seen passed.driven) (k.there port.0 (ap is_served is)),
-    ((slots_of s k).uses, tt, record { machine = passed.machine; parked = (slots_of s k).parked; reached = passed.reached; knows = passed.knows }),
+    still_there port.0 s.device seen (same_over laws port s.device seen passed.driven) (k.served_ports_exist port.0 (ap is_served is)),
+    ((slots_of s k).uses, tt, record { machine = passed.machine; parked = (slots_of s k).parked; reached = passed.reached; driver_relation = passed.driver_relation }),
   )
 
   module _ (stopped : Device) (result : Recovered) (g : StopsForReset port 0 true result seen stopped) where
@@ -93,14 +93,14 @@ module _ (laws : PrerequisiteLaws) (s : ServerState) (seen : Device) (port : Por
     -- and where it has stopped then, it may be booted
     pub may_boot : (token : Stopped) → result.next ≡ next.Restart token → (token.port ≡ port) × IsBootable port stopped × IsStopped (stopped.port port.0)
     may_boot token so =
-        let ends : EndsAsNext true port (next.Restart token) seen stopped = subst (λ (n : Next). EndsAsNext true port n seen stopped) so g.handling.leaves.ends in
+        let ends : EndsAsNext true port (next.Restart token) seen stopped = subst (λ (n : Next). EndsAsNext true port n seen stopped) so g.handling.leaves.ends_as_next in
         let same = same_over laws port s.device stopped done.1.driven in (
           ends.0,
           record {
-            on = done.1.on;
-            there = still_there port.0 s.device stopped same (k.there port.0 (ap is_served is));
-            room = let room = k.room in let size = same.size in omega (arith, room, size);
-            agreed = (done.0.uses, done.2 (λ dead. let z : next.Restart token ≡ next.Dead = sym so ∙ dead in absurd cc), record { machine = done.1.machine; parked = done.0.parked; reached = done.1.reached; knows = done.1.knows });
+            adapter_is_on = done.1.on;
+            has_port = still_there port.0 s.device stopped same (k.served_ports_exist port.0 (ap is_served is));
+            driver_memory_fits = let room = k.driver_memory_fits in let size = same.size in omega (arith, room, size);
+            machine_is_related = (done.0.uses, done.2 (λ dead. let z : next.Restart token ≡ next.Dead = sym so ∙ dead in absurd cc), record { machine = done.1.machine; parked = done.0.parked; reached = done.1.reached; driver_relation = done.1.driver_relation });
           },
           ends.1,
         )
@@ -147,9 +147,9 @@ interrupted wanted port (next.Restart token) old new found is = inl (first_here 
 interrupted wanted port next.Dead old new found is = inr (stuck_all port found is.0)
 
 module _ (laws : PrerequisiteLaws) (s new : ServerState) (seen : Device) (port : Port) (state : PortState) (k : InCallInvariant s) (is : probe_result_of s.ports port.0 ≡ Unready state) (lives : state ≢ DeadState)
-    (looks : IsSimulated (IsLooking port) AnyUse s.device seen) (b : BootsUnreadyPort port (record s { device = seen }) new) where
-  abbrev g : StopsForReset port 0 true b.anew.result seen b.anew.stopped
-  g = b.anew.gives_up
+    (looks : IsSimulated (IsEventAccess port) AnyUse s.device seen) (b : BootsUnreadyPort port (record s { device = seen }) new) where
+  abbrev g : StopsForReset port 0 true b.probes_anew.result seen b.probes_anew.stopped
+  g = b.probes_anew.gives_up
 
   abbrev part : List Access
   part = g.handling.accesses
@@ -166,31 +166,31 @@ module _ (laws : PrerequisiteLaws) (s new : ServerState) (seen : Device) (port :
   pub unready : state_of (probe_result_of s.ports port.0) ≢ ReadyState
   unready ready = never_ready s port state k is (sym (ap state_of is) ∙ ready)
 
-  pub after_it : IsRevalidated wanted port TimedOut no_disk b.anew.result.next b.anew.stopped new.device b.found
-  after_it = found_after wanted port b.anew.result.next b.anew.stopped new.device b.found b.anew.is
+  pub after_it : IsRevalidated wanted port TimedOut no_disk b.probes_anew.result.next b.probes_anew.stopped new.device b.found
+  after_it = found_after wanted port b.probes_anew.result.next b.probes_anew.stopped new.device b.found b.probes_anew.is_probed_anew
 
-  given : PassesTo laws s port k small b.anew.result.next b.anew.stopped
-  given = done laws s seen port state k is lives looks b.anew.stopped b.anew.result g
+  given : PassesTo laws s port k small b.probes_anew.result.next b.probes_anew.stopped
+  given = done laws s seen port state k is lives looks b.probes_anew.stopped b.probes_anew.result g
 
   -- the whole way leaves the other ports
   pub whole : (slots : DriverSlots) × Passes s port slots new.device
-  whole = after_passes laws s port k small wanted TimedOut no_disk b.anew.result.next b.anew.stopped new.device b.found after_it given
+  whole = after_passes laws s port k small wanted TimedOut no_disk b.probes_anew.result.next b.probes_anew.stopped new.device b.found after_it given
 
   -- ---- the port
 
   pub its_stand : StandsAt wanted b.found port.0 new.device
   its_stand =
       let service = its_service s port state k is in
-      let early = same_over laws port s.device b.anew.stopped given.1.driven in
+      let early = same_over laws port s.device b.probes_anew.stopped given.1.driven in
       let all = same_over laws port s.device new.device whole.1.driven in
-      stands_after laws wanted port b.anew.stopped new.device given.1.on (service.0, ap (λ (pi : ℕ). bit pi port.0) early.pi ∙ service.1) true TimedOut no_disk seen b.anew.result.next b.found g.handling.leaves.ends after_it
-      (all.pi ∙ sym early.pi) (λ token runs. absurd (g.halts token runs))
+      stands_after laws wanted port b.probes_anew.stopped new.device given.1.on (service.0, ap (λ (pi : ℕ). bit pi port.0) early.pi ∙ service.1) true TimedOut no_disk seen b.probes_anew.result.next b.found g.handling.leaves.ends_as_next after_it
+      (all.pi ∙ sym early.pi) (λ token runs. absurd (g.is_not_running token runs))
 
   pub book_left : IsBookLeft port b.found s.table s.book s
   book_left = record {
     owners = refl;
-    accepted = k.accepted;
-    ordered = k.ordered;
+    accepted = k.requests_are_accepted;
+    ordered = k.book_is_in_order;
     from = was_itself s.book;
     ready = λ e here own. absurd (unready (ap (λ (q : ℕ). state_of (probe_result_of s.ports q)) (sym own) ∙ of_ready s k e here));
   }
@@ -207,46 +207,46 @@ module _ (laws : PrerequisiteLaws) (s new : ServerState) (seen : Device) (port :
 
   -- ---- the accesses
 
-  pub afterwards : AfterList port TimedOut b.anew.result.next b.found b.anew.stopped new.device
-  afterwards = after_list laws port small wanted TimedOut no_disk b.anew.result.next b.anew.stopped new.device b.found after_it
+  pub afterwards : AfterList port TimedOut b.probes_anew.result.next b.found b.probes_anew.stopped new.device
+  afterwards = after_list laws port small wanted TimedOut no_disk b.probes_anew.result.next b.probes_anew.stopped new.device b.found after_it
 
   abbrev pub accesses : List Access
-  accesses = looks.driven.accesses ++ (part ++ afterwards.driven.accesses)
+  accesses = looks.is_driven.accesses ++ (part ++ afterwards.driven.accesses)
 
-  does_part : DoesAll part seen b.anew.stopped
-  does_part = recovery_does port.0 b.anew.result.next part seen b.anew.stopped g.handling.does.slots
+  does_part : DoesAll part seen b.probes_anew.stopped
+  does_part = recovery_does port.0 b.probes_anew.result.next part seen b.probes_anew.stopped g.handling.does.slots
 
-  pub until : DoesAll (looks.driven.accesses ++ part) s.device b.anew.stopped
-  until = laws.basic.does_append looks.driven.accesses part s.device seen b.anew.stopped looks.driven.all does_part
+  pub until : DoesAll (looks.is_driven.accesses ++ part) s.device b.probes_anew.stopped
+  until = laws.basic.does_append looks.is_driven.accesses part s.device seen b.probes_anew.stopped looks.is_driven.all_are_done does_part
 
   pub does : DoesAll accesses s.device new.device
-  does = laws.basic.does_append looks.driven.accesses (part ++ afterwards.driven.accesses) s.device seen new.device looks.driven.all
-      (laws.basic.does_append part afterwards.driven.accesses seen b.anew.stopped new.device does_part afterwards.driven.all)
+  does = laws.basic.does_append looks.is_driven.accesses (part ++ afterwards.driven.accesses) s.device seen new.device looks.is_driven.all_are_done
+      (laws.basic.does_append part afterwards.driven.accesses seen b.probes_anew.stopped new.device does_part afterwards.driven.all_are_done)
 
-  looking_only : All (IsPart port) looks.driven.accesses
-  looking_only = All-weaker (IsLooking port) (IsPart port) (looking_part laws port) looks.driven.accesses looks.driven.only
+  looking_only : All (IsPart port) looks.is_driven.accesses
+  looking_only = All-weaker (IsEventAccess port) (IsPart port) (looking_part laws port) looks.is_driven.accesses looks.is_driven.accesses_are_of_kind
 
   part_only : All (IsPart port) part
   part_only = All-weaker (IsRecoveryAccess port) (IsPart port) (recovering_part laws port small) part g.handling.does.only
 
-  pub until_of : All (SparesOtherPorts port) (looks.driven.accesses ++ part)
-  until_of = All-weaker (IsPart port) (SparesOtherPorts port) (λ access its. its.1) (looks.driven.accesses ++ part) (All-append (IsPart port) looks.driven.accesses part looking_only part_only)
+  pub until_of : All (SparesOtherPorts port) (looks.is_driven.accesses ++ part)
+  until_of = All-weaker (IsPart port) (SparesOtherPorts port) (λ access its. its.1) (looks.is_driven.accesses ++ part) (All-append (IsPart port) looks.is_driven.accesses part looking_only part_only)
 
   pub only : All (IsPart port) accesses
-  only = All-append (IsPart port) looks.driven.accesses (part ++ afterwards.driven.accesses) looking_only (All-append (IsPart port) part afterwards.driven.accesses part_only afterwards.driven.only)
+  only = All-append (IsPart port) looks.is_driven.accesses (part ++ afterwards.driven.accesses) looking_only (All-append (IsPart port) part afterwards.driven.accesses part_only afterwards.driven.accesses_are_of_kind)
 
   -- ---- what is told
 
-  becomes : IsServiced (ports_of s) (evidence_tried (stopped_of port b.anew.result.next) (stuck_if port b.found)) (ports_of then_is) port
+  becomes : IsServiced (ports_of s) (evidence_tried (stopped_of port b.probes_anew.result.next) (stuck_if port b.found)) (ports_of then_is) port
   becomes = (
     λ dead. absurd (lives (sym (ap state_of is) ∙ dead)),
     λ _. (
       record {
-        served = ap is_served found_then ∙ found_served wanted port TimedOut no_disk b.anew.result.next b.anew.stopped new.device b.found after_it ∙ sym (ap is_served is);
-        stuck = (λ dead. stuck_all port b.found (dead_is b.found (sym (ap state_of found_then) ∙ dead)), λ here. ap state_of found_then ∙ ap state_of (stuck_only port b.found here));
-        keeps = λ other. (ap last_serial_of (same_disk other), ap last_sectors_of (same_disk other));
+        served_is_kept = ap is_served found_then ∙ found_served wanted port TimedOut no_disk b.probes_anew.result.next b.probes_anew.stopped new.device b.found after_it ∙ sym (ap is_served is);
+        dead_is_stuck = (λ dead. stuck_all port b.found (dead_is b.found (sym (ap state_of found_then) ∙ dead)), λ here. ap state_of found_then ∙ ap state_of (stuck_only port b.found here));
+        disk_is_kept = λ other. (ap last_serial_of (same_disk other), ap last_sectors_of (same_disk other));
       },
-      inr (interrupted wanted port b.anew.result.next b.anew.stopped new.device b.found b.anew.is),
+      inr (interrupted wanted port b.probes_anew.result.next b.probes_anew.stopped new.device b.found b.probes_anew.is_probed_anew),
     ),
   )
     where
@@ -256,16 +256,16 @@ module _ (laws : PrerequisiteLaws) (s new : ServerState) (seen : Device) (port :
       same_disk : (ports_of then_is).state port ≢ ReadyState → last_disk_in then_is port ≡ last_disk_in s port
       same_disk other = ap (λ (f : ProbeResult). last_disk_of f remembered) found_then ∙ disk_is b.found remembered (λ ready. other (ap state_of found_then ∙ ready)) ∙ sym (ap (λ (f : ProbeResult). last_disk_of f remembered) is)
 
-  pub tells : TellsTried port (stopped_of port b.anew.result.next) (stuck_if port b.found) accesses s then_is
+  pub tells : TellsTried port (stopped_of port b.probes_anew.result.next) (stuck_if port b.found) accesses s then_is
   tells = record {
-    its_stopped = stopped_its port b.anew.result.next;
+    its_stopped = stopped_its port b.probes_anew.result.next;
     its_stuck = stuck_its port b.found;
     becomes = becomes;
-    engine = inr (interrupted wanted port b.anew.result.next b.anew.stopped new.device b.found b.anew.is);
-    stops = engine_stops laws port looks.driven.accesses part afterwards.driven.accesses b.anew.result.next g.handling.does.engine;
+    engine = inr (interrupted wanted port b.probes_anew.result.next b.probes_anew.stopped new.device b.found b.probes_anew.is_probed_anew);
+    stops = engine_stops laws port looks.is_driven.accesses part afterwards.driven.accesses b.probes_anew.result.next g.handling.does.engine;
     sticks = λ here.
         let dead = stuck_only port b.found here in
-        (engine_sticks laws port looks.driven.accesses part afterwards.driven.accesses b.anew.result.next g.handling.does.engine (afterwards.sticks dead), counted dead);
+        (engine_sticks laws port looks.is_driven.accesses part afterwards.driven.accesses b.probes_anew.result.next g.handling.does.engine (afterwards.sticks dead), counted dead);
   }
 
   -- ---- the other ports
@@ -274,7 +274,7 @@ module _ (laws : PrerequisiteLaws) (s new : ServerState) (seen : Device) (port :
   others = record {
     grants = refl;
     wanted = refl;
-    last = refl;
+    last_id = refl;
     found = λ q ne. get_or-set_other s.ports port.0 q b.found Unserved ne;
     remembered = λ q ne. refl;
     modes = λ q ne. get_or-set_other s.modes port.0 q b.mode plain_mode ne;

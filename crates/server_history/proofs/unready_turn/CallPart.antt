@@ -13,28 +13,28 @@ use Rattle.adapter.specs.Access.{Access}
 use Rattle.adapter.specs.Device.{Device}
 use Rattle.adapter.specs.declared.command.Operation.TheVariants.{Identify, ReadLog}
 use Rattle.refinement.specs.Relation.{port_at}
-use Rattle.refinement.specs.Driven.{AnyUse, IsDrivenBy, IsSimulated, SparesOtherPorts}
+use Rattle.refinement.specs.Fragments.{AnyUse, IsDrivenBy, IsSimulated, SparesOtherPorts}
 use Rattle.refinement.specs.Driver.{IsBacked}
 use Rattle.refinement.specs.Slots.{Free, Serves}
-use Rattle.refinement.specs.Spares.{SparesBook}
-use Rattle.block_machine.specs.Due.{NoneDue}
-use Rattle.block_machine.specs.Events.{AllByDevice, AllMay, ShownDiskWasInOrCame, ShowsDisk, changes_disk}
+use Rattle.refinement.specs.SparedBook.{SparesBook}
+use Rattle.block_machine.specs.DueRequests.{NoneDue}
+use Rattle.block_machine.specs.Events.{AllByDevice, AllEnabled, ShownDiskWasInOrCame, ShowsDisk, changes_disk}
 use Rattle.block_machine.specs.Histories.{IsReachable}
 use Rattle.block_machine.specs.Expected.{after}
 use Rattle.block_machine.specs.State.{Machine, Pending}
 use Rattle.block_machine.specs.Steps.{Step}
 use Rattle.block_machine.specs.declared.due.QueueMode.{QueueMode}
-use Rattle.driver_history.specs.Trace.{IsDriversOwn, LeavesEngine}
+use Rattle.driver_history.specs.AccessTrace.{IsDriversOwn, LeavesEngine}
 use Rattle.error_recovery.specs.declared.Next.{Next}
 use Rattle.error_recovery.specs.declared.Next.TheVariants as next
 use Rattle.host_boot.specs.TakeOver.{StillBacksProbeResult, probe_result_of, wanted_of}
 use Rattle.host_boot.specs.declared.ProbeResult.{ProbeResult}
 use Rattle.host_boot.specs.declared.ProbeResult.TheVariants.{Unready, Unserved}
-use Rattle.port_control.specs.Looks.{IsLooking}
-use Rattle.port_control.specs.Services.{IsService}
-use Rattle.request_queue.specs.Entries.{asks_of}
+use Rattle.port_control.specs.PortEvents.{IsEventAccess}
+use Rattle.port_control.specs.ServiceAccesses.{IsServiceAccess}
+use Rattle.request_queue.specs.BookEntries.{unanswered_of}
 use Rattle.server_history.specs.Prerequisites.{PrerequisiteLaws}
-use Rattle.server_history.specs.Server.{QuarantineRelation, InCallInvariant, MachineRelation, PortInvariant, SettledInvariant, ServerState, is_served, mode_at, mode_in, plain_mode, state_of, usable_slots_of, slot_state_of}
+use Rattle.server_history.specs.ServerState.{QuarantineRelation, InCallInvariant, MachineRelation, PortInvariant, SettledInvariant, ServerState, is_served, mode_at, mode_in, plain_mode, state_of, usable_slots_of, slot_state_of}
 use Rattle.server_history.specs.Probing.{BootsUnreadyPort, IsProbedAnew, IsLookedAt, ProbesPort}
 use Rattle.server_history.specs.Turns.{IsPortTurn, InProbe, ProbesUnready, abstract_state_of}
 use Rattle.port_control.specs.declared.events.PortError.TheVariants.{TimedOut}
@@ -61,15 +61,15 @@ use Rattle.server_history.proofs.unready_turn.TriedPort.{AddsTried, TellsTried, 
 -- ---- it was booted
 
 module _ (laws : PrerequisiteLaws) (s new : ServerState) (seen : Device) (port : Port) (state : PortState) (t : SettledInvariant s) (is : probe_result_of s.ports port.0 ≡ Unready state) (lives : state ≢ DeadState)
-    (looks : IsSimulated (IsLooking port) AnyUse s.device seen) (b : BootsUnreadyPort port (record s { device = seen }) new) where
+    (looks : IsSimulated (IsEventAccess port) AnyUse s.device seen) (b : BootsUnreadyPort port (record s { device = seen }) new) where
   abbrev k : InCallInvariant s
-  k = t.kept
+  k = t.in_call_invariant
 
   abbrev then : ServerState
   then = then_is laws s new seen port state k is lives looks b
 
   abbrev part : List Access
-  part = b.anew.gives_up.handling.accesses
+  part = b.probes_anew.gives_up.handling.accesses
 
   small : port.0 < 4
   small = low laws s seen port state k is lives looks
@@ -80,7 +80,7 @@ module _ (laws : PrerequisiteLaws) (s new : ServerState) (seen : Device) (port :
   -- ---- the machine
 
   module _ (m : Machine) (reached : IsReachable m) (stood : MachineRelation s m) where
-    looked : (steps : List Step) × AllMay m steps × MachineRelation (record s { device = seen }) (after m steps) × IsBacked s.device seen m steps × AllByDevice steps
+    looked : (steps : List Step) × AllEnabled m steps × MachineRelation (record s { device = seen }) (after m steps) × IsBacked s.device seen m steps × AllByDevice steps
     looked = followed_steps laws s seen (looks_serve laws port s.device seen looks) m reached stood
 
     abbrev n : Machine
@@ -89,9 +89,9 @@ module _ (laws : PrerequisiteLaws) (s new : ServerState) (seen : Device) (port :
     abbrev at : MachineRelation (record s { device = seen }) n
     at = looked.2
 
-    p : IsPassed port.0 b.anew.result.next b.found seen new.device (record { uses = at.uses; parked = at.parked }) n
-    p = passed laws (wanted_of s.wanted port.0) port TimedOut no_disk b.anew.result.next part seen b.anew.stopped new.device b.found b.anew.gives_up.handling.does.slots (after_it laws s new seen port state k is lives looks b)
-        (record { uses = at.uses; parked = at.parked }) n (laws.basic.reached m looked.0 reached looked.1) at.knows
+    p : IsPassed port.0 b.probes_anew.result.next b.found seen new.device (record { uses = at.uses; parked = at.parked }) n
+    p = passed laws (wanted_of s.wanted port.0) port TimedOut no_disk b.probes_anew.result.next part seen b.probes_anew.stopped new.device b.found b.probes_anew.gives_up.handling.does.slots (after_it laws s new seen port state k is lives looks b)
+        (record { uses = at.uses; parked = at.parked }) n (laws.basic.reached m looked.0 reached looked.1) at.driver_relation
 
     abbrev w : Machine
     w = after n p.passes.steps
@@ -103,7 +103,7 @@ module _ (laws : PrerequisiteLaws) (s new : ServerState) (seen : Device) (port :
     none_served : (slot : ℕ) (id : RequestId) → at.uses port.0 slot ≡ Serves id → ⊥
     none_served slot id serves =
         let none = (k.slots port.0 small).unused slot (subst (λ (f : ProbeResult). usable_slots_of f (mode_at s.modes port.0) ≤ slot) (sym is) (omega arith)) in
-        let z : Free ≡ Serves id = sym (ap slot_state_of none) ∙ sym (at.used port.0 slot alive) ∙ serves in absurd cc
+        let z : Free ≡ Serves id = sym (ap slot_state_of none) ∙ sym (at.are_uses_of port.0 slot alive) ∙ serves in absurd cc
 
     unparked : (q : ℕ) → probe_result_of then.ports q ≢ Unready DeadState → p.slots.parked q ≡ []
     unparked q other = ⊎_elim
@@ -116,7 +116,7 @@ module _ (laws : PrerequisiteLaws) (s new : ServerState) (seen : Device) (port :
         (cases_eq q port.0)
 
     was_kept : QuarantineRelation s.ports s.kept w.kept
-    was_kept = still_kept laws s.ports s.kept n.kept w.kept spares.kept at.kept
+    was_kept = still_kept laws s.ports s.kept n.kept w.kept spares.kept at.quarantine_relation
 
     -- a request that is kept is of another port
     elsewhere : (e : Pending) → Contains w.kept e → e.request.port.0 ≢ port.0
@@ -125,13 +125,13 @@ module _ (laws : PrerequisiteLaws) (s new : ServerState) (seen : Device) (port :
     stands : MachineRelation then w
     stands = record {
       uses = p.slots.uses;
-      used = uses_then port.0 b.anew.result.next b.found s.ports s.slots b.slots (record { uses = at.uses; parked = at.parked }) p.slots (listed laws s new seen port state k is lives looks b)
-          (let four = k.four in let l = small in omega (arith, four, l)) b.unused.free p.left at.used;
+      are_uses_of = uses_then port.0 b.probes_anew.result.next b.found s.ports s.slots b.slots (record { uses = at.uses; parked = at.parked }) p.slots (listed laws s new seen port state k is lives looks b)
+          (let four = k.four_slots in let l = small in omega (arith, four, l)) b.has_no_used_slot.free p.left at.are_uses_of;
       parked = p.slots.parked;
       unparked = unparked;
-      knows = p.passes.knows;
+      driver_relation = p.passes.driver_relation;
       book = book_on s.book n.book w.book spares.book at.book;
-      kept = record {
+      quarantine_relation = record {
         dead = λ e here. get_or-set_other s.ports port.0 e.request.port.0 b.found Unserved (elsewhere e here) ∙ was_kept.dead e here;
         loan = was_kept.loan;
         whose = was_kept.whose;
@@ -146,7 +146,7 @@ module _ (laws : PrerequisiteLaws) (s new : ServerState) (seen : Device) (port :
     steps : List Step
     steps = p.passes.steps ++ looked.0
 
-    may : AllMay m steps
+    may : AllEnabled m steps
     unfolding steps
     may = laws.basic.may m p.passes.steps looked.0 looked.1 p.passes.may
 
@@ -164,13 +164,13 @@ module _ (laws : PrerequisiteLaws) (s new : ServerState) (seen : Device) (port :
 
     -- where it shows a disk then, one was in
     had : ShownDiskWasInOrCame (abstract_state_of s m) steps (abstract_state_of then (after m steps)) port
-    had shows = by b.anew.result.next b.anew.is (subst (λ (f : ProbeResult). ShowsDisk (state_of f)) (found_then laws s new seen port state k is lives looks b) shows)
+    had shows = by b.probes_anew.result.next b.probes_anew.is_probed_anew (subst (λ (f : ProbeResult). ShowsDisk (state_of f)) (found_then laws s new seen port state k is lives looks b) shows)
       where
-        by : (after_it : Next) → IsProbedAnew (wanted_of s.wanted port.0) port after_it b.anew.stopped new.device b.found → ShowsDisk (state_of b.found) → (m.present port ≡ true) ⊎ (list_any (changes_disk port) steps ≡ true)
+        by : (after_it : Next) → IsProbedAnew (wanted_of s.wanted port.0) port after_it b.probes_anew.stopped new.device b.found → ShowsDisk (state_of b.found) → (m.present port ≡ true) ⊎ (list_any (changes_disk port) steps ≡ true)
         by (next.Running token) none disk = absurd none
         by next.Dead (dead, same) disk = absurd (subst (λ (f : ProbeResult). ShowsDisk (state_of f)) dead disk)
         by (next.Restart token) (booted, so, boots) disk =
-            booted_had laws port s (wanted_of s.wanted port.0) booted (looks.driven.accesses ++ part) b.anew.stopped new.device new.device k.on (until laws s new seen port state k is lives looks b)
+            booted_had laws port s (wanted_of s.wanted port.0) booted (looks.is_driven.accesses ++ part) b.probes_anew.stopped new.device new.device k.adapter_is_on (until laws s new seen port state k is lives looks b)
             (until_of laws s new seen port state k is lives looks b) boots (subst (λ (f : ProbeResult). ShowsDisk (state_of f)) (sym so) disk) (laws.looks.tape.grows_none new.device) m stood steps backed
 
     adds : AddsTried port s then m
@@ -181,113 +181,113 @@ module _ (laws : PrerequisiteLaws) (s new : ServerState) (seen : Device) (port :
   kept_then : InCallInvariant then
   kept_then =
       let w = whole laws s new seen port state k is lives looks b in
-      replaced_kept laws port s k small new.device w.0 w.1 s.table b.found s.remembered b.mode b.slots s.kept s.book (ap is_served is) (its_stand laws s new seen port state k is lives looks b) b.anew.mode_is b.unused
-      (book_left laws s new seen port state k is lives looks b) k.four_remembered k.four_kept k.few_kept (after k.machine (steps k.machine k.reached k.stands)) (laws.basic.reached k.machine _ k.reached (may k.machine k.reached k.stands))
-      (then_stands k.machine k.reached k.stands)
+      replaced_kept laws port s k small new.device w.0 w.1 s.table b.found s.remembered b.mode b.slots s.kept s.book (ap is_served is) (its_stand laws s new seen port state k is lives looks b) b.probes_anew.mode_is b.has_no_used_slot
+      (book_left laws s new seen port state k is lives looks b) k.four_remembered k.four_kept k.few_kept (after k.machine (steps k.machine k.reached k.machine_relation)) (laws.basic.reached k.machine _ k.reached (may k.machine k.reached k.machine_relation))
+      (then_stands k.machine k.reached k.machine_relation)
 
-  none_due : (q : Port) → NoneDue (mode_in then q) (asks_of s.book) q
+  none_due : (q : Port) → NoneDue (mode_in then q) (unanswered_of s.book) q
   none_due q = ⊎_elim
       (λ (same : q.0 ≡ port.0).
-      subst (λ (x : Port). NoneDue (mode_in then q) (asks_of s.book) x) (ap (λ (x : ℕ). record { 0 = x }) (sym same)) (none_due_unready s k port (unready laws s new seen port state k is lives looks b) (mode_in then q)))
-      (λ (other : q.0 ≢ port.0). subst (λ (mode : QueueMode). NoneDue mode (asks_of s.book) q) (sym (get_or-set_other s.modes port.0 q.0 b.mode plain_mode other)) (t.issued q))
+      subst (λ (x : Port). NoneDue (mode_in then q) (unanswered_of s.book) x) (ap (λ (x : ℕ). record { 0 = x }) (sym same)) (none_due_unready s k port (unready laws s new seen port state k is lives looks b) (mode_in then q)))
+      (λ (other : q.0 ≢ port.0). subst (λ (mode : QueueMode). NoneDue mode (unanswered_of s.book) q) (sym (get_or-set_other s.modes port.0 q.0 b.mode plain_mode other)) (t.nothing_is_due q))
       (cases_eq q.0 port.0)
 
   settled_then : SettledInvariant then
-  settled_then = record { kept = kept_then; issued = none_due }
+  settled_then = record { in_call_invariant = kept_then; nothing_is_due = none_due }
 
   part_then : IsPortTurn InProbe port [] s then
   part_then =
       let its = only laws s new seen port state k is lives looks b in
       record {
         accesses = accesses laws s new seen port state k is lives looks b;
-        does = does laws s new seen port state k is lives looks b;
-        of = All-weaker (IsPart port) (SparesOtherPorts port) (λ access x. x.1) _ its;
-        own = All-weaker (IsPart port) IsDriversOwn (λ access x. x.0) _ its;
-        others = others laws s new seen port state k is lives looks b;
-        silent = silent laws s new seen port state k is lives looks b;
-        makes = λ m reached stood. makes_try laws port s k (unready laws s new seen port state k is lives looks b) then settled_then (stopped_of port b.anew.result.next) (stuck_if port b.found) _ (tells laws s new seen port state k is lives looks b) (boot_does laws s new seen port state k is lives looks b) m stood
+        accesses_are_done = does laws s new seen port state k is lives looks b;
+        accesses_are_of_port = All-weaker (IsPart port) (SparesOtherPorts port) (λ access x. x.1) _ its;
+        accesses_are_drivers_own = All-weaker (IsPart port) IsDriversOwn (λ access x. x.0) _ its;
+        leaves_others = others laws s new seen port state k is lives looks b;
+        others_get_no_log = silent laws s new seen port state k is lives looks b;
+        simulates_turn = λ m reached stood. makes_try laws port s k (unready laws s new seen port state k is lives looks b) then settled_then (stopped_of port b.probes_anew.result.next) (stuck_if port b.found) _ (tells laws s new seen port state k is lives looks b) (boot_does laws s new seen port state k is lives looks b) m stood
             (adds m reached stood);
       }
 
   pub booted_turn : IsPortTurn InProbe port [] s new × SettledInvariant new
-  booted_turn = subst (λ (x : ServerState). IsPortTurn InProbe port [] s x × SettledInvariant x) (sym b.server) (part_then, settled_then)
+  booted_turn = subst (λ (x : ServerState). IsPortTurn InProbe port [] s x × SettledInvariant x) (sym b.server_is) (part_then, settled_then)
 
 -- ---- it was looked at, and that is all
 
 -- a look leaves the engine of each port
-leaving : (port q : Port) (access : Access) → IsLooking port access → LeavesEngine q access
+leaving : (port q : Port) (access : Access) → IsEventAccess port access → LeavesEngine q access
 leaving port q access its = (looking_spares port q Cmd (λ e. let z : Is ≡ Cmd = e in cc) access its, looking_spares port q Sctl (λ e. let z : Is ≡ Sctl = e in cc) access its)
 
-module _ (laws : PrerequisiteLaws) (s : ServerState) (seen : Device) (port : Port) (state : PortState) (t : SettledInvariant s) (is : probe_result_of s.ports port.0 ≡ Unready state) (looks : IsSimulated (IsLooking port) AnyUse s.device seen) where
+module _ (laws : PrerequisiteLaws) (s : ServerState) (seen : Device) (port : Port) (state : PortState) (t : SettledInvariant s) (is : probe_result_of s.ports port.0 ≡ Unready state) (looks : IsSimulated (IsEventAccess port) AnyUse s.device seen) where
   abbrev rest : ServerState
   rest = record s { device = seen }
 
   never : state_of (probe_result_of s.ports port.0) ≢ ReadyState
-  never ready = never_ready s port state t.kept is (sym (ap state_of is) ∙ ready)
+  never ready = never_ready s port state t.in_call_invariant is (sym (ap state_of is) ∙ ready)
 
-  rests_told : TellsTried port [] [] looks.driven.accesses s rest
+  rests_told : TellsTried port [] [] looks.is_driven.accesses s rest
   rests_told = record {
     its_stopped = All-nil (λ q. q ≡ port);
     its_stuck = All-nil (λ q. q ≡ port);
     becomes = (
       λ dead. (refl, refl, refl, refl, refl, refl),
-      λ alive. (record { served = refl; stuck = (λ dead. absurd (alive dead), λ here. absurd (nowhere port here)); keeps = λ other. (refl, refl) }, inl (refl, refl, refl, refl, refl, refl)),
+      λ alive. (record { served_is_kept = refl; dead_is_stuck = (λ dead. absurd (alive dead), λ here. absurd (nowhere port here)); disk_is_kept = λ other. (refl, refl) }, inl (refl, refl, refl, refl, refl, refl)),
     );
-    engine = inl (All-weaker (IsLooking port) (LeavesEngine port) (leaving port port) looks.driven.accesses looks.driven.only);
+    engine = inl (All-weaker (IsEventAccess port) (LeavesEngine port) (leaving port port) looks.is_driven.accesses looks.is_driven.accesses_are_of_kind);
     stops = λ here. absurd (nowhere port here);
     sticks = λ here. absurd (nowhere port here);
   }
 
   -- ---- the server
 
-  serves : IsDrivenBy IsService s.device seen
-  serves = driven_as (IsLooking port) IsService s.device seen (laws.looking.looking_service port) looks.driven
+  serves : IsDrivenBy IsServiceAccess s.device seen
+  serves = driven_as (IsEventAccess port) IsServiceAccess s.device seen (laws.looking.looking_service port) looks.is_driven
 
   module _ (lives : state ≢ DeadState) (result : Bool) (l : IsLookedAt state port result s.device seen) (none : result ≡ false) where
     its_port : PortInvariant s.wanted s.ports port.0 seen
     its_port =
-        let was = t.kept.behind port.0 (low laws s seen port state t.kept is lives looks) in
+        let was = t.in_call_invariant.port_invariant port.0 (low laws s seen port state t.in_call_invariant is lives looks) in
         record {
-          behind = subst (λ (f : ProbeResult). StillBacksProbeResult (wanted_of s.wanted port.0) f port.0 seen) (sym is)
-              (looked_stands laws (wanted_of s.wanted port.0) port state result s.device seen t.kept.on lives l none (laws.looking.services_same s.device seen serves)
-              (looking_silent s seen port t.kept laws looks port.0 Identify refl (λ dead. lives (let z : Unready state ≡ Unready DeadState = sym is ∙ dead in cc)))
-              (subst (λ (f : ProbeResult). StillBacksProbeResult (wanted_of s.wanted port.0) f port.0 s.device) is was.behind));
-          runs = λ ready. absurd (never ready);
-          shown = λ bad. shown_on laws port s.device seen t.kept.on serves (was.shown bad);
-          own = λ ready. absurd (never ready);
-          halts = λ ready. absurd (never ready);
+          probe_result_is_backed = subst (λ (f : ProbeResult). StillBacksProbeResult (wanted_of s.wanted port.0) f port.0 seen) (sym is)
+              (looked_stands laws (wanted_of s.wanted port.0) port state result s.device seen t.in_call_invariant.adapter_is_on lives l none (laws.looking.services_same s.device seen serves)
+              (looking_silent s seen port t.in_call_invariant laws looks port.0 Identify refl (λ dead. lives (let z : Unready state ≡ Unready DeadState = sym is ∙ dead in cc)))
+              (subst (λ (f : ProbeResult). StillBacksProbeResult (wanted_of s.wanted port.0) f port.0 s.device) is was.probe_result_is_backed));
+          engine_runs = λ ready. absurd (never ready);
+          shows_disk_if_in = λ bad. shown_on laws port s.device seen t.in_call_invariant.adapter_is_on serves (was.shows_disk_if_in bad);
+          has_disk_if_shown = λ ready. absurd (never ready);
+          halt_is_of_taken = λ ready. absurd (never ready);
         }
 
     other_port : (q : ℕ) → q < 4 → q ≢ port.0 → PortInvariant s.wanted s.ports q seen
     other_port q small other =
-        port_on laws s.wanted s.ports q s.device seen (laws.looking.services_same s.device seen serves) t.kept.on serves
-        (λ _. laws.looks.other_left port q s.device seen other t.kept.on (driven_as (IsLooking port) (SparesOtherPorts port) s.device seen (laws.looking.looking_of port) looks.driven))
-        (looking_silent s seen port t.kept laws looks q Identify refl)
-        (followed_halts laws (port_at q) (IsLooking port) s t.kept seen looks (λ access its. (leaving port (port_at q) access its).0))
-        (t.kept.behind q small)
+        port_on laws s.wanted s.ports q s.device seen (laws.looking.services_same s.device seen serves) t.in_call_invariant.adapter_is_on serves
+        (λ _. laws.looks.other_left port q s.device seen other t.in_call_invariant.adapter_is_on (driven_as (IsEventAccess port) (SparesOtherPorts port) s.device seen (laws.looking.looking_of port) looks.is_driven))
+        (looking_silent s seen port t.in_call_invariant laws looks q Identify refl)
+        (followed_halts laws (port_at q) (IsEventAccess port) s t.in_call_invariant seen looks (λ access its. (leaving port (port_at q) access its).0))
+        (t.in_call_invariant.port_invariant q small)
 
     pub rests_kept : InCallInvariant rest
-    rests_kept = looked_kept s seen port t.kept laws looks (λ q small. ⊎_elim
+    rests_kept = looked_kept s seen port t.in_call_invariant laws looks (λ q small. ⊎_elim
         (λ (same : q ≡ port.0). subst (λ (x : ℕ). PortInvariant s.wanted s.ports x seen) (sym same) its_port)
         (λ (other : q ≢ port.0). other_port q small other)
         (cases_eq q port.0))
 
   module _ (result : Bool) (l : IsLookedAt state port result s.device seen) (none : result ≡ false) (kept : InCallInvariant rest) where
     rests_settled : SettledInvariant rest
-    rests_settled = record { kept = kept; issued = t.issued }
+    rests_settled = record { in_call_invariant = kept; nothing_is_due = t.nothing_is_due }
 
     pub rests : IsPortTurn InProbe port [] s rest × SettledInvariant rest
     rests = (
       record {
-        accesses = looks.driven.accesses;
-        does = looks.driven.all;
-        of = All-weaker (IsLooking port) (SparesOtherPorts port) (laws.looking.looking_of port) looks.driven.accesses looks.driven.only;
-        own = All-weaker (IsLooking port) IsDriversOwn (λ access its. (looking_part laws port access its).0) looks.driven.accesses looks.driven.only;
-        others = record { grants = refl; wanted = refl; last = refl; found = λ q ne. refl; remembered = λ q ne. refl; modes = λ q ne. refl; slots = λ q ne. refl; book = λ q ne. refl };
-        silent = λ q other alive. looking_silent s seen port t.kept laws looks q ReadLog refl (λ dead. alive (ap state_of dead));
-        makes = λ m reached stood.
+        accesses = looks.is_driven.accesses;
+        accesses_are_done = looks.is_driven.all_are_done;
+        accesses_are_of_port = All-weaker (IsEventAccess port) (SparesOtherPorts port) (laws.looking.looking_of port) looks.is_driven.accesses looks.is_driven.accesses_are_of_kind;
+        accesses_are_drivers_own = All-weaker (IsEventAccess port) IsDriversOwn (λ access its. (looking_part laws port access its).0) looks.is_driven.accesses looks.is_driven.accesses_are_of_kind;
+        leaves_others = record { grants = refl; wanted = refl; last_id = refl; found = λ q ne. refl; remembered = λ q ne. refl; modes = λ q ne. refl; slots = λ q ne. refl; book = λ q ne. refl };
+        others_get_no_log = λ q other alive. looking_silent s seen port t.in_call_invariant laws looks q ReadLog refl (λ dead. alive (ap state_of dead));
+        simulates_turn = λ m reached stood.
             let x = followed_steps laws s seen (looks_serve laws port s.device seen looks) m reached stood in
-            makes_try laws port s t.kept never rest rests_settled [] [] looks.driven.accesses rests_told (rests_does s port state t.kept is laws seen result l none looks.driven.accesses looks.driven.only looks.driven.all) m stood
+            makes_try laws port s t.in_call_invariant never rest rests_settled [] [] looks.is_driven.accesses rests_told (rests_does s port state t.in_call_invariant is laws seen result l none looks.is_driven.accesses looks.is_driven.accesses_are_of_kind looks.is_driven.all_are_done) m stood
             (record { steps = x.0; only = x.4; may = x.1; stands = x.2; backed = x.3; disk = inl (refl, refl, refl, refl, refl, refl) });
       },
       rests_settled,
@@ -303,20 +303,20 @@ dead_or_not (Unfit n) = inr (λ is. let z : Unfit n ≡ DeadState = is in cc)
 dead_or_not DeadState = inl refl
 
 -- A dead port isn't looked at. Another one is, and booted where what it was looked at for was found.
-pub turns : PrerequisiteLaws → (s new : ServerState) (port : Port) → SettledInvariant s → (probes : ProbesPort port s new) → (probes.state ≢ DeadState → IsSimulated (IsLooking port) AnyUse s.device probes.seen)
+pub turns : PrerequisiteLaws → (s new : ServerState) (port : Port) → SettledInvariant s → (probes : ProbesPort port s new) → (probes.state ≢ DeadState → IsSimulated (IsEventAccess port) AnyUse s.device probes.seen)
     → IsPortTurn InProbe port [] s new × SettledInvariant new
 turns laws s new port t probes looks = ⊎_elim
     (λ (dead : probes.state ≡ DeadState).
-    let l = subst (λ (state : PortState). IsLookedAt state port probes.result s.device probes.seen) dead probes.looks in
-    whole_rest l.0 (unlooked port s.device probes.seen l.1) (subst (λ (d : Device). InCallInvariant (record s { device = d })) (sym l.1) t.kept))
+    let l = subst (λ (state : PortState). IsLookedAt state port probes.result s.device probes.seen) dead probes.is_looked_at in
+    whole_rest l.0 (unlooked port s.device probes.seen l.1) (subst (λ (d : Device). InCallInvariant (record s { device = d })) (sym l.1) t.in_call_invariant))
     (λ (lives : probes.state ≢ DeadState). ⊎_elim
-    (λ (found : probes.result ≡ true). booted_turn laws s new probes.seen port probes.state t probes.is lives (looks lives) (probes.boots found))
-    (λ (none : probes.result ≡ false). whole_rest none (looks lives) (rests_kept laws s probes.seen port probes.state t probes.is (looks lives) lives probes.result probes.looks none))
+    (λ (found : probes.result ≡ true). booted_turn laws s new probes.seen port probes.state t probes.unready_state_is lives (looks lives) (probes.boots found))
+    (λ (none : probes.result ≡ false). whole_rest none (looks lives) (rests_kept laws s probes.seen port probes.state t probes.unready_state_is (looks lives) lives probes.result probes.is_looked_at none))
     (cases_Bool probes.result))
     (dead_or_not probes.state)
   where
-    whole_rest : probes.result ≡ false → IsSimulated (IsLooking port) AnyUse s.device probes.seen → InCallInvariant (record s { device = probes.seen }) → IsPortTurn InProbe port [] s new × SettledInvariant new
-    whole_rest none its kept = subst (λ (n : ServerState). IsPortTurn InProbe port [] s n × SettledInvariant n) (sym (probes.left none)) (rests laws s probes.seen port probes.state t probes.is its probes.result probes.looks none kept)
+    whole_rest : probes.result ≡ false → IsSimulated (IsEventAccess port) AnyUse s.device probes.seen → InCallInvariant (record s { device = probes.seen }) → IsPortTurn InProbe port [] s new × SettledInvariant new
+    whole_rest none its kept = subst (λ (n : ServerState). IsPortTurn InProbe port [] s n × SettledInvariant n) (sym (probes.left none)) (rests laws s probes.seen port probes.state t probes.unready_state_is its probes.result probes.is_looked_at none kept)
 
-pub tried : PrerequisiteLaws → (s new : ServerState) (port : Port) → SettledInvariant s → (probes : ProbesPort port s new) → (probes.state ≢ DeadState → IsSimulated (IsLooking port) AnyUse s.device probes.seen) → ProbesUnready port s new × SettledInvariant new
-tried laws s new port t probes looks = let x = turns laws s new port t probes looks in (record { does = probes; part = x.0 }, x.1)
+pub tried : PrerequisiteLaws → (s new : ServerState) (port : Port) → SettledInvariant s → (probes : ProbesPort port s new) → (probes.state ≢ DeadState → IsSimulated (IsEventAccess port) AnyUse s.device probes.seen) → ProbesUnready port s new × SettledInvariant new
+tried laws s new port t probes looks = let x = turns laws s new port t probes looks in (record { does_turn = probes; is_port_turn = x.0 }, x.1)

@@ -11,11 +11,11 @@ use Rattle.hba_regs.specs.declared.reg.Reg.TheVariants.{Px}
 use Rattle.adapter.specs.Access.{Reads}
 use Rattle.adapter.specs.Access.Access.{Reading}
 use Rattle.adapter.specs.Device.{Device, Notes, DevicePort}
-use Rattle.adapter.specs.Kept.{KeepsControls, KeepsPort}
+use Rattle.adapter.specs.KeptBySteps.{KeepsControls, KeepsPort}
 use Rattle.adapter.specs.Rules.{IsOn}
 use Rattle.adapter.specs.RegisterEffects.{PortRegisterRead}
 use Rattle.adapter.specs.declared.command.Operation.TheVariants.{Identify}
-use Rattle.refinement.specs.Driven.{LeavesPort, GainsNoMove}
+use Rattle.refinement.specs.Fragments.{LeavesPort, GainsNoMove}
 use Rattle.refinement.specs.Links.{SameAdapter}
 use Rattle.host_boot.specs.TakeOver.{StillBacksProbeResult}
 use Rattle.host_boot.specs.declared.ProbeResult.TheVariants.{Unready}
@@ -23,7 +23,7 @@ use Rattle.identify.specs.Wanted.{serial_of}
 use Rattle.identify.specs.declared.wanted.Wanted.{Wanted}
 use Rattle.port_boot.specs.States.{BacksState, HasIdentity, IsUnfit}
 use Rattle.port_control.specs.Ports.{IsStopped, SawDevice}
-use Rattle.port_control.specs.Glances.{FindsChange}
+use Rattle.port_control.specs.DeviceChecks.{FindsChange}
 use Rattle.server_history.specs.Prerequisites.{PrerequisiteLaws}
 use Rattle.server_history.specs.Probing.{IsLookedAt}
 use Rattle.server_history.proofs.state.PortGrounds.{left_on}
@@ -55,8 +55,8 @@ noted_before old new = record new { port = λ q. record (new.port q) { notes = (
 -- a port is left to the device, but for what was noted
 but_notes : (noted : Notes) (old new : DevicePort) → KeepsPort old new → KeepsControls old new → LeavesPort (record old { notes = noted }) (record new { notes = noted })
 but_notes noted old new k c = record {
-  keeps = record { bases = k.bases; st = k.st; fre = k.fre; cr = k.cr; fr = k.fr; ci = k.ci; sact = k.sact; idle = k.idle; fallen = k.fallen; free = k.free };
-  controls = record { st = c.st; fre = c.fre; sctl_det = c.sctl_det; ie = c.ie; is = c.is; ips = c.ips; serr_n = c.serr_n; serr_x = c.serr_x; runs = c.runs };
+  keeps = record { bases = k.bases; st = k.st; fre = k.fre; cr = k.cr; fr = k.fr; ci = k.ci; sact = k.sact; stays_without_commands = k.stays_without_commands; fall_drops_commands = k.fall_drops_commands; slots_stay_free = k.slots_stay_free };
+  controls = record { st = c.st; fre = c.fre; sctl_det = c.sctl_det; ie = c.ie; is = c.is; ips = c.ips; serr_n = c.serr_n; serr_x = c.serr_x; engine_stays_running = c.engine_stays_running };
   notes = refl;
 }
 
@@ -104,7 +104,7 @@ module _ (laws : PrerequisiteLaws) (wanted : Wanted) (port : Port) (first old ne
   left_before : LeavesPort (first.port port.0) (before.port port.0)
   left_before =
       laws.looking.leaves_more (first.port port.0) (record (old.port port.0) { notes = was }) (before.port port.0) left
-      (but_notes was (old.port port.0) (new.port port.0) (at.keeps.port port.0) (at.keeps.on.controls port.0))
+      (but_notes was (old.port port.0) (new.port port.0) (at.keeps.ports_are_kept port.0) (at.keeps.keeps_outside_reset.controls port.0))
 
   stopped : IsStopped (before.port port.0) → IsStopped (new.port port.0)
   stopped s = record { halted = record { st = s.halted.st; cr = s.halted.cr; ci = s.halted.ci; taken = s.halted.taken }; sact = s.sact }
@@ -114,11 +114,11 @@ module _ (laws : PrerequisiteLaws) (wanted : Wanted) (port : Port) (first old ne
     before = h.before;
     move = h.move;
     later = h.later;
-    here = h.here;
-    since = subst (λ (n : ℕ). n ≤ length h.before) (sym written) h.since;
+    tape_is = h.tape_is;
+    came_after_sctl = subst (λ (n : ℕ). n ≤ length h.before) (sym written) h.came_after_sctl;
     is_move = h.is_move;
-    last = h.last;
-    bytes = h.bytes;
+    no_later_page = h.no_later_page;
+    bytes_are = h.bytes_are;
   }
 
   saw : v % 16 ≡ 3 → SawDevice was → SawDevice now
@@ -155,14 +155,14 @@ looked_stands laws wanted port state result old new on lives looks none same sil
     change its alive kind f behind =
         let first = laws.looking.seen port Is f.causes old f.seen f.reads on.no_reset in
         let there = laws.looks.access_on (Reading (Px port Is) f.causes) old f.seen on (λ v e. absurd cc) f.reads in
-        let link : (f.status % 16) ≡ 3 = eqb-true (f.status % 16) 3 (unchanged (bit f.causes 6) (bit f.causes 22) (f.status % 16 == 3) (sym f.tells ∙ none)).1 in
+        let link : (f.status % 16) ≡ 3 = eqb-true (f.status % 16) 3 (unchanged (bit f.causes 6) (bit f.causes 22) (f.status % 16 == 3) (sym f.result_is ∙ none)).1 in
         let was : Notes = (old.port port.0).notes in
         let noted : SameButAcknowledged was (f.seen.port port.0).notes =
         first.notes ∙ ap (λ (yes : Bool). record was { acknowledged = yes }) (sym (ap (λ (n : Notes). n.acknowledged) first.notes)) in
-        stands laws wanted port old f.seen new f.status there same (but_notes was (old.port port.0) (f.seen.port port.0) (first.keeps.port port.0) (first.keeps.on.controls port.0)) noted f.shows silent its alive (subst (λ (P : ℕ → Type 0). P f.status) (sym kind) link) behind
+        stands laws wanted port old f.seen new f.status there same (but_notes was (old.port port.0) (f.seen.port port.0) (first.keeps.ports_are_kept port.0) (first.keeps.keeps_outside_reset.controls port.0)) noted f.reads_status silent its alive (subst (λ (P : ℕ → Type 0). P f.status) (sym kind) link) behind
 
     by : (its : Shown) → its ≢ Dead → IsLookedAt its port result old new → StillBacksProbeResult wanted (Unready its) port.0 old → StillBacksProbeResult wanted (Unready its) port.0 new
-    by Absent alive f behind = stands laws wanted port old old new f.status on same (laws.looking.leaves_none (old.port port.0)) refl f.reads silent Absent alive (unequal (f.status % 16) 3 (sym f.tells ∙ none)) behind
+    by Absent alive f behind = stands laws wanted port old old new f.status on same (laws.looking.leaves_none (old.port port.0)) refl f.reads silent Absent alive (unequal (f.status % 16) 3 (sym f.result_is ∙ none)) behind
     by Foreign alive f behind = change Foreign alive refl f behind
     by (Unfit cause) alive f behind = change (Unfit cause) alive refl f behind
     by Dead alive f behind = absurd (alive refl)

@@ -12,15 +12,15 @@ use Rattle.adapter.specs.Access.{Access, DoesAll, Reads}
 use Rattle.adapter.specs.Access.Access.{Reading, Writing}
 use Rattle.adapter.specs.Device.{Device, DevicePort}
 use Rattle.adapter.specs.Rules.{IsOn}
-use Rattle.refinement.specs.Driven.{TapeGrows}
+use Rattle.refinement.specs.Fragments.{TapeGrows}
 use Rattle.refinement.specs.Errors.{NoDiskComes}
 use Rattle.refinement.specs.Links.{IsPlugEvent, NoPlugEvents}
 use Rattle.refinement.specs.Vacant.{HasFirstFisIfShown, IsVacant}
 use Rattle.block_machine.specs.Events.{ShowsDisk}
 use Rattle.driver_history.specs.Evidence.{TapeGainsEntry, ShowsChange}
 use Rattle.driver_history.specs.Histories.{HasSignatureOrNoDevice}
-use Rattle.driver_history.specs.Trace.{ResetsLink}
-use Rattle.host_boot.specs.Again.{BootsStopped}
+use Rattle.driver_history.specs.AccessTrace.{ResetsLink}
+use Rattle.host_boot.specs.Reboots.{BootsStopped}
 use Rattle.port_boot.specs.Outcomes.{EndsUnready}
 use Rattle.host_boot.specs.declared.ProbeResult.{ProbeResult}
 use Rattle.host_boot.specs.declared.ProbeResult.TheVariants.{Ready, Unready, Unserved}
@@ -29,9 +29,9 @@ use Rattle.identify.specs.declared.DiskInfo.{DiskInfo}
 use Rattle.identify.specs.declared.wanted.Wanted.{Wanted}
 use Rattle.port_boot.specs.States.{BacksState, EndsBeforeStart, EndsAfterStart, IsStateOfFault}
 use Rattle.port_control.specs.Ports.{HasClearErrors}
-use Rattle.port_control.specs.Looks.{IsLooking}
+use Rattle.port_control.specs.PortEvents.{IsEventAccess}
 use Rattle.server_history.specs.Prerequisites.{PrerequisiteLaws}
-use Rattle.server_history.specs.Server.{state_of}
+use Rattle.server_history.specs.ServerState.{state_of}
 use Rattle.server_history.proofs.any_turn.ToldTrouble.{is_plugging, one_or_none}
 use Rattle.server_history.proofs.any_turn.HeededTrouble.{gains_none}
 use Rattle.server_history.proofs.plain_calls.Looks.{looking_spares}
@@ -57,10 +57,10 @@ module _ (laws : PrerequisiteLaws) (port : Port) where
   reset_fresh : (accesses : List Access) (old new : Device) → ResetsLink port accesses → DoesAll accesses old new → NoDiskComes port.0 old new → HasFirstFisIfShown (new.port port.0)
   reset_fresh accesses old new r does none =
       let rest = r.between ++ (Writing (Px port Sctl) r.ending ∷ r.later) in
-      let x = split r.before (Writing (Px port Sctl) r.sending ∷ rest) old new (subst (λ (list : List Access). DoesAll list old new) r.here does) in
+      let x = split r.before (Writing (Px port Sctl) r.sending ∷ rest) old new (subst (λ (list : List Access). DoesAll list old new) r.accesses_are_split does) in
       let sent = x.2.0 in
       let early = laws.looks.tape.grows_more old x.0 sent (grows_over laws r.before old x.0 x.1) (laws.looks.tape.access_grows (Writing (Px port Sctl) r.sending) x.0 sent x.2.1) in
-      stays_so laws port HasFirstFisIfShown (laws.fresh_on port) rest sent new x.2.2 (none_parts old sent new early (grows_over laws rest sent new x.2.2) none).1 (laws.fresh_reset port r.sending x.0 sent r.sends x.2.1)
+      stays_so laws port HasFirstFisIfShown (laws.fresh_on port) rest sent new x.2.2 (none_parts old sent new early (grows_over laws rest sent new x.2.2) none).1 (laws.fresh_reset port r.sending x.0 sent r.sends_comreset x.2.1)
 
   fresh_or_gone : (p : DevicePort) → HasFirstFisIfShown p → HasSignatureOrNoDevice p
   fresh_or_gone p fresh = ⊎_elim (λ (shows : p.ssts_det ≡ 3). inl (fresh shows)) (λ (gone : p.ssts_det ≢ 3). inr gone) (cases_eq p.ssts_det 3)
@@ -73,9 +73,9 @@ module _ (laws : PrerequisiteLaws) (port : Port) where
   has_gone v old new on reads shows gone =
       let grows = laws.looks.tape.access_grows (Reading (Px port Ssts) v) old new reads in
       ⊎_elim
-      (λ found. record { gained = grows.0; tape = grows.1; entry = found.0; here = found.1; is = found.2 })
+      (λ found. record { new_entries = grows.0; tape_is = grows.1; entry = found.0; entry_is_new = found.1; entry_is_of_kind = found.2 })
       (λ none. absurd (gone (⊎_elim (λ same. same.det ∙ shows) (λ up. up.det)
-      (laws.looks.access_link port (Reading (Px port Ssts) v) old new on.no_reset tt reads (record { gained = grows.0; tape = grows.1; none = none })))))
+      (laws.looks.access_link port (Reading (Px port Ssts) v) old new on.no_reset tt reads (record { new_entries = grows.0; tape_is = grows.1; no_such_entry = none })))))
       (one_or_none (IsPlugEvent port.0) (is_plugging port.0) grows.0)
 
 -- ---- a look
@@ -86,12 +86,12 @@ record KeepsChange (port : ℕ) (old new : Device) : Type 0 where
   came : (old.port port).serr_x ≡ true → (new.port port).serr_x ≡ true
 
 module _ (laws : PrerequisiteLaws) (port : Port) where
-  change_over : (accesses : List Access) (old new : Device) → IsOn old → All (IsLooking port) accesses → DoesAll accesses old new → KeepsChange port.0 old new
+  change_over : (accesses : List Access) (old new : Device) → IsOn old → All (IsEventAccess port) accesses → DoesAll accesses old new → KeepsChange port.0 old new
   change_over [] old new on all is = subst (KeepsChange port.0 old) (sym is) (record { disk = λ clear. (clear, laws.looks.tape.plugs_none port.0 old); came = λ came. came })
   change_over (access ∷ accesses) old new on all (mid, does, rest) =
-      let its = All-head (IsLooking port) access accesses all in
+      let its = All-head (IsEventAccess port) access accesses all in
       let spares = looking_spares port port Serr (λ e. let z : Is ≡ Serr = e in cc) access its in
-      let later = change_over accesses mid new (on_one laws port access old mid on (laws.of_host port access (laws.looking.looking_of port access its)) does) (All-tail (IsLooking port) access accesses all) rest in
+      let later = change_over accesses mid new (on_one laws port access old mid on (laws.of_host port access (laws.looking.looking_of port access its)) does) (All-tail (IsEventAccess port) access accesses all) rest in
       record {
         disk = λ clear.
             let l = later.disk clear in
@@ -100,13 +100,13 @@ module _ (laws : PrerequisiteLaws) (port : Port) where
       }
 
   -- what the link told before, and what came, is shown still
-  pub change_shown : (accesses : List Access) (old new : Device) → IsOn old → All (IsLooking port) accesses → DoesAll accesses old new → ShowsChange (old.port port.0) ⊎ TapeGainsEntry (IsPlugEvent port.0) old new → ShowsChange (new.port port.0)
+  pub change_shown : (accesses : List Access) (old new : Device) → IsOn old → All (IsEventAccess port) accesses → DoesAll accesses old new → ShowsChange (old.port port.0) ⊎ TapeGainsEntry (IsPlugEvent port.0) old new → ShowsChange (new.port port.0)
   change_shown accesses old new on all does port_error = ⊎_elim
       (λ (is : (new.port port.0).serr_n ≡ true). inl is)
       (λ (clear : (new.port port.0).serr_n ≡ false).
       let none = keeps.disk clear in ⊎_elim
       (λ change. ⊎_elim (λ went. absurd (false≢true (sym none.0 ∙ went))) (λ came. inr (keeps.came came)) change)
-      (λ gains. absurd (gains_none (IsPlugEvent port.0) old new none.1.gained none.1.tape none.1.none gains))
+      (λ gains. absurd (gains_none (IsPlugEvent port.0) old new none.1.new_entries none.1.tape_is none.1.no_such_entry gains))
       port_error)
       (cases_Bool ((new.port port.0).serr_n))
     where
@@ -130,7 +130,7 @@ module _ (wanted : Wanted) (port : Port) (old new : Device) where
   pub boot_ready : (found : ProbeResult) → BootsStopped wanted port found old new → state_of found ≡ ReadyState → (info : DiskInfo) × (found ≡ Ready info)
   boot_ready Unserved none is = absurd none
   boot_ready (Ready info) e is = (info, refl)
-  boot_ready (Unready state) e is = absurd (subst (λ (its : Shown). BacksState (serial_of wanted) its port.0 new) is e.ended)
+  boot_ready (Unready state) e is = absurd (subst (λ (its : Shown). BacksState (serial_of wanted) its port.0 new) is e.state_is_backed)
 
   -- A boot that finds a disk leaves nothing of before in PxSERR; and where no disk came, no link is due.
   pub record LeavesClear : Type 0 where
@@ -138,21 +138,21 @@ module _ (wanted : Wanted) (port : Port) (old new : Device) where
     pub undue : NoDiskComes port.0 old new → (new.port port.0).link_due ≡ false
 
   early_clear : (state : Shown) → state ≢ Absent → EndsBeforeStart port state old new → LeavesClear
-  early_clear state other e = let f = e.found (λ none. other (subst (IsStateOfFault state) none e.told)) in record { clear = f.clear; undue = f.undue }
+  early_clear state other e = let f = e.device_is_found (λ none. other (subst (IsStateOfFault state) none e.state_is)) in record { clear = f.errors_are_clear; undue = f.no_link_is_due }
 
   late_clear : EndsAfterStart port old new → LeavesClear
-  late_clear e = record { clear = e.clear; undue = λ none. e.undue }
+  late_clear e = record { clear = e.errors_are_clear; undue = λ none. e.no_link_is_due }
 
   unready_clear : (state : Shown) → EndsUnready (serial_of wanted) port state old new → ShowsDisk state → LeavesClear
   unready_clear Absent x shows = absurd shows
   unready_clear Dead x shows = absurd shows
-  unready_clear ReadyState x shows = absurd x.ended
-  unready_clear Foreign x shows = late_clear (x.late tt)
+  unready_clear ReadyState x shows = absurd x.state_is_backed
+  unready_clear Foreign x shows = late_clear (x.ends_after_start tt)
   unready_clear (Unfit n) x shows = ⊎_elim
-      (λ (seven : n ≡ 7). early_clear (Unfit n) no (x.early (inl seven)))
+      (λ (seven : n ≡ 7). early_clear (Unfit n) no (x.ends_before_start (inl seven)))
       (λ (not_seven : n ≢ 7). ⊎_elim
-      (λ (eight : n ≡ 8). early_clear (Unfit n) no (x.early (inr eight)))
-      (λ (not_eight : n ≢ 8). late_clear (x.late (not_seven, not_eight)))
+      (λ (eight : n ≡ 8). early_clear (Unfit n) no (x.ends_before_start (inr eight)))
+      (λ (not_eight : n ≢ 8). late_clear (x.ends_after_start (not_seven, not_eight)))
       (cases_eq n 8))
       (cases_eq n 7)
     where
@@ -161,5 +161,5 @@ module _ (wanted : Wanted) (port : Port) (old new : Device) where
 
   pub boot_clear : (found : ProbeResult) → BootsStopped wanted port found old new → ShowsDisk (state_of found) → LeavesClear
   boot_clear Unserved none shows = absurd none
-  boot_clear (Ready info) e shows = record { clear = e.news.clear; undue = λ none. (e.news.recorded e.ready.runs.st).linked }
+  boot_clear (Ready info) e shows = record { clear = e.shows_only_new_errors.errors_are_clear; undue = λ none. (e.shows_only_new_errors.faults_are_on_record e.ready.runs.st).no_link_is_due }
   boot_clear (Unready state) e shows = unready_clear state e shows

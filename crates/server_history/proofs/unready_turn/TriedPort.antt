@@ -12,23 +12,23 @@ use Rattle.adapter.specs.Access.{Access}
 use Rattle.adapter.specs.declared.access.DeviceStep.{DeviceStep}
 use Rattle.refinement.specs.Driver.{IsBacked}
 use Rattle.refinement.specs.Errors.{NoDiskComes}
-use Rattle.block_machine.specs.Events.{AllByDevice, AllMay, ShownDiskWasInOrCame, Served, Service, RepliesMatch, AnswersAllUnplugged}
+use Rattle.block_machine.specs.Events.{AllByDevice, AllEnabled, ShownDiskWasInOrCame, Served, Service, RepliesMatch, AnswersAllUnplugged}
 use Rattle.block_machine.specs.Expected.{after}
 use Rattle.block_machine.specs.Ports.{Evidence, IsStoppedOrStuck, IsServiced, SamePort}
 use Rattle.block_machine.specs.State.{Machine}
 use Rattle.block_machine.specs.Steps.{Step}
-use Rattle.driver_history.specs.Heeding.{OnlyFailedPortsRequeue}
+use Rattle.driver_history.specs.EvidenceHandling.{OnlyFailedPortsRequeue}
 use Rattle.driver_history.specs.Evidence.{IsEvidencedOf}
 use Rattle.driver_history.specs.Histories.{LosesNoPortError, RunsWellAnew, ProbesDisk}
 use Rattle.driver_history.specs.PortInvariants.{HasNoUnanswered}
-use Rattle.driver_history.specs.Trace.{LeavesEngine, ResetsLink}
-use Rattle.driver_history.specs.Parts.{EndsNoLinkDue}
+use Rattle.driver_history.specs.AccessTrace.{LeavesEngine, ResetsLink}
+use Rattle.driver_history.specs.PortTurn.{EndsNoLinkDue}
 use Rattle.host_boot.specs.TakeOver.{probe_result_of}
 use Rattle.port_control.specs.Engines.{EngineSticks, Stops}
-use Rattle.request_queue.specs.Entries.{BookEntry}
-use Rattle.request_queue.specs.Machine.{EntryRelation}
+use Rattle.request_queue.specs.BookEntries.{BookEntry}
+use Rattle.request_queue.specs.BookRelation.{EntryRelation}
 use Rattle.server_history.specs.Prerequisites.{PrerequisiteLaws}
-use Rattle.server_history.specs.Server.{InCallInvariant, MachineRelation, SettledInvariant, ServerState, mode_in, ports_of, state_of}
+use Rattle.server_history.specs.ServerState.{InCallInvariant, MachineRelation, SettledInvariant, ServerState, mode_in, ports_of, state_of}
 use Rattle.server_history.specs.Turns.{InService, InProbe, IsOfTurn, SimulatesTurn, NamesOnly, MeetsTurnDuty, TurnCorresponds, joint_state_of, abstract_state_of}
 use Rattle.server_history.proofs.state.AnswerSteps.{no_answer}
 use Rattle.server_history.proofs.state.DueRequests.{none_issued}
@@ -41,7 +41,7 @@ use Rattle.server_history.proofs.state.PairedLists.{at_right}
 
 -- the evidence of such a turn: whether the port was stopped, and whether it got stuck
 abbrev pub evidence_tried : List Port → List Port → Evidence
-evidence_tried stopped stuck = record { faults = []; lost = []; gone = []; failed = []; fatal = []; stopped = stopped; stuck = stuck }
+evidence_tried stopped stuck = record { faults = []; lost = []; link_changed = []; failed = []; fatal = []; stopped = stopped; stuck = stuck }
 
 -- What is told of the port then, by accesses that led to this device.
 pub record TellsTried (port : Port) (stopped stuck : List Port) (accesses : List Access) (old new : ServerState) : Type 0 where
@@ -56,7 +56,7 @@ pub record TellsTried (port : Port) (stopped stuck : List Port) (accesses : List
 pub record AddsTried (port : Port) (old new : ServerState) (m : Machine) : Type 0 where
   pub steps : List Step
   pub only : AllByDevice steps
-  pub may : AllMay m steps
+  pub may : AllEnabled m steps
   pub stands : MachineRelation new (after m steps)
   pub backed : IsBacked old.device new.device m steps
   pub disk : SamePort (ports_of old) (ports_of new) port ⊎ ShownDiskWasInOrCame (abstract_state_of old m) steps (abstract_state_of new (after m steps)) port
@@ -92,7 +92,7 @@ module _ (laws : PrerequisiteLaws) (port : Port) (old : ServerState) (k : InCall
     names : NamesOnly port its
     names = record {
       lost = All-nil (λ q. q ≡ port);
-      gone = All-nil (λ q. q ≡ port);
+      link_changed = All-nil (λ q. q ≡ port);
       failed = All-nil (λ q. q ≡ port);
       fatal = All-nil (λ q. q ≡ port);
       stopped = t.its_stopped;
@@ -102,8 +102,8 @@ module _ (laws : PrerequisiteLaws) (port : Port) (old : ServerState) (k : InCall
     evidenced : (m : Machine) → IsEvidencedOf Service (Served []) accesses (joint_state_of old m) (ports_of new) new.device its port
     evidenced m = record {
       lost = λ here. absurd (nowhere port here);
-      gone_all = λ ready. absurd (unready ready);
-      gone_only = λ here. absurd (nowhere port here);
+      link_changed_all = λ ready. absurd (unready ready);
+      link_changed_only = λ here. absurd (nowhere port here);
       failed_all = λ ready. absurd (unready ready);
       failed_only = λ here. absurd (nowhere port here);
       fatal_all = λ ready. absurd (unready ready);
@@ -117,13 +117,13 @@ module _ (laws : PrerequisiteLaws) (port : Port) (old : ServerState) (k : InCall
       tells : RepliesMatch x.steps []
       tells = record {
         answers = [];
-        same = subst (IsPermutation []) (sym (devices_answers x.steps x.only)) (IsPermutation-refl []);
+        is_permutation = subst (IsPermutation []) (sym (devices_answers x.steps x.only)) (IsPermutation-refl []);
         ordered = λ i j d lt below. absurd (omega (arith, lt, below));
-        told = refl;
+        replies_are = refl;
       }
 
       unplugs : AnswersAllUnplugged x.steps (after m x.steps)
-      unplugs = record { emptied = λ e other here. absurd (no_answer x.steps x.only e Unplugged here); alike = λ e other here. absurd (no_answer x.steps x.only e Unplugged here) }
+      unplugs = record { none_is_left = λ e other here. absurd (no_answer x.steps x.only e Unplugged here); none_is_told_dead = λ e other here. absurd (no_answer x.steps x.only e Unplugged here) }
 
       owes : MeetsTurnDuty InProbe port accesses old new m its x.steps
       owes = (devices_all (OnlyFailedPortsRequeue its) (device_grounded its) tt x.steps x.only, refl, refl)
@@ -131,13 +131,13 @@ module _ (laws : PrerequisiteLaws) (port : Port) (old : ServerState) (k : InCall
       ties : TurnCorresponds InProbe port [] accesses old new m its x.steps
       ties = (
         record {
-          finds = λ ready. absurd (unready ready);
-          faults = λ alone. absurd (unready alone.ready);
-          probes = λ served comes. did.probes m comes;
-          boots = (λ ready. absurd (unready ready), did.boots);
-          port_error = did.port_error m;
-          well = did.well m;
-          heeds = λ ready. absurd (unready ready);
+          finds_done = λ ready. absurd (unready ready);
+          plain_faults_are_told = λ alone. absurd (unready alone.ready);
+          probes_disk = λ served comes. did.probes m comes;
+          boots_anew = (λ ready. absurd (unready ready), did.boots);
+          loses_no_error = did.port_error m;
+          runs_well_anew = did.well m;
+          handles_evidence = λ ready. absurd (unready ready);
         },
         did.linked m,
       )
@@ -146,23 +146,23 @@ module _ (laws : PrerequisiteLaws) (port : Port) (old : ServerState) (k : InCall
       makes_try = record {
         steps = x.steps;
         evidence = its;
-        may = x.may;
-        stands = x.stands;
-        backed = x.backed;
-        own = devices_all (All (IsOfTurn port)) (λ step base device rest. All-cons (IsOfTurn port) step base (device_own port step device) rest) (All-nil (IsOfTurn port)) x.steps x.only;
-        belong = devices_belong {D = DeviceStep} Service (ports_of new) x.steps x.only;
-        last = devices_last x.steps x.only;
-        names = names;
-        lawful = devices_lawful (abstract_state_of old m) its (ports_of new) x.steps x.only;
-        owes = owes;
-        tells = tells;
-        unplugs = unplugs;
-        becomes = t.becomes;
-        disk = x.disk;
-        keeps = inr (none_waits m is x.steps x.only);
-        issues = λ _. none_issued new (after m x.steps) x.stands x.steps (λ id. devices_issue_none id x.steps x.only) (mode_in new port) port (settled.issued port);
-        evidenced = evidenced m;
+        steps_are_enabled = x.may;
+        machine_relation = x.stands;
+        is_backed = x.backed;
+        steps_are_of_turn = devices_all (All (IsOfTurn port)) (λ step base device rest. All-cons (IsOfTurn port) step base (device_own port step device) rest) (All-nil (IsOfTurn port)) x.steps x.only;
+        steps_are_of_call = devices_belong {D = DeviceStep} Service (ports_of new) x.steps x.only;
+        issues_are_last = devices_last x.steps x.only;
+        names_only_port = names;
+        answers_are_lawful = devices_lawful (abstract_state_of old m) its (ports_of new) x.steps x.only;
+        meets_turn_duty = owes;
+        replies_match = tells;
+        answers_all_unplugged = unplugs;
+        port_is_serviced = t.becomes;
+        shown_disk_was_in_or_came = x.disk;
+        disk_is_kept_or_none_waits = inr (none_waits m is x.steps x.only);
+        issues_due = λ _. none_issued new (after m x.steps) x.stands x.steps (λ id. devices_issue_none id x.steps x.only) (mode_in new port) port (settled.nothing_is_due port);
+        is_evidenced = evidenced m;
         faults = λ told here. absurd (nowhere told here);
-        ties = ties;
-        finds = λ other. absurd (let z : InProbe ≡ InService = other in cc);
+        turn_corresponds = ties;
+        finds_done = λ other. absurd (let z : InProbe ≡ InService = other in cc);
       }

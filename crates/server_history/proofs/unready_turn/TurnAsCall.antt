@@ -12,7 +12,7 @@ use Rattle.adapter.specs.Access.{Access, DoesAll}
 use Rattle.adapter.specs.Access.Access.{Reading}
 use Rattle.adapter.specs.Device.{Device}
 use Rattle.adapter.specs.Rules.{IsOn}
-use Rattle.refinement.specs.Driven.{AnyUse, IsSimulated, IsDrivenBy}
+use Rattle.refinement.specs.Fragments.{AnyUse, IsSimulated, IsDrivenBy}
 use Rattle.refinement.specs.Errors.{NoDiskComes, IsFatalOf}
 use Rattle.refinement.specs.PortFacts.{IsFaultOf, RunsWell}
 use Rattle.refinement.specs.Links.{NoPlugEvents}
@@ -21,22 +21,22 @@ use Rattle.block_machine.specs.Events.{ShowsDisk}
 use Rattle.block_machine.specs.Ports.{Evidence, IsStoppedOrStuck}
 use Rattle.block_machine.specs.State.{Machine}
 use Rattle.driver_history.specs.Histories.{HasUnservedDisk, HasSignatureOrNoDevice, ProbesDisk}
-use Rattle.driver_history.specs.Trace.{ResetsLink}
-use Rattle.driver_history.specs.Parts.{EndsNoLinkDue}
+use Rattle.driver_history.specs.AccessTrace.{ResetsLink}
+use Rattle.driver_history.specs.PortTurn.{EndsNoLinkDue}
 use Rattle.error_recovery.specs.Evidence.{GainsSinceStart, HidesNoTrouble}
 use Rattle.error_recovery.specs.declared.Next.{Next}
 use Rattle.error_recovery.specs.declared.Next.TheVariants as next
-use Rattle.host_boot.specs.Again.{RebootsPort}
+use Rattle.host_boot.specs.Reboots.{RebootsPort}
 use Rattle.host_boot.specs.TakeOver.{FoundBadDisk, probe_result_of, wanted_of}
 use Rattle.host_boot.specs.declared.Booted.{Booted}
 use Rattle.host_boot.specs.declared.ProbeResult.{ProbeResult}
 use Rattle.host_boot.specs.declared.ProbeResult.TheVariants.{Ready, Unready}
 use Rattle.identify.specs.declared.DiskInfo.{DiskInfo}
 use Rattle.port_control.specs.declared.Stopped.{Stopped}
-use Rattle.port_control.specs.Glances.{FindsChange, FindsDevice}
-use Rattle.port_control.specs.Looks.{IsLooking}
+use Rattle.port_control.specs.DeviceChecks.{FindsChange, FindsDevice}
+use Rattle.port_control.specs.PortEvents.{IsEventAccess}
 use Rattle.server_history.specs.Prerequisites.{PrerequisiteLaws}
-use Rattle.server_history.specs.Server.{InCallInvariant, ServerState, is_served, ports_of, state_of}
+use Rattle.server_history.specs.ServerState.{InCallInvariant, ServerState, is_served, ports_of, state_of}
 use Rattle.server_history.specs.Probing.{BootsUnreadyPort, IsProbedAnew, IsLookedAt}
 use Rattle.server_history.specs.Turns.{joint_state_of}
 use Rattle.port_control.specs.declared.events.PortError.TheVariants.{TimedOut, LinkChanged}
@@ -63,8 +63,8 @@ module _ (s : ServerState) (port : Port) (state : PortState) (k : InCallInvarian
   vacant : HasUnservedDisk (ports_of s) port → (s.device.port port.0).ssts_det ≢ 3 → IsVacant (s.device.port port.0)
   vacant bad out = ⊎_elim
       (λ (shows : (s.device.port port.0).ssts_det ≡ 3). absurd (out shows))
-      (λ (gone : (s.device.port port.0).present ≡ false). record { out = gone; det = out })
-      ((k.behind port.0 (k.there port.0 (ap is_served is)).0).shown (bad_found bad))
+      (λ (gone : (s.device.port port.0).present ≡ false). record { no_disk_is_in = gone; det = out })
+      ((k.port_invariant port.0 (k.served_ports_exist port.0 (ap is_served is)).0).shows_disk_if_in (bad_found bad))
 
   -- ---- it was looked at, and that is all
 
@@ -82,39 +82,39 @@ module _ (s : ServerState) (port : Port) (state : PortState) (k : InCallInvarian
     gone : (ports_of s).state port ≡ Absent → (seen.port port.0).ssts_det ≢ 3
     gone absent shows =
         let f = device_found absent in
-        unequal (f.status % 16) 3 (sym f.tells ∙ none) (laws.looks.shown_after port Ssts f.status s.device seen k.on.no_reset f.reads ∙ shows)
+        unequal (f.status % 16) 3 (sym f.result_is ∙ none) (laws.looks.shown_after port Ssts f.status s.device seen k.adapter_is_on.no_reset f.reads ∙ shows)
 
     still_there : NoDiskComes port.0 s.device seen → HasUnservedDisk (ports_of s) port → (s.device.port port.0).ssts_det ≢ 3 → ⊥
     still_there comes bad out =
         let f = change_found bad in
-        let on = laws.looks.access_on (Reading (Px port Is) f.causes) s.device f.seen k.on (λ v e. absurd cc) f.reads in
-        let link = eqb-true (f.status % 16) 3 (unchanged (bit f.causes 6) (bit f.causes 22) (f.status % 16 == 3) (sym f.tells ∙ none)).1 in
-        (stays_vacant laws port (Reading (Px port Is) f.causes ∷ Reading (Px port Ssts) f.status ∷ []) s.device seen (f.seen, f.reads, (seen, f.shows, refl)) comes (vacant bad out)).det
-        (sym (laws.looks.shown_after port Ssts f.status f.seen seen on.no_reset f.shows) ∙ link)
+        let on = laws.looks.access_on (Reading (Px port Is) f.causes) s.device f.seen k.adapter_is_on (λ v e. absurd cc) f.reads in
+        let link = eqb-true (f.status % 16) 3 (unchanged (bit f.causes 6) (bit f.causes 22) (f.status % 16 == 3) (sym f.result_is ∙ none)).1 in
+        (stays_vacant laws port (Reading (Px port Is) f.causes ∷ Reading (Px port Ssts) f.status ∷ []) s.device seen (f.seen, f.reads, (seen, f.reads_status, refl)) comes (vacant bad out)).det
+        (sym (laws.looks.shown_after port Ssts f.status f.seen seen on.no_reset f.reads_status) ∙ link)
 
     still_same : HasUnservedDisk (ports_of s) port → (s.device.port port.0).serr_x ≡ true → ⊥
     still_same bad came =
         let f = change_found bad in
-        let told = (laws.looks.changes_told port f.causes s.device f.seen k.on.no_reset f.reads).1 came in
-        false≢true (sym (unchanged (bit f.causes 6) (bit f.causes 22) (f.status % 16 == 3) (sym f.tells ∙ none)).0 ∙ told)
+        let told = (laws.looks.changes_told port f.causes s.device f.seen k.adapter_is_on.no_reset f.reads).1 came in
+        false≢true (sym (unchanged (bit f.causes 6) (bit f.causes 22) (f.status % 16 == 3) (sym f.result_is ∙ none)).0 ∙ told)
 
     rests_tries : NoDiskComes port.0 s.device seen → (made : List Access) (m : Machine) → ProbesDisk made (joint_state_of s m) (ports_of s) seen port
     rests_tries comes made m = record {
-      shown = λ absent shows. let f = device_found absent in inr (inr (has_gone laws port f.status s.device seen k.on f.reads shows (gone absent)));
+      shown = λ absent shows. let f = device_found absent in inr (inr (has_gone laws port f.status s.device seen k.adapter_is_on f.reads shows (gone absent)));
       absent = λ absent shows fresh. inr (inr (gone absent));
       missing = λ bad out. absurd (still_there comes bad out);
       changed = λ bad came. absurd (still_same bad came);
     }
 
     -- but for that, the port is what it was
-    pub rests_does : (made : List Access) → All (IsLooking port) made → DoesAll made s.device seen → DoesTried port (evidence_tried [] []) made s (record s { device = seen })
+    pub rests_does : (made : List Access) → All (IsEventAccess port) made → DoesAll made s.device seen → DoesTried port (evidence_tried [] []) made s (record s { device = seen })
     rests_does made only did = record {
       probes = λ m comes. rests_tries comes made m;
       linked = λ m bad came comes. absurd (still_same bad came);
       boots = inl (refl, refl, refl, refl, refl, refl);
       port_error = λ m. record {
         errors = λ ready. absurd (never ready);
-        changes = λ _ port_error. inr (change_shown laws port made s.device seen k.on only did port_error);
+        changes = λ _ port_error. inr (change_shown laws port made s.device seen k.adapter_is_on only did port_error);
         fault = λ ready. absurd (never ready);
         fatal = λ ready. absurd (never ready);
         disk = λ ready. absurd (never ready);
@@ -128,7 +128,7 @@ module _ (s : ServerState) (port : Port) (state : PortState) (k : InCallInvarian
 -- ---- it was booted
 
 module _ (laws : PrerequisiteLaws) (s new : ServerState) (seen : Device) (port : Port) (state : PortState) (k : InCallInvariant s) (is : probe_result_of s.ports port.0 ≡ Unready state) (lives : state ≢ DeadState)
-    (looks : IsSimulated (IsLooking port) AnyUse s.device seen) (b : BootsUnreadyPort port (record s { device = seen }) new) where
+    (looks : IsSimulated (IsEventAccess port) AnyUse s.device seen) (b : BootsUnreadyPort port (record s { device = seen }) new) where
   abbrev then : ServerState
   then = then_is laws s new seen port state k is lives looks b
 
@@ -136,13 +136,13 @@ module _ (laws : PrerequisiteLaws) (s new : ServerState) (seen : Device) (port :
   made = accesses laws s new seen port state k is lives looks b
 
   abbrev first : List Access
-  first = looks.driven.accesses ++ b.anew.gives_up.handling.accesses
+  first = looks.is_driven.accesses ++ b.probes_anew.gives_up.handling.accesses
 
   -- what its boot found, where it isn't dead
   record FindsSome : Type 0 where
     booted : Booted
     same : booted.found ≡ b.found
-    boots : RebootsPort (wanted_of s.wanted port.0) port booted b.anew.stopped new.device
+    boots : RebootsPort (wanted_of s.wanted port.0) port booted b.probes_anew.stopped new.device
     resets : ResetsLink port made
     shows : ShowsDisk (state_of booted.found) ⊎ ((ports_of then).state port ≡ Absent)
 
@@ -150,15 +150,15 @@ module _ (laws : PrerequisiteLaws) (s new : ServerState) (seen : Device) (port :
   state_then = ap state_of (found_then laws s new seen port state k is lives looks b)
 
   finds : ((ports_of then).state port ≡ DeadState) ⊎ FindsSome
-  finds = by b.anew.result.next refl b.anew.is
+  finds = by b.probes_anew.result.next refl b.probes_anew.is_probed_anew
     where
-      reset : (token : Stopped) → b.anew.result.next ≡ next.Restart token → b.found ≢ Unready DeadState → ResetsLink port made
+      reset : (token : Stopped) → b.probes_anew.result.next ≡ next.Restart token → b.found ≢ Unready DeadState → ResetsLink port made
       reset token so alive =
           let late = afterwards laws s new seen port state k is lives looks b in
-          resets_since port looks.driven.accesses (b.anew.gives_up.handling.accesses ++ late.driven.accesses) (resets_since port b.anew.gives_up.handling.accesses late.driven.accesses
+          resets_since port looks.is_driven.accesses (b.probes_anew.gives_up.handling.accesses ++ late.driven.accesses) (resets_since port b.probes_anew.gives_up.handling.accesses late.driven.accesses
           (⊎_elim (λ lost. let z : TimedOut ≡ LinkChanged = lost.0 in absurd cc) (λ resets. resets) (late.resets token so alive)))
 
-      some : (token : Stopped) → b.anew.result.next ≡ next.Restart token → (booted : Booted) → booted.found ≡ b.found → RebootsPort (wanted_of s.wanted port.0) port booted b.anew.stopped new.device → ((ports_of then).state port ≡ DeadState) ⊎ FindsSome
+      some : (token : Stopped) → b.probes_anew.result.next ≡ next.Restart token → (booted : Booted) → booted.found ≡ b.found → RebootsPort (wanted_of s.wanted port.0) port booted b.probes_anew.stopped new.device → ((ports_of then).state port ≡ DeadState) ⊎ FindsSome
       some token so booted same boots = ⊎_elim
           (λ (shows : ShowsDisk (state_of b.found)). inr (record {
             booted = booted;
@@ -179,14 +179,14 @@ module _ (laws : PrerequisiteLaws) (s new : ServerState) (seen : Device) (port :
           more)
           (shows_or_not b.found)
 
-      by : (n : Next) → b.anew.result.next ≡ n → IsProbedAnew (wanted_of s.wanted port.0) port n b.anew.stopped new.device b.found → ((ports_of then).state port ≡ DeadState) ⊎ FindsSome
+      by : (n : Next) → b.probes_anew.result.next ≡ n → IsProbedAnew (wanted_of s.wanted port.0) port n b.probes_anew.stopped new.device b.found → ((ports_of then).state port ≡ DeadState) ⊎ FindsSome
       by (next.Running token) so none = absurd none
       by (next.Restart token) so (booted, same, boots) = some token so booted same boots
       by next.Dead so (dead, same) = inl (state_then ∙ ap state_of dead)
 
   -- the moment at which it saw a device
-  sees : (f : FindsSome) → ShowsDisk (state_of f.booted.found) → SeesOver port s.device f.boots.asked new.device
-  sees f shows = booted_sees laws port (wanted_of s.wanted port.0) f.booted first s.device b.anew.stopped new.device k.on (until laws s new seen port state k is lives looks b) (until_of laws s new seen port state k is lives looks b) f.boots shows
+  sees : (f : FindsSome) → ShowsDisk (state_of f.booted.found) → SeesOver port s.device f.boots.surveyed new.device
+  sees f shows = booted_sees laws port (wanted_of s.wanted port.0) f.booted first s.device b.probes_anew.stopped new.device k.adapter_is_on (until laws s new seen port state k is lives looks b) (until_of laws s new seen port state k is lives looks b) f.boots shows
 
   -- where no disk was in, it saw none
   saw_none : NoDiskComes port.0 s.device new.device → (f : FindsSome) → HasUnservedDisk (ports_of s) port → (s.device.port port.0).ssts_det ≢ 3 → (ports_of then).state port ≡ Absent
@@ -198,11 +198,11 @@ module _ (laws : PrerequisiteLaws) (s new : ServerState) (seen : Device) (port :
       (λ absent. absent)
       f.shows
 
-  clear : (f : FindsSome) → ShowsDisk (state_of f.booted.found) → LeavesClear (wanted_of s.wanted port.0) port f.boots.asked new.device
-  clear f shows = boot_clear (wanted_of s.wanted port.0) port f.boots.asked new.device f.booted.found f.boots.boots shows
+  clear : (f : FindsSome) → ShowsDisk (state_of f.booted.found) → LeavesClear (wanted_of s.wanted port.0) port f.boots.surveyed new.device
+  clear f shows = boot_clear (wanted_of s.wanted port.0) port f.boots.surveyed new.device f.booted.found f.boots.boots shows
 
-  since : (f : FindsSome) → ShowsDisk (state_of f.booted.found) → NoDiskComes port.0 s.device new.device → NoDiskComes port.0 f.boots.asked new.device
-  since f shows comes = let x = sees f shows in (none_parts laws port s.device f.boots.asked new.device x.before x.since comes).1
+  since : (f : FindsSome) → ShowsDisk (state_of f.booted.found) → NoDiskComes port.0 s.device new.device → NoDiskComes port.0 f.boots.surveyed new.device
+  since f shows comes = let x = sees f shows in (none_parts laws port s.device f.boots.surveyed new.device x.before x.since comes).1
 
   boot_linked : (m : Machine) → EndsNoLinkDue port (joint_state_of s m) (ports_of then) new.device
   boot_linked m bad came comes = ⊎_elim
@@ -223,33 +223,33 @@ module _ (laws : PrerequisiteLaws) (s new : ServerState) (seen : Device) (port :
 
   -- ---- trouble
 
-  stopped_on : IsOn b.anew.stopped
-  stopped_on = laws.of_on port s.device b.anew.stopped k.on (record { accesses = first; all = until laws s new seen port state k is lives looks b; only = until_of laws s new seen port state k is lives looks b })
+  stopped_on : IsOn b.probes_anew.stopped
+  stopped_on = laws.of_on port s.device b.probes_anew.stopped k.adapter_is_on (record { accesses = first; all_are_done = until laws s new seen port state k is lives looks b; accesses_are_of_kind = until_of laws s new seen port state k is lives looks b })
 
   -- it is ready then
   module _ (f : FindsSome) (ready : (ports_of then).state port ≡ ReadyState) where
     found : (info : DiskInfo) × (f.booted.found ≡ Ready info)
-    found = boot_ready (wanted_of s.wanted port.0) port f.boots.asked new.device f.booted.found f.boots.boots (ap state_of f.same ∙ sym state_then ∙ ready)
+    found = boot_ready (wanted_of s.wanted port.0) port f.boots.surveyed new.device f.booted.found f.boots.boots (ap state_of f.same ∙ sym state_then ∙ ready)
 
     nothing : IsDrivenBy (LeavesTrouble port) new.device new.device
     nothing = by_none (LeavesTrouble port) new.device
 
     low_port : port.0 < 4
-    low_port = (k.there port.0 (ap is_served is)).0
+    low_port = (k.served_ports_exist port.0 (ap is_served is)).0
 
     shows_trouble : HidesNoTrouble port.0 s.device new.device
-    shows_trouble = boot_shows laws port low_port (wanted_of s.wanted port.0) found.0 f.booted s.device b.anew.stopped new.device new.device stopped_on f.boots found.1 nothing
+    shows_trouble = boot_shows laws port low_port (wanted_of s.wanted port.0) found.0 f.booted s.device b.probes_anew.stopped new.device new.device stopped_on f.boots found.1 nothing
 
     runs_well : NoPlugEvents port.0 s.device new.device → (GainsSinceStart (IsFaultOf port.0) port.0 s.device new.device → ⊥) → (GainsSinceStart (IsFatalOf port.0) port.0 s.device new.device → ⊥) → RunsWell (new.device.port port.0)
-    runs_well = booted_well laws port low_port (wanted_of s.wanted port.0) found.0 f.booted s.device b.anew.stopped new.device new.device stopped_on f.boots found.1 nothing (whole laws s new seen port state k is lives looks b).1.on
-        (grows_over laws first s.device b.anew.stopped (until laws s new seen port state k is lives looks b))
+    runs_well = booted_well laws port low_port (wanted_of s.wanted port.0) found.0 f.booted s.device b.probes_anew.stopped new.device new.device stopped_on f.boots found.1 nothing (whole laws s new seen port state k is lives looks b).1.on
+        (grows_over laws first s.device b.probes_anew.stopped (until laws s new seen port state k is lives looks b))
 
   -- a dead port isn't ready
   some_found : (ports_of then).state port ≡ ReadyState → FindsSome
   some_found ready = ⊎_elim (λ dead. let z : DeadState ≡ ReadyState = sym dead ∙ ready in absurd cc) (λ f. f) finds
 
   abbrev evidence : Evidence
-  evidence = evidence_tried (stopped_of port b.anew.result.next) (stuck_if port b.found)
+  evidence = evidence_tried (stopped_of port b.probes_anew.result.next) (stuck_if port b.found)
 
   pub boot_does : DoesTried port evidence made s then
   boot_does = record {
@@ -259,12 +259,12 @@ module _ (laws : PrerequisiteLaws) (s new : ServerState) (seen : Device) (port :
     port_error = λ m. record {
       errors = λ _ _. inl stops;
       changes = λ _ _. inl stops;
-      fault = λ ready. (shows_trouble (some_found ready) ready).fault;
-      fatal = λ ready. (shows_trouble (some_found ready) ready).fatal;
-      disk = λ ready. (shows_trouble (some_found ready) ready).disk;
+      fault = λ ready. (shows_trouble (some_found ready) ready).fault_is_shown;
+      fatal = λ ready. (shows_trouble (some_found ready) ready).fatal_is_shown;
+      disk = λ ready. (shows_trouble (some_found ready) ready).plug_is_shown;
     };
     well = λ m _ ready none unfailed unbroken _. runs_well (some_found ready) ready none unfailed unbroken;
   }
     where
       stops : IsStoppedOrStuck evidence port
-      stops = interrupted (wanted_of s.wanted port.0) port b.anew.result.next b.anew.stopped new.device b.found b.anew.is
+      stops = interrupted (wanted_of s.wanted port.0) port b.probes_anew.result.next b.probes_anew.stopped new.device b.found b.probes_anew.is_probed_anew

@@ -5,7 +5,7 @@ use Rattle.ata_types.specs.declared.PortState.TheVariants.{Absent, Dead, Foreign
 use Rattle.host_boot.specs.TakeOver.{FoundBadDisk}
 use Rattle.host_boot.specs.declared.ProbeResult.{ProbeResult}
 use Rattle.host_boot.specs.declared.ProbeResult.TheVariants.{Ready, Unready, Unserved}
-use Rattle.server_history.specs.Server.{is_served, state_of}
+use Rattle.server_history.specs.ServerState.{is_served, state_of}
 
 pub found_bad : (state : PortState) → (state ≡ Foreign) ⊎ ((cause : ℕ) × (state ≡ Unfit cause)) → FoundBadDisk state
 found_bad state (inl foreign) = subst FoundBadDisk (sym foreign) tt

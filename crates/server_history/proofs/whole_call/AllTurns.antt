@@ -16,13 +16,13 @@ use Rattle.adapter.specs.Device.{Device}
 use Rattle.adapter.specs.declared.access.DeviceStep.{DeviceStep}
 use Rattle.adapter.specs.Rules.{IsOn}
 use Rattle.refinement.specs.Relation.{port_at}
-use Rattle.refinement.specs.Driven.{IsDrivenBy, SparesOtherPorts}
+use Rattle.refinement.specs.Fragments.{IsDrivenBy, SparesOtherPorts}
 use Rattle.refinement.specs.Slots.{IsMove, ServesRequest}
-use Rattle.block_machine.specs.Events.{AbstractCall, AllAnswersLawful, AreStepsOfCall, IsIssuedIn, AbstractState, Served, ShowsDisk, WasIssued, changes_disk, issues_it}
+use Rattle.block_machine.specs.Events.{AbstractCall, AllAnswersLawful, AreStepsOfCall, IsIssuedIn, AbstractState, Served, ShowsDisk, WasIssued, changes_disk, issues_id}
 use Rattle.block_machine.specs.Histories.{JointState, IsReachable}
 use Rattle.block_machine.specs.Expected.{after}
 use Rattle.block_machine.specs.Ports.{Evidence, RequestFault, Ports, SameDisk, SamePort}
-use Rattle.block_machine.specs.Due.{of_port}
+use Rattle.block_machine.specs.DueRequests.{requests_of_port}
 use Rattle.block_machine.specs.State.{Pending, Machine, unanswered}
 use Rattle.block_machine.specs.declared.due.Unanswered.{Unanswered}
 use Rattle.block_machine.specs.Steps.{Step}
@@ -33,17 +33,17 @@ use Rattle.host_boot.specs.declared.ProbeResult.TheVariants.{Unserved, Ready, Un
 use Rattle.driver_history.specs.Evidence.{FailsPlain, FailsQueued, IsEvidencedOf}
 use Rattle.error_recovery.specs.Evidence.{BringsLog, HasFailed}
 use Rattle.driver_history.specs.Histories.{IssuesDue}
-use Rattle.driver_history.specs.Parts.{HasTurnIn, IsOfOtherPort, EvidenceAgreesOn}
-use Rattle.driver_history.specs.Trace.{IsAccessForPorts}
+use Rattle.driver_history.specs.PortTurn.{HasTurnIn, IsOfOtherPort, EvidenceAgreesOn}
+use Rattle.driver_history.specs.AccessTrace.{IsAccessForPorts}
 use Rattle.server_history.specs.Prerequisites.{PrerequisiteLaws}
 use Rattle.server_history.specs.Turns.{IsPortTurn, IsFaultOfCommand, IsStepOf, SimulatesTurn, EachPortTakesTurn, TellsFault, abstract_state_of}
-use Rattle.server_history.specs.Server.{ServerState, InCallInvariant, MachineRelation, SettledInvariant, is_served, mode_in, ports_of, state_of, used_for}
+use Rattle.server_history.specs.ServerState.{ServerState, InCallInvariant, MachineRelation, SettledInvariant, is_served, mode_in, ports_of, state_of, used_for}
 use Rattle.server_history.proofs.state.DueRequests.{same_book}
 use Rattle.server_history.proofs.any_turn.TurnSteps.{answered_own, issued_before, stood}
 use Rattle.server_history.proofs.plain_calls.IssueRounds.{any_append, dues_carried, or_none}
 use Rattle.server_history.proofs.state.PortSlots.{IsServedBy, issued_has, ready_found, served_request, serves_used}
 use Rattle.slots.specs.declared.SlotUse.{SlotUse}
-use Rattle.slots.specs.Uses.{PortSlots, use_at}
+use Rattle.slots.specs.SlotUses.{PortSlots, use_at}
 use Rattle.block_machine.specs.declared.due.QueueMode.{QueueMode}
 use Rattle.server_history.proofs.any_turn.TurnsInOrder.{AreTurns, all_of_ports, answered_of, belong_join, lawful_join, lawful_on, present_before, turn_on, unplugs_join}
 use Rattle.server_history.proofs.whole_call.ServiceAndTick.{Plan, TakesTurn, Uses, any_said, asks_for, asks_so, belong_on, owes_join, ready_or_silent, ready_takes, turn_at, unserved_waits}
@@ -58,7 +58,7 @@ same_some is = cc
 
 module _ (plan : Plan) (laws : PrerequisiteLaws) (s : ServerState) (start : SettledInvariant s) (old : AbstractState) (reached : IsReachable old.machine) (at : MachineRelation s old.machine) (ports_are : old.ports ≡ ports_of s) where
   abbrev kept : InCallInvariant s
-  kept = start.kept
+  kept = start.in_call_invariant
 
   abbrev began : JointState Device
   began = record { device = s.device; abstract = old }
@@ -88,7 +88,7 @@ module _ (plan : Plan) (laws : PrerequisiteLaws) (s : ServerState) (start : Sett
     m_reached = laws.basic.reached old.machine p.steps reached p.turns.may
 
     abbrev x : SimulatesTurn (turn_at plan (probe_result_of s.ports n) n) (port_at n) its part.accesses c mid m
-    x = part.makes m m_reached p.stands
+    x = part.simulates_turn m m_reached p.machine_relation
 
     abbrev all : List Step
     all = x.steps ++ p.steps
@@ -107,16 +107,16 @@ module _ (plan : Plan) (laws : PrerequisiteLaws) (s : ServerState) (start : Sett
     takes_at q is = subst (λ (k : ℕ). TakesTurn plan (probe_result_of s.ports k)) (sym is) takes
 
     silent_or_ready : (state_at n ≡ ReadyState) ⊎ ((x.evidence.faults ≡ []) × (x.evidence.lost ≡ []))
-    silent_or_ready = ready_or_silent plan (probe_result_of s.ports n) n (port_at n) part.accesses c mid m x.evidence x.steps takes x.owes
+    silent_or_ready = ready_or_silent plan (probe_result_of s.ports n) n (port_at n) part.accesses c mid m x.evidence x.steps takes x.meets_turn_duty
 
     its_driven : IsDrivenBy (SparesOtherPorts (port_at n)) c.device mid.device
-    its_driven = record { accesses = part.accesses; all = part.does; only = part.of }
+    its_driven = record { accesses = part.accesses; all_are_done = part.accesses_are_done; accesses_are_of_kind = part.accesses_are_of_port }
 
     on_mid : IsOn mid.device
-    on_mid = laws.of_on (port_at n) c.device mid.device p.on its_driven
+    on_mid = laws.of_on (port_at n) c.device mid.device p.adapter_is_on its_driven
 
     its_turns : AreTurns old (n + 1) all
-    its_turns = turn_on laws old reached n p.steps x.steps p.turns x.own x.may x.last
+    its_turns = turn_on laws old reached n p.steps x.steps p.turns x.steps_are_of_turn x.steps_are_enabled x.issues_are_last
 
     whole_is : after old.machine all ≡ after m x.steps
     whole_is = laws.basic.joined old.machine x.steps p.steps
@@ -127,13 +127,13 @@ module _ (plan : Plan) (laws : PrerequisiteLaws) (s : ServerState) (start : Sett
 
     -- the turn's accesses are of another port then
     of_other : (q : Port) → q.0 ≢ n → All (IsOfOtherPort q) part.accesses
-    of_other q ne = All-weaker (SparesOtherPorts (port_at n)) (IsOfOtherPort q) (λ access of. (port_at n, ne, of)) part.accesses part.of
+    of_other q ne = All-weaker (SparesOtherPorts (port_at n)) (IsOfOtherPort q) (λ access of. (port_at n, ne, of)) part.accesses part.accesses_are_of_port
 
     same_n : SamePort old.ports (ports_of c) (port_at n)
     same_n = subst (λ (ports : Ports). SamePort ports (ports_of c) (port_at n)) (sym ports_are) (same_at s c (port_at n) (p.found (port_at n) not_yet) (p.remembered (port_at n) not_yet) (p.modes (port_at n) not_yet))
 
     same_other : (q : Port) → q.0 ≢ n → SamePort (ports_of c) (ports_of mid) q
-    same_other q ne = same_at c mid q (part.others.found q.0 ne) (part.others.remembered q.0 ne) (part.others.modes q.0 ne)
+    same_other q ne = same_at c mid q (part.leaves_others.found q.0 ne) (part.leaves_others.remembered q.0 ne) (part.leaves_others.modes q.0 ne)
 
     same_self : (ports : Ports) (q : Port) → SamePort ports ports q
     same_self ports q = (refl, refl, refl, refl, refl, refl)
@@ -141,7 +141,7 @@ module _ (plan : Plan) (laws : PrerequisiteLaws) (s : ServerState) (start : Sett
     -- ---- evidence
 
     mine : NamesSome (λ q. q ≡ port_at n) x.evidence
-    mine = names_only (port_at n) x.evidence x.names
+    mine = names_only (port_at n) x.evidence x.names_only_port
 
     alike_n : EvidenceAgreesOn (port_at n) x.evidence evidence
     alike_n = alike_then (HadTurn n) (port_at n) not_yet p.evidence x.evidence p.names
@@ -157,11 +157,11 @@ module _ (plan : Plan) (laws : PrerequisiteLaws) (s : ServerState) (start : Sett
       later = [];
       start = c.device;
       end = mid.device;
-      first = p.does;
-      then = part.does;
-      last = refl;
-      others = p.others (port_at n) not_yet;
-      others_later = All-nil (IsOfOtherPort (port_at n));
+      leads_to_start = p.turn_is_taken;
+      turn_leads_to_end = part.accesses_are_done;
+      leads_to_new = refl;
+      earlier_are_of_others = p.others (port_at n) not_yet;
+      later_are_of_others = All-nil (IsOfOtherPort (port_at n));
     }
 
     -- an earlier port's part of it
@@ -172,15 +172,15 @@ module _ (plan : Plan) (laws : PrerequisiteLaws) (s : ServerState) (start : Sett
       later = part.accesses;
       start = s.device;
       end = c.device;
-      first = refl;
-      then = p.does;
-      last = part.does;
-      others = All-nil (IsOfOtherPort q);
-      others_later = of_other q ne;
+      leads_to_start = refl;
+      turn_leads_to_end = p.turn_is_taken;
+      leads_to_new = part.accesses_are_done;
+      earlier_are_of_others = All-nil (IsOfOtherPort q);
+      later_are_of_others = of_other q ne;
     }
 
     undue : (q : Port) → state_at q.0 ≡ ReadyState → (s.device.port q.0).link_due ≡ false
-    undue q is = ((kept.behind q.0 (ready_found s q.0 kept is).0).runs is).recorded.linked
+    undue q is = ((kept.port_invariant q.0 (ready_found s q.0 kept is).0).engine_runs is).faults_are_recorded.no_link_is_due
 
     -- where a link may be due nothing is asked of a port
     state_was : (q : Port) → old.ports.state q ≡ state_at q.0
@@ -197,17 +197,17 @@ module _ (plan : Plan) (laws : PrerequisiteLaws) (s : ServerState) (start : Sett
     -- who is named as lost was ready
     its_lost : All (λ (r : Port). state_at r.0 ≡ ReadyState) x.evidence.lost
     its_lost = ⊎_elim
-        (λ is. All-weaker (λ (r : Port). r ≡ port_at n) (λ (r : Port). state_at r.0 ≡ ReadyState) (λ r same. ap (λ (t : Port). state_at t.0) same ∙ is) x.evidence.lost x.names.lost)
+        (λ is. All-weaker (λ (r : Port). r ≡ port_at n) (λ (r : Port). state_at r.0 ≡ ReadyState) (λ r same. ap (λ (t : Port). state_at t.0) same ∙ is) x.evidence.lost x.names_only_port.lost)
         (λ silent. subst (All (λ (r : Port). state_at r.0 ≡ ReadyState)) (sym silent.1) (All-nil (λ (r : Port). state_at r.0 ≡ ReadyState)))
         silent_or_ready
 
     its_evidenced : IsEvidencedOf (asks_for plan) (Served its) part.accesses (record { device = c.device; abstract = abstract_state_of c m }) (ports_of mid) mid.device x.evidence (port_at n)
-    its_evidenced = subst (λ (ask : AbstractCall DeviceStep). IsEvidencedOf ask (Served its) part.accesses (record { device = c.device; abstract = abstract_state_of c m }) (ports_of mid) mid.device x.evidence (port_at n)) (asks_so plan (probe_result_of s.ports n) n) x.evidenced
+    its_evidenced = subst (λ (ask : AbstractCall DeviceStep). IsEvidencedOf ask (Served its) part.accesses (record { device = c.device; abstract = abstract_state_of c m }) (ports_of mid) mid.device x.evidence (port_at n)) (asks_so plan (probe_result_of s.ports n) n) x.is_evidenced
 
     evidenced_n : IsEvidencedOf (asks_for plan) (Served []) accesses began (ports_of mid) mid.device evidence (port_at n)
     unfolding turn_of
     evidenced_n = subst (λ (list : List Access). IsEvidencedOf (asks_for plan) (Served []) (p.accesses ++ list) began (ports_of mid) mid.device evidence (port_at n)) (append-nil part.accesses)
-        (laws.calls.evidence (port_at n) began (abstract_state_of c m) (ports_of mid) (ports_of mid) mid.device x.evidence evidence (asks_for plan) (Served []) kept.on undue_n turn_of on_mid same_n
+        (laws.calls.evidence (port_at n) began (abstract_state_of c m) (ports_of mid) (ports_of mid) mid.device x.evidence evidence (asks_for plan) (Served []) kept.adapter_is_on undue_n turn_of on_mid same_n
         (same_self (ports_of mid) (port_at n)) alike_n
         (any_said plan its [] part.accesses (record { device = c.device; abstract = abstract_state_of c m }) (ports_of mid) mid.device x.evidence (port_at n) its_evidenced))
 
@@ -215,7 +215,7 @@ module _ (plan : Plan) (laws : PrerequisiteLaws) (s : ServerState) (start : Sett
         → IsEvidencedOf (asks_for plan) (Served []) accesses began (ports_of mid) mid.device evidence q
     unfolding turn_before
     evidenced_before q lt v =
-        laws.calls.evidence q began old (ports_of c) (ports_of mid) mid.device p.evidence evidence (asks_for plan) (Served []) kept.on (undue_before q) (turn_before q (λ same. omega (arith, lt, same))) p.on
+        laws.calls.evidence q began old (ports_of c) (ports_of mid) mid.device p.evidence evidence (asks_for plan) (Served []) kept.adapter_is_on (undue_before q) (turn_before q (λ same. omega (arith, lt, same))) p.adapter_is_on
         (same_self old.ports q) (same_other q (λ same. omega (arith, lt, same))) (alike_other q (earlier q lt)) v
 
     -- ---- requests
@@ -229,13 +229,13 @@ module _ (plan : Plan) (laws : PrerequisiteLaws) (s : ServerState) (start : Sett
     -- a request of the port that was issued when the turn began was so when the call began
     was_issued : (id : RequestId) → (o : Pending) → Contains m.book o → o.request.id.0 ≡ id.0 → o.request.port ≡ port_at n → WasIssued m id → WasIssued old.machine id
     was_issued id o here same own w =
-        let is : w.pending ≡ o = one_of w.pending o w.here here (ap (λ (i : RequestId). i.0) w.id_is ∙ sym same) in
+        let is : w.pending ≡ o = one_of w.pending o w.is_in_book here (ap (λ (i : RequestId). i.0) w.id_is ∙ sym same) in
         let port : w.pending.request.port.0 ≡ n = ap (λ (y : Pending). y.request.port.0) is ∙ ap (λ (q : Port). q.0) own in
-        let l = p.turns.origin w.pending w.here (omega (arith, port)) in
-        record { pending = l.0; here = l.1; id_is = ap (λ r. r.id) (sym l.2.request) ∙ w.id_is; issued = sym l.2.issued ∙ w.issued }
+        let l = p.turns.origin w.pending w.is_in_book (omega (arith, port)) in
+        record { pending = l.0; is_in_book = l.1; id_is = ap (λ r. r.id) (sym l.2.request) ∙ w.id_is; issued = sym l.2.issued ∙ w.issued }
 
     -- of the port, only the turn issues requests
-    own_alike : (u : Unanswered) → Contains (map unanswered (after m x.steps).book) u → u.port ≡ port_at n → list_any (issues_it u.id) x.steps ≡ list_any (issues_it u.id) all
+    own_alike : (u : Unanswered) → Contains (map unanswered (after m x.steps).book) u → u.port ≡ port_at n → list_any (issues_id u.id) x.steps ≡ list_any (issues_id u.id) all
     own_alike u here own = ⊎_elim
         (λ (early : IsIssuedIn u.id p.steps).
         let w = p.turns.issued u.id early in
@@ -245,32 +245,32 @@ module _ (plan : Plan) (laws : PrerequisiteLaws) (s : ServerState) (start : Sett
         let small = w.3 in
         let is = ap (λ (e : Pending). e.request.port.0) same ∙ ap (λ r. r.port.0) b.request ∙ ap (λ (v : Unanswered). v.port.0) (sym y.2) ∙ ap (λ (q : Port). q.0) own in
         absurd (omega (arith, small, is)))
-        (λ (none : list_any (issues_it u.id) p.steps ≡ false).
-        sym (any_append (issues_it u.id) x.steps p.steps ∙ ap (λ (b : Bool). list_any (issues_it u.id) x.steps || b) none ∙ or_none (list_any (issues_it u.id) x.steps)))
-        (cases_Bool (list_any (issues_it u.id) p.steps))
+        (λ (none : list_any (issues_id u.id) p.steps ≡ false).
+        sym (any_append (issues_id u.id) x.steps p.steps ∙ ap (λ (b : Bool). list_any (issues_id u.id) x.steps || b) none ∙ or_none (list_any (issues_id u.id) x.steps)))
+        (cases_Bool (list_any (issues_id u.id) p.steps))
 
     -- and it issues none of another
-    other_alike : (q : Port) → q ≢ port_at n → (u : Unanswered) → Contains (map unanswered m.book) u → u.port ≡ q → list_any (issues_it u.id) p.steps ≡ list_any (issues_it u.id) all
+    other_alike : (q : Port) → q ≢ port_at n → (u : Unanswered) → Contains (map unanswered m.book) u → u.port ≡ q → list_any (issues_id u.id) p.steps ≡ list_any (issues_id u.id) all
     other_alike q ne u here own = ⊎_elim
         (λ (late : IsIssuedIn u.id x.steps).
-        let w = issued_before laws (port_at n) m x.steps x.own x.may u.id late in
+        let w = issued_before laws (port_at n) m x.steps x.steps_are_of_turn x.steps_are_enabled u.id late in
         let y = map_in unanswered m.book u here in
         let same = one_of w.pending y.0 w.here y.1 (w.id_is ∙ ap (λ (v : Unanswered). v.id.0) y.2) in
         absurd (ne (sym own ∙ ap (λ (v : Unanswered). v.port) y.2 ∙ ap (λ (e : Pending). e.request.port) (sym same) ∙ w.port_is)))
-        (λ (none : list_any (issues_it u.id) x.steps ≡ false). sym (any_append (issues_it u.id) x.steps p.steps ∙ ap (λ (b : Bool). b || list_any (issues_it u.id) p.steps) none))
-        (cases_Bool (list_any (issues_it u.id) x.steps))
+        (λ (none : list_any (issues_id u.id) x.steps ≡ false). sym (any_append (issues_id u.id) x.steps p.steps ∙ ap (λ (b : Bool). b || list_any (issues_id u.id) p.steps) none))
+        (cases_Bool (list_any (issues_id u.id) x.steps))
 
     due_now : (q : Port) → state_of (probe_result_of mid.ports q.0) ≡ ReadyState → IssuesDue (mode_in mid q) all (after old.machine all) q
     due_now q is = subst (λ (k : Machine). IssuesDue (mode_in mid q) all k q) (sym whole_is) (⊎_elim
         (λ (same : q.0 ≡ n).
         subst (λ (r : Port). IssuesDue (mode_in mid r) all (after m x.steps) r) (ap port_at (sym same))
-        (dues_carried laws (mode_in mid (port_at n)) x.steps all (after m x.steps) (after m x.steps) (port_at n) refl own_alike (x.issues (ap (λ (k : ℕ). state_of (probe_result_of mid.ports k)) (sym same) ∙ is))))
+        (dues_carried laws (mode_in mid (port_at n)) x.steps all (after m x.steps) (after m x.steps) (port_at n) refl own_alike (x.issues_due (ap (λ (k : ℕ). state_of (probe_result_of mid.ports k)) (sym same) ∙ is))))
         (λ (ne : q.0 ≢ n).
         let apart : q ≢ port_at n = λ same. ne (ap (λ (r : Port). r.0) same) in
         dues_carried laws (mode_in mid q) p.steps all m (after m x.steps) q
-        (ap (of_port q) (same_book c.book m.book p.stands.book) ∙ sym (part.others.book q apart) ∙ ap (of_port q) (sym (same_book mid.book (after m x.steps).book x.stands.book)))
+        (ap (requests_of_port q) (same_book c.book m.book p.machine_relation.book) ∙ sym (part.leaves_others.book q apart) ∙ ap (requests_of_port q) (sym (same_book mid.book (after m x.steps).book x.machine_relation.book)))
         (other_alike q apart)
-        (subst (λ (mode : QueueMode). IssuesDue mode p.steps m q) (sym (part.others.modes q.0 ne)) (p.due q (ap state_of (sym (part.others.found q.0 ne)) ∙ is))))
+        (subst (λ (mode : QueueMode). IssuesDue mode p.steps m q) (sym (part.leaves_others.modes q.0 ne)) (p.due q (ap state_of (sym (part.leaves_others.found q.0 ne)) ∙ is))))
         (cases_eq q.0 n))
 
     -- ---- what is lawful
@@ -279,8 +279,8 @@ module _ (plan : Plan) (laws : PrerequisiteLaws) (s : ServerState) (start : Sett
     joined_lawful = lawful_join old evidence (ports_of mid) x.steps p.steps
         (lawful_on (abstract_state_of c m) old x.evidence evidence (ports_of mid) (ports_of mid) x.steps
         (λ e o here.
-        let own = answered_of (λ q. q ≡ port_at n) x.steps x.own e o here in
-        let w = answered_own laws (port_at n) m x.steps x.own x.may e o here in
+        let own = answered_of (λ q. q ≡ port_at n) x.steps x.steps_are_of_turn e o here in
+        let w = answered_own laws (port_at n) m x.steps x.steps_are_of_turn x.steps_are_enabled e o here in
         lawful_lift (abstract_state_of c m) old x.evidence evidence (ports_of mid) (ports_of mid) e o
         (was_issued e.request.id w.pending w.here w.id_is w.port_is)
         (λ told there. Contains-append_right p.evidence.faults x.evidence.faults told there)
@@ -290,7 +290,7 @@ module _ (plan : Plan) (laws : PrerequisiteLaws) (s : ServerState) (start : Sett
         (λ d. subst (λ (q : Port). SameDisk old.ports (ports_of mid) q) (sym own)
         (same_disk old.ports (ports_of c) (ports_of mid) (ports_of mid) (port_at n) same_n (same_self (ports_of mid) (port_at n)) (subst (λ (q : Port). SameDisk (ports_of c) (ports_of mid) q) own d))))
         (λ e here there. Contains-append_right p.evidence.stopped x.evidence.stopped e.request.port there)
-        x.lawful)
+        x.answers_are_lawful)
         (lawful_on old old p.evidence evidence (ports_of c) (ports_of mid) p.steps
         (λ e o here.
         let lt = answered_of (λ q. q.0 < n) p.steps p.turns.below e o here in
@@ -307,25 +307,25 @@ module _ (plan : Plan) (laws : PrerequisiteLaws) (s : ServerState) (start : Sett
     -- ---- answers
 
     told_all : AreToldBelow (n + 1) all (before ++ its)
-    told_all = told_then n p.steps x.steps before its (record { answers = p.answers; permuted = p.permuted; ordered = p.ordered; low = p.low; told = p.told }) x.tells
-        (λ e o here. answered_of (λ q. q ≡ port_at n) x.steps x.own e o here)
+    told_all = told_then n p.steps x.steps before its (record { answers = p.answers; permuted = p.permuted; ordered = p.book_is_in_order; low = p.low; told = p.told }) x.replies_match
+        (λ e o here. answered_of (λ q. q ≡ port_at n) x.steps x.steps_are_of_turn e o here)
 
     -- ---- each port
 
     done_n : IsDone mid accesses all evidence (port_at n)
     done_n = record {
-      becomes = serviced_lift old.ports (ports_of c) (ports_of mid) (ports_of mid) x.evidence evidence (port_at n) same_n (same_self (ports_of mid) (port_at n)) alike_n x.becomes;
+      becomes = serviced_lift old.ports (ports_of c) (ports_of mid) (ports_of mid) x.evidence evidence (port_at n) same_n (same_self (ports_of mid) (port_at n)) alike_n x.port_is_serviced;
       disk = ⊎_elim
           (λ same. inl (same_then old.ports (ports_of c) (ports_of mid) (port_at n) same_n same))
           (λ had. inr (λ shows. ⊎_elim
           (λ present. ⊎_elim (λ was. inl was) (λ changed. inr (any_append (changes_disk (port_at n)) x.steps p.steps ∙ or_right _ _ changed)) (present_before old.machine (port_at n) p.steps present))
           (λ changed. inr (any_append (changes_disk (port_at n)) x.steps p.steps ∙ or_left _ _ changed))
           (had shows)))
-          x.disk;
+          x.shown_disk_was_in_or_came;
       keeps = ⊎_elim
           (λ d. inl (same_disk old.ports (ports_of c) (ports_of mid) (ports_of mid) (port_at n) same_n (same_self (ports_of mid) (port_at n)) d))
           (λ none. inr (λ e here. none e (subst (λ (k : Machine). Contains k.book e) whole_is here)))
-          x.keeps;
+          x.disk_is_kept_or_none_waits;
       evidenced = evidenced_n;
       ties = ties_turned plan laws s start old reached at ports_are n c mid before its takes p next part m_reached on_mid evidence alike_n same_n;
     }
@@ -343,7 +343,7 @@ module _ (plan : Plan) (laws : PrerequisiteLaws) (s : ServerState) (start : Sett
       keeps = ⊎_elim
           (λ was. inl (same_disk old.ports old.ports (ports_of c) (ports_of mid) q (same_self old.ports q) same was))
           (λ none. inr (λ e here own.
-          let b = stood laws (port_at n) m x.steps x.own e (subst (λ (k : Machine). Contains k.book e) whole_is here) in
+          let b = stood laws (port_at n) m x.steps x.steps_are_of_turn e (subst (λ (k : Machine). Contains k.book e) whole_is here) in
           none b.was b.here (ap (λ r. r.port) b.request ∙ own)))
           d.keeps;
       evidenced = evidenced_before q lt d.evidenced;
@@ -361,7 +361,7 @@ module _ (plan : Plan) (laws : PrerequisiteLaws) (s : ServerState) (start : Sett
     -- the request of a slot that was used when the turn began was in the slot when the call began
     module _ (ready : state_at n ≡ ReadyState) (told : RequestFault) (f : TellsFault (port_at n) part.accesses c mid told) where
       used_s : used_for s.slots n f.slot ≡ Some f.used
-      used_s = ap (λ (slots : PortSlots). use_at slots f.slot) (sym (p.slots (port_at n) not_yet)) ∙ f.served
+      used_s = ap (λ (slots : PortSlots). use_at slots f.slot) (sym (p.slots (port_at n) not_yet)) ∙ f.slot_use_is
 
       by : IsServedBy s old.machine n f.slot f.used.id
       by = served_request s old.machine n f.slot at ready f.used.id (serves_used s old.machine n at ready f.slot f.used used_s)
@@ -372,24 +372,24 @@ module _ (plan : Plan) (laws : PrerequisiteLaws) (s : ServerState) (start : Sett
       -- its command is queued if it was issued so
       kind_is : is_queued by.serves.command.operation ≡ f.used.queued
       kind_is =
-          let h = kept.commands n f.slot f.used used_s in
-          let same = laws.slots.one_said s.device.memory (s.device.port n).bases.clb f.slot by.serves.command h.command by.serves.places h.places by.serves.told.says h.stored.told.says in
+          let h = kept.slots_store_commands n f.slot f.used used_s in
+          let same = laws.slots.one_said s.device.memory (s.device.port n).bases.clb f.slot by.serves.command h.command by.serves.places h.places by.serves.slot_decodes_to.decodes_to h.stored.slot_decodes_to.decodes_to in
           ap (λ (y : Meaning). is_queued y.operation) same.0 ∙ h.kind
 
       -- what the turn had of a fault and of a page, the call had
       its_failed : (fault : tape_fault.Fault) → HasFailed (port_at n) part.accesses c.device mid.device fault → HasFailed (port_at n) accesses s.device mid.device fault
       unfolding turn_of
-      its_failed fault had = subst (λ (list : List Access). HasFailed (port_at n) (p.accesses ++ list) s.device mid.device fault) (append-nil part.accesses) (laws.calls.failed (port_at n) s.device mid.device fault kept.on turn_of had)
+      its_failed fault had = subst (λ (list : List Access). HasFailed (port_at n) (p.accesses ++ list) s.device mid.device fault) (append-nil part.accesses) (laws.calls.failed (port_at n) s.device mid.device fault kept.adapter_is_on turn_of had)
 
       its_page : (page : List ℕ) → BringsLog (port_at n) c.device mid.device page → BringsLog (port_at n) s.device mid.device page
       unfolding turn_of
-      its_page page brings = laws.calls.brings (port_at n) s.device mid.device page kept.on turn_of ([], sym (append-nil mid.device.tape), All-nil (λ e. IsMove n ReadLog e → ⊥)) brings
+      its_page page brings = laws.calls.brings (port_at n) s.device mid.device page kept.adapter_is_on turn_of ([], sym (append-nil mid.device.tape), All-nil (λ e. IsMove n ReadLog e → ⊥)) brings
 
       -- an issued request of the port has a slot, and a plain one's is the only one
       alone : f.used.queued ≡ false → (other : Pending) → Contains old.machine.book other → other.request.port ≡ port_at n → other.issued ≡ true → other.request.id ≡ by.serves.pending.request.id
       alone plain other there own issued =
           let h = issued_has s old.machine (port_at n) at kept ready other there own issued in
-          let a = kept.alone n f.slot f.used used_s plain in
+          let a = kept.plain_stands_alone n f.slot f.used used_s plain in
           sym h.id_is ∙ ⊎_elim
           (λ (head : h.slot ≡ 0). let z : Some h.used ≡ Some f.used = sym h.used_is ∙ ap (used_for s.slots n) (head ∙ sym a.0) ∙ used_s in ap (λ (u : SlotUse). u.id) (same_some z))
           (λ (other_slot : h.slot ≢ 0). let z : None ≡ Some h.used = sym (a.1 h.slot other_slot) ∙ h.used_is in absurd cc)
@@ -397,9 +397,9 @@ module _ (plan : Plan) (laws : PrerequisiteLaws) (s : ServerState) (start : Sett
 
       plainly : f.used.queued ≡ false → FailsPlain began mid.device accesses by.serves.pending f.slot told
       plainly plain =
-          let i : IsFaultOfCommand false (port_at n) part.accesses c.device mid.device f.slot told = subst (λ (b : Bool). IsFaultOfCommand b (port_at n) part.accesses c.device mid.device f.slot told) plain f.its in
+          let i : IsFaultOfCommand false (port_at n) part.accesses c.device mid.device f.slot told = subst (λ (b : Bool). IsFaultOfCommand b (port_at n) part.accesses c.device mid.device f.slot told) plain f.is_fault_of_command in
           record {
-            alone = λ other there own issued. alone plain other there (own ∙ port_is) issued;
+            is_only_issued = λ other there own issued. alone plain other there (own ∙ port_is) issued;
             fault = i.0;
             failed = subst (λ (q : Port). HasFailed q accesses s.device mid.device i.0) (sym port_is) (its_failed i.0 i.1);
             slot_is = i.2;
@@ -409,7 +409,7 @@ module _ (plan : Plan) (laws : PrerequisiteLaws) (s : ServerState) (start : Sett
 
       by_log : f.used.queued ≡ true → FailsQueued began mid.device accesses by.serves.pending f.slot told
       by_log queued =
-          let i : IsFaultOfCommand true (port_at n) part.accesses c.device mid.device f.slot told = subst (λ (b : Bool). IsFaultOfCommand b (port_at n) part.accesses c.device mid.device f.slot told) queued f.its in
+          let i : IsFaultOfCommand true (port_at n) part.accesses c.device mid.device f.slot told = subst (λ (b : Bool). IsFaultOfCommand b (port_at n) part.accesses c.device mid.device f.slot told) queued f.is_fault_of_command in
           record {
             fault = i.0.0;
             failed = subst (λ (q : Port). HasFailed q accesses s.device mid.device i.0.0) (sym port_is) (its_failed i.0.0 i.0.1);
@@ -422,7 +422,7 @@ module _ (plan : Plan) (laws : PrerequisiteLaws) (s : ServerState) (start : Sett
       fault_n = record {
         its = record {
           pending = by.serves.pending;
-          here = by.here;
+          is_in_book = by.here;
           issued = by.issued;
           id_is = by.serves.id_is ∙ f.id_is;
           slot = f.slot;
@@ -432,7 +432,7 @@ module _ (plan : Plan) (laws : PrerequisiteLaws) (s : ServerState) (start : Sett
           queued = λ queued. by_log (sym kind_is ∙ kind_same ∙ queued);
         };
         served = subst (HadTurn (n + 1)) (sym port_is) (omega arith, takes);
-        lives = λ queued dead. f.lives (sym kind_is ∙ kind_same ∙ queued) (ap (λ (q : Port). state_of (probe_result_of mid.ports q.0)) (sym port_is) ∙ dead);
+        lives = λ queued dead. f.port_is_not_dead (sym kind_is ∙ kind_same ∙ queued) (ap (λ (q : Port). state_of (probe_result_of mid.ports q.0)) (sym port_is) ∙ dead);
       }
         where
           kind_same : is_queued by.serves.command.operation ≡ is_queued (subst (λ (q : ℕ). ServesRequest old.machine s.device.memory (s.device.port q) q f.slot told.id) (sym (ap (λ (q : Port). q.0) port_is))
@@ -449,41 +449,41 @@ module _ (plan : Plan) (laws : PrerequisiteLaws) (s : ServerState) (start : Sett
 
       still_failed : (fault : tape_fault.Fault) → HasFailed its_port p.accesses s.device c.device fault → HasFailed its_port accesses s.device mid.device fault
       unfolding turn_before
-      still_failed fault had = laws.calls.failed its_port s.device mid.device fault kept.on (turn_before its_port not_n) had
+      still_failed fault had = laws.calls.failed its_port s.device mid.device fault kept.adapter_is_on (turn_before its_port not_n) had
 
       still_brought : (page : List ℕ) → state_of (probe_result_of c.ports its_port.0) ≢ Dead → BringsLog its_port s.device c.device page → BringsLog its_port s.device mid.device page
       unfolding turn_before
-      still_brought page lives brings = laws.calls.brings its_port s.device mid.device page kept.on (turn_before its_port not_n) (part.silent its_port.0 not_n lives) brings
+      still_brought page lives brings = laws.calls.brings its_port s.device mid.device page kept.adapter_is_on (turn_before its_port not_n) (part.others_get_no_log its_port.0 not_n lives) brings
 
       fault_before : HasTold (n + 1) mid accesses told
       fault_before = record {
         its = record {
           pending = t.its.pending;
-          here = t.its.here;
+          is_in_book = t.its.is_in_book;
           issued = t.its.issued;
           id_is = t.its.id_is;
           slot = t.its.slot;
           serves = t.its.serves;
           plain = λ plain.
               let y = t.its.plain plain in
-              record { alone = y.alone; fault = y.fault; failed = still_failed y.fault y.failed; slot_is = y.slot_is; status_is = y.status_is; error_is = y.error_is };
+              record { is_only_issued = y.is_only_issued; fault = y.fault; failed = still_failed y.fault y.failed; slot_is = y.slot_is; status_is = y.status_is; error_is = y.error_is };
           queued = λ queued.
               let y = t.its.queued queued in
               record { fault = y.fault; failed = still_failed y.fault y.failed; page = y.page; brings = still_brought y.page (t.lives queued) y.brings; tells = y.tells };
         };
         served = let lt = t.served.0 in (omega (arith, lt), t.served.1);
-        lives = λ queued dead. t.lives queued (ap state_of (sym (part.others.found its_port.0 not_n)) ∙ dead);
+        lives = λ queued dead. t.lives queued (ap state_of (sym (part.leaves_others.found its_port.0 not_n)) ∙ dead);
       }
 
     -- ---- the turn, with what was before
 
     had_turn : Progress (n + 1) mid (before ++ its)
     had_turn = record {
-      settled = next;
-      wanted = part.others.wanted ∙ p.wanted;
-      on = on_mid;
+      settled_invariant = next;
+      wanted = part.leaves_others.wanted ∙ p.wanted;
+      adapter_is_on = on_mid;
       accesses = accesses;
-      does = laws.basic.does_append p.accesses part.accesses s.device c.device mid.device p.does part.does;
+      turn_is_taken = laws.basic.does_append p.accesses part.accesses s.device c.device mid.device p.turn_is_taken part.accesses_are_done;
       serving = All-append (IsAccessForPorts (Uses plan old.ports)) p.accesses part.accesses p.serving
           (serving laws n plan (probe_result_of s.ports n) old.ports (ap (λ (ports : Ports). ports.served (port_at n)) ports_are) (state_was (port_at n)) takes its c mid m part x);
       others = λ q none. All-append (IsOfOtherPort q) p.accesses part.accesses
@@ -491,9 +491,9 @@ module _ (plan : Plan) (laws : PrerequisiteLaws) (s : ServerState) (start : Sett
           (of_other q (λ is. none (omega (arith, is), takes_at q.0 is)));
       steps = all;
       turns = its_turns;
-      stands = subst (MachineRelation mid) (sym whole_is) x.stands;
-      backed = laws.backed_parts s.device c.device mid.device old.machine p.steps x.steps p.backed x.backed;
-      belong = belong_join (asks_for plan) (ports_of mid) x.steps p.steps (subst (λ (ask : AbstractCall DeviceStep). AreStepsOfCall ask (ports_of mid) x.steps) (asks_so plan (probe_result_of s.ports n) n) x.belong)
+      machine_relation = subst (MachineRelation mid) (sym whole_is) x.machine_relation;
+      backed = laws.backed_parts s.device c.device mid.device old.machine p.steps x.steps p.backed x.is_backed;
+      belong = belong_join (asks_for plan) (ports_of mid) x.steps p.steps (subst (λ (ask : AbstractCall DeviceStep). AreStepsOfCall ask (ports_of mid) x.steps) (asks_so plan (probe_result_of s.ports n) n) x.steps_are_of_call)
           (belong_on plan (λ q. q.0 < n) (ports_of c) (ports_of mid) (λ q lt. let same = same_other q (λ is. omega (arith, lt, is)) in (same.1, same.5)) p.steps p.turns.below p.belong);
       evidence = evidence;
       lost = All-append (λ (q : Port). state_at q.0 ≡ ReadyState) p.evidence.lost x.evidence.lost p.lost its_lost;
@@ -501,11 +501,11 @@ module _ (plan : Plan) (laws : PrerequisiteLaws) (s : ServerState) (start : Sett
           (names_more (HadTurn n) (HadTurn (n + 1)) (λ q served. let lt = served.0 in (omega (arith, lt), served.1)) p.evidence p.names)
           (names_more (λ q. q ≡ port_at n) (HadTurn (n + 1)) (λ q is. subst (HadTurn (n + 1)) (sym is) (omega arith, takes)) x.evidence mine);
       lawful = joined_lawful;
-      owes = owes_join plan (probe_result_of s.ports n) n (port_at n) part.accesses c mid m p.evidence x.evidence p.steps x.steps p.owes x.owes;
-      unplugs = unplugs_join laws old reached n p.steps x.steps p.turns x.own x.may x.last p.unplugs x.unplugs;
+      owes = owes_join plan (probe_result_of s.ports n) n (port_at n) part.accesses c mid m p.evidence x.evidence p.steps x.steps p.owes x.meets_turn_duty;
+      unplugs = unplugs_join laws old reached n p.steps x.steps p.turns x.steps_are_of_turn x.steps_are_enabled x.issues_are_last p.unplugs x.answers_all_unplugged;
       answers = told_all.answers;
       permuted = told_all.permuted;
-      ordered = told_all.ordered;
+      book_is_in_order = told_all.ordered;
       low = told_all.low;
       told = told_all.told;
       faults = λ told here. ⊎_elim
@@ -518,12 +518,12 @@ module _ (plan : Plan) (laws : PrerequisiteLaws) (s : ServerState) (start : Sett
           (cases_lt q.0 n);
       due = due_now;
       of = All-append (IsStepOf (HadTurn (n + 1))) x.steps p.steps
-          (all_of_ports (λ q. q ≡ port_at n) (HadTurn (n + 1)) (λ q is. subst (HadTurn (n + 1)) (sym is) (omega arith, takes)) x.steps x.own)
+          (all_of_ports (λ q. q ≡ port_at n) (HadTurn (n + 1)) (λ q is. subst (HadTurn (n + 1)) (sym is) (omega arith, takes)) x.steps x.steps_are_of_turn)
           (all_of_ports (HadTurn n) (HadTurn (n + 1)) (λ q served. let lt = served.0 in (omega (arith, lt), served.1)) p.steps p.of);
-      found = λ q none. part.others.found q.0 (λ is. none (omega (arith, is), takes_at q.0 is)) ∙ p.found q (still_none q none);
-      remembered = λ q none. part.others.remembered q.0 (λ is. none (omega (arith, is), takes_at q.0 is)) ∙ p.remembered q (still_none q none);
-      modes = λ q none. part.others.modes q.0 (λ is. none (omega (arith, is), takes_at q.0 is)) ∙ p.modes q (still_none q none);
-      slots = λ q none. part.others.slots q.0 (λ is. none (omega (arith, is), takes_at q.0 is)) ∙ p.slots q (still_none q none);
+      found = λ q none. part.leaves_others.found q.0 (λ is. none (omega (arith, is), takes_at q.0 is)) ∙ p.found q (still_none q none);
+      remembered = λ q none. part.leaves_others.remembered q.0 (λ is. none (omega (arith, is), takes_at q.0 is)) ∙ p.remembered q (still_none q none);
+      modes = λ q none. part.leaves_others.modes q.0 (λ is. none (omega (arith, is), takes_at q.0 is)) ∙ p.modes q (still_none q none);
+      slots = λ q none. part.leaves_others.slots q.0 (λ is. none (omega (arith, is), takes_at q.0 is)) ∙ p.slots q (still_none q none);
     }
       where
         still_none : (q : Port) → (HadTurn (n + 1) q → ⊥) → HadTurn n q → ⊥
@@ -534,7 +534,7 @@ module _ (plan : Plan) (laws : PrerequisiteLaws) (s : ServerState) (start : Sett
   -- how far all got, where no port from there on has a turn
   pub record Whole (new : ServerState) (replies : List Reply) : Type 0 where
     pub count : ℕ
-    pub past : (port : ℕ) → count ≤ port → TakesTurn plan (probe_result_of s.ports port) → ⊥
+    pub steps_since : (port : ℕ) → count ≤ port → TakesTurn plan (probe_result_of s.ports port) → ⊥
     pub progress : Progress count new replies
 
   on : (f : ProbeResult) (found : List ProbeResult) (n : ℕ) → ((i : ℕ) → probe_result_of s.ports (n + i) ≡ probe_result_of (f ∷ found) i) → (i : ℕ) → probe_result_of s.ports (n + 1 + i) ≡ probe_result_of found i
@@ -556,7 +556,7 @@ module _ (plan : Plan) (laws : PrerequisiteLaws) (s : ServerState) (start : Sett
         → Whole new (before ++ replies)
     go [] n here c new before replies p turns = record {
       count = n;
-      past = λ q most takes. unserved q (ap (λ (k : ℕ). probe_result_of s.ports k) (omega (arith, most)) ∙ here (q - n)) takes;
+      steps_since = λ q most takes. unserved q (ap (λ (k : ℕ). probe_result_of s.ports k) (omega (arith, most)) ∙ here (q - n)) takes;
       progress = subst (λ (x : ServerState). Progress n x (before ++ replies)) (sym turns.1) (subst (Progress n c) (sym (append-nil before) ∙ ap (λ (r : List Reply). before ++ r) (sym turns.0)) p);
     }
     go (Ready info ∷ found) n here c new before replies p (mid, its, later, is, next, turn, more) =
@@ -574,7 +574,7 @@ module _ (plan : Plan) (laws : PrerequisiteLaws) (s : ServerState) (start : Sett
         (subst (λ (x : ServerState). EachPortTakesTurn Such Other (n + 1) found replies x new) over.1 more))
         (λ part. subst (λ (list : List Reply). Whole new (list ++ replies)) (append-nil before)
         (go found (n + 1) (on (Unready state) found n here) mid new (before ++ []) replies
-        (had_turn n c mid before [] (kept.there n (ap is_served its_found)).0 part.0 p next part.1) more))
+        (had_turn n c mid before [] (kept.served_ports_exist n (ap is_served its_found)).0 part.0 p next part.1) more))
         (is_other n c mid before state its_found p turn)
 
 -- a server whose ports had their turns keeps what it keeps

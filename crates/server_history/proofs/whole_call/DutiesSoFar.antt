@@ -15,20 +15,20 @@ use Rattle.adapter.specs.Access.Access.{Loading, Reading, Storing, Writing}
 use Rattle.adapter.specs.Device.{Device}
 use Rattle.adapter.specs.Rules.{IsOn}
 use Rattle.refinement.specs.Relation.{port_at}
-use Rattle.refinement.specs.Driven.{SparesOtherPorts}
+use Rattle.refinement.specs.Fragments.{SparesOtherPorts}
 use Rattle.refinement.specs.Links.{DoesNotWrite}
 use Rattle.block_machine.specs.Events.{AbstractState}
 use Rattle.block_machine.specs.Histories.{JointState, IsReachable}
 use Rattle.block_machine.specs.Expected.{after}
 use Rattle.block_machine.specs.Ports.{Evidence, Ports, SameDisk, SamePort}
 use Rattle.block_machine.specs.State.{Machine, Pending}
-use Rattle.block_machine.specs.Steps.{Step, Again, Answer}
-use Rattle.driver_history.specs.Parts.{IsOfOtherPort, EvidenceAgreesOn}
-use Rattle.driver_history.specs.Trace.{IsDriversOwn, IsAccessForPorts, LeavesEngine, ResetsLink}
+use Rattle.block_machine.specs.Steps.{Step, WaitAgain, Answer}
+use Rattle.driver_history.specs.PortTurn.{IsOfOtherPort, EvidenceAgreesOn}
+use Rattle.driver_history.specs.AccessTrace.{IsDriversOwn, IsAccessForPorts, LeavesEngine, ResetsLink}
 use Rattle.host_boot.specs.TakeOver.{probe_result_of}
 use Rattle.host_boot.specs.declared.ProbeResult.{ProbeResult}
 use Rattle.server_history.specs.Prerequisites.{PrerequisiteLaws}
-use Rattle.server_history.specs.Server.{ServerState, MachineRelation, SettledInvariant, is_served, ports_of, state_of}
+use Rattle.server_history.specs.ServerState.{ServerState, MachineRelation, SettledInvariant, is_served, ports_of, state_of}
 use Rattle.server_history.specs.Turns.{AtRest, IsPortTurn, InRestart, SimulatesTurn, MeetsTurnDuty, RestartsPort, TurnCorresponds}
 use Rattle.server_history.proofs.whole_call.EarlierResults as carrying
 use Rattle.server_history.proofs.any_turn.JoinedParts.{ready_or_not, same_then}
@@ -51,13 +51,13 @@ resets_then port early late spares r = record {
   later = r.later ++ late;
   sending = r.sending;
   ending = r.ending;
-  here = ap (λ (list : List Access). list ++ late) r.here
+  accesses_are_split = ap (λ (list : List Access). list ++ late) r.accesses_are_split
       ∙ append_assoc r.before (Writing (Px port Sctl) r.sending ∷ (r.between ++ (Writing (Px port Sctl) r.ending ∷ r.later))) late
       ∙ ap (λ (list : List Access). r.before ++ (Writing (Px port Sctl) r.sending ∷ list)) (append_assoc r.between (Writing (Px port Sctl) r.ending ∷ r.later) late);
-  sends = r.sends;
-  ends = r.ends;
-  held = r.held;
-  left = All-append (DoesNotWrite (Px port Sctl)) r.later late r.left spares;
+  sends_comreset = r.sends_comreset;
+  ends_comreset = r.ends_comreset;
+  sctl_is_unwritten_between = r.sctl_is_unwritten_between;
+  sctl_is_unwritten_later = All-append (DoesNotWrite (Px port Sctl)) r.later late r.sctl_is_unwritten_later spares;
 }
 
 resets_since : (port : Port) (early late : List Access) → ResetsLink port late → ResetsLink port (early ++ late)
@@ -67,11 +67,11 @@ resets_since port early late r = record {
   later = r.later;
   sending = r.sending;
   ending = r.ending;
-  here = ap (λ (list : List Access). early ++ list) r.here ∙ sym (append_assoc early r.before (Writing (Px port Sctl) r.sending ∷ (r.between ++ (Writing (Px port Sctl) r.ending ∷ r.later))));
-  sends = r.sends;
-  ends = r.ends;
-  held = r.held;
-  left = r.left;
+  accesses_are_split = ap (λ (list : List Access). early ++ list) r.accesses_are_split ∙ sym (append_assoc early r.before (Writing (Px port Sctl) r.sending ∷ (r.between ++ (Writing (Px port Sctl) r.ending ∷ r.later))));
+  sends_comreset = r.sends_comreset;
+  ends_comreset = r.ends_comreset;
+  sctl_is_unwritten_between = r.sctl_is_unwritten_between;
+  sctl_is_unwritten_later = r.sctl_is_unwritten_later;
 }
 
 -- a turn's accesses serve ports that the call uses
@@ -93,11 +93,11 @@ module _ (laws : PrerequisiteLaws) (n : ℕ) where
   pub serving : (plan : Plan) (found : ProbeResult) (ports : Ports) → ports.served (port_at n) ≡ is_served found → ports.state (port_at n) ≡ state_of found → TakesTurn plan found → (its : List Reply) (c mid : ServerState) (m : Machine)
       (part : IsPortTurn (turn_at plan found n) (port_at n) its c mid) → SimulatesTurn (turn_at plan found n) (port_at n) its part.accesses c mid m → All (IsAccessForPorts (Uses plan ports)) part.accesses
   serving AService found ports served state takes its c mid m part x =
-      of_such (Uses AService ports) (served ∙ takes.0, λ dead. takes.1 (sym state ∙ dead)) part.accesses part.of part.own
+      of_such (Uses AService ports) (served ∙ takes.0, λ dead. takes.1 (sym state ∙ dead)) part.accesses part.accesses_are_of_port part.accesses_are_drivers_own
   serving (ATick hung) found ports served state takes its c mid m part x = ⊎_elim
-      (λ (so : hung n ≡ true). of_such (Uses (ATick hung) ports) (state ∙ takes, so) part.accesses part.of part.own)
+      (λ (so : hung n ≡ true). of_such (Uses (ATick hung) ports) (state ∙ takes, so) part.accesses part.accesses_are_of_port part.accesses_are_drivers_own)
       (λ (not_so : hung n ≡ false).
-      let rests = subst (λ (b : Bool). MeetsTurnDuty (if b then InRestart else AtRest) (port_at n) part.accesses c mid m x.evidence x.steps) not_so x.owes in
+      let rests = subst (λ (b : Bool). MeetsTurnDuty (if b then InRestart else AtRest) (port_at n) part.accesses c mid m x.evidence x.steps) not_so x.meets_turn_duty in
       subst (All (IsAccessForPorts (Uses (ATick hung) ports))) (sym rests.0) (All-nil (IsAccessForPorts (Uses (ATick hung) ports))))
       (cases_Bool (hung n))
 
@@ -121,7 +121,7 @@ module _ (hung : ℕ → Bool) (laws : PrerequisiteLaws) (s : ServerState) (star
     m = after old.machine p.steps
 
     abbrev x : SimulatesTurn (turn_at plan (probe_result_of s.ports n) n) (port_at n) its part.accesses c mid m
-    x = part.makes m m_reached p.stands
+    x = part.simulates_turn m m_reached p.machine_relation
 
     abbrev all : List Step
     all = x.steps ++ p.steps
@@ -132,20 +132,20 @@ module _ (hung : ℕ → Bool) (laws : PrerequisiteLaws) (s : ServerState) (star
     not_early : (e : Pending) (o : Outcome) → Contains p.steps (Answer e o) → e.request.port ≢ port_at n
     not_early = lifting.not_early plan laws s start old reached at ports_are n c mid before its p next part m_reached on_mid
 
-    not_again : (e : Pending) → Contains p.steps (Again e) → e.request.port ≢ port_at n
+    not_again : (e : Pending) → Contains p.steps (WaitAgain e) → e.request.port ≢ port_at n
     not_again = lifting.not_again plan laws s start old reached at ports_are n c mid before its p next part m_reached on_mid
 
     module _ (alike : EvidenceAgreesOn (port_at n) x.evidence evidence) (same_n : SamePort old.ports (ports_of c) (port_at n)) where
       restarted : hung n ≡ true → IsRestarted began (port_at n) accesses mid evidence all
       restarted so = record {
-        finds = lifting.finding plan laws s start old reached at ports_are n c mid before its p next part m_reached on_mid ready r.finds r.ended;
+        finds = lifting.finding plan laws s start old reached at ports_are n c mid before its p next part m_reached on_mid ready r.finds r.answers_ended;
         boots = ⊎_elim (λ dead. inl dead) (λ resets. inr (resets_since (port_at n) p.accesses part.accesses resets)) r.boots;
-        ended = lifting.ended_whole plan laws s start old reached at ports_are n c mid before its p next part m_reached on_mid ready r.ended;
-        interrupts = lifting.named plan laws s start old reached at ports_are n c mid before its p next part m_reached on_mid evidence alike r.interrupts;
-        anew = lifting.anew_whole plan laws s start old reached at ports_are n c mid before its p next part m_reached on_mid r.anew;
+        ended = lifting.ended_whole plan laws s start old reached at ports_are n c mid before its p next part m_reached on_mid ready r.answers_ended;
+        interrupts = lifting.named plan laws s start old reached at ports_are n c mid before its p next part m_reached on_mid evidence alike r.is_interrupted;
+        anew = lifting.anew_whole plan laws s start old reached at ports_are n c mid before its p next part m_reached on_mid r.none_stays_issued;
         another = λ e here own. ⊎_elim
             (λ late.
-            let w = r.another e late in
+            let w = r.unplugged_lost_its_disk e late in
             let lives : state_of (probe_result_of mid.ports n) ≢ Dead = λ dead. w.0 (ap (λ (q : Port). state_of (probe_result_of mid.ports q.0)) own ∙ dead) in (
               lives,
               λ is_ready disk. w.1 (ap (λ (q : Port). state_of (probe_result_of mid.ports q.0)) own ∙ is_ready)
@@ -153,15 +153,15 @@ module _ (hung : ℕ → Bool) (laws : PrerequisiteLaws) (s : ServerState) (star
             ))
             (λ early. absurd (not_early e Unplugged early own))
             (Contains-append_cases x.steps p.steps (Answer e Unplugged) here);
-        disk = lifting.disk_whole plan laws s start old reached at ports_are n c mid before its p next part m_reached on_mid r.disk;
-        heeds = lifting.trouble_whole plan laws s start old reached at ports_are n c mid before its p next part m_reached on_mid evidence alike same_n (λ _ _. r.interrupts) (λ _. inl (lifting.undue plan laws s start old reached at ports_are n c mid before its p next part m_reached on_mid ready)) ties;
+        disk = lifting.disk_whole plan laws s start old reached at ports_are n c mid before its p next part m_reached on_mid r.shown_disk_was_in_or_came;
+        heeds = lifting.trouble_whole plan laws s start old reached at ports_are n c mid before its p next part m_reached on_mid evidence alike same_n (λ _ _. r.is_interrupted) (λ _. inl (lifting.undue plan laws s start old reached at ports_are n c mid before its p next part m_reached on_mid ready)) ties;
       }
         where
           r : RestartsPort (port_at n) part.accesses c mid m x.evidence x.steps
-          r = (subst (λ (b : Bool). MeetsTurnDuty (if b then InRestart else AtRest) (port_at n) part.accesses c mid m x.evidence x.steps) so x.owes).0
+          r = (subst (λ (b : Bool). MeetsTurnDuty (if b then InRestart else AtRest) (port_at n) part.accesses c mid m x.evidence x.steps) so x.meets_turn_duty).0
 
           ties : TurnCorresponds InRestart (port_at n) its part.accesses c mid m x.evidence x.steps
-          ties = subst (λ (b : Bool). TurnCorresponds (if b then InRestart else AtRest) (port_at n) its part.accesses c mid m x.evidence x.steps) so x.ties
+          ties = subst (λ (b : Bool). TurnCorresponds (if b then InRestart else AtRest) (port_at n) its part.accesses c mid m x.evidence x.steps) so x.turn_corresponds
 
       rested : hung n ≡ false → HasRested old (port_at n) accesses mid evidence all
       rested not_so = record {
@@ -170,14 +170,14 @@ module _ (hung : ℕ → Bool) (laws : PrerequisiteLaws) (s : ServerState) (star
         same = ⊎_elim
             (λ same. same_then old.ports (ports_of c) (ports_of mid) (port_at n) same_n same)
             (λ interrupted. absurd (rests.3 interrupted))
-            (x.becomes.1 (λ dead. let z : ReadyState ≡ Dead = sym (lifting.ready_c plan laws s start old reached at ports_are n c mid before its p next part m_reached on_mid ready) ∙ dead in absurd cc)).1;
+            (x.port_is_serviced.1 (λ dead. let z : ReadyState ≡ Dead = sym (lifting.ready_c plan laws s start old reached at ports_are n c mid before its p next part m_reached on_mid ready) ∙ dead in absurd cc)).1;
         uninterrupted = λ i. rests.3 (⊎_elim (λ stopped. inl (alike.stopped.1 stopped)) (λ stuck. inr (alike.stuck.1 stuck)) i);
-        again = λ e here. not_again e (subst (λ (list : List Step). Contains (list ++ p.steps) (Again e)) rests.1 here);
+        again = λ e here. not_again e (subst (λ (list : List Step). Contains (list ++ p.steps) (WaitAgain e)) rests.1 here);
         answer = λ e o here. not_early e o (subst (λ (list : List Step). Contains (list ++ p.steps) (Answer e o)) rests.1 here);
       }
         where
           rests : MeetsTurnDuty AtRest (port_at n) part.accesses c mid m x.evidence x.steps
-          rests = subst (λ (b : Bool). MeetsTurnDuty (if b then InRestart else AtRest) (port_at n) part.accesses c mid m x.evidence x.steps) not_so x.owes
+          rests = subst (λ (b : Bool). MeetsTurnDuty (if b then InRestart else AtRest) (port_at n) part.accesses c mid m x.evidence x.steps) not_so x.meets_turn_duty
 
       pub ticked : HasTicked hung s old (port_at n) accesses mid evidence all
       ticked = record {
@@ -196,7 +196,7 @@ module _ (hung : ℕ → Bool) (laws : PrerequisiteLaws) (s : ServerState) (star
     m_so_far = after old.machine p.steps
 
     abbrev y : SimulatesTurn (turn_at plan (probe_result_of s.ports n) n) (port_at n) its part.accesses c mid m_so_far
-    y = part.makes m_so_far m_reached p.stands
+    y = part.simulates_turn m_so_far m_reached p.machine_relation
 
     abbrev steps_then : List Step
     steps_then = y.steps ++ p.steps
@@ -205,7 +205,7 @@ module _ (hung : ℕ → Bool) (laws : PrerequisiteLaws) (s : ServerState) (star
     accesses_then = p.accesses ++ part.accesses
 
     of_others : All (IsOfOtherPort q) part.accesses
-    of_others = All-weaker (SparesOtherPorts (port_at n)) (IsOfOtherPort q) (λ access of. (port_at n, carrying.other plan laws s start old reached at ports_are n c mid before its p part m_reached q apart, of)) part.accesses part.of
+    of_others = All-weaker (SparesOtherPorts (port_at n)) (IsOfOtherPort q) (λ access of. (port_at n, carrying.other plan laws s start old reached at ports_are n c mid before its p part m_reached q apart, of)) part.accesses part.accesses_are_of_port
 
     pub still_ticked : HasTicked hung s old q accesses_then mid evidence steps_then
     still_ticked = record {
@@ -237,7 +237,7 @@ module _ (hung : ℕ → Bool) (laws : PrerequisiteLaws) (s : ServerState) (star
             again = λ e here own. ⊎_elim
                 (λ late. carrying.not_again plan laws s start old reached at ports_are n c mid before its p part m_reached q apart e late own)
                 (λ early. r.again e early own)
-                (Contains-append_cases y.steps p.steps (Again e) here);
+                (Contains-append_cases y.steps p.steps (WaitAgain e) here);
             answer = λ e o here own. ⊎_elim
                 (λ late. carrying.not_late plan laws s start old reached at ports_are n c mid before its p part m_reached q apart e o late own)
                 (λ early. r.answer e o early own)
@@ -249,8 +249,8 @@ module _ (hung : ℕ → Bool) (laws : PrerequisiteLaws) (s : ServerState) (star
 
 pub ties_turned : (plan : Plan) (laws : PrerequisiteLaws) (s : ServerState) (start : SettledInvariant s) (old : AbstractState) (reached : IsReachable old.machine) (at : MachineRelation s old.machine) (ports_are : old.ports ≡ ports_of s) (n : ℕ) (c mid : ServerState) (before its : List Reply)
     (takes : TakesTurn plan (probe_result_of s.ports n)) (p : progress.Progress plan laws s start old reached at ports_are n c before) (next : SettledInvariant mid) (part : IsPortTurn (turn_at plan (probe_result_of s.ports n) n) (port_at n) its c mid)
-    (m_reached : IsReachable (after old.machine p.steps)) (on_mid : IsOn mid.device) (evidence : Evidence) → EvidenceAgreesOn (port_at n) (part.makes (after old.machine p.steps) m_reached p.stands).evidence evidence → SamePort old.ports (ports_of c) (port_at n)
-    → TiesSoFar plan s old (port_at n) (p.accesses ++ part.accesses) mid evidence ((part.makes (after old.machine p.steps) m_reached p.stands).steps ++ p.steps)
+    (m_reached : IsReachable (after old.machine p.steps)) (on_mid : IsOn mid.device) (evidence : Evidence) → EvidenceAgreesOn (port_at n) (part.simulates_turn (after old.machine p.steps) m_reached p.machine_relation).evidence evidence → SamePort old.ports (ports_of c) (port_at n)
+    → TiesSoFar plan s old (port_at n) (p.accesses ++ part.accesses) mid evidence ((part.simulates_turn (after old.machine p.steps) m_reached p.machine_relation).steps ++ p.steps)
 ties_turned AService laws s start old reached at ports_are n c mid before its takes p next part m_reached on_mid evidence alike same_n =
     ⊎_elim
     (λ ready. (
@@ -264,7 +264,7 @@ ties_turned (ATick hung) laws s start old reached at ports_are n c mid before it
 pub ties_carried : (plan : Plan) (laws : PrerequisiteLaws) (s : ServerState) (start : SettledInvariant s) (old : AbstractState) (reached : IsReachable old.machine) (at : MachineRelation s old.machine) (ports_are : old.ports ≡ ports_of s) (n : ℕ) (c mid : ServerState) (before its : List Reply)
     (p : progress.Progress plan laws s start old reached at ports_are n c before) (part : IsPortTurn (turn_at plan (probe_result_of s.ports n) n) (port_at n) its c mid) (m_reached : IsReachable (after old.machine p.steps)) (q : Port) (apart : q ≢ port_at n)
     (d : progress.IsDone plan laws s start old reached at ports_are c p.accesses p.steps p.evidence q) (evidence : Evidence) (alike : EvidenceAgreesOn q p.evidence evidence) (same : SamePort (ports_of c) (ports_of mid) q)
-    → TiesSoFar plan s old q (p.accesses ++ part.accesses) mid evidence ((part.makes (after old.machine p.steps) m_reached p.stands).steps ++ p.steps)
+    → TiesSoFar plan s old q (p.accesses ++ part.accesses) mid evidence ((part.simulates_turn (after old.machine p.steps) m_reached p.machine_relation).steps ++ p.steps)
 ties_carried AService laws s start old reached at ports_are n c mid before its p part m_reached q apart d evidence alike same = ⊎_elim
     (λ ready. (
       ties_still laws s start old reached at ports_are n c mid before its p part m_reached q apart d evidence alike same ready,

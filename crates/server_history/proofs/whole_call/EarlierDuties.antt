@@ -18,13 +18,13 @@ use Rattle.block_machine.specs.Ports.{Evidence, IsStoppedOrStuck, SamePort}
 use Rattle.block_machine.specs.State.{Machine}
 use Rattle.block_machine.specs.Steps.{Step, Answer}
 use Rattle.host_boot.specs.TakeOver.{probe_result_of}
-use Rattle.driver_history.specs.Heeding.{ToldOkOr, IsLeftAlone, ServesReady, tells_fault}
+use Rattle.driver_history.specs.EvidenceHandling.{ToldOkOr, IsLeftAlone, ServicesReadyPort, tells_fault}
 use Rattle.driver_history.specs.Evidence.{ShowsChange, ShowsFailure}
 use Rattle.driver_history.specs.Histories.{HasUnservedDisk, HasOnlyTaskFileError, IsAnsweredFaulty, PortCorresponds}
-use Rattle.driver_history.specs.Parts.{HasTurnIn, EvidenceAgreesOn}
+use Rattle.driver_history.specs.PortTurn.{HasTurnIn, EvidenceAgreesOn}
 use Rattle.server_history.specs.Prerequisites.{PrerequisiteLaws}
-use Rattle.server_history.specs.Turns.{IsPortTurn, HandlesShownErrors, InService, SimulatesTurn, happening_of_turn}
-use Rattle.server_history.specs.Server.{ServerState, InCallInvariant, MachineRelation, SettledInvariant, ports_of}
+use Rattle.server_history.specs.Turns.{IsPortTurn, HandlesShownErrors, InService, SimulatesTurn, joint_event_of_turn}
+use Rattle.server_history.specs.ServerState.{ServerState, InCallInvariant, MachineRelation, SettledInvariant, ports_of}
 use Rattle.server_history.proofs.any_turn.JoinedParts.{same_then}
 use Rattle.server_history.proofs.any_turn.TurnSteps.{stood}
 use Rattle.server_history.proofs.whole_call.EarlierResults as carrying
@@ -35,7 +35,7 @@ use Rattle.server_history.proofs.unready_turn.UnfitPort.{ready_fits}
 
 module _ (laws : PrerequisiteLaws) (s : ServerState) (start : SettledInvariant s) (old : AbstractState) (reached : IsReachable old.machine) (at : MachineRelation s old.machine) (ports_are : old.ports ≡ ports_of s) where
   abbrev kept : InCallInvariant s
-  kept = start.kept
+  kept = start.in_call_invariant
 
   abbrev began : JointState Device
   began = record { device = s.device; abstract = old }
@@ -51,7 +51,7 @@ module _ (laws : PrerequisiteLaws) (s : ServerState) (start : SettledInvariant s
     m = after old.machine p.steps
 
     abbrev x : SimulatesTurn (turn_at AService (probe_result_of s.ports n) n) (port_at n) its part.accesses c mid m
-    x = part.makes m m_reached p.stands
+    x = part.simulates_turn m m_reached p.machine_relation
 
     abbrev all : List Step
     all = x.steps ++ p.steps
@@ -67,14 +67,14 @@ module _ (laws : PrerequisiteLaws) (s : ServerState) (start : SettledInvariant s
       abbrev t : HasTurnIn q s.device mid.device
       t = carrying.t AService laws s start old reached at ports_are n c mid before its p part m_reached q apart
 
-      abbrev did : PortCorresponds began (happening_of_turn InService [] c p.evidence p.steps) p.accesses q
+      abbrev did : PortCorresponds began (joint_event_of_turn InService [] c p.evidence p.steps) p.accesses q
       did = d.ties.0
 
-      abbrev serves : ServesReady old p.evidence p.steps (record { machine = m; ports = ports_of c }) q
-      serves = did.heeds asked
+      abbrev serves : ServicesReadyPort old p.evidence p.steps (record { machine = m; ports = ports_of c }) q
+      serves = did.handles_evidence asked
 
       alone_so_far : HasOnlyTaskFileError q began mid.device → HasOnlyTaskFileError q began c.device
-      alone_so_far alone = laws.calls.alone_then q began old mid.device kept.on undue t p.on asked alone
+      alone_so_far alone = laws.calls.alone_then q began old mid.device kept.adapter_is_on undue t p.adapter_is_on asked alone
 
       -- ---- what the call heeds of it
 
@@ -93,26 +93,26 @@ module _ (laws : PrerequisiteLaws) (s : ServerState) (start : SettledInvariant s
       changed_whole : list_any (changes_disk q) p.steps ≡ true → list_any (changes_disk q) all ≡ true
       changed_whole = carrying.changed_whole AService laws s start old reached at ports_are n c mid before its p part m_reached q apart
 
-      heeds_whole : ServesReady old evidence all (record { machine = after old.machine all; ports = ports_of mid }) q
+      heeds_whole : ServicesReadyPort old evidence all (record { machine = after old.machine all; ports = ports_of mid }) q
       heeds_whole = record {
-        ended = carrying.ended_still AService laws s start old reached at ports_are n c mid before its p part m_reached q apart serves.ended;
-        emptied = λ gone e here own.
-            let b = stood laws (port_at n) m x.steps x.own e (carrying.in_turn AService laws s start old reached at ports_are n c mid before its p part m_reached q apart e here) in
-            serves.emptied (alike.gone.1 gone) b.was b.here (ap (λ r. r.port) b.request ∙ own);
-        told = λ gone. ⊎_elim (λ a. inl (told_whole _ a)) (λ b. inr (told_whole _ b)) (serves.told (alike.gone.1 gone));
-        interrupts = λ port_error. carrying.named AService laws s start old reached at ports_are n c mid before its p part m_reached q apart evidence alike (serves.interrupts (⊎_elim (λ failed. inl (alike.failed.1 failed)) (λ gone. inr (alike.gone.1 gone)) port_error));
-        anew = λ port_error. carrying.anew_still AService laws s start old reached at ports_are n c mid before its p part m_reached q apart (serves.anew (⊎_elim (λ failed. inl (alike.failed.1 failed)) (λ stopped. inr (alike.stopped.1 stopped)) port_error));
-        single = let one = serves.single in omega (arith, counted, one);
-        fatal = λ here. let y = serves.fatal (alike.fatal.1 here) in (alike.failed.0 y.0, counted ∙ y.1);
-        disk = carrying.disk_still AService laws s start old reached at ports_are n c mid before its p part m_reached q apart same serves.disk;
-        calm = ⊎_elim
-            (λ disturbed. inl (⊎_elim (λ failed. inl (alike.failed.0 failed)) (λ rest. inr (⊎_elim (λ gone. inl (alike.gone.0 gone)) (λ changed. inr (changed_whole changed)) rest)) disturbed))
+        answers_ended = carrying.ended_still AService laws s start old reached at ports_are n c mid before its p part m_reached q apart serves.answers_ended;
+        none_is_left = λ gone e here own.
+            let b = stood laws (port_at n) m x.steps x.steps_are_of_turn e (carrying.in_turn AService laws s start old reached at ports_are n c mid before its p part m_reached q apart e here) in
+            serves.none_is_left (alike.link_changed.1 gone) b.was b.here (ap (λ r. r.port) b.request ∙ own);
+        others_are_told_alike = λ gone. ⊎_elim (λ a. inl (told_whole _ a)) (λ b. inr (told_whole _ b)) (serves.others_are_told_alike (alike.link_changed.1 gone));
+        is_interrupted = λ port_error. carrying.named AService laws s start old reached at ports_are n c mid before its p part m_reached q apart evidence alike (serves.is_interrupted (⊎_elim (λ failed. inl (alike.failed.1 failed)) (λ gone. inr (alike.link_changed.1 gone)) port_error));
+        none_stays_issued = λ port_error. carrying.anew_still AService laws s start old reached at ports_are n c mid before its p part m_reached q apart (serves.none_stays_issued (⊎_elim (λ failed. inl (alike.failed.1 failed)) (λ stopped. inr (alike.stopped.1 stopped)) port_error));
+        one_fault_at_most = let one = serves.one_fault_at_most in omega (arith, counted, one);
+        fatal_tells_no_fault = λ here. let y = serves.fatal_tells_no_fault (alike.fatal.1 here) in (alike.failed.0 y.0, counted ∙ y.1);
+        shown_disk_was_in_or_came = carrying.disk_still AService laws s start old reached at ports_are n c mid before its p part m_reached q apart same serves.shown_disk_was_in_or_came;
+        is_left_alone_if_calm = ⊎_elim
+            (λ disturbed. inl (⊎_elim (λ failed. inl (alike.failed.0 failed)) (λ rest. inr (⊎_elim (λ gone. inl (alike.link_changed.0 gone)) (λ changed. inr (changed_whole changed)) rest)) disturbed))
             (λ (a : IsLeftAlone old.ports p.evidence p.steps (ports_of c) q). inr (record {
-              same = same_then old.ports (ports_of c) (ports_of mid) q a.same same;
-              told = told_whole _ a.told;
-              uninterrupted = λ i. a.uninterrupted (carrying.unnamed AService laws s start old reached at ports_are n c mid before its p part m_reached q apart evidence alike i);
+              port_is_same = same_then old.ports (ports_of c) (ports_of mid) q a.port_is_same same;
+              only_ok_is_told = told_whole _ a.only_ok_is_told;
+              is_not_interrupted = λ i. a.is_not_interrupted (carrying.unnamed AService laws s start old reached at ports_are n c mid before its p part m_reached q apart evidence alike i);
             }))
-            serves.calm;
+            serves.is_left_alone_if_calm;
       }
 
       -- ---- trouble
@@ -122,7 +122,7 @@ module _ (laws : PrerequisiteLaws) (s : ServerState) (start : SettledInvariant s
 
       -- and where it showed a failure when the call began, or a change of its link, it was stopped
       stops_troubled : ShowsFailure (s.device.port q.0) ⊎ ShowsChange (s.device.port q.0) → IsStoppedOrStuck p.evidence q
-      stops_troubled port_error = serves.interrupts (⊎_elim (λ failure. inl (d.evidenced.failed_all asked failure)) (λ change. inr (d.evidenced.gone_all asked (inl change))) port_error)
+      stops_troubled port_error = serves.is_interrupted (⊎_elim (λ failure. inl (d.evidenced.failed_all asked failure)) (λ change. inr (d.evidenced.link_changed_all asked (inl change))) port_error)
 
       -- ---- the whole
 
@@ -133,23 +133,23 @@ module _ (laws : PrerequisiteLaws) (s : ServerState) (start : SettledInvariant s
       not_absent absent = let z : Absent ≡ ReadyState = sym absent ∙ asked in absurd cc
 
       heeds_trouble : HandlesShownErrors q accesses began evidence (ports_of mid) mid.device
-      heeds_trouble = carrying.trouble_still AService laws s start old reached at ports_are n c mid before its p part m_reached q apart d evidence alike same (λ _. stops_troubled) (λ _. inl undue) (record { port_error = did.port_error; well = did.well })
+      heeds_trouble = carrying.trouble_still AService laws s start old reached at ports_are n c mid before its p part m_reached q apart d evidence alike same (λ _. stops_troubled) (λ _. inl undue) (record { loses_no_error = did.loses_no_error; runs_well_anew = did.runs_well_anew })
 
-      pub ties_still : PortCorresponds began (happening_of_turn InService [] mid evidence all) accesses q
+      pub ties_still : PortCorresponds began (joint_event_of_turn InService [] mid evidence all) accesses q
       ties_still = record {
-        finds = λ is_ready e own. carrying.finds_more AService laws s start old reached at ports_are n c mid before its p part m_reached q apart (did.finds is_ready e own);
-        faults = λ alone e slot own unended says plain. ⊎_elim
+        finds_done = λ is_ready e own. carrying.finds_more AService laws s start old reached at ports_are n c mid before its p part m_reached q apart (did.finds_done is_ready e own);
+        plain_faults_are_told = λ alone e slot own unended says plain. ⊎_elim
             (λ (a : IsAnsweredFaulty e p.steps). inl (a.0, a.1, a.2, a.3, Contains-append_right x.steps p.steps (Answer a.0 (DeviceError a.1 a.2)) a.4))
             (λ dead. inr (same.1 ∙ dead))
-            (did.faults (alone_so_far alone) e slot own unended says plain);
-        probes = λ served coming. record {
+            (did.plain_faults_are_told (alone_so_far alone) e slot own unended says plain);
+        probes_disk = λ served coming. record {
           shown = λ absent det. absurd (not_absent absent);
           absent = λ absent det fresh. absurd (not_absent absent);
           missing = λ bad. absurd (not_bad bad);
           changed = λ bad. absurd (not_bad bad);
         };
-        boots = laws.calls.call_boots q began old (ports_of c) (ports_of mid) mid.device (Served []) (Served []) kept.on (λ _. undue) t p.on same same_self did.boots;
-        port_error = heeds_trouble.port_error;
-        well = heeds_trouble.well;
-        heeds = λ _. heeds_whole;
+        boots_anew = laws.calls.call_boots q began old (ports_of c) (ports_of mid) mid.device (Served []) (Served []) kept.adapter_is_on (λ _. undue) t p.adapter_is_on same same_self did.boots_anew;
+        loses_no_error = heeds_trouble.loses_no_error;
+        runs_well_anew = heeds_trouble.runs_well_anew;
+        handles_evidence = λ _. heeds_whole;
       }

@@ -15,23 +15,23 @@ use Rattle.adapter.specs.Access.{Access}
 use Rattle.adapter.specs.Access.Access.{Reading}
 use Rattle.adapter.specs.Device.{Device}
 use Rattle.refinement.specs.Relation.{port_at}
-use Rattle.refinement.specs.Driven.{SparesOtherPorts}
+use Rattle.refinement.specs.Fragments.{SparesOtherPorts}
 use Rattle.refinement.specs.Links.{DoesNotWrite}
-use Rattle.block_machine.specs.Events.{AnswersEnded, ShownDiskWasInOrCame, AbstractState, NoneStaysIssued, ShowsDisk, changes_disk, issues_it}
+use Rattle.block_machine.specs.Events.{AnswersEnded, ShownDiskWasInOrCame, AbstractState, NoneStaysIssued, ShowsDisk, changes_disk, issues_id}
 use Rattle.block_machine.specs.Histories.{JointState, IsReachable}
 use Rattle.block_machine.specs.Expected.{after}
 use Rattle.block_machine.specs.Ports.{Evidence, IsStoppedOrStuck, Ports, SamePort}
 use Rattle.block_machine.specs.State.{Machine, Pending}
-use Rattle.block_machine.specs.Steps.{Step, Again, Answer}
+use Rattle.block_machine.specs.Steps.{Step, WaitAgain, Answer}
 use Rattle.host_boot.specs.TakeOver.{probe_result_of}
 use Rattle.driver_history.specs.Evidence.{ShowsChange, ShowsFailure}
 use Rattle.driver_history.specs.Histories.{FindsDone}
-use Rattle.driver_history.specs.Parts.{HasTurnIn, IsOfOtherPort, EvidenceAgreesOn}
-use Rattle.driver_history.specs.Trace.{IsAccessForPorts, ResetsLink}
+use Rattle.driver_history.specs.PortTurn.{HasTurnIn, IsOfOtherPort, EvidenceAgreesOn}
+use Rattle.driver_history.specs.AccessTrace.{IsAccessForPorts, ResetsLink}
 use Rattle.driver_history.specs.PortInvariants.{EngineRuns}
 use Rattle.server_history.specs.Prerequisites.{PrerequisiteLaws}
 use Rattle.server_history.specs.Turns.{IsPortTurn, HandlesShownErrors, SimulatesTurn, abstract_state_of}
-use Rattle.server_history.specs.Server.{ServerState, InCallInvariant, MachineRelation, SettledInvariant, ports_of, state_of}
+use Rattle.server_history.specs.ServerState.{ServerState, InCallInvariant, MachineRelation, SettledInvariant, ports_of, state_of}
 use Rattle.server_history.proofs.any_turn.TurnSteps.{others_were}
 use Rattle.server_history.proofs.whole_call.ServiceAndTick.{Plan, Uses, no_reset, turn_at}
 use Rattle.server_history.proofs.whole_call.Progress as progress
@@ -42,7 +42,7 @@ use Rattle.server_history.proofs.any_turn.JoinedParts.{dead_or_not}
 
 module _ (plan : Plan) (laws : PrerequisiteLaws) (s : ServerState) (start : SettledInvariant s) (old : AbstractState) (reached : IsReachable old.machine) (at : MachineRelation s old.machine) (ports_are : old.ports ≡ ports_of s) where
   abbrev kept : InCallInvariant s
-  kept = start.kept
+  kept = start.in_call_invariant
 
   abbrev began : JointState Device
   began = record { device = s.device; abstract = old }
@@ -61,7 +61,7 @@ module _ (plan : Plan) (laws : PrerequisiteLaws) (s : ServerState) (start : Sett
     m = after old.machine p.steps
 
     abbrev x : SimulatesTurn (turn_at plan (probe_result_of s.ports n) n) (port_at n) its part.accesses c mid m
-    x = part.makes m m_reached p.stands
+    x = part.simulates_turn m m_reached p.machine_relation
 
     abbrev all : List Step
     all = x.steps ++ p.steps
@@ -84,19 +84,19 @@ module _ (plan : Plan) (laws : PrerequisiteLaws) (s : ServerState) (start : Sett
         later = part.accesses;
         start = s.device;
         end = c.device;
-        first = refl;
-        then = p.does;
-        last = part.does;
-        others = All-nil (IsOfOtherPort q);
-        others_later = All-weaker (SparesOtherPorts (port_at n)) (IsOfOtherPort q) (λ access of. (port_at n, other, of)) part.accesses part.of;
+        leads_to_start = refl;
+        turn_leads_to_end = p.turn_is_taken;
+        leads_to_new = part.accesses_are_done;
+        earlier_are_of_others = All-nil (IsOfOtherPort q);
+        later_are_of_others = All-weaker (SparesOtherPorts (port_at n)) (IsOfOtherPort q) (λ access of. (port_at n, other, of)) part.accesses part.accesses_are_of_port;
       }
 
       -- the turn answers nobody of it, and lets nobody of it wait again
       pub not_late : (e : Pending) (o : Outcome) → Contains x.steps (Answer e o) → e.request.port ≢ q
-      not_late e o late own = apart (sym own ∙ answered_of (λ r. r ≡ port_at n) x.steps x.own e o late)
+      not_late e o late own = apart (sym own ∙ answered_of (λ r. r ≡ port_at n) x.steps x.steps_are_of_turn e o late)
 
-      pub not_again : (e : Pending) → Contains x.steps (Again e) → e.request.port ≢ q
-      not_again e late own = apart (sym own ∙ again_of (λ r. r ≡ port_at n) x.steps x.own e late)
+      pub not_again : (e : Pending) → Contains x.steps (WaitAgain e) → e.request.port ≢ q
+      not_again e late own = apart (sym own ∙ again_of (λ r. r ≡ port_at n) x.steps x.steps_are_of_turn e late)
 
       -- what was found done on it was so still
       pub finds_more : FindsDone q p.accesses began p.steps → FindsDone q accesses began all
@@ -106,9 +106,9 @@ module _ (plan : Plan) (laws : PrerequisiteLaws) (s : ServerState) (start : Sett
         reads = record {
           before = f.reads.before;
           later = f.reads.later ++ part.accesses;
-          here = ap (λ (list : List Access). list ++ part.accesses) f.reads.here
+          accesses_are_split = ap (λ (list : List Access). list ++ part.accesses) f.reads.accesses_are_split
               ∙ append_assoc f.reads.before (Reading (Px q Ci) f.ci ∷ Reading (Px q Sact) f.sact ∷ f.reads.later) part.accesses;
-          running = f.reads.running;
+          cmd_is_unwritten_before = f.reads.cmd_is_unwritten_before;
         };
         exact = λ e slot own says.
             let y = f.exact e slot own says in (
@@ -133,9 +133,9 @@ module _ (plan : Plan) (laws : PrerequisiteLaws) (s : ServerState) (start : Sett
 
       pub anew_still : NoneStaysIssued p.steps m q → NoneStaysIssued all (after old.machine all) q
       anew_still none e here own issued =
-          let b = others_were laws (port_at n) m m_reached x.steps x.own x.may e (in_turn e here) (λ is. apart (sym own ∙ is)) in
+          let b = others_were laws (port_at n) m m_reached x.steps x.steps_are_of_turn x.steps_are_enabled e (in_turn e here) (λ is. apart (sym own ∙ is)) in
           issued_early e.request.id x.steps p.steps
-          (subst (λ r. list_any (issues_it r.id) p.steps ≡ true) (sym b.2.request)
+          (subst (λ r. list_any (issues_id r.id) p.steps ≡ true) (sym b.2.request)
           (none b.0 b.1 (ap (λ r. r.port) (sym b.2.request) ∙ own) (sym b.2.issued ∙ issued)))
 
       pub changed_whole : list_any (changes_disk q) p.steps ≡ true → list_any (changes_disk q) all ≡ true
@@ -157,19 +157,19 @@ module _ (plan : Plan) (laws : PrerequisiteLaws) (s : ServerState) (start : Sett
       module _ (d : IsDone c p.accesses p.steps p.evidence q) where
         -- one that is left ready so far runs
         runs_so_far : state_of (probe_result_of c.ports q.0) ≡ ReadyState → EngineRuns q.0 c.device
-        runs_so_far ready_c = (p.settled.kept.behind q.0 (ready_found c q.0 p.settled.kept ready_c).0).runs ready_c
+        runs_so_far ready_c = (p.settled_invariant.in_call_invariant.port_invariant q.0 (ready_found c q.0 p.settled_invariant.in_call_invariant ready_c).0).engine_runs ready_c
 
         -- where it was stopped so far and left ready, ST was set since the call began
         set_since : state_of (probe_result_of c.ports q.0) ≡ ReadyState → IsStoppedOrStuck p.evidence q → length s.device.tape ≤ (c.device.port q.0).notes.st_set_at
         set_since ready_c i = ⊎_elim
             (λ stopped. ⊎_elim
-            (λ stops. laws.calls.set_since q p.accesses s.device c.device kept.on
-            (All-weaker (IsAccessForPorts (Uses plan old.ports)) (DoesNotWrite Ghc) (λ access serving. serving.1) p.accesses p.serving) p.does stops (runs_so_far ready_c).st)
+            (λ stops. laws.calls.set_since q p.accesses s.device c.device kept.adapter_is_on
+            (All-weaker (IsAccessForPorts (Uses plan old.ports)) (DoesNotWrite Ghc) (λ access serving. serving.1) p.accesses p.serving) p.turn_is_taken stops (runs_so_far ready_c).st)
             (λ (reset : _ × _). absurd (no_reset plan [] reset.0))
             (d.evidenced.stopped_only stopped))
             (λ stuck. ⊎_elim
             (λ (dead : old.ports.state q ≡ Dead). let z : ReadyState ≡ Dead = sym ready_c ∙ (d.becomes.0 dead).1 ∙ dead in absurd cc)
-            (λ (lives : old.ports.state q ≢ Dead). let z : ReadyState ≡ Dead = sym ready_c ∙ (d.becomes.1 lives).0.stuck.1 stuck in absurd cc)
+            (λ (lives : old.ports.state q ≢ Dead). let z : ReadyState ≡ Dead = sym ready_c ∙ (d.becomes.1 lives).0.dead_is_stuck.1 stuck in absurd cc)
             (dead_or_not (old.ports.state q)))
             i
 
@@ -181,8 +181,8 @@ module _ (plan : Plan) (laws : PrerequisiteLaws) (s : ServerState) (start : Sett
             → (state_of (probe_result_of c.ports q.0) ≡ ReadyState → ((s.device.port q.0).link_due ≡ false) ⊎ ResetsLink q p.accesses)
             → HandlesShownErrors q p.accesses began p.evidence (ports_of c) c.device → HandlesShownErrors q accesses began evidence (ports_of mid) mid.device
         trouble_still evidence alike same stops_troubled linked did = record {
-          port_error = laws.calls.call_trouble q began old (ports_of c) (ports_of mid) mid.device p.evidence evidence kept.on t p.on same alike same_self set_since stops_troubled did.port_error;
-          well = laws.calls.call_well q began old (ports_of c) (ports_of mid) mid.device p.evidence evidence kept.on t p.on linked same alike (λ ready_c. (runs_so_far ready_c).recorded.known) did.well;
+          loses_no_error = laws.calls.call_trouble q began old (ports_of c) (ports_of mid) mid.device p.evidence evidence kept.adapter_is_on t p.adapter_is_on same alike same_self set_since stops_troubled did.loses_no_error;
+          runs_well_anew = laws.calls.call_well q began old (ports_of c) (ports_of mid) mid.device p.evidence evidence kept.adapter_is_on t p.adapter_is_on linked same alike (λ ready_c. (runs_so_far ready_c).faults_are_recorded.st_set_is_on_tape) did.runs_well_anew;
         }
 
         -- a ready port
@@ -191,4 +191,4 @@ module _ (plan : Plan) (laws : PrerequisiteLaws) (s : ServerState) (start : Sett
           ready = sym (ap (λ (ports : Ports). ports.state q) ports_are) ∙ was_ready
 
           pub undue : (s.device.port q.0).link_due ≡ false
-          undue = ((kept.behind q.0 (ready_found s q.0 kept ready).0).runs ready).recorded.linked
+          undue = ((kept.port_invariant q.0 (ready_found s q.0 kept ready).0).engine_runs ready).faults_are_recorded.no_link_is_due

@@ -22,17 +22,17 @@ use Rattle.block_machine.specs.Histories.{JointState, IsReachable}
 use Rattle.block_machine.specs.Expected.{after}
 use Rattle.block_machine.specs.Ports.{Evidence, RequestFault, IsStoppedOrStuck, IsServiced, Ports, SameDisk, SamePort}
 use Rattle.block_machine.specs.State.{Pending}
-use Rattle.block_machine.specs.Steps.{Step, Again, Answer}
+use Rattle.block_machine.specs.Steps.{Step, WaitAgain, Answer}
 use Rattle.host_boot.specs.TakeOver.{probe_result_of}
 use Rattle.driver_history.specs.Evidence.{IsEvidencedOf, IsFaultTold}
 use Rattle.driver_history.specs.Histories.{FindsDone, HasUnservedDisk, IssuesDue, PortCorresponds}
 use Rattle.driver_history.specs.PortInvariants.{HasNoUnanswered}
-use Rattle.driver_history.specs.Parts.{EndsNoLinkDue, IsOfOtherPort}
-use Rattle.driver_history.specs.Trace.{IsAccessForPorts, LeavesEngine, ResetsLink}
+use Rattle.driver_history.specs.PortTurn.{EndsNoLinkDue, IsOfOtherPort}
+use Rattle.driver_history.specs.AccessTrace.{IsAccessForPorts, LeavesEngine, ResetsLink}
 use Rattle.server_history.specs.Prerequisites.{PrerequisiteLaws}
-use Rattle.server_history.specs.Turns.{HandlesShownErrors, InService, IsStepOf, abstract_state_of, happening_of_turn}
+use Rattle.server_history.specs.Turns.{HandlesShownErrors, InService, IsStepOf, abstract_state_of, joint_event_of_turn}
 use Rattle.server_history.proofs.whole_call.ServiceAndTick.{AService, ATick, OwesBy, Plan, TakesTurn, Uses, asks_for, owes_nothing, ready_takes}
-use Rattle.server_history.specs.Server.{ServerState, InCallInvariant, MachineRelation, SettledInvariant, mode_at, mode_in, ports_of, remembered_at, slots_at, state_of}
+use Rattle.server_history.specs.ServerState.{ServerState, InCallInvariant, MachineRelation, SettledInvariant, mode_at, mode_in, ports_of, remembered_at, slots_at, state_of}
 use Rattle.server_history.proofs.state.DueRequests.{none_issued}
 use Rattle.server_history.proofs.state.CallEvidence.{no_evidence}
 use Rattle.server_history.proofs.any_turn.TurnsInOrder.{AreTurns, again_of, all_of_ports, answered_of, no_turns, turns_more}
@@ -59,7 +59,7 @@ pub record HasRested (old : AbstractState) (port : Port) (accesses : List Access
   pub others : All (IsOfOtherPort port) accesses
   pub same : SamePort old.ports (ports_of c) port
   pub uninterrupted : IsStoppedOrStuck evidence port → ⊥
-  pub again : (e : Pending) → Contains steps (Again e) → e.request.port ≢ port
+  pub again : (e : Pending) → Contains steps (WaitAgain e) → e.request.port ≢ port
   pub answer : (e : Pending) (o : Outcome) → Contains steps (Answer e o) → e.request.port ≢ port
 
 -- A tick has restarted the port, or let it rest.
@@ -69,7 +69,7 @@ pub record HasTicked (hung : ℕ → Bool) (s : ServerState) (old : AbstractStat
 
 abbrev pub TiesSoFar : Plan → ServerState → AbstractState → Port → List Access → ServerState → Evidence → List Step → Type 0
 TiesSoFar AService s old port accesses c evidence steps =
-    PortCorresponds (record { device = s.device; abstract = old }) (happening_of_turn InService [] c evidence steps) accesses port × EndsNoLinkDue port (record { device = s.device; abstract = old }) (ports_of c) c.device
+    PortCorresponds (record { device = s.device; abstract = old }) (joint_event_of_turn InService [] c evidence steps) accesses port × EndsNoLinkDue port (record { device = s.device; abstract = old }) (ports_of c) c.device
 TiesSoFar (ATick hung) s old port accesses c evidence steps = HasTicked hung s old port accesses c evidence steps
 
 -- nothing is done of a port that had no turn
@@ -77,24 +77,24 @@ rested_ties : (plan : Plan) (s : ServerState) (old : AbstractState) (port : Port
     → TiesSoFar plan s old port accesses c evidence steps
 rested_ties AService s old port accesses c evidence steps ports_are not rests = (
   record {
-    finds = λ ready. absurd (unready ready);
-    faults = λ alone. absurd (unready alone.ready);
-    probes = λ served comes. record {
+    finds_done = λ ready. absurd (unready ready);
+    plain_faults_are_told = λ alone. absurd (unready alone.ready);
+    probes_disk = λ served comes. record {
       shown = λ absent. absurd (not (sym (ap (λ (ports : Ports). ports.served port) ports_are) ∙ served, λ dead. let z : Absent ≡ Dead = sym absent ∙ state_was ∙ dead in cc));
       absent = λ absent. absurd (not (sym (ap (λ (ports : Ports). ports.served port) ports_are) ∙ served, λ dead. let z : Absent ≡ Dead = sym absent ∙ state_was ∙ dead in cc));
       missing = λ bad. absurd (no_bad bad);
       changed = λ bad. absurd (no_bad bad);
     };
-    boots = (λ ready. absurd (unready ready), inl rests.same);
-    port_error = record {
+    boots_anew = (λ ready. absurd (unready ready), inl rests.same);
+    loses_no_error = record {
       errors = λ ready. absurd (unready ready);
       changes = λ tends. absurd (not (sym (ap (λ (ports : Ports). ports.served port) ports_are) ∙ tends.0, λ dead. tends.1 (state_was ∙ dead)));
       fault = λ ready. absurd (unready (sym rests.same.1 ∙ ready));
       fatal = λ ready. absurd (unready (sym rests.same.1 ∙ ready));
       disk = λ ready. absurd (unready (sym rests.same.1 ∙ ready));
     };
-    well = λ i. absurd (rests.uninterrupted i);
-    heeds = λ ready. absurd (unready ready);
+    runs_well_anew = λ i. absurd (rests.uninterrupted i);
+    handles_evidence = λ ready. absurd (unready ready);
   },
   λ bad. absurd (no_bad bad),
 )
@@ -116,7 +116,7 @@ rested_ties (ATick hung) s old port accesses c evidence steps ports_are not rest
 
 module _ (plan : Plan) (laws : PrerequisiteLaws) (s : ServerState) (start : SettledInvariant s) (old : AbstractState) (reached : IsReachable old.machine) (at : MachineRelation s old.machine) (ports_are : old.ports ≡ ports_of s) where
   abbrev pub kept : InCallInvariant s
-  kept = start.kept
+  kept = start.in_call_invariant
 
   abbrev pub began : JointState Device
   began = record { device = s.device; abstract = old }
@@ -147,16 +147,16 @@ module _ (plan : Plan) (laws : PrerequisiteLaws) (s : ServerState) (start : Sett
 
   -- Ports below this number had their turns, which led to this server with these replies.
   pub record Progress (n : ℕ) (c : ServerState) (replies : List Reply) : Type 0 where
-    pub settled : SettledInvariant c
+    pub settled_invariant : SettledInvariant c
     pub wanted : c.wanted ≡ s.wanted
-    pub on : IsOn c.device
+    pub adapter_is_on : IsOn c.device
     pub accesses : List Access
-    pub does : DoesAll accesses s.device c.device
+    pub turn_is_taken : DoesAll accesses s.device c.device
     pub serving : All (IsAccessForPorts (Uses plan old.ports)) accesses
     pub others : (q : Port) → (HadTurn n q → ⊥) → All (IsOfOtherPort q) accesses
     pub steps : List Step
     pub turns : AreTurns old n steps
-    pub stands : MachineRelation c (after old.machine steps)
+    pub machine_relation : MachineRelation c (after old.machine steps)
     pub backed : IsBacked s.device c.device old.machine steps
     pub belong : AreStepsOfCall (asks_for plan) (ports_of c) steps
     pub evidence : Evidence
@@ -167,7 +167,7 @@ module _ (plan : Plan) (laws : PrerequisiteLaws) (s : ServerState) (start : Sett
     pub unplugs : AnswersAllUnplugged steps (after old.machine steps)
     pub answers : List (Pending × Outcome)
     pub permuted : IsPermutation answers (answers_of steps)
-    pub ordered : AllPairs IsToldBefore answers
+    pub book_is_in_order : AllPairs IsToldBefore answers
     pub low : All (λ a. a.0.request.port.0 < n) answers
     pub told : replies ≡ map reply_of answers
     pub faults : (told : RequestFault) → Contains evidence.faults told → HasTold n c accesses told
@@ -181,16 +181,16 @@ module _ (plan : Plan) (laws : PrerequisiteLaws) (s : ServerState) (start : Sett
 
   pub begun : Progress 0 s []
   begun = record {
-    settled = start;
+    settled_invariant = start;
     wanted = refl;
-    on = kept.on;
+    adapter_is_on = kept.adapter_is_on;
     accesses = [];
-    does = refl;
+    turn_is_taken = refl;
     serving = All-nil (IsAccessForPorts (Uses plan old.ports));
     others = λ q none. All-nil (IsOfOtherPort q);
     steps = [];
     turns = no_turns laws old reached;
-    stands = at;
+    machine_relation = at;
     backed = laws.backed_none s.device old.machine;
     belong = tt;
     evidence = no_evidence;
@@ -205,15 +205,15 @@ module _ (plan : Plan) (laws : PrerequisiteLaws) (s : ServerState) (start : Sett
     lost = All-nil (λ q. state_at q.0 ≡ ReadyState);
     lawful = tt;
     owes = owes_nothing plan;
-    unplugs = record { emptied = λ e other here there. absurd (nowhere (Answer e Unplugged) here); alike = λ e other here there. absurd (nowhere (Answer e Unplugged) here) };
+    unplugs = record { none_is_left = λ e other here there. absurd (nowhere (Answer e Unplugged) here); none_is_told_dead = λ e other here there. absurd (nowhere (Answer e Unplugged) here) };
     answers = [];
     permuted = IsPermutation-refl [];
-    ordered = λ i j d lt below. absurd (omega (arith, lt, below));
+    book_is_in_order = λ i j d lt below. absurd (omega (arith, lt, below));
     low = All-nil (λ a. a.0.request.port.0 < 0);
     told = refl;
     faults = λ told here. absurd (nowhere told here);
     done = λ q lt. absurd (omega (arith, lt));
-    due = λ q is_ready. none_issued s old.machine at [] (λ id. refl) (mode_in s q) q (start.issued q);
+    due = λ q is_ready. none_issued s old.machine at [] (λ id. refl) (mode_in s q) q (start.nothing_is_due q);
     of = All-nil (IsStepOf (HadTurn 0));
     found = λ q none. refl;
     remembered = λ q none. refl;
@@ -222,11 +222,11 @@ module _ (plan : Plan) (laws : PrerequisiteLaws) (s : ServerState) (start : Sett
   }
 
   -- the evidence doesn't name a port that had no turn
-  pub unnamed : (n : ℕ) (q : Port) → (HadTurn n q → ⊥) → (evidence : Evidence) → NamesSome (HadTurn n) evidence → (Contains evidence.lost q → ⊥) × (Contains evidence.gone q → ⊥) × (Contains evidence.failed q → ⊥)
+  pub unnamed : (n : ℕ) (q : Port) → (HadTurn n q → ⊥) → (evidence : Evidence) → NamesSome (HadTurn n) evidence → (Contains evidence.lost q → ⊥) × (Contains evidence.link_changed q → ⊥) × (Contains evidence.failed q → ⊥)
       × (Contains evidence.fatal q → ⊥) × (Contains evidence.stopped q → ⊥) × (Contains evidence.stuck q → ⊥)
   unnamed n q none evidence names = (
     (λ here. none (All-contains (HadTurn n) evidence.lost q names.lost here)),
-    (λ here. none (All-contains (HadTurn n) evidence.gone q names.gone here)),
+    (λ here. none (All-contains (HadTurn n) evidence.link_changed q names.gone here)),
     (λ here. none (All-contains (HadTurn n) evidence.failed q names.failed here)),
     (λ here. none (All-contains (HadTurn n) evidence.fatal q names.fatal here)),
     (λ here. none (All-contains (HadTurn n) evidence.stopped q names.stopped here)),
@@ -243,8 +243,8 @@ module _ (plan : Plan) (laws : PrerequisiteLaws) (s : ServerState) (start : Sett
       let was_ready : old.ports.state q ≡ ReadyState → ⊥ = λ is. not (ready_takes plan (probe_result_of s.ports q.0) (sym (ap (λ (ports : Ports). ports.state q) ports_are) ∙ is)) in
       record {
         lost = λ here. absurd (not (All-contains Takes evidence.lost q names.lost here));
-        gone_all = λ is. absurd (was_ready is);
-        gone_only = λ here. absurd (not (All-contains Takes evidence.gone q names.gone here));
+        link_changed_all = λ is. absurd (was_ready is);
+        link_changed_only = λ here. absurd (not (All-contains Takes evidence.link_changed q names.gone here));
         failed_all = λ is. absurd (was_ready is);
         failed_only = λ here. absurd (not (All-contains Takes evidence.failed q names.failed here));
         fatal_all = λ is. absurd (was_ready is);
@@ -265,9 +265,9 @@ module _ (plan : Plan) (laws : PrerequisiteLaws) (s : ServerState) (start : Sett
           λ dead. same,
           λ lives. (
             record {
-              served = same.0;
-              stuck = (λ dead. absurd (lives (sym same.1 ∙ dead)), λ named. absurd (un.5 named));
-              keeps = λ x. (same.2, same.3);
+              served_is_kept = same.0;
+              dead_is_stuck = (λ dead. absurd (lives (sym same.1 ∙ dead)), λ named. absurd (un.5 named));
+              disk_is_kept = λ x. (same.2, same.3);
             },
             inl same,
           ),
@@ -287,16 +287,16 @@ module _ (plan : Plan) (laws : PrerequisiteLaws) (s : ServerState) (start : Sett
   -- a port is passed over that has no turn
   pub skipped : (n : ℕ) (c : ServerState) (replies : List Reply) → (TakesTurn plan (probe_result_of s.ports n) → ⊥) → Progress n c replies → Progress (n + 1) c replies
   skipped n c replies other p = record {
-    settled = p.settled;
+    settled_invariant = p.settled_invariant;
     wanted = p.wanted;
-    on = p.on;
+    adapter_is_on = p.adapter_is_on;
     accesses = p.accesses;
-    does = p.does;
+    turn_is_taken = p.turn_is_taken;
     serving = p.serving;
     others = λ q none. p.others q (λ served. let small = served.0 in none (omega (arith, small), served.1));
     steps = p.steps;
     turns = turns_more laws old reached n (n + 1) p.steps (omega arith) p.turns;
-    stands = p.stands;
+    machine_relation = p.machine_relation;
     backed = p.backed;
     belong = p.belong;
     evidence = p.evidence;
@@ -307,7 +307,7 @@ module _ (plan : Plan) (laws : PrerequisiteLaws) (s : ServerState) (start : Sett
     unplugs = p.unplugs;
     answers = p.answers;
     permuted = p.permuted;
-    ordered = p.ordered;
+    book_is_in_order = p.book_is_in_order;
     low = λ i d small. let lt = p.low i d small in omega (arith, lt);
     told = p.told;
     faults = λ told here. let t = p.faults told here in record { its = t.its; served = let small = t.served.0 in (omega (arith, small), t.served.1); lives = t.lives };

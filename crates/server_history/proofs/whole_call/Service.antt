@@ -10,7 +10,7 @@ use Rattle.ata_types.specs.declared.request.Reply.{Reply}
 use Rattle.adapter.specs.Device.{Device}
 use Rattle.adapter.specs.declared.access.DeviceStep.{DeviceStep}
 use Rattle.block_machine.specs.Events.{AnswersService, UnansweredKeepDisk, AbstractState, Served, Service}
-use Rattle.block_machine.specs.Histories.{JointState, JointEvent, IsReachable, now}
+use Rattle.block_machine.specs.Histories.{JointState, JointEvent, IsReachable, joint_state_after}
 use Rattle.block_machine.specs.Expected.{after}
 use Rattle.block_machine.specs.Ports.{Ports}
 use Rattle.block_machine.specs.State.{Pending}
@@ -20,12 +20,12 @@ use Rattle.host_boot.specs.declared.ProbeResult.TheVariants.{Unready}
 use Rattle.driver_history.specs.Histories.{PortCorresponds}
 use Rattle.server_history.proofs.any_turn.JoinedParts.{dead_or_not}
 use Rattle.driver_history.specs.Evidence.{IsEvidenced}
-use Rattle.request_queue.specs.Machine.{EntryRelation}
+use Rattle.request_queue.specs.BookRelation.{EntryRelation}
 use Rattle.server_history.specs.Histories.{ExtendsSettled, LeadsToServer}
 use Rattle.server_history.specs.Prerequisites.{PrerequisiteLaws}
-use Rattle.server_history.specs.Turns.{IsPortTurn, ServePorts, ServesPort, ProbesUnready}
+use Rattle.server_history.specs.Turns.{IsPortTurn, ServicePorts, ServicesPort, ProbesUnready}
 use Rattle.server_history.specs.Probing.{IsLookedAt}
-use Rattle.server_history.specs.Server.{ServerState, InCallInvariant, MachineRelation, SettledInvariant, mode_in, ports_of, state_of}
+use Rattle.server_history.specs.ServerState.{ServerState, InCallInvariant, MachineRelation, SettledInvariant, mode_in, ports_of, state_of}
 use Rattle.server_history.proofs.state.DueRequests.{none_due}
 use Rattle.server_history.proofs.start.NewServer.{kept_fit}
 use Rattle.server_history.proofs.state.HistorySteps.{holding, happening_with, lead_with, with_device}
@@ -35,12 +35,12 @@ use Rattle.server_history.proofs.whole_call.ServiceAndTick.{AService, TakesTurn,
 use Rattle.server_history.proofs.whole_call.Progress.{IsDone, Progress, answered_was, begun, idle_done}
 use Rattle.server_history.proofs.whole_call.AllTurns.{Whole, go, turns_kept}
 
-module _ (laws : PrerequisiteLaws) (s new : ServerState) (replies : List Reply) (start : SettledInvariant s) (serves : ServePorts 0 s.ports replies s new) (first : JointState Device) (past : List (JointEvent Device DeviceStep)) (leads : LeadsToServer first past s) where
+module _ (laws : PrerequisiteLaws) (s new : ServerState) (replies : List Reply) (start : SettledInvariant s) (serves : ServicePorts 0 s.ports replies s new) (first : JointState Device) (past : List (JointEvent Device DeviceStep)) (leads : LeadsToServer first past s) where
   abbrev old : AbstractState
-  old = (now first past).abstract
+  old = (joint_state_after first past).abstract
 
   at : MachineRelation s old.machine
-  at = leads.stands.machine
+  at = leads.stands.machine_stands_for_it
 
   same : old.ports ≡ ports_of s
   same = leads.stands.ports_are
@@ -48,40 +48,40 @@ module _ (laws : PrerequisiteLaws) (s new : ServerState) (replies : List Reply) 
   reached : IsReachable old.machine
   reached = laws.basic.history_reached s.wanted first past leads.history
 
-  ready_part : (n : ℕ) (c mid : ServerState) (before its : List Reply) → state_of (probe_result_of s.ports n) ≡ ReadyState → Progress AService laws s start old reached at same n c before → ServesPort (port_at n) its c mid
+  ready_part : (n : ℕ) (c mid : ServerState) (before its : List Reply) → state_of (probe_result_of s.ports n) ≡ ReadyState → Progress AService laws s start old reached at same n c before → ServicesPort (port_at n) its c mid
       → IsPortTurn (turn_at AService (probe_result_of s.ports n) n) (port_at n) its c mid
-  ready_part n c mid before its is_ready_n p serves = subst (λ (found : ProbeResult). IsPortTurn (turn_at AService found n) (port_at n) its c mid) (sym (ready_found s n start.kept is_ready_n).1.1) serves.part
+  ready_part n c mid before its is_ready_n p serves = subst (λ (found : ProbeResult). IsPortTurn (turn_at AService found n) (port_at n) its c mid) (sym (ready_found s n start.in_call_invariant is_ready_n).1.1) serves.is_port_turn
 
   -- a dead port is passed over
   other_part : (n : ℕ) (c mid : ServerState) (before : List Reply) (state : PortState) → probe_result_of s.ports n ≡ Unready state → Progress AService laws s start old reached at same n c before → ProbesUnready (port_at n) c mid
       → ((TakesTurn AService (probe_result_of s.ports n) → ⊥) × (mid ≡ c)) ⊎ (TakesTurn AService (probe_result_of s.ports n) × IsPortTurn (turn_at AService (probe_result_of s.ports n) n) (port_at n) [] c mid)
   other_part n c mid before state is p probes = ⊎_elim
       (λ (dead : state ≡ Dead).
-      let its_state : probes.does.state ≡ Dead =
-      let found : Unready probes.does.state ≡ Unready state = sym probes.does.is ∙ p.found (port_at n) (λ served. let lt = served.0 in omega (arith, lt)) ∙ is in
-      (let one : probes.does.state ≡ state = cc in one) ∙ dead in
-      let looks = subst (λ (of : PortState). IsLookedAt of (port_at n) probes.does.result c.device probes.does.seen) its_state probes.does.looks in
+      let its_state : probes.does_turn.state ≡ Dead =
+      let found : Unready probes.does_turn.state ≡ Unready state = sym probes.does_turn.unready_state_is ∙ p.found (port_at n) (λ served. let lt = served.0 in omega (arith, lt)) ∙ is in
+      (let one : probes.does_turn.state ≡ state = cc in one) ∙ dead in
+      let looks = subst (λ (of : PortState). IsLookedAt of (port_at n) probes.does_turn.result c.device probes.does_turn.seen) its_state probes.does_turn.is_looked_at in
       inl (
         λ takes. takes.1 (ap state_of is ∙ dead),
-        probes.does.left looks.0 ∙ ap (λ (d : Device). record c { device = d }) looks.1,
+        probes.does_turn.left looks.0 ∙ ap (λ (d : Device). record c { device = d }) looks.1,
       ))
       (λ (lives : state ≢ Dead). inr (
         subst (TakesTurn AService) (sym is) (refl, lives),
-        subst (λ (found : ProbeResult). IsPortTurn (turn_at AService found n) (port_at n) [] c mid) (sym is) probes.part,
+        subst (λ (found : ProbeResult). IsPortTurn (turn_at AService found n) (port_at n) [] c mid) (sym is) probes.is_port_turn,
       ))
       (dead_or_not state)
 
   ends : Whole AService laws s start old reached at same new replies
-  ends = go AService laws s start old reached at same ServesPort ProbesUnready ready_part other_part s.ports 0 (λ i. ap (λ (k : ℕ). probe_result_of s.ports k) (omega arith)) s new [] replies (begun AService laws s start old reached at same) serves
+  ends = go AService laws s start old reached at same ServicesPort ProbesUnready ready_part other_part s.ports 0 (λ i. ap (λ (k : ℕ). probe_result_of s.ports k) (omega arith)) s new [] replies (begun AService laws s start old reached at same) serves
 
   p : Progress AService laws s start old reached at same ends.count new replies
   p = ends.progress
 
   abbrev holds : InCallInvariant new
-  holds = p.settled.kept
+  holds = p.settled_invariant.in_call_invariant
 
   abbrev began : JointState Device
-  began = with_device s.device (now first past)
+  began = with_device s.device (joint_state_after first past)
 
   abbrev end : AbstractState
   end = record { machine = after old.machine p.steps; ports = ports_of new }
@@ -93,24 +93,24 @@ module _ (laws : PrerequisiteLaws) (s new : ServerState) (replies : List Reply) 
   done : (port : Port) → IsDone AService laws s start old reached at same new p.accesses p.steps p.evidence port
   done port = ⊎_elim
       (λ less. p.done port less)
-      (λ most. idle_done AService laws s start old reached at same ends.count new replies p port (ends.past port.0 most))
+      (λ most. idle_done AService laws s start old reached at same ends.count new replies p port (ends.steps_since port.0 most))
       (cases_lt port.0 ends.count)
 
   none_waits : (port : Port) → state_of (probe_result_of new.ports port.0) ≢ ReadyState → (e : Pending) → Contains (after old.machine p.steps).book e → e.request.port ≢ port
   none_waits port other e here own =
-      let a = at_right EntryRelation new.book (after old.machine p.steps).book p.stands.book e here in
+      let a = at_right EntryRelation new.book (after old.machine p.steps).book p.machine_relation.book e here in
       other (ap (λ (q : Port). state_of (probe_result_of new.ports q.0)) (sym own ∙ a.2.port) ∙ of_ready new holds a.0 a.1)
 
   all_answered : AnswersService old p.evidence p.steps replies end
   all_answered = record {
-    tells = record { answers = p.answers; same = p.permuted; ordered = p.ordered; told = p.told };
-    dead = λ e o h dead. absurd ((answered_was AService laws s start old reached at same ends.count new replies p e o h).1 (sym (is_ready e.request.port) ∙ dead));
-    unplugs = p.unplugs;
-    issues = λ port ready. none_due new (after old.machine p.steps) p.stands (mode_in new port) port (p.settled.issued port);
-    emptied = none_waits;
-    ended = λ port ready. ((done port).ties.0.heeds ready).ended;
-    becomes = λ port. (done port).becomes;
-    disk = λ port. (done port).disk;
+    replies_match = record { answers = p.answers; is_permutation = p.permuted; ordered = p.book_is_in_order; replies_are = p.told };
+    tells_dead = λ e o h dead. absurd ((answered_was AService laws s start old reached at same ends.count new replies p e o h).1 (sym (is_ready e.request.port) ∙ dead));
+    answers_all_unplugged = p.unplugs;
+    none_is_due = λ port ready. none_due new (after old.machine p.steps) p.machine_relation (mode_in new port) port (p.settled_invariant.nothing_is_due port);
+    empty_unless_ready = none_waits;
+    answers_ended = λ port ready. ((done port).ties.0.handles_evidence ready).answers_ended;
+    port_is_serviced = λ port. (done port).becomes;
+    shown_disk_was_in_or_came = λ port. (done port).disk;
   }
 
   keeps : UnansweredKeepDisk old end
@@ -123,8 +123,8 @@ module _ (laws : PrerequisiteLaws) (s new : ServerState) (replies : List Reply) 
         let v = (done port).evidenced in
         record {
           lost = v.lost;
-          gone_all = v.gone_all;
-          gone_only = v.gone_only;
+          link_changed_all = v.link_changed_all;
+          link_changed_only = v.link_changed_only;
           failed_all = v.failed_all;
           failed_only = v.failed_only;
           fatal_all = v.fatal_all;
@@ -139,18 +139,18 @@ module _ (laws : PrerequisiteLaws) (s new : ServerState) (replies : List Reply) 
   port_part : (port : Port) → PortCorresponds began (happening_with p.evidence new.device Service (Served replies) p.steps (ports_of new)) p.accesses port
   port_part port =
       let did = (done port).ties.0 in
-      record { finds = did.finds; faults = did.faults; probes = did.probes; boots = did.boots; port_error = did.port_error; well = did.well; heeds = did.heeds }
+      record { finds_done = did.finds_done; plain_faults_are_told = did.plain_faults_are_told; probes_disk = did.probes_disk; boots_anew = did.boots_anew; loses_no_error = did.loses_no_error; runs_well_anew = did.runs_well_anew; handles_evidence = did.handles_evidence }
 
   pub service_event : (h : JointEvent Device DeviceStep) × (h.event.ask ≡ Service) × (h.event.said ≡ Served replies) × LeadsToServer first (h ∷ past) new
   service_event =
       lead_with laws first past s new Service (Served replies) p.evidence p.steps p.wanted leads (holding new holds) (kept_fit new holds)
       p.turns.may p.belong p.turns.last p.lawful keeps all_answered p.owes
       p.accesses
-      (p.does, p.serving)
+      (p.turn_is_taken, p.serving)
       evidenced
       (λ port ready. p.due port ready)
       port_part
-      p.backed p.stands
+      p.backed p.machine_relation
 
-pub law_services_extend_history : PrerequisiteLaws → (s new : ServerState) (replies : List Reply) → SettledInvariant s → ServePorts 0 s.ports replies s new → ExtendsSettled s new Service (Served replies)
-law_services_extend_history laws s new replies start serves = record { settled = turns_kept ServesPort ProbesUnready s.ports 0 s new replies start serves; adds = λ first past leads. service_event laws s new replies start serves first past leads }
+pub law_services_extend_history : PrerequisiteLaws → (s new : ServerState) (replies : List Reply) → SettledInvariant s → ServicePorts 0 s.ports replies s new → ExtendsSettled s new Service (Served replies)
+law_services_extend_history laws s new replies start serves = record { settled_invariant = turns_kept ServicesPort ProbesUnready s.ports 0 s new replies start serves; extends_history = λ first past leads. service_event laws s new replies start serves first past leads }

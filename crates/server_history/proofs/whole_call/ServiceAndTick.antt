@@ -14,14 +14,14 @@ use Rattle.block_machine.specs.Events.{AbstractCall, AreStepsOfCall, IsByServer,
 use Rattle.block_machine.specs.Histories.{JointState}
 use Rattle.block_machine.specs.Ports.{Evidence, Ports}
 use Rattle.block_machine.specs.State.{Machine, Pending}
-use Rattle.block_machine.specs.Steps.{Step, Again, Answer, Issue}
+use Rattle.block_machine.specs.Steps.{Step, WaitAgain, Answer, Issue}
 use Rattle.block_machine.specs.declared.due.QueueMode.{QueueMode}
-use Rattle.driver_history.specs.Heeding.{OnlyFailedPortsRequeue}
+use Rattle.driver_history.specs.EvidenceHandling.{OnlyFailedPortsRequeue}
 use Rattle.driver_history.specs.Evidence.{IsEndedReset, IsEvidencedOf}
 use Rattle.driver_history.specs.Histories.{IsPortAlive}
 use Rattle.host_boot.specs.declared.ProbeResult.{ProbeResult}
 use Rattle.host_boot.specs.declared.ProbeResult.TheVariants.{Ready, Unready, Unserved}
-use Rattle.server_history.specs.Server.{ServerState, is_served, state_of}
+use Rattle.server_history.specs.ServerState.{ServerState, is_served, state_of}
 use Rattle.server_history.specs.Turns.{AtRest, InRestart, InService, InProbe, IsStepOf, MeetsTurnDuty, Turn, ask_of_turn}
 use Rattle.server_history.proofs.any_turn.JoinedParts.{joined}
 use Rattle.server_history.proofs.state.CallEvidence.{no_evidence}
@@ -90,7 +90,7 @@ pub issues_on : (plan : Plan) (old new : Ports) (mode : QueueMode) (e : Pending)
 issues_on AService old new mode e state kind is = (state ∙ is.0, kind ∙ is.1)
 issues_on (ATick hung) old new mode e state kind is = (state ∙ is.0, kind ∙ is.1)
 
-pub again_on : (plan : Plan) (old new : Ports) (e : Pending) → new.state e.request.port ≡ old.state e.request.port → IsByServer (asks_for plan) old (Again e) → IsByServer (asks_for plan) new (Again e)
+pub again_on : (plan : Plan) (old new : Ports) (e : Pending) → new.state e.request.port ≡ old.state e.request.port → IsByServer (asks_for plan) old (WaitAgain e) → IsByServer (asks_for plan) new (WaitAgain e)
 again_on AService old new e state is = state ∙ is
 again_on (ATick hung) old new e state is = state ∙ is
 
@@ -108,9 +108,9 @@ belong_on plan Such old new same (Issue mode e ∷ steps) all a = (
       (λ is. let w = same e.request.port (All-head (IsStepOf Such) (Issue mode e) steps all) in inr (issues_on plan old new mode e w.0 w.1 is))
       a.1,
 )
-belong_on plan Such old new same (Again e ∷ steps) all a = (
-  belong_on plan Such old new same steps (All-tail (IsStepOf Such) (Again e) steps all) a.0,
-  ⊎_elim (λ d. absurd d) (λ is. let w = same e.request.port (All-head (IsStepOf Such) (Again e) steps all) in inr (again_on plan old new e w.0 is)) a.1,
+belong_on plan Such old new same (WaitAgain e ∷ steps) all a = (
+  belong_on plan Such old new same steps (All-tail (IsStepOf Such) (WaitAgain e) steps all) a.0,
+  ⊎_elim (λ d. absurd d) (λ is. let w = same e.request.port (All-head (IsStepOf Such) (WaitAgain e) steps all) in inr (again_on plan old new e w.0 is)) a.1,
 )
 belong_on plan Such old new same (Answer e o ∷ steps) all a = (
   belong_on plan Such old new same steps (All-tail (IsStepOf Such) (Answer e o) steps all) a.0,
@@ -123,8 +123,8 @@ pub any_said : (plan : Plan) (one other : List Reply) (made : List Access) (i : 
     → IsEvidencedOf (asks_for plan) (Served other) made i ports d e q
 any_said AService one other made i ports d e q v = record {
   lost = v.lost;
-  gone_all = v.gone_all;
-  gone_only = v.gone_only;
+  link_changed_all = v.link_changed_all;
+  link_changed_only = v.link_changed_only;
   failed_all = v.failed_all;
   failed_only = v.failed_only;
   fatal_all = v.fatal_all;
@@ -135,8 +135,8 @@ any_said AService one other made i ports d e q v = record {
 }
 any_said (ATick hung) one other made i ports d e q v = record {
   lost = v.lost;
-  gone_all = v.gone_all;
-  gone_only = v.gone_only;
+  link_changed_all = v.link_changed_all;
+  link_changed_only = v.link_changed_only;
   failed_all = v.failed_all;
   failed_only = v.failed_only;
   fatal_all = v.fatal_all;

@@ -22,29 +22,29 @@ use Rattle.adapter.specs.Device.{Device}
 use Rattle.adapter.specs.declared.access.DeviceStep.{DeviceStep}
 use Rattle.adapter.specs.declared.command.Operation.TheVariants.{ReadLog}
 use Rattle.refinement.specs.Relation.{port_at}
-use Rattle.refinement.specs.Driven.{SparesOtherPorts}
+use Rattle.refinement.specs.Fragments.{SparesOtherPorts}
 use Rattle.refinement.specs.Links.{DoesNotWrite}
 use Rattle.refinement.specs.Slots.{ServesRequest}
-use Rattle.block_machine.specs.Events.{AllAnswersLawful, AnswersEnded, AnswersTick, HasTimedOut, IssuesLast, UnansweredKeepDisk, AbstractState, NoneStaysIssued, RestartsTimedOut, Served, Tick, WasIssued, answers_of, changes_disk, is_age, issues_it}
-use Rattle.block_machine.specs.Histories.{JointEvent, JointState, IsReachable, now}
+use Rattle.block_machine.specs.Events.{AllAnswersLawful, AnswersEnded, AnswersTick, HasTimedOut, IssuesLast, UnansweredKeepDisk, AbstractState, NoneStaysIssued, RestartsTimedOut, Served, Tick, WasIssued, answers_of, changes_disk, is_age, issues_id}
+use Rattle.block_machine.specs.Histories.{JointEvent, JointState, IsReachable, joint_state_after}
 use Rattle.block_machine.specs.Expected.{after}
 use Rattle.block_machine.specs.Ports.{IsStoppedOrStuck, Ports, SamePort}
-use Rattle.block_machine.specs.Due.{of_port}
+use Rattle.block_machine.specs.DueRequests.{requests_of_port}
 use Rattle.block_machine.specs.State.{Machine, Pending, unanswered}
-use Rattle.block_machine.specs.Steps.{Step, Age, Again, Answer, after_step, older}
+use Rattle.block_machine.specs.Steps.{Step, Age, WaitAgain, Answer, after_step, aged_pending}
 use Rattle.server_history.proofs.state.ListMembers.{contains_cases, contains_here, into_map, map_in, none_of}
 use Rattle.driver_history.specs.Evidence.{IsEvidenced}
 use Rattle.driver_history.specs.Histories.{FindsDone, IssuesDue, PortCorresponds}
-use Rattle.driver_history.specs.Parts.{IsOfOtherPort}
-use Rattle.driver_history.specs.Trace.{ClearsNoError, IsDriversOwn, IsAccessForPorts, LeavesEngine}
+use Rattle.driver_history.specs.PortTurn.{IsOfOtherPort}
+use Rattle.driver_history.specs.AccessTrace.{ClearsNoError, IsDriversOwn, IsAccessForPorts, LeavesEngine}
 use Rattle.host_boot.specs.TakeOver.{probe_result_of}
 use Rattle.host_boot.specs.declared.ProbeResult.{ProbeResult}
 use Rattle.host_boot.specs.declared.ProbeResult.TheVariants.{Ready, Unready, Unserved}
-use Rattle.request_queue.specs.Entries.{BookEntry, IsOverdue}
-use Rattle.request_queue.specs.Machine.{EntryRelation}
+use Rattle.request_queue.specs.BookEntries.{BookEntry, IsOverdue}
+use Rattle.request_queue.specs.BookRelation.{EntryRelation}
 use Rattle.server_history.specs.Prerequisites.{PrerequisiteLaws}
 use Rattle.server_history.specs.Histories.{ExtendsSettled, LeadsToServer}
-use Rattle.server_history.specs.Server.{ServerState, InCallInvariant, MachineRelation, SettledInvariant, mode_in, ports_of, state_of}
+use Rattle.server_history.specs.ServerState.{ServerState, InCallInvariant, MachineRelation, SettledInvariant, mode_in, ports_of, state_of}
 use Rattle.server_history.specs.Turns.{AtRest, IsPortTurn, HandlesShownErrors, InRestart, InService, IsStepOf, Ticks, TicksPort, a_tick_older, joint_state_of, is_ready}
 use Rattle.server_history.proofs.plain_calls.OlderRequests.{older_by, older_ended, older_issued, older_request, older_settled, older_stands, serves_on}
 use Rattle.server_history.proofs.plain_calls.Acceptances.{any_in}
@@ -92,49 +92,49 @@ module _ (laws : PrerequisiteLaws) (port : Port) (low : port.0 < 4) (c : ServerS
   resting : IsPortTurn AtRest port [] c c
   resting = record {
     accesses = [];
-    does = refl;
-    of = All-nil (SparesOtherPorts port);
-    own = All-nil IsDriversOwn;
-    others = record {
+    accesses_are_done = refl;
+    accesses_are_of_port = All-nil (SparesOtherPorts port);
+    accesses_are_drivers_own = All-nil IsDriversOwn;
+    leaves_others = record {
       grants = refl;
       wanted = refl;
-      last = refl;
+      last_id = refl;
       found = λ q apart. refl;
       remembered = λ q apart. refl;
       modes = λ q apart. refl;
       slots = λ q apart. refl;
       book = λ q apart. refl;
     };
-    silent = λ q apart lives. silent_none q ReadLog c.device;
-    makes = λ m reached is. record {
+    others_get_no_log = λ q apart lives. silent_none q ReadLog c.device;
+    simulates_turn = λ m reached is. record {
       steps = [];
       evidence = told_of (port ∷ []) c.device (ports_of c);
-      may = tt;
-      stands = is;
-      backed = laws.backed_none c.device m;
-      own = All-nil (IsStepOf (λ q. q ≡ port));
-      belong = tt;
-      last = tt;
-      names = record {
+      steps_are_enabled = tt;
+      machine_relation = is;
+      is_backed = laws.backed_none c.device m;
+      steps_are_of_turn = All-nil (IsStepOf (λ q. q ≡ port));
+      steps_are_of_call = tt;
+      issues_are_last = tt;
+      names_only_port = record {
         lost = All-nil (λ q. q ≡ port);
-        gone = chosen_of (λ q. q ≡ port) (ready_that shows_loss c.device (ports_of c)) (port ∷ []) its;
+        link_changed = chosen_of (λ q. q ≡ port) (ready_that shows_loss c.device (ports_of c)) (port ∷ []) its;
         failed = chosen_of (λ q. q ≡ port) (ready_that shows_failure c.device (ports_of c)) (port ∷ []) its;
         fatal = chosen_of (λ q. q ≡ port) (ready_that shows_fatal c.device (ports_of c)) (port ∷ []) its;
         stopped = All-nil (λ q. q ≡ port);
         stuck = All-nil (λ q. q ≡ port);
       };
-      lawful = tt;
-      owes = (refl, refl, refl, uninterrupted);
-      tells = record { answers = []; same = IsPermutation-refl []; ordered = λ i j d lt below. absurd (omega (arith, lt, below)); told = refl };
-      unplugs = record { emptied = λ e other here there. absurd (nowhere (Answer e Unplugged) here); alike = λ e other here there. absurd (nowhere (Answer e Unplugged) here) };
-      becomes = (λ dead. same, λ lives. (record { served = refl; stuck = (λ dead. absurd (lives dead), λ named. absurd (nowhere port named)); keeps = λ unready. (refl, refl) }, inl same));
-      disk = inl same;
-      keeps = inl (refl, refl);
-      issues = λ ready. none_issued c m is [] (λ id. refl) (mode_in c port) port (settled.issued port);
-      evidenced = evidenced_of (port ∷ []) Tick (Served []) [] (joint_state_of c m) (ports_of c) c.device port (λ ready. contains_here port [] port refl) (All-nil (LeavesEngine port));
+      answers_are_lawful = tt;
+      meets_turn_duty = (refl, refl, refl, uninterrupted);
+      replies_match = record { answers = []; is_permutation = IsPermutation-refl []; ordered = λ i j d lt below. absurd (omega (arith, lt, below)); replies_are = refl };
+      answers_all_unplugged = record { none_is_left = λ e other here there. absurd (nowhere (Answer e Unplugged) here); none_is_told_dead = λ e other here there. absurd (nowhere (Answer e Unplugged) here) };
+      port_is_serviced = (λ dead. same, λ lives. (record { served_is_kept = refl; dead_is_stuck = (λ dead. absurd (lives dead), λ named. absurd (nowhere port named)); disk_is_kept = λ unready. (refl, refl) }, inl same));
+      shown_disk_was_in_or_came = inl same;
+      disk_is_kept_or_none_waits = inl (refl, refl);
+      issues_due = λ ready. none_issued c m is [] (λ id. refl) (mode_in c port) port (settled.nothing_is_due port);
+      is_evidenced = evidenced_of (port ∷ []) Tick (Served []) [] (joint_state_of c m) (ports_of c) c.device port (λ ready. contains_here port [] port refl) (All-nil (LeavesEngine port));
       faults = λ told here. absurd (nowhere told here);
-      ties = tt;
-      finds = λ is. let z : AtRest ≡ InService = is in absurd cc;
+      turn_corresponds = tt;
+      finds_done = λ is. let z : AtRest ≡ InService = is in absurd cc;
     };
   }
     where
@@ -180,10 +180,10 @@ serving_on One Other each (Storing at bytes) is = (is.0, is.1, tt)
 -- accesses of another port clear no bit that tells of this one's trouble
 other_clears_none : (port : Port) (access : Access) → IsOfOtherPort port access → ClearsNoError port access
 other_clears_none port (Writing (Px at r) v) (other, apart, of) = record {
-  is = λ q. let z : Px at r ≡ Px port register.Is = q in absurd (apart (ap (λ (p : Port). p.0) (sym (let same : at ≡ port = cc in same) ∙ of)));
-  serr = λ q. let z : Px at r ≡ Px port register.Serr = q in absurd (apart (ap (λ (p : Port). p.0) (sym (let same : at ≡ port = cc in same) ∙ of)));
+  pxis_trouble_is_kept = λ q. let z : Px at r ≡ Px port register.Is = q in absurd (apart (ap (λ (p : Port). p.0) (sym (let same : at ≡ port = cc in same) ∙ of)));
+  serr_trouble_is_kept = λ q. let z : Px at r ≡ Px port register.Serr = q in absurd (apart (ap (λ (p : Port). p.0) (sym (let same : at ≡ port = cc in same) ∙ of)));
 }
-other_clears_none port (Writing r v) (other, apart, of) = record { is = λ q. absurd cc; serr = λ q. absurd cc }
+other_clears_none port (Writing r v) (other, apart, of) = record { pxis_trouble_is_kept = λ q. absurd cc; serr_trouble_is_kept = λ q. absurd cc }
 other_clears_none port (Reading r v) of = tt
 other_clears_none port (Loading at bytes) of = tt
 other_clears_none port (Storing at bytes) of = tt
@@ -192,13 +192,13 @@ other_clears_none port (Storing at bytes) of = tt
 
 module _ (laws : PrerequisiteLaws) (s new : ServerState) (replies : List Reply) (start : SettledInvariant s) (ticks : Ticks replies s new) (first : JointState Device) (past : List (JointEvent Device DeviceStep)) (leads : LeadsToServer first past s) where
   abbrev kept : InCallInvariant s
-  kept = start.kept
+  kept = start.in_call_invariant
 
   abbrev was : AbstractState
-  was = (now first past).abstract
+  was = (joint_state_after first past).abstract
 
   at : MachineRelation s was.machine
-  at = leads.stands.machine
+  at = leads.stands.machine_stands_for_it
 
   same : was.ports ≡ ports_of s
   same = leads.stands.ports_are
@@ -239,7 +239,7 @@ module _ (laws : PrerequisiteLaws) (s new : ServerState) (replies : List Reply) 
   turn_part n c mid before its is_ready_n p (inr (young, none, still)) =
       subst (λ (b : Bool). IsPortTurn (if b then InRestart else AtRest) (port_at n) its c mid)
       (sym (⊎_elim (λ so. absurd (young (overdue_is aged.book n so))) (λ not_so. not_so) (cases_Bool (hung n))))
-      (subst (IsPortTurn AtRest (port_at n) its c) (sym still) (subst (λ (list : List Reply). IsPortTurn AtRest (port_at n) list c c) (sym none) (resting laws (port_at n) (ready_found s n kept is_ready_n).0 c p.settled)))
+      (subst (IsPortTurn AtRest (port_at n) its c) (sym still) (subst (λ (list : List Reply). IsPortTurn AtRest (port_at n) list c c) (sym none) (resting laws (port_at n) (ready_found s n kept is_ready_n).0 c p.settled_invariant)))
 
   -- another port is passed over
   other_part : (n : ℕ) (c mid : ServerState) (before : List Reply) (state : PortState) → probe_result_of s.ports n ≡ Unready state → Progress plan laws aged aged_start old aged_reached aged_at same n c before → mid ≡ c
@@ -256,7 +256,7 @@ module _ (laws : PrerequisiteLaws) (s new : ServerState) (replies : List Reply) 
   steps = p.steps ++ Age ready ∷ []
 
   abbrev holds : InCallInvariant new
-  holds = p.settled.kept
+  holds = p.settled_invariant.in_call_invariant
 
   abbrev end : AbstractState
   end = record { machine = after was.machine steps; ports = ports_of new }
@@ -274,7 +274,7 @@ module _ (laws : PrerequisiteLaws) (s new : ServerState) (replies : List Reply) 
   done : (port : Port) → IsDone plan laws aged aged_start old aged_reached aged_at same new p.accesses p.steps p.evidence port
   done port = ⊎_elim
       (λ less. p.done port less)
-      (λ most. idle_done plan laws aged aged_start old aged_reached aged_at same ends.count new replies p port (ends.past port.0 most))
+      (λ most. idle_done plan laws aged aged_start old aged_reached aged_at same ends.count new replies p port (ends.steps_since port.0 most))
       (cases_lt port.0 ends.count)
 
   -- ---- which ports are hung
@@ -286,16 +286,16 @@ module _ (laws : PrerequisiteLaws) (s new : ServerState) (replies : List Reply) 
   is_hung port (is_ready_now, so) =
       let o = overdue_is aged.book port.0 so in
       let y = at_left EntryRelation aged.book old.machine.book aged_at.book o.0 o.1 in
-      let w = map_in (older ready) was.machine.book y.0 y.1 in
+      let w = map_in (aged_pending ready) was.machine.book y.0 y.1 in
       let own = o.2.0 in
       let age = y.2.age in
       let three = o.2.2 in
       let at_most = older_by (λ x. x.age ≤ suc w.0.age) ready w.0 (omega arith) (omega arith) in
-      let its_age : y.0.age ≡ (older ready w.0).age = ap (λ (x : Pending). x.age) w.2 in
+      let its_age : y.0.age ≡ (aged_pending ready w.0).age = ap (λ (x : Pending). x.age) w.2 in
       record {
         ready = is_ready_now;
         pending = w.0;
-        here = w.1;
+        is_in_book = w.1;
         port_is = sym (ap (λ r. r.port) (older_request ready w.0)) ∙ ap (λ (x : Pending). x.request.port) (sym w.2) ∙ y.2.port ∙ own;
         issued = sym (older_issued ready w.0) ∙ ap (λ (x : Pending). x.issued) (sym w.2) ∙ y.2.issued ∙ o.2.1;
         old_enough = omega (arith, age, three, at_most, its_age);
@@ -309,14 +309,14 @@ module _ (laws : PrerequisiteLaws) (s new : ServerState) (replies : List Reply) 
           let f = ready_found s port.0 kept (sym (state_is port) ∙ h.ready) in
           ap (λ (q : Port). is_ready (probe_result_of s.ports q.0)) h.port_is ∙ ap is_ready f.1.1
 
-      older_is : older ready h.pending ≡ record (h.pending) { age = suc h.pending.age }
+      older_is : aged_pending ready h.pending ≡ record (h.pending) { age = suc h.pending.age }
       older_is = cond-true (h.pending.issued && ready h.pending.request.port) (record (h.pending) { age = suc h.pending.age }) h.pending (and_from h.pending.issued (ready h.pending.request.port) h.issued ready_now)
 
       overdue : IsOverdue (port_at port.0) aged.book
       overdue =
-          let x = at_right EntryRelation aged.book old.machine.book aged_at.book (older ready h.pending) (into_map (older ready) was.machine.book h.pending h.here) in
+          let x = at_right EntryRelation aged.book old.machine.book aged_at.book (aged_pending ready h.pending) (into_map (aged_pending ready) was.machine.book h.pending h.is_in_book) in
           let age = x.2.age in
-          let its : (older ready h.pending).age ≡ suc h.pending.age = ap (λ (y : Pending). y.age) older_is in
+          let its : (aged_pending ready h.pending).age ≡ suc h.pending.age = ap (λ (y : Pending). y.age) older_is in
           let two = h.old_enough in (
             x.0,
             x.1,
@@ -341,20 +341,20 @@ module _ (laws : PrerequisiteLaws) (s new : ServerState) (replies : List Reply) 
 
   -- ---- requests, before and after the tick
 
-  aged_in : (e : Pending) → Contains was.machine.book e → Contains old.machine.book (older ready e)
-  aged_in e here = into_map (older ready) was.machine.book e here
+  aged_in : (e : Pending) → Contains was.machine.book e → Contains old.machine.book (aged_pending ready e)
+  aged_in e here = into_map (aged_pending ready) was.machine.book e here
 
   ended_before : (port : Port) → AnswersEnded old.machine p.steps port → AnswersEnded was.machine steps port
   ended_before port answers e here own ended =
-      let y = answers (older ready e) (aged_in e here) (ap (λ r. r.port) (older_request ready e) ∙ own) (older_ended ready e ∙ ended) in
+      let y = answers (aged_pending ready e) (aged_in e here) (ap (λ r. r.port) (older_request ready e) ∙ own) (older_ended ready e ∙ ended) in
       (y.0, y.1 ∙ older_request ready e, Contains-append_left p.steps (Age ready ∷ []) (Answer y.0 outcome.Ok) y.2)
 
   issued_before : (id : RequestId) → WasIssued old.machine id → WasIssued was.machine id
   issued_before id w =
-      let y = map_in (older ready) was.machine.book w.pending w.here in
+      let y = map_in (aged_pending ready) was.machine.book w.pending w.is_in_book in
       record {
         pending = y.0;
-        here = y.1;
+        is_in_book = y.1;
         id_is = ap (λ r. r.id) (sym (older_request ready y.0)) ∙ ap (λ (x : Pending). x.request.id) (sym y.2) ∙ w.id_is;
         issued = sym (older_issued ready y.0) ∙ ap (λ (x : Pending). x.issued) (sym y.2) ∙ w.issued;
       }
@@ -365,15 +365,15 @@ module _ (laws : PrerequisiteLaws) (s new : ServerState) (replies : List Reply) 
   any_of : (f : Step → Bool) → f (Age ready) ≡ false → list_any f steps ≡ list_any f p.steps
   any_of f none = any_append f p.steps (Age ready ∷ []) ∙ ap (λ (b : Bool). list_any f p.steps || (b || false)) none ∙ or_none (list_any f p.steps)
 
-  finds_before : (port : Port) → FindsDone port p.accesses (record { device = s.device; abstract = old }) p.steps → FindsDone port p.accesses (with_device s.device (now first past)) steps
+  finds_before : (port : Port) → FindsDone port p.accesses (record { device = s.device; abstract = old }) p.steps → FindsDone port p.accesses (with_device s.device (joint_state_after first past)) steps
   finds_before port f = record {
     ci = f.ci;
     sact = f.sact;
     reads = f.reads;
     exact = λ e slot own says.
-        let id : (older ready e).request ≡ e.request = older_request ready e in
-        let y = f.exact (older ready e) slot
-        (record { here = aged_in e own.here; port_is = ap (λ r. r.port) id ∙ own.port_is; issued = older_issued ready e ∙ own.issued })
+        let id : (aged_pending ready e).request ≡ e.request = older_request ready e in
+        let y = f.exact (aged_pending ready e) slot
+        (record { is_in_book = aged_in e own.is_in_book; port_is = ap (λ r. r.port) id ∙ own.port_is; issued = older_issued ready e ∙ own.issued })
         (subst (λ r. ServesRequest old.machine s.device.memory (s.device.port port.0) port.0 slot r.id) (sym id) (serves_on s.device.memory (s.device.port port.0) port.0 slot was.machine ready e.request.id says)) in (
           (λ ok. y.0 (ok.0, ok.1 ∙ sym id, among ready p.steps (Answer ok.0 outcome.Ok) (λ z. let z2 : Answer ok.0 outcome.Ok ≡ Age ready = z in cc) ok.2)),
           (λ clear. let ok = y.1 clear in (ok.0, ok.1 ∙ id, Contains-append_left p.steps (Age ready ∷ []) (Answer ok.0 outcome.Ok) ok.2)),
@@ -383,8 +383,8 @@ module _ (laws : PrerequisiteLaws) (s new : ServerState) (replies : List Reply) 
   in_steps : (e : Pending) (o : Outcome) → Contains steps (Answer e o) → Contains p.steps (Answer e o)
   in_steps e o here = among ready p.steps (Answer e o) (λ z. let z2 : Answer e o ≡ Age ready = z in cc) here
 
-  again_in : (e : Pending) → Contains steps (Again e) → Contains p.steps (Again e)
-  again_in e here = among ready p.steps (Again e) (λ z. let z2 : Again e ≡ Age ready = z in cc) here
+  again_in : (e : Pending) → Contains steps (WaitAgain e) → Contains p.steps (WaitAgain e)
+  again_in e here = among ready p.steps (WaitAgain e) (λ z. let z2 : WaitAgain e ≡ Age ready = z in cc) here
 
   -- ---- what the tick says and does
 
@@ -393,7 +393,7 @@ module _ (laws : PrerequisiteLaws) (s new : ServerState) (replies : List Reply) 
 
   none_waits : (port : Port) → state_of (probe_result_of new.ports port.0) ≢ ReadyState → (e : Pending) → Contains end.machine.book e → e.request.port ≢ port
   none_waits port other e here own =
-      let a = at_right EntryRelation new.book (after old.machine p.steps).book p.stands.book e (in_end e here) in
+      let a = at_right EntryRelation new.book (after old.machine p.steps).book p.machine_relation.book e (in_end e here) in
       other (ap (λ (q : Port). state_of (probe_result_of new.ports q.0)) (sym own ∙ a.2.port) ∙ of_ready new holds a.0 a.1)
 
   -- a port that is to be restarted was
@@ -407,42 +407,42 @@ module _ (laws : PrerequisiteLaws) (s new : ServerState) (replies : List Reply) 
         (λ r. inr (is_hung port r.0, ((done port).becomes.1 (λ dead. let z : ReadyState ≡ Dead = sym r.0.0 ∙ dead in absurd cc)).0))
         (λ r. inl (λ h. r.0 (is_restarted port h), r.1.same))
         (restarted_or_not port);
-    again = λ e here. ⊎_elim (λ r. is_hung e.request.port r.0) (λ r. absurd (r.1.again e (again_in e here) refl)) (restarted_or_not e.request.port);
-    answer = λ e o here. is_hung e.request.port (answered_hung e o (in_steps e o here));
-    ended = λ port h. ended_before port (restart port h).ended;
-    anew = λ port h. anew_before port (restart port h).anew;
-    interrupts = λ port. (λ h. (restart port h).interrupts, λ i. ⊎_elim (λ r. is_hung port r.0) (λ r. absurd (r.1.uninterrupted i)) (restarted_or_not port));
-    finds = λ e here.
+    only_timed_out_wait_again = λ e here. ⊎_elim (λ r. is_hung e.request.port r.0) (λ r. absurd (r.1.again e (again_in e here) refl)) (restarted_or_not e.request.port);
+    only_timed_out_are_answered = λ e o here. is_hung e.request.port (answered_hung e o (in_steps e o here));
+    answers_ended = λ port h. ended_before port (restart port h).ended;
+    none_stays_issued = λ port h. anew_before port (restart port h).anew;
+    is_interrupted = λ port. (λ h. (restart port h).interrupts, λ i. ⊎_elim (λ r. is_hung port r.0) (λ r. absurd (r.1.uninterrupted i)) (restarted_or_not port));
+    unplugged_lost_disk = λ e here.
         let early = in_steps e Unplugged here in
         (restart e.request.port (is_hung e.request.port (answered_hung e Unplugged early))).another e early refl;
-    disk = λ port h shows. ⊎_elim (λ present. inl present) (λ changed. inr (any_of (changes_disk port) refl ∙ changed)) ((restart port h).disk shows);
+    shown_disk_was_in_or_came = λ port h shows. ⊎_elim (λ present. inl present) (λ changed. inr (any_of (changes_disk port) refl ∙ changed)) ((restart port h).disk shows);
   }
 
   all_answered : AnswersTick was p.evidence steps replies end
   all_answered = record {
-    tells = record {
+    replies_match = record {
       answers = p.answers;
-      same = subst (IsPermutation p.answers) (sym (answers_append p.steps (Age ready ∷ []) ∙ append-nil (answers_of p.steps))) p.permuted;
-      ordered = p.ordered;
-      told = p.told;
+      is_permutation = subst (IsPermutation p.answers) (sym (answers_append p.steps (Age ready ∷ []) ∙ append-nil (answers_of p.steps))) p.permuted;
+      ordered = p.book_is_in_order;
+      replies_are = p.told;
     };
-    ages = record {
-      ready = ready;
+    ages_once = record {
+      ready_ports = ready;
       is_ready = λ port. (
         λ so. state_is port ∙ state_if (probe_result_of s.ports port.0) so,
         λ is. let f = ready_found s port.0 kept (sym (state_is port) ∙ is) in subst (λ (found : ProbeResult). IsTrue (is_ready found)) (sym f.1.1) refl,
       );
       later = p.steps;
-      first = refl;
-      once = no_ages (λ q. (q.0 < ends.count) × TakesTurn plan (probe_result_of aged.ports q.0)) p.steps p.of;
+      age_is_first = refl;
+      no_other_age = no_ages (λ q. (q.0 < ends.count) × TakesTurn plan (probe_result_of aged.ports q.0)) p.steps p.of;
     };
-    restarts = restarts;
-    unplugs = record {
-      emptied = λ e other here there. p.unplugs.emptied e other (in_steps e Unplugged here) (in_end other there);
-      alike = λ e other here there. p.unplugs.alike e other (in_steps e Unplugged here) (in_steps other PortDead there);
+    restarts_timed_out = restarts;
+    answers_all_unplugged = record {
+      none_is_left = λ e other here there. p.unplugs.none_is_left e other (in_steps e Unplugged here) (in_end other there);
+      none_is_told_dead = λ e other here there. p.unplugs.none_is_told_dead e other (in_steps e Unplugged here) (in_steps other PortDead there);
     };
-    issues = λ port is. none_due new end.machine stands_then (mode_in new port) port (p.settled.issued port);
-    emptied = λ port _. none_waits port;
+    none_is_due = λ port is. none_due new end.machine stands_then (mode_in new port) port (p.settled_invariant.nothing_is_due port);
+    empty_unless_ready = λ port _. none_waits port;
   }
     where
       state_if : (found : ProbeResult) → IsTrue (is_ready found) → state_of found ≡ ReadyState
@@ -451,20 +451,20 @@ module _ (laws : PrerequisiteLaws) (s new : ServerState) (replies : List Reply) 
       state_if (Unready state) so = absurd (false≢true so)
 
       stands_then : MachineRelation new end.machine
-      stands_then = subst (MachineRelation new) (sym whole_is) p.stands
+      stands_then = subst (MachineRelation new) (sym whole_is) p.machine_relation
 
   keeps : UnansweredKeepDisk was end
   keeps e o here there same_id = ⊎_elim (λ d. d) (λ none. absurd (none e (in_end e here) refl)) (done e.request.port).keeps
 
-  evidenced : IsEvidenced Tick (Served replies) p.accesses (with_device s.device (now first past)) (ports_of new) new.device p.evidence
+  evidenced : IsEvidenced Tick (Served replies) p.accesses (with_device s.device (joint_state_after first past)) (ports_of new) new.device p.evidence
   evidenced = record {
     faults = λ told here. absurd (nowhere told (subst (λ list. Contains list told) p.owes here));
     port = λ port.
         let v = (done port).evidenced in
         record {
           lost = v.lost;
-          gone_all = v.gone_all;
-          gone_only = v.gone_only;
+          link_changed_all = v.link_changed_all;
+          link_changed_only = v.link_changed_only;
           failed_all = v.failed_all;
           failed_only = v.failed_only;
           fatal_all = v.fatal_all;
@@ -489,29 +489,29 @@ module _ (laws : PrerequisiteLaws) (s new : ServerState) (replies : List Reply) 
   trouble_of port = ⊎_elim
       (λ r. r.1.heeds)
       (λ r. record {
-        port_error = laws.calls.ordinary port (record { device = s.device; abstract = old }) new.device p.accesses p.evidence (ports_of new) kept.on p.does
+        loses_no_error = laws.calls.ordinary port (record { device = s.device; abstract = old }) new.device p.accesses p.evidence (ports_of new) kept.adapter_is_on p.turn_is_taken
             (All-weaker (IsAccessForPorts (Uses plan old.ports)) (DoesNotWrite Ghc) (λ access serving. serving.1) p.accesses p.serving)
             (All-weaker (IsOfOtherPort port) (ClearsNoError port) (other_clears_none port) p.accesses r.1.others);
-        well = λ i. absurd (r.1.uninterrupted i);
+        runs_well_anew = λ i. absurd (r.1.uninterrupted i);
       })
       (restarted_or_not port)
 
-  port_part : (port : Port) → PortCorresponds (with_device s.device (now first past)) (happening_with p.evidence new.device Tick (Served replies) steps (ports_of new)) p.accesses port
+  port_part : (port : Port) → PortCorresponds (with_device s.device (joint_state_after first past)) (happening_with p.evidence new.device Tick (Served replies) steps (ports_of new)) p.accesses port
   port_part port =
       let t = trouble_of port in
       record {
-        finds = λ h. finds_before port (restart port h).finds;
-        faults = tt;
-        probes = tt;
-        boots = λ h. (restart port h).boots;
-        port_error = record { errors = t.port_error.errors; changes = t.port_error.changes; fault = t.port_error.fault; fatal = t.port_error.fatal; disk = t.port_error.disk };
-        well = t.well;
-        heeds = tt;
+        finds_done = λ h. finds_before port (restart port h).finds;
+        plain_faults_are_told = tt;
+        probes_disk = tt;
+        boots_anew = λ h. (restart port h).boots;
+        loses_no_error = record { errors = t.loses_no_error.errors; changes = t.loses_no_error.changes; fault = t.loses_no_error.fault; fatal = t.loses_no_error.fatal; disk = t.loses_no_error.disk };
+        runs_well_anew = t.runs_well_anew;
+        handles_evidence = tt;
       }
 
   due_then : (port : Port) → state_of (probe_result_of new.ports port.0) ≡ ReadyState → IssuesDue (mode_in new port) steps end.machine port
-  due_then port is = dues_carried laws (mode_in new port) p.steps steps (after old.machine p.steps) end.machine port (ap (λ (k : Machine). of_port port (map unanswered k.book)) (sym whole_is))
-      (λ r here own. sym (any_of (issues_it r.id) refl)) (p.due port is)
+  due_then port is = dues_carried laws (mode_in new port) p.steps steps (after old.machine p.steps) end.machine port (ap (λ (k : Machine). requests_of_port port (map unanswered k.book)) (sym whole_is))
+      (λ r here own. sym (any_of (issues_id r.id) refl)) (p.due port is)
 
   pub tick_event : (h : JointEvent Device DeviceStep) × (h.event.ask ≡ Tick) × (h.event.said ≡ Served replies) × LeadsToServer first (h ∷ past) new
   tick_event =
@@ -521,15 +521,15 @@ module _ (laws : PrerequisiteLaws) (s new : ServerState) (replies : List Reply) 
       (last_after ready p.steps p.turns.last)
       lawful keeps all_answered tt
       p.accesses
-      (p.does, All-weaker (IsAccessForPorts (Uses plan old.ports)) (IsAccessForPorts (HasTimedOut was)) (serving_on (Uses plan old.ports) (HasTimedOut was) (λ q used. is_hung q used)) p.accesses p.serving)
+      (p.turn_is_taken, All-weaker (IsAccessForPorts (Uses plan old.ports)) (IsAccessForPorts (HasTimedOut was)) (serving_on (Uses plan old.ports) (HasTimedOut was) (λ q used. is_hung q used)) p.accesses p.serving)
       evidenced
       due_then
       port_part
       (laws.backed_parts s.device s.device new.device was.machine (Age ready ∷ []) p.steps (laws.backed_own s.device was.machine (Age ready) (λ x. x)) p.backed)
-      (subst (MachineRelation new) (sym whole_is) p.stands)
+      (subst (MachineRelation new) (sym whole_is) p.machine_relation)
 
 pub law_ticks_extend_history : PrerequisiteLaws → (s new : ServerState) (replies : List Reply) → SettledInvariant s → Ticks replies s new → ExtendsSettled s new Tick (Served replies)
 law_ticks_extend_history laws s new replies start ticks = record {
-  settled = turns_kept (TicksPort (a_tick_older s).book) (λ port one other. other ≡ one) s.ports 0 (a_tick_older s) new replies (older_settled laws s start) ticks;
-  adds = λ first past leads. tick_event laws s new replies start ticks first past leads;
+  settled_invariant = turns_kept (TicksPort (a_tick_older s).book) (λ port one other. other ≡ one) s.ports 0 (a_tick_older s) new replies (older_settled laws s start) ticks;
+  extends_history = λ first past leads. tick_event laws s new replies start ticks first past leads;
 }

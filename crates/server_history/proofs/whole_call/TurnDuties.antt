@@ -24,13 +24,13 @@ use Rattle.block_machine.specs.State.{Pending, Machine}
 use Rattle.block_machine.specs.Steps.{Step, Answer}
 use Rattle.host_boot.specs.TakeOver.{probe_result_of}
 use Rattle.host_boot.specs.declared.ProbeResult.{ProbeResult}
-use Rattle.driver_history.specs.Heeding.{ToldOkOr, IsLeftAlone, ServesReady, tells_fault}
+use Rattle.driver_history.specs.EvidenceHandling.{ToldOkOr, IsLeftAlone, ServicesReadyPort, tells_fault}
 use Rattle.driver_history.specs.Evidence.{ShowsChange, ShowsFailure}
 use Rattle.driver_history.specs.Histories.{BootsAnew, FindsDone, HasUnservedDisk, HasOnlyTaskFileError, IsAnsweredFaulty, IsIssuedOn, PortCorresponds}
-use Rattle.driver_history.specs.Parts.{HasTurnIn, EvidenceAgreesOn}
+use Rattle.driver_history.specs.PortTurn.{HasTurnIn, EvidenceAgreesOn}
 use Rattle.server_history.specs.Prerequisites.{PrerequisiteLaws}
-use Rattle.server_history.specs.Turns.{IsPortTurn, HandlesShownErrors, InService, SimulatesTurn, TurnCorresponds, Turn, joint_state_of, abstract_state_of, happening_of_turn}
-use Rattle.server_history.specs.Server.{HasStoredCommand, ServerState, InCallInvariant, MachineRelation, SettledInvariant, ports_of, state_of}
+use Rattle.server_history.specs.Turns.{IsPortTurn, HandlesShownErrors, InService, SimulatesTurn, TurnCorresponds, Turn, joint_state_of, abstract_state_of, joint_event_of_turn}
+use Rattle.server_history.specs.ServerState.{HasStoredCommand, ServerState, InCallInvariant, MachineRelation, SettledInvariant, ports_of, state_of}
 use Rattle.server_history.proofs.any_turn.JoinedParts.{same_then}
 use Rattle.server_history.proofs.whole_call.TurnResults as lifting
 use Rattle.server_history.proofs.whole_call.TurnResults.{counts_apart}
@@ -41,7 +41,7 @@ use Rattle.server_history.proofs.unready_turn.UnfitPort.{ready_fits}
 
 module _ (laws : PrerequisiteLaws) (s : ServerState) (start : SettledInvariant s) (old : AbstractState) (reached : IsReachable old.machine) (at : MachineRelation s old.machine) (ports_are : old.ports ≡ ports_of s) where
   abbrev kept : InCallInvariant s
-  kept = start.kept
+  kept = start.in_call_invariant
 
   abbrev began : JointState Device
   began = record { device = s.device; abstract = old }
@@ -58,7 +58,7 @@ module _ (laws : PrerequisiteLaws) (s : ServerState) (start : SettledInvariant s
     m = after old.machine p.steps
 
     abbrev x : SimulatesTurn (turn_at AService (probe_result_of s.ports n) n) (port_at n) its part.accesses c mid m
-    x = part.makes m m_reached p.stands
+    x = part.simulates_turn m m_reached p.machine_relation
 
     abbrev all : List Step
     all = x.steps ++ p.steps
@@ -71,7 +71,7 @@ module _ (laws : PrerequisiteLaws) (s : ServerState) (start : SettledInvariant s
     is_service = ap (λ (found : ProbeResult). turn_at AService found n) (ready_found s n kept ready).1.1
 
     its_ties : TurnCorresponds InService (port_at n) its part.accesses c mid m x.evidence x.steps
-    its_ties = subst (λ (turn : Turn). TurnCorresponds turn (port_at n) its part.accesses c mid m x.evidence x.steps) is_service x.ties
+    its_ties = subst (λ (turn : Turn). TurnCorresponds turn (port_at n) its part.accesses c mid m x.evidence x.steps) is_service x.turn_corresponds
 
     low : n < 4
     low = lifting.low AService laws s start old reached at ports_are n c mid before its p next part m_reached on_mid ready
@@ -104,14 +104,14 @@ module _ (laws : PrerequisiteLaws) (s : ServerState) (start : SettledInvariant s
     whole_is = lifting.whole_is AService laws s start old reached at ports_are n c mid before its p next part m_reached on_mid
 
     module _ (evidence : Evidence) (alike : EvidenceAgreesOn (port_at n) x.evidence evidence) (same_n : SamePort old.ports (ports_of c) (port_at n)) where
-      abbrev did : PortCorresponds (joint_state_of c m) (happening_of_turn InService its mid x.evidence x.steps) part.accesses (port_at n)
+      abbrev did : PortCorresponds (joint_state_of c m) (joint_event_of_turn InService its mid x.evidence x.steps) part.accesses (port_at n)
       did = its_ties
 
-      abbrev serves : ServesReady (abstract_state_of c m) x.evidence x.steps (record { machine = after m x.steps; ports = ports_of mid }) (port_at n)
-      serves = did.heeds ready_c
+      abbrev serves : ServicesReadyPort (abstract_state_of c m) x.evidence x.steps (record { machine = after m x.steps; ports = ports_of mid }) (port_at n)
+      serves = did.handles_evidence ready_c
 
       finding : (e : Pending) → IsIssuedOn (port_at n) old.machine e → FindsDone (port_at n) accesses began all
-      finding e leads = lifting.finding AService laws s start old reached at ports_are n c mid before its p next part m_reached on_mid ready (x.finds is_service (leading e leads).now_is (then_issued e leads (leading e leads))) serves.ended
+      finding e leads = lifting.finding AService laws s start old reached at ports_are n c mid before its p next part m_reached on_mid ready (x.finds_done is_service (leading e leads).now_is (then_issued e leads (leading e leads))) serves.answers_ended
 
       -- ---- a plain request's fault
 
@@ -128,39 +128,39 @@ module _ (laws : PrerequisiteLaws) (s : ServerState) (start : SettledInvariant s
         -- whose command is a plain one
         used_plain : it.has.used.queued ≡ false
         used_plain =
-            let k = subst (HasStoredCommand it.has.used.queued s.device n) (sym its_slot) (kept.commands n it.has.slot it.has.used (sym (lifting.used_then AService laws s start old reached at ports_are n c mid before its p next part m_reached on_mid ready it.has.slot) ∙ it.has.used_is)) in
-            let same = laws.slots.one_said s.device.memory (s.device.port n).bases.clb slot says.command k.command says.places k.places says.told.says k.stored.told.says in
+            let k = subst (HasStoredCommand it.has.used.queued s.device n) (sym its_slot) (kept.slots_store_commands n it.has.slot it.has.used (sym (lifting.used_then AService laws s start old reached at ports_are n c mid before its p next part m_reached on_mid ready it.has.slot) ∙ it.has.used_is)) in
+            let same = laws.slots.one_said s.device.memory (s.device.port n).bases.clb slot says.command k.command says.places k.places says.slot_decodes_to.decodes_to k.stored.slot_decodes_to.decodes_to in
             sym k.kind ∙ sym (ap (λ (y : Meaning). is_queued y.operation) same.0) ∙ plain
 
         plain_now : is_queued (lifting.by AService laws s start old reached at ports_are n c mid before its p next part m_reached on_mid ready e it).serves.command.operation ≡ false
         plain_now =
-            let k = p.settled.kept.commands n it.has.slot it.has.used it.has.used_is in
+            let k = p.settled_invariant.in_call_invariant.slots_store_commands n it.has.slot it.has.used it.has.used_is in
             let its = (lifting.by AService laws s start old reached at ports_are n c mid before its p next part m_reached on_mid ready e it).serves in
-            let same = laws.slots.one_said c.device.memory (c.device.port n).bases.clb it.has.slot its.command k.command its.places k.places its.told.says k.stored.told.says in
+            let same = laws.slots.one_said c.device.memory (c.device.port n).bases.clb it.has.slot its.command k.command its.places k.places its.slot_decodes_to.decodes_to k.stored.slot_decodes_to.decodes_to in
             ap (λ (y : Meaning). is_queued y.operation) same.0 ∙ k.kind ∙ used_plain
 
         -- so it is in the turn
         alone_now : HasOnlyTaskFileError (port_at n) (joint_state_of c m) mid.device
-        alone_now = laws.calls.alone_then (port_at n) began (abstract_state_of c m) mid.device kept.on undue t on_mid ready_c alone
+        alone_now = laws.calls.alone_then (port_at n) began (abstract_state_of c m) mid.device kept.adapter_is_on undue t on_mid ready_c alone
 
         -- the fault that is shown then is of that slot, which is in use
         faults : RecordsFaults c.device.tape (c.device.port n) n
-        faults = ((p.settled.kept.behind n low).runs ready_c).recorded
+        faults = ((p.settled_invariant.in_call_invariant.port_invariant n low).engine_runs ready_c).faults_are_recorded
 
         fault : ShowsFault (drop (c.device.port n).notes.st_set_at c.device.tape) (c.device.port n) n
-        fault = faults.fault (faults.flag alone_now.shows.fault)
+        fault = faults.shows_last_fault (faults.tfes_tells_fault alone_now.shows_only_tfes.tfes_is_set)
 
         used_still : InUse (c.device.port n) it.has.slot
         used_still =
-            let sole = p.settled.kept.alone n it.has.slot it.has.used it.has.used_is used_plain in
-            subst (InUse (c.device.port n)) (laws.slots.fault_sole p.stands.uses m c.device n it.has.slot (drop (c.device.port n).notes.st_set_at c.device.tape) p.stands.knows.agrees fault
-            (λ other apart. free_unused c m n p.stands ready_c other (sole.1 other (λ zero. apart (zero ∙ sym sole.0))))) fault.used
+            let sole = p.settled_invariant.in_call_invariant.plain_stands_alone n it.has.slot it.has.used it.has.used_is used_plain in
+            subst (InUse (c.device.port n)) (laws.slots.fault_sole p.machine_relation.uses m c.device n it.has.slot (drop (c.device.port n).notes.st_set_at c.device.tape) p.machine_relation.driver_relation.state_relation fault
+            (λ other apart. free_unused c m n p.machine_relation ready_c other (sole.1 other (λ zero. apart (zero ∙ sym sole.0))))) fault.slot_is_in_use
 
         -- so it hasn't ended
         unended_now : it.now_is.ended ≡ false
         unended_now = ⊎_elim
             (λ (is : it.now_is.ended ≡ true).
-            let over = (laws.slots.ended_clear p.stands.uses m c.device (port_at n) it.has.slot it.now_is m_reached p.stands.knows.agrees (inl (it.here, it.issued_now)) is (lifting.slot_serves AService laws s start old reached at ports_are n c mid before its p next part m_reached on_mid ready e it)).0.over in
+            let over = (laws.slots.ended_clear p.machine_relation.uses m c.device (port_at n) it.has.slot it.now_is m_reached p.machine_relation.driver_relation.state_relation (inl (it.here, it.issued_now)) is (lifting.slot_serves AService laws s start old reached at ports_are n c mid before its p next part m_reached on_mid ready e it)).0.over in
             absurd (⊎_elim (λ issued. false≢true (sym over.issued ∙ issued)) (λ (taken : _ × _). let z : None ≡ Some taken.0 = sym over.free ∙ taken.1 in cc) used_still))
             (λ no. no)
             (cases_Bool it.now_is.ended)
@@ -169,7 +169,7 @@ module _ (laws : PrerequisiteLaws) (s : ServerState) (start : SettledInvariant s
         fault_told = ⊎_elim
             (λ (a : IsAnsweredFaulty it.now_is x.steps). inl (a.0, a.1, a.2, a.3 ∙ it.same_as.request, Contains-append_left x.steps p.steps (Answer a.0 (DeviceError a.1 a.2)) a.4))
             (λ dead. inr dead)
-            (did.faults alone_now it.now_is it.has.slot (then_issued e own it) unended_now (lifting.by AService laws s start old reached at ports_are n c mid before its p next part m_reached on_mid ready e it).serves plain_now)
+            (did.plain_faults_are_told alone_now it.now_is it.has.slot (then_issued e own it) unended_now (lifting.by AService laws s start old reached at ports_are n c mid before its p next part m_reached on_mid ready e it).serves plain_now)
 
       -- ---- what it heeds
 
@@ -191,24 +191,24 @@ module _ (laws : PrerequisiteLaws) (s : ServerState) (start : SettledInvariant s
       changed_whole : list_any (changes_disk (port_at n)) x.steps ≡ true → list_any (changes_disk (port_at n)) all ≡ true
       changed_whole = lifting.changed_whole AService laws s start old reached at ports_are n c mid before its p next part m_reached on_mid
 
-      heeds_whole : ServesReady old evidence all (record { machine = after old.machine all; ports = ports_of mid }) (port_at n)
+      heeds_whole : ServicesReadyPort old evidence all (record { machine = after old.machine all; ports = ports_of mid }) (port_at n)
       heeds_whole = record {
-        ended = lifting.ended_whole AService laws s start old reached at ports_are n c mid before its p next part m_reached on_mid ready serves.ended;
-        emptied = λ gone e here. serves.emptied (alike.gone.1 gone) e (subst (λ (k : Machine). Contains k.book e) whole_is here);
-        told = λ gone. ⊎_elim (λ a. inl (told_whole _ a)) (λ b. inr (told_whole _ b)) (serves.told (alike.gone.1 gone));
-        interrupts = λ port_error. lifting.named AService laws s start old reached at ports_are n c mid before its p next part m_reached on_mid evidence alike (serves.interrupts (⊎_elim (λ failed. inl (alike.failed.1 failed)) (λ gone. inr (alike.gone.1 gone)) port_error));
-        anew = λ port_error. lifting.anew_whole AService laws s start old reached at ports_are n c mid before its p next part m_reached on_mid (serves.anew (⊎_elim (λ failed. inl (alike.failed.1 failed)) (λ stopped. inr (alike.stopped.1 stopped)) port_error));
-        single = let one = serves.single in omega (arith, counted, one);
-        fatal = λ here. let y = serves.fatal (alike.fatal.1 here) in (alike.failed.0 y.0, counted ∙ y.1);
-        disk = lifting.disk_whole AService laws s start old reached at ports_are n c mid before its p next part m_reached on_mid serves.disk;
-        calm = ⊎_elim
-            (λ disturbed. inl (⊎_elim (λ failed. inl (alike.failed.0 failed)) (λ rest. inr (⊎_elim (λ gone. inl (alike.gone.0 gone)) (λ changed. inr (changed_whole changed)) rest)) disturbed))
+        answers_ended = lifting.ended_whole AService laws s start old reached at ports_are n c mid before its p next part m_reached on_mid ready serves.answers_ended;
+        none_is_left = λ gone e here. serves.none_is_left (alike.link_changed.1 gone) e (subst (λ (k : Machine). Contains k.book e) whole_is here);
+        others_are_told_alike = λ gone. ⊎_elim (λ a. inl (told_whole _ a)) (λ b. inr (told_whole _ b)) (serves.others_are_told_alike (alike.link_changed.1 gone));
+        is_interrupted = λ port_error. lifting.named AService laws s start old reached at ports_are n c mid before its p next part m_reached on_mid evidence alike (serves.is_interrupted (⊎_elim (λ failed. inl (alike.failed.1 failed)) (λ gone. inr (alike.link_changed.1 gone)) port_error));
+        none_stays_issued = λ port_error. lifting.anew_whole AService laws s start old reached at ports_are n c mid before its p next part m_reached on_mid (serves.none_stays_issued (⊎_elim (λ failed. inl (alike.failed.1 failed)) (λ stopped. inr (alike.stopped.1 stopped)) port_error));
+        one_fault_at_most = let one = serves.one_fault_at_most in omega (arith, counted, one);
+        fatal_tells_no_fault = λ here. let y = serves.fatal_tells_no_fault (alike.fatal.1 here) in (alike.failed.0 y.0, counted ∙ y.1);
+        shown_disk_was_in_or_came = lifting.disk_whole AService laws s start old reached at ports_are n c mid before its p next part m_reached on_mid serves.shown_disk_was_in_or_came;
+        is_left_alone_if_calm = ⊎_elim
+            (λ disturbed. inl (⊎_elim (λ failed. inl (alike.failed.0 failed)) (λ rest. inr (⊎_elim (λ gone. inl (alike.link_changed.0 gone)) (λ changed. inr (changed_whole changed)) rest)) disturbed))
             (λ (a : IsLeftAlone (ports_of c) x.evidence x.steps (ports_of mid) (port_at n)). inr (record {
-              same = same_then old.ports (ports_of c) (ports_of mid) (port_at n) same_n a.same;
-              told = told_whole _ a.told;
-              uninterrupted = λ i. a.uninterrupted (unnamed i);
+              port_is_same = same_then old.ports (ports_of c) (ports_of mid) (port_at n) same_n a.port_is_same;
+              only_ok_is_told = told_whole _ a.only_ok_is_told;
+              is_not_interrupted = λ i. a.is_not_interrupted (unnamed i);
             }))
-            serves.calm;
+            serves.is_left_alone_if_calm;
       }
 
       -- ---- trouble
@@ -218,7 +218,7 @@ module _ (laws : PrerequisiteLaws) (s : ServerState) (start : SettledInvariant s
 
       -- where the port showed a failure when it began, or a change of its link, the turn stopped it
       stops_troubled : ShowsFailure (c.device.port n) ⊎ ShowsChange (c.device.port n) → IsStoppedOrStuck x.evidence (port_at n)
-      stops_troubled port_error = serves.interrupts (⊎_elim (λ failure. inl (x.evidenced.failed_all ready_c failure)) (λ change. inr (x.evidenced.gone_all ready_c (inl change))) port_error)
+      stops_troubled port_error = serves.is_interrupted (⊎_elim (λ failure. inl (x.is_evidenced.failed_all ready_c failure)) (λ change. inr (x.is_evidenced.link_changed_all ready_c (inl change))) port_error)
 
       -- ---- the whole
 
@@ -229,21 +229,21 @@ module _ (laws : PrerequisiteLaws) (s : ServerState) (start : SettledInvariant s
       not_absent absent = let z : Absent ≡ ReadyState = sym absent ∙ was_ready in absurd cc
 
       heeds_trouble : HandlesShownErrors (port_at n) accesses began evidence (ports_of mid) mid.device
-      heeds_trouble = lifting.trouble_whole AService laws s start old reached at ports_are n c mid before its p next part m_reached on_mid evidence alike same_n (λ _. stops_troubled) (λ _. inl undue) (record { port_error = did.port_error; well = did.well })
+      heeds_trouble = lifting.trouble_whole AService laws s start old reached at ports_are n c mid before its p next part m_reached on_mid evidence alike same_n (λ _. stops_troubled) (λ _. inl undue) (record { loses_no_error = did.loses_no_error; runs_well_anew = did.runs_well_anew })
 
-      pub ties_whole : PortCorresponds began (happening_of_turn InService [] mid evidence all) accesses (port_at n)
+      pub ties_whole : PortCorresponds began (joint_event_of_turn InService [] mid evidence all) accesses (port_at n)
       ties_whole = record {
-        finds = λ _ e own. finding e own;
-        faults = λ alone e slot own unended says plain. fault_told alone e slot own unended says plain;
-        probes = λ served coming. record {
+        finds_done = λ _ e own. finding e own;
+        plain_faults_are_told = λ alone e slot own unended says plain. fault_told alone e slot own unended says plain;
+        probes_disk = λ served coming. record {
           shown = λ absent det. absurd (not_absent absent);
           absent = λ absent det fresh. absurd (not_absent absent);
           missing = λ bad. absurd (not_bad bad);
           changed = λ bad. absurd (not_bad bad);
         };
-        boots = subst (λ (list : List Access). BootsAnew Service (Served []) (p.accesses ++ list) began (ports_of mid) mid.device (port_at n)) (append-nil part.accesses)
-            (laws.calls.call_boots (port_at n) began (abstract_state_of c m) (ports_of mid) (ports_of mid) mid.device (Served its) (Served []) kept.on (λ _. undue) t on_mid same_self same_n did.boots);
-        port_error = heeds_trouble.port_error;
-        well = heeds_trouble.well;
-        heeds = λ _. heeds_whole;
+        boots_anew = subst (λ (list : List Access). BootsAnew Service (Served []) (p.accesses ++ list) began (ports_of mid) mid.device (port_at n)) (append-nil part.accesses)
+            (laws.calls.call_boots (port_at n) began (abstract_state_of c m) (ports_of mid) (ports_of mid) mid.device (Served its) (Served []) kept.adapter_is_on (λ _. undue) t on_mid same_self same_n did.boots_anew);
+        loses_no_error = heeds_trouble.loses_no_error;
+        runs_well_anew = heeds_trouble.runs_well_anew;
+        handles_evidence = λ _. heeds_whole;
       }

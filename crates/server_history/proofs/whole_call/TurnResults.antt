@@ -19,26 +19,26 @@ use Rattle.adapter.specs.Access.Access.{Reading}
 use Rattle.adapter.specs.Device.{Device}
 use Rattle.adapter.specs.Rules.{IsOn}
 use Rattle.refinement.specs.Relation.{port_at}
-use Rattle.refinement.specs.Driven.{SparesOtherPorts}
+use Rattle.refinement.specs.Fragments.{SparesOtherPorts}
 use Rattle.refinement.specs.Links.{DoesNotWrite}
-use Rattle.refinement.specs.Slots.{IsEmptySlot, RelatesSlot, Serves, ServesRequest, Stage, SlotState}
+use Rattle.refinement.specs.Slots.{IsEmptySlot, RelatesSlot, Serves, ServesRequest, IsInSomeStage, SlotState}
 use Rattle.block_machine.specs.Events.{AnswersEnded, ShownDiskWasInOrCame, AbstractState, NoneStaysIssued, changes_disk}
 use Rattle.block_machine.specs.Histories.{JointState, IsReachable}
 use Rattle.block_machine.specs.Expected.{after}
 use Rattle.block_machine.specs.Ports.{Evidence, IsStoppedOrStuck, Ports, SamePort}
 use Rattle.block_machine.specs.State.{Pending, Machine}
-use Rattle.block_machine.specs.Steps.{Step, Again, Answer}
+use Rattle.block_machine.specs.Steps.{Step, WaitAgain, Answer}
 use Rattle.host_boot.specs.TakeOver.{probe_result_of}
-use Rattle.driver_history.specs.Heeding.{tells_fault}
+use Rattle.driver_history.specs.EvidenceHandling.{tells_fault}
 use Rattle.driver_history.specs.Evidence.{ShowsChange, ShowsFailure}
 use Rattle.driver_history.specs.Histories.{FindsDone, IsAnsweredOk, IsIssuedOn, RunsWellAnew}
-use Rattle.driver_history.specs.Parts.{HasTurnIn, IsOfOtherPort, EvidenceAgreesOn}
-use Rattle.driver_history.specs.Trace.{DoesNotWriteCmd, LeavesEngine, ResetsLink}
+use Rattle.driver_history.specs.PortTurn.{HasTurnIn, IsOfOtherPort, EvidenceAgreesOn}
+use Rattle.driver_history.specs.AccessTrace.{DoesNotWriteCmd, LeavesEngine, ResetsLink}
 use Rattle.driver_history.specs.PortInvariants.{EngineRuns}
 use Rattle.server_history.specs.Prerequisites.{PrerequisiteLaws}
 use Rattle.server_history.specs.Turns.{FindsDoneInTurn, IsPortTurn, HandlesShownErrors, SimulatesTurn, joint_state_of, abstract_state_of}
 use Rattle.server_history.proofs.whole_call.ServiceAndTick.{Plan, TakesTurn, not_reset, turn_at}
-use Rattle.server_history.specs.Server.{ServerState, InCallInvariant, MachineRelation, SettledInvariant, ports_of, state_of, used_for}
+use Rattle.server_history.specs.ServerState.{ServerState, InCallInvariant, MachineRelation, SettledInvariant, ports_of, state_of, used_for}
 use Rattle.server_history.proofs.any_turn.TurnSteps.{IsSame, counts_none}
 use Rattle.server_history.proofs.whole_call.Progress.{others_leave}
 use Rattle.server_history.proofs.whole_call.Progress as progress
@@ -48,7 +48,7 @@ use Rattle.server_history.proofs.state.PortSlots.{HasSlot, IsServedBy, free_unus
 use Rattle.server_history.proofs.any_turn.TurnsInOrder.{again_of, answered_of, present_before}
 use Rattle.server_history.proofs.any_turn.JoinedParts.{dead_or_not}
 use Rattle.slots.specs.declared.SlotUse.{SlotUse}
-use Rattle.slots.specs.Uses.{PortSlots, use_at}
+use Rattle.slots.specs.SlotUses.{PortSlots, use_at}
 
 -- where no answer is of the port, no fault of it is told
 none_told : (q : Port) (steps : List Step) → ((e : Pending) (o : Outcome) → Contains steps (Answer e o) → e.request.port ≢ q) → list_any (tells_fault q) steps ≡ false
@@ -64,7 +64,7 @@ counts_apart q steps apart = counts_none (tells_fault q) steps (none_told q step
 
 module _ (plan : Plan) (laws : PrerequisiteLaws) (s : ServerState) (start : SettledInvariant s) (old : AbstractState) (reached : IsReachable old.machine) (at : MachineRelation s old.machine) (ports_are : old.ports ≡ ports_of s) where
   abbrev kept : InCallInvariant s
-  kept = start.kept
+  kept = start.in_call_invariant
 
   abbrev began : JointState Device
   began = record { device = s.device; abstract = old }
@@ -84,7 +84,7 @@ module _ (plan : Plan) (laws : PrerequisiteLaws) (s : ServerState) (start : Sett
     m = after old.machine p.steps
 
     abbrev x : SimulatesTurn (turn_at plan (probe_result_of s.ports n) n) (port_at n) its part.accesses c mid m
-    x = part.makes m m_reached p.stands
+    x = part.simulates_turn m m_reached p.machine_relation
 
     abbrev all : List Step
     all = x.steps ++ p.steps
@@ -105,7 +105,7 @@ module _ (plan : Plan) (laws : PrerequisiteLaws) (s : ServerState) (start : Sett
         let is : e.request.port.0 ≡ n = ap (λ (q : Port). q.0) own in
         omega (arith, small, is)
 
-    pub not_again : (e : Pending) → Contains p.steps (Again e) → e.request.port ≢ port_at n
+    pub not_again : (e : Pending) → Contains p.steps (WaitAgain e) → e.request.port ≢ port_at n
     not_again e early own =
         let small = again_of (λ q. q.0 < n) p.steps p.turns.below e early in
         let is : e.request.port.0 ≡ n = ap (λ (q : Port). q.0) own in
@@ -119,11 +119,11 @@ module _ (plan : Plan) (laws : PrerequisiteLaws) (s : ServerState) (start : Sett
       later = [];
       start = c.device;
       end = mid.device;
-      first = p.does;
-      then = part.does;
-      last = refl;
-      others = p.others (port_at n) not_yet;
-      others_later = All-nil (IsOfOtherPort (port_at n));
+      leads_to_start = p.turn_is_taken;
+      turn_leads_to_end = part.accesses_are_done;
+      leads_to_new = refl;
+      earlier_are_of_others = p.others (port_at n) not_yet;
+      later_are_of_others = All-nil (IsOfOtherPort (port_at n));
     }
 
     -- ---- what is answered, and what keeps its issue
@@ -147,19 +147,19 @@ module _ (plan : Plan) (laws : PrerequisiteLaws) (s : ServerState) (start : Sett
 
     -- one that it leaves ready runs
     runs_then : state_of (probe_result_of mid.ports n) ≡ ReadyState → EngineRuns n mid.device
-    runs_then ready_mid = (next.kept.behind n (ready_found mid n next.kept ready_mid).0).runs ready_mid
+    runs_then ready_mid = (next.in_call_invariant.port_invariant n (ready_found mid n next.in_call_invariant ready_mid).0).engine_runs ready_mid
 
     -- where the turn stopped the port and left it ready, ST was set in it
     pub set_since : state_of (probe_result_of mid.ports n) ≡ ReadyState → IsStoppedOrStuck x.evidence (port_at n) → length c.device.tape ≤ (mid.device.port n).notes.st_set_at
     set_since ready_mid i = ⊎_elim
         (λ stopped. ⊎_elim
-        (λ stops. laws.calls.set_since (port_at n) part.accesses c.device mid.device p.on
-        (All-weaker (SparesOtherPorts (port_at n)) (DoesNotWrite Ghc) (λ access of. laws.of_host (port_at n) access of) part.accesses part.of) part.does stops (runs_then ready_mid).st)
+        (λ stops. laws.calls.set_since (port_at n) part.accesses c.device mid.device p.adapter_is_on
+        (All-weaker (SparesOtherPorts (port_at n)) (DoesNotWrite Ghc) (λ access of. laws.of_host (port_at n) access of) part.accesses part.accesses_are_of_port) part.accesses_are_done stops (runs_then ready_mid).st)
         (λ (reset : _ × _). absurd (not_reset plan (probe_result_of s.ports n) n its reset.0))
-        (x.evidenced.stopped_only stopped))
+        (x.is_evidenced.stopped_only stopped))
         (λ stuck. ⊎_elim
-        (λ (dead : state_of (probe_result_of c.ports n) ≡ Dead). let z : ReadyState ≡ Dead = sym ready_mid ∙ (x.becomes.0 dead).1 ∙ dead in absurd cc)
-        (λ (lives : state_of (probe_result_of c.ports n) ≢ Dead). let z : ReadyState ≡ Dead = sym ready_mid ∙ (x.becomes.1 lives).0.stuck.1 stuck in absurd cc)
+        (λ (dead : state_of (probe_result_of c.ports n) ≡ Dead). let z : ReadyState ≡ Dead = sym ready_mid ∙ (x.port_is_serviced.0 dead).1 ∙ dead in absurd cc)
+        (λ (lives : state_of (probe_result_of c.ports n) ≢ Dead). let z : ReadyState ≡ Dead = sym ready_mid ∙ (x.port_is_serviced.1 lives).0.dead_is_stuck.1 stuck in absurd cc)
         (dead_or_not (state_of (probe_result_of c.ports n))))
         i
 
@@ -172,9 +172,9 @@ module _ (plan : Plan) (laws : PrerequisiteLaws) (s : ServerState) (start : Sett
 
       pub trouble_whole : HandlesShownErrors (port_at n) accesses began evidence (ports_of mid) mid.device
       trouble_whole = record {
-        port_error = laws.calls.call_trouble (port_at n) began (abstract_state_of c m) (ports_of mid) (ports_of mid) mid.device x.evidence evidence kept.on t on_mid same_self alike same_n set_since stops_troubled did.port_error;
-        well = subst (λ (list : List Access). RunsWellAnew evidence (p.accesses ++ list) began (ports_of mid) mid.device (port_at n)) (append-nil part.accesses)
-            (laws.calls.call_well (port_at n) began (abstract_state_of c m) (ports_of mid) (ports_of mid) mid.device x.evidence evidence kept.on t on_mid linked same_self alike (λ ready_mid. (runs_then ready_mid).recorded.known) did.well);
+        loses_no_error = laws.calls.call_trouble (port_at n) began (abstract_state_of c m) (ports_of mid) (ports_of mid) mid.device x.evidence evidence kept.adapter_is_on t on_mid same_self alike same_n set_since stops_troubled did.loses_no_error;
+        runs_well_anew = subst (λ (list : List Access). RunsWellAnew evidence (p.accesses ++ list) began (ports_of mid) mid.device (port_at n)) (append-nil part.accesses)
+            (laws.calls.call_well (port_at n) began (abstract_state_of c m) (ports_of mid) (ports_of mid) mid.device x.evidence evidence kept.adapter_is_on t on_mid linked same_self alike (λ ready_mid. (runs_then ready_mid).faults_are_recorded.st_set_is_on_tape) did.runs_well_anew);
       }
 
     -- ---- a ready port
@@ -190,7 +190,7 @@ module _ (plan : Plan) (laws : PrerequisiteLaws) (s : ServerState) (start : Sett
       was_ready = ap (λ (ports : Ports). ports.state (port_at n)) ports_are ∙ ready
 
       pub undue : (s.device.port n).link_due ≡ false
-      undue = ((kept.behind n low).runs ready).recorded.linked
+      undue = ((kept.port_invariant n low).engine_runs ready).faults_are_recorded.no_link_is_due
 
       -- ---- requests, when the call began and when the turn did
 
@@ -204,23 +204,23 @@ module _ (plan : Plan) (laws : PrerequisiteLaws) (s : ServerState) (start : Sett
 
       pub leading : (e : Pending) → IsIssuedOn (port_at n) old.machine e → IsLeading e
       leading e own =
-          let w = p.turns.further e own.here (let q = ap (λ (x : Port). x.0) own.port_is in omega (arith, q)) in
+          let w = p.turns.further e own.is_in_book (let q = ap (λ (x : Port). x.0) own.port_is in omega (arith, q)) in
           let issued : w.0.issued ≡ true = w.2.issued ∙ own.issued in
-          record { now_is = w.0; here = w.1; same_as = w.2; issued_now = issued; has = issued_has c m (port_at n) p.stands p.settled.kept ready_c w.0 w.1 (ap (λ r. r.port) w.2.request ∙ own.port_is) issued }
+          record { now_is = w.0; here = w.1; same_as = w.2; issued_now = issued; has = issued_has c m (port_at n) p.machine_relation p.settled_invariant.in_call_invariant ready_c w.0 w.1 (ap (λ r. r.port) w.2.request ∙ own.port_is) issued }
 
       pub then_issued : (e : Pending) → IsIssuedOn (port_at n) old.machine e → (h : IsLeading e) → IsIssuedOn (port_at n) m h.now_is
-      then_issued e own h = record { here = h.here; port_is = ap (λ r. r.port) h.same_as.request ∙ own.port_is; issued = h.issued_now }
+      then_issued e own h = record { is_in_book = h.here; port_is = ap (λ r. r.port) h.same_as.request ∙ own.port_is; issued = h.issued_now }
 
       -- one that had ended was issued
       pub ended_on : (e : Pending) → Contains old.machine.book e → e.request.port ≡ port_at n → e.ended ≡ true → IsIssuedOn (port_at n) old.machine e
-      ended_on e there own ended = record { here = there; port_is = own; issued = laws.basic.ended_issued old.machine e reached there ended }
+      ended_on e there own ended = record { is_in_book = there; port_is = own; issued = laws.basic.ended_issued old.machine e reached there ended }
 
       -- its slot serves it when the turn begins
-      pub slot_serves : (e : Pending) → (h : IsLeading e) → p.stands.uses n h.has.slot ≡ Serves h.now_is.request.id
-      slot_serves e h = serves_used c m n p.stands ready_c h.has.slot h.has.used h.has.used_is ∙ ap Serves h.has.id_is
+      pub slot_serves : (e : Pending) → (h : IsLeading e) → p.machine_relation.uses n h.has.slot ≡ Serves h.now_is.request.id
+      slot_serves e h = serves_used c m n p.machine_relation ready_c h.has.slot h.has.used h.has.used_is ∙ ap Serves h.has.id_is
 
       pub by : (e : Pending) → (h : IsLeading e) → IsServedBy c m n h.has.slot h.now_is.request.id
-      by e h = served_request c m n h.has.slot p.stands ready_c h.now_is.request.id (slot_serves e h)
+      by e h = served_request c m n h.has.slot p.machine_relation ready_c h.now_is.request.id (slot_serves e h)
 
       -- the port's slots are what they were when the service began
       pub used_then : (i : ℕ) → used_for c.slots n i ≡ used_for s.slots n i
@@ -238,7 +238,7 @@ module _ (plan : Plan) (laws : PrerequisiteLaws) (s : ServerState) (start : Sett
             let same : e.request.id ≡ y.0.id = one_said laws s kept old.machine at n slot y.0 e.request.id ready y.1 says in
             let there = serves_used s old.machine n at ready slot y.0 y.1 ∙ ap Serves (sym same) in
             let here = serves_used s old.machine n at ready h.has.slot h.has.used (sym (used_then h.has.slot) ∙ h.has.used_is) ∙ ap Serves (h.has.id_is ∙ ap (λ r. r.id) h.same_as.request) in
-            absurd (apart (at.knows.agrees.apart n slot n h.has.slot e.request.id there here).1))
+            absurd (apart (at.driver_relation.state_relation.serve_apart n slot n h.has.slot e.request.id there here).1))
             (λ none. none)
             (used_or_not (used_for s.slots n slot))
 
@@ -246,16 +246,16 @@ module _ (plan : Plan) (laws : PrerequisiteLaws) (s : ServerState) (start : Sett
         has_ended = ap (λ (y : Pending). y.ended) (sym same) ∙ staged says.stage
           where
             free : IsEmptySlot (s.device.port n) slot
-            free = subst (λ (u : SlotState). RelatesSlot old.machine s.device.memory s.device.tape (s.device.port n) n slot u) (free_unused s old.machine n at ready slot unused) (at.knows.agrees.slot n slot)
+            free = subst (λ (u : SlotState). RelatesSlot old.machine s.device.memory s.device.tape (s.device.port n) n slot u) (free_unused s old.machine n at ready slot unused) (at.driver_relation.state_relation.relates_slots n slot)
 
             same : says.pending ≡ e
-            same = laws.basic.one old.machine reached says.pending e (still_booked s old.machine n at ready says.pending says.moves says.port_is).0 own.here (ap (λ (i : RequestId). i.0) says.id_is)
+            same = laws.basic.one old.machine reached says.pending e (still_booked s old.machine n at ready says.pending says.may_still_move says.port_is).0 own.is_in_book (ap (λ (i : RequestId). i.0) says.id_is)
 
-            staged : Stage s.device.memory (s.device.port n) n slot says.pending says.command says.places → says.pending.ended ≡ true
+            staged : IsInSomeStage s.device.memory (s.device.port n) n slot says.pending says.command says.places → says.pending.ended ≡ true
             staged (inl waits) = absurd (false≢true (sym free.issued ∙ waits.issued))
             staged (inr (inl taken)) = let z : None ≡ Some taken.command = sym free.free ∙ taken.taken in absurd cc
             staged (inr (inr (inl ended))) = ended.ended
-            staged (inr (inr (inr dropped))) = absurd (false≢true (sym dropped.stopped ∙ ((kept.behind n low).runs ready).st))
+            staged (inr (inr (inr dropped))) = absurd (false≢true (sym dropped.stopped ∙ ((kept.port_invariant n low).engine_runs ready).st))
 
       -- who is answered of the port was answered in the turn
       answered_late : (e : Pending) → e.request.port ≡ port_at n → (a : IsAnsweredOk e all) → Contains x.steps (Answer a.0 Ok)
@@ -284,7 +284,7 @@ module _ (plan : Plan) (laws : PrerequisiteLaws) (s : ServerState) (start : Sett
 
           apart_too : (slot : ℕ) → slot ≢ now.has.slot → ServesRequest old.machine s.device.memory (s.device.port n) n slot other.request.id → IsAnsweredOk other all ↔ AreClear slot
           apart_too slot apart says = (
-            (λ _. f.unused slot says.placed.slot_below (used_then slot ∙ unused other own slot apart says)),
+            (λ _. f.unused slot says.list_is_in_place.slot_below (used_then slot ∙ unused other own slot apart says)),
             (λ _.
                 let ok = ended now.now_is now.here (ap (λ r. r.port) now.same_as.request ∙ own.port_is) (now.same_as.ended (has_ended other own slot apart says)) in
                 (ok.0, ok.1 ∙ now.same_as.request, Contains-append_left x.steps p.steps (Answer ok.0 Ok) ok.2)),
@@ -297,11 +297,11 @@ module _ (plan : Plan) (laws : PrerequisiteLaws) (s : ServerState) (start : Sett
           reads = record {
             before = p.accesses ++ f.done.reads.before;
             later = f.done.reads.later;
-            here = ap (λ (late : List Access). p.accesses ++ late) f.done.reads.here
+            accesses_are_split = ap (λ (late : List Access). p.accesses ++ late) f.done.reads.accesses_are_split
                 ∙ sym (append_assoc p.accesses f.done.reads.before (Reading (Px (port_at n) Ci) f.done.ci ∷ Reading (Px (port_at n) Sact) f.done.sact ∷ f.done.reads.later));
-            running = All-append (DoesNotWriteCmd (port_at n)) p.accesses f.done.reads.before
+            cmd_is_unwritten_before = All-append (DoesNotWriteCmd (port_at n)) p.accesses f.done.reads.before
                 (All-weaker (LeavesEngine (port_at n)) (DoesNotWriteCmd (port_at n)) (λ access leaves. leaves.0) p.accesses (others_leave plan laws s start old reached at ports_are (port_at n) p.accesses (p.others (port_at n) not_yet)))
-                f.done.reads.running;
+                f.done.reads.cmd_is_unwritten_before;
           };
           exact = λ other slot own says. ⊎_elim
               (λ (same : slot ≡ (leading other own).has.slot). subst (λ (i : ℕ). IsAnsweredOk other all ↔ AreClear i) (sym same) (at_slot other own))

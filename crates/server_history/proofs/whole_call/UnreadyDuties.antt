@@ -15,14 +15,14 @@ use Rattle.block_machine.specs.Ports.{Evidence, IsStoppedOrStuck, Ports, SamePor
 use Rattle.block_machine.specs.State.{Machine}
 use Rattle.block_machine.specs.Steps.{Step}
 use Rattle.driver_history.specs.Histories.{BootsAnew, HasUnservedDisk, ProbesDisk, PortCorresponds}
-use Rattle.driver_history.specs.Parts.{EndsNoLinkDue, HasTurnIn, EvidenceAgreesOn}
-use Rattle.driver_history.specs.Trace.{ResetsLink}
+use Rattle.driver_history.specs.PortTurn.{EndsNoLinkDue, HasTurnIn, EvidenceAgreesOn}
+use Rattle.driver_history.specs.AccessTrace.{ResetsLink}
 use Rattle.host_boot.specs.TakeOver.{probe_result_of}
 use Rattle.host_boot.specs.declared.ProbeResult.{ProbeResult}
 use Rattle.host_boot.specs.declared.ProbeResult.TheVariants.{Ready, Unready, Unserved}
 use Rattle.server_history.specs.Prerequisites.{PrerequisiteLaws}
-use Rattle.server_history.specs.Server.{ServerState, InCallInvariant, MachineRelation, SettledInvariant, ports_of, state_of}
-use Rattle.server_history.specs.Turns.{IsPortTurn, HandlesShownErrors, InService, InProbe, SimulatesTurn, TurnCorresponds, Turn, joint_state_of, abstract_state_of, happening_of_turn}
+use Rattle.server_history.specs.ServerState.{ServerState, InCallInvariant, MachineRelation, SettledInvariant, ports_of, state_of}
+use Rattle.server_history.specs.Turns.{IsPortTurn, HandlesShownErrors, InService, InProbe, SimulatesTurn, TurnCorresponds, Turn, joint_state_of, abstract_state_of, joint_event_of_turn}
 use Rattle.server_history.proofs.whole_call.EarlierResults as carrying
 use Rattle.server_history.proofs.any_turn.JoinedParts.{dead_or_not}
 use Rattle.server_history.proofs.whole_call.TurnResults as lifting
@@ -38,7 +38,7 @@ is_tried (Unready state) n unready = refl
 
 module _ (laws : PrerequisiteLaws) (s : ServerState) (start : SettledInvariant s) (old : AbstractState) (reached : IsReachable old.machine) (at : MachineRelation s old.machine) (ports_are : old.ports ≡ ports_of s) where
   abbrev kept : InCallInvariant s
-  kept = start.kept
+  kept = start.in_call_invariant
 
   abbrev began : JointState Device
   began = record { device = s.device; abstract = old }
@@ -56,7 +56,7 @@ module _ (laws : PrerequisiteLaws) (s : ServerState) (start : SettledInvariant s
   there : (q : Port) → HasUnservedDisk old.ports q → ShowsDiskIfIn (s.device.port q.0)
   there q bad =
       let found = ⊎_elim (λ foreign. inl (sym (state_was q) ∙ foreign)) (λ unfit. inr (unfit.0, sym (state_was q) ∙ unfit.1)) bad in
-      (kept.behind q.0 (kept.there q.0 (bad_tends (probe_result_of s.ports q.0) found).0).0).shown
+      (kept.port_invariant q.0 (kept.served_ports_exist q.0 (bad_tends (probe_result_of s.ports q.0) found).0).0).shows_disk_if_in
       (found_bad (state_of (probe_result_of s.ports q.0)) found)
 
   -- ---- its turn
@@ -67,7 +67,7 @@ module _ (laws : PrerequisiteLaws) (s : ServerState) (start : SettledInvariant s
     m = after old.machine p.steps
 
     abbrev x : SimulatesTurn (turn_at AService (probe_result_of s.ports n) n) (port_at n) its part.accesses c mid m
-    x = part.makes m m_reached p.stands
+    x = part.simulates_turn m m_reached p.machine_relation
 
     abbrev all : List Step
     all = x.steps ++ p.steps
@@ -76,9 +76,9 @@ module _ (laws : PrerequisiteLaws) (s : ServerState) (start : SettledInvariant s
     accesses = p.accesses ++ part.accesses
 
     its_ties : TurnCorresponds InProbe (port_at n) its part.accesses c mid m x.evidence x.steps
-    its_ties = subst (λ (turn : Turn). TurnCorresponds turn (port_at n) its part.accesses c mid m x.evidence x.steps) (is_tried (probe_result_of s.ports n) n unready) x.ties
+    its_ties = subst (λ (turn : Turn). TurnCorresponds turn (port_at n) its part.accesses c mid m x.evidence x.steps) (is_tried (probe_result_of s.ports n) n unready) x.turn_corresponds
 
-    abbrev did : PortCorresponds (joint_state_of c m) (happening_of_turn InProbe its mid x.evidence x.steps) part.accesses (port_at n)
+    abbrev did : PortCorresponds (joint_state_of c m) (joint_event_of_turn InProbe its mid x.evidence x.steps) part.accesses (port_at n)
     did = its_ties.0
 
     abbrev t : HasTurnIn (port_at n) s.device mid.device
@@ -101,34 +101,34 @@ module _ (laws : PrerequisiteLaws) (s : ServerState) (start : SettledInvariant s
       -- so it was stopped, and its link reset
       stopped : (ports_of mid).state (port_at n) ≡ ReadyState → IsStoppedOrStuck x.evidence (port_at n)
       stopped ready = ⊎_elim
-          (λ (dead : (ports_of c).state (port_at n) ≡ Dead). absurd (no_same ready (x.becomes.0 dead)))
-          (λ (lives : (ports_of c).state (port_at n) ≢ Dead). ⊎_elim (λ same. absurd (no_same ready same)) (λ i. i) (x.becomes.1 lives).1)
+          (λ (dead : (ports_of c).state (port_at n) ≡ Dead). absurd (no_same ready (x.port_is_serviced.0 dead)))
+          (λ (lives : (ports_of c).state (port_at n) ≢ Dead). ⊎_elim (λ same. absurd (no_same ready same)) (λ i. i) (x.port_is_serviced.1 lives).1)
           (dead_or_not ((ports_of c).state (port_at n)))
 
       resets : (ports_of mid).state (port_at n) ≡ ReadyState → ResetsLink (port_at n) part.accesses
       resets ready = ⊎_elim
           (λ same. absurd (no_same ready same))
           (λ anew. ⊎_elim (λ dead. let z : Dead ≡ ReadyState = sym dead ∙ ready in absurd cc) (λ rest. ⊎_elim (λ absent. let z : Absent ≡ ReadyState = sym absent ∙ ready in absurd cc) (λ r. r) rest) anew)
-          did.boots.1
+          did.boots_anew.1
 
       heeds : HandlesShownErrors (port_at n) accesses began evidence (ports_of mid) mid.device
       heeds = lifting.trouble_whole AService laws s start old reached at ports_are n c mid before its p next part m_reached on_mid evidence alike same_n
-          (λ ready port_error. ⊎_elim (λ before. absurd (never_then before)) stopped ready) (λ ready. inr (resets ready)) (record { port_error = did.port_error; well = did.well })
+          (λ ready port_error. ⊎_elim (λ before. absurd (never_then before)) stopped ready) (λ ready. inr (resets ready)) (record { loses_no_error = did.loses_no_error; runs_well_anew = did.runs_well_anew })
 
-      pub tried_whole : PortCorresponds began (happening_of_turn InService [] mid evidence all) accesses (port_at n) × EndsNoLinkDue (port_at n) began (ports_of mid) mid.device
+      pub tried_whole : PortCorresponds began (joint_event_of_turn InService [] mid evidence all) accesses (port_at n) × EndsNoLinkDue (port_at n) began (ports_of mid) mid.device
       tried_whole = (
         record {
-          finds = λ ready. absurd (never ready);
-          faults = λ alone. absurd (never alone.ready);
-          probes = λ served comes. subst (λ (list : List Access). ProbesDisk (p.accesses ++ list) began (ports_of mid) mid.device (port_at n)) (append-nil part.accesses)
-              (laws.calls.call_tries (port_at n) began (abstract_state_of c m) (ports_of mid) (ports_of mid) mid.device kept.on t on_mid same_self same_n (there (port_at n)) its_ties.1 (λ none. did.probes (same_n.0 ∙ served) none) comes);
-          boots = subst (λ (list : List Access). BootsAnew Service (Served []) (p.accesses ++ list) began (ports_of mid) mid.device (port_at n)) (append-nil part.accesses)
-              (laws.calls.call_boots (port_at n) began (abstract_state_of c m) (ports_of mid) (ports_of mid) mid.device (Served its) (Served []) kept.on (λ ready. absurd (never ready)) t on_mid same_self same_n did.boots);
-          port_error = heeds.port_error;
-          well = heeds.well;
-          heeds = λ ready. absurd (never ready);
+          finds_done = λ ready. absurd (never ready);
+          plain_faults_are_told = λ alone. absurd (never alone.ready);
+          probes_disk = λ served comes. subst (λ (list : List Access). ProbesDisk (p.accesses ++ list) began (ports_of mid) mid.device (port_at n)) (append-nil part.accesses)
+              (laws.calls.call_tries (port_at n) began (abstract_state_of c m) (ports_of mid) (ports_of mid) mid.device kept.adapter_is_on t on_mid same_self same_n (there (port_at n)) its_ties.1 (λ none. did.probes_disk (same_n.0 ∙ served) none) comes);
+          boots_anew = subst (λ (list : List Access). BootsAnew Service (Served []) (p.accesses ++ list) began (ports_of mid) mid.device (port_at n)) (append-nil part.accesses)
+              (laws.calls.call_boots (port_at n) began (abstract_state_of c m) (ports_of mid) (ports_of mid) mid.device (Served its) (Served []) kept.adapter_is_on (λ ready. absurd (never ready)) t on_mid same_self same_n did.boots_anew);
+          loses_no_error = heeds.loses_no_error;
+          runs_well_anew = heeds.runs_well_anew;
+          handles_evidence = λ ready. absurd (never ready);
         },
-        laws.calls.call_linked (port_at n) began (abstract_state_of c m) (ports_of mid) (ports_of mid) mid.device kept.on t on_mid same_self same_n its_ties.1,
+        laws.calls.call_linked (port_at n) began (abstract_state_of c m) (ports_of mid) (ports_of mid) mid.device kept.adapter_is_on t on_mid same_self same_n its_ties.1,
       )
 
   -- ---- another port's turn after it
@@ -139,7 +139,7 @@ module _ (laws : PrerequisiteLaws) (s : ServerState) (start : SettledInvariant s
     m_then = after old.machine p.steps
 
     abbrev y : SimulatesTurn (turn_at AService (probe_result_of s.ports n) n) (port_at n) its part.accesses c mid m_then
-    y = part.makes m_then m_reached p.stands
+    y = part.simulates_turn m_then m_reached p.machine_relation
 
     abbrev steps_then : List Step
     steps_then = y.steps ++ p.steps
@@ -147,7 +147,7 @@ module _ (laws : PrerequisiteLaws) (s : ServerState) (start : SettledInvariant s
     abbrev accesses_then : List Access
     accesses_then = p.accesses ++ part.accesses
 
-    abbrev so_far : PortCorresponds began (happening_of_turn InService [] c p.evidence p.steps) p.accesses q
+    abbrev so_far : PortCorresponds began (joint_event_of_turn InService [] c p.evidence p.steps) p.accesses q
     so_far = d.ties.0
 
     abbrev turn : HasTurnIn q s.device mid.device
@@ -169,22 +169,22 @@ module _ (laws : PrerequisiteLaws) (s : ServerState) (start : SettledInvariant s
     reset_so_far ready = ⊎_elim
         (λ is. absurd (was_another ready is))
         (λ anew. ⊎_elim (λ dead. let z : Dead ≡ ReadyState = sym dead ∙ ready in absurd cc) (λ rest. ⊎_elim (λ absent. let z : Absent ≡ ReadyState = sym absent ∙ ready in absurd cc) (λ r. r) rest) anew)
-        so_far.boots.1
+        so_far.boots_anew.1
 
     heeds_still : HandlesShownErrors q accesses_then began evidence (ports_of mid) mid.device
     heeds_still = carrying.trouble_still AService laws s start old reached at ports_are n c mid before its p part m_reached q apart d evidence alike same
-        (λ ready port_error. ⊎_elim (λ before. absurd (unready before)) stopped_so_far ready) (λ ready. inr (reset_so_far ready)) (record { port_error = so_far.port_error; well = so_far.well })
+        (λ ready port_error. ⊎_elim (λ before. absurd (unready before)) stopped_so_far ready) (λ ready. inr (reset_so_far ready)) (record { loses_no_error = so_far.loses_no_error; runs_well_anew = so_far.runs_well_anew })
 
-    pub tried_still : PortCorresponds began (happening_of_turn InService [] mid evidence steps_then) accesses_then q × EndsNoLinkDue q began (ports_of mid) mid.device
+    pub tried_still : PortCorresponds began (joint_event_of_turn InService [] mid evidence steps_then) accesses_then q × EndsNoLinkDue q began (ports_of mid) mid.device
     tried_still = (
       record {
-        finds = λ ready. absurd (unready ready);
-        faults = λ alone. absurd (unready alone.ready);
-        probes = λ served comes. laws.calls.call_tries q began old (ports_of c) (ports_of mid) mid.device kept.on turn p.on same same_old (there q) d.ties.1 (λ none. so_far.probes served none) comes;
-        boots = laws.calls.call_boots q began old (ports_of c) (ports_of mid) mid.device (Served []) (Served []) kept.on (λ ready. absurd (unready ready)) turn p.on same same_old so_far.boots;
-        port_error = heeds_still.port_error;
-        well = heeds_still.well;
-        heeds = λ ready. absurd (unready ready);
+        finds_done = λ ready. absurd (unready ready);
+        plain_faults_are_told = λ alone. absurd (unready alone.ready);
+        probes_disk = λ served comes. laws.calls.call_tries q began old (ports_of c) (ports_of mid) mid.device kept.adapter_is_on turn p.adapter_is_on same same_old (there q) d.ties.1 (λ none. so_far.probes_disk served none) comes;
+        boots_anew = laws.calls.call_boots q began old (ports_of c) (ports_of mid) mid.device (Served []) (Served []) kept.adapter_is_on (λ ready. absurd (unready ready)) turn p.adapter_is_on same same_old so_far.boots_anew;
+        loses_no_error = heeds_still.loses_no_error;
+        runs_well_anew = heeds_still.runs_well_anew;
+        handles_evidence = λ ready. absurd (unready ready);
       },
-      laws.calls.call_linked q began old (ports_of c) (ports_of mid) mid.device kept.on turn p.on same same_old d.ties.1,
+      laws.calls.call_linked q began old (ports_of c) (ports_of mid) mid.device kept.adapter_is_on turn p.adapter_is_on same same_old d.ties.1,
     )

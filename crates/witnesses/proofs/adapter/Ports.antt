@@ -10,7 +10,7 @@ use Rattle.hba_regs.specs.Bits.{bit}
 use Rattle.hba_regs.specs.declared.reg.Reg.TheVariants.{Ghc, Px}
 use Rattle.adapter.specs.Access.Access.{Reading, Writing}
 use Rattle.adapter.specs.Steps.DeviceTransition.{Fall, LinkUp, Unplug}
-use Rattle.witnesses.specs.Runs.AccessOrStep.{Made, Came}
+use Rattle.witnesses.specs.AdapterRuns.AccessOrStep.{Made, Came}
 use Rattle.adapter.specs.Commands.{Meaning, is_queued}
 use Rattle.adapter.specs.Device.{Disk, IsDisk, IsSector, HasKnownSectors, DevicePort, Device}
 use Rattle.adapter.specs.FirstRead.{first_disk, no_disk, empty_port, first_disk_sector}
@@ -19,7 +19,7 @@ use Rattle.adapter.specs.Idle.{IsIdle, IsIdlePort, HoldsBytesAndTellsDisks}
 use Rattle.adapter.specs.Memory.{changed}
 use Rattle.adapter.specs.Rules.{IsProgrammed, MayWriteCmd, MayIssue}
 use Rattle.adapter.specs.Decoding.{DecodesTo}
-use Rattle.witnesses.specs.Runs.{AccessOrStep, IsAsReset, IsReachableByRun, CommandsAreSafe, MayAllCome, device_after_events, after_event}
+use Rattle.witnesses.specs.AdapterRuns.{AccessOrStep, IsAsReset, IsReachableByRun, CommandsAreSafe, AllMayCome, device_after_events, after_event}
 use Rattle.witnesses.proofs.adapter.RunningAdapter.{memory, memory_bytes}
 use Rattle.witnesses.proofs.adapter.Sets.{Range, is_in, covers, spares, spares_all, covered, spared, avoided, both, true-false}
 
@@ -55,7 +55,7 @@ at_each P with_disk without q =
 pub first_idle : IsIdle first
 first_idle = record {
   no_reset = refl;
-  port = at_each IsIdlePort
+  ports_are_idle = at_each IsIdlePort
       (record { st = refl; cr = refl; fre = refl; fr = refl; ci = λ _. refl; sact = λ _. refl; taken = λ _. refl })
       (record { st = refl; cr = refl; fre = refl; fr = refl; ci = λ _. refl; sact = λ _. refl; taken = λ _. refl });
 }
@@ -66,20 +66,20 @@ run_append : (xs ys : List AccessOrStep) (d : Device) → device_after_events ys
 run_append [] ys d = refl
 run_append (x ∷ xs) ys d = run_append xs ys (after_event x d)
 
-may_append : (xs ys : List AccessOrStep) (d : Device) → MayAllCome xs d → MayAllCome ys (device_after_events xs d) → MayAllCome (xs ++ ys) d
+may_append : (xs ys : List AccessOrStep) (d : Device) → AllMayCome xs d → AllMayCome ys (device_after_events xs d) → AllMayCome (xs ++ ys) d
 may_append [] ys d h more = more
 may_append (x ∷ xs) ys d h more = (h.0, may_append xs ys (after_event x d) h.1 more)
 
-pub reached_more : {d : Device} → IsReachableByRun d → (events : List AccessOrStep) → MayAllCome events d → IsReachableByRun (device_after_events events d)
+pub reached_more : {d : Device} → IsReachableByRun d → (events : List AccessOrStep) → AllMayCome events d → IsReachableByRun (device_after_events events d)
 reached_more {d} r events may = record {
-  first = r.first;
-  idle = r.idle;
-  off = r.off;
-  reset = r.reset;
-  sane = r.sane;
+  initial_device = r.initial_device;
+  starts_idle = r.starts_idle;
+  is_off = r.is_off;
+  ports_are_as_reset = r.ports_are_as_reset;
+  is_sane = r.is_sane;
   events = r.events ++ events;
-  may = may_append r.events events r.first r.may (let P : Device → Type 0 = λ e. MayAllCome events e in subst P r.is may);
-  is = ap (λ (e : Device). device_after_events events e) r.is ∙ run_append r.events events r.first;
+  events_may_come = may_append r.events events r.initial_device r.events_may_come (let P : Device → Type 0 = λ e. AllMayCome events e in subst P r.device_is may);
+  device_is = ap (λ (e : Device). device_after_events events e) r.device_is ∙ run_append r.events events r.initial_device;
 }
 
 -- an event of this port, or one that leaves all ports
@@ -156,7 +156,7 @@ one_bit n k set = elim (eqb_tells k n) [ inl same ↦ same.1 | inr other ↦ abs
 pub may_receive : (p : DevicePort) → p.fr ≡ false → p.bases.fb_set ≡ true → p.bases.fbu_set ≡ true → same_others 0x10 p.notes.last_cmd 32 ≡ true → MayWriteCmd p 0x10
 may_receive p fallen fb fbu same = record {
   start = λ h. absurd (true-false h refl);
-  receive = λ _. inr (record { fallen = fallen; fb = fb; fbu = fbu });
+  receive = λ _. inr (record { fr_is_clear = fallen; fb = fb; fbu = fbu });
   stop_receiving = λ h. absurd (true-false refl h);
   others = others_are 0x10 p.notes.last_cmd same;
 }
@@ -164,7 +164,7 @@ may_receive p fallen fb fbu same = record {
 pub may_start : (p : DevicePort) → p.cr ≡ false → p.fre ≡ true → IsProgrammed p → p.notes.last_ssts % 16 ≡ 3
     → bit p.notes.last_tfd 7 || bit p.notes.last_tfd 3 ≡ false → same_others 0x11 p.notes.last_cmd 32 ≡ true → MayWriteCmd p 0x11
 may_start p fallen receives programmed link not_busy same = record {
-  start = λ _. inr (record { fallen = fallen; receives = receives; programmed = programmed; link = link; not_busy = not_busy });
+  start = λ _. inr (record { cr_is_clear = fallen; receives = receives; programmed = programmed; link_was_seen = link; not_busy = not_busy });
   receive = λ _. inl receives;
   stop_receiving = λ h. absurd (true-false refl h);
   others = others_are 0x11 p.notes.last_cmd same;
@@ -177,10 +177,10 @@ pub issue_allowed : (d : Device) (p : DevicePort) (k : ℕ) → p.st ≡ true �
     → MayIssue d p (2 ^ k)
 issue_allowed d p k running usable free none m places says armed = record {
   running = running;
-  usable = λ slot set. rw (one_bit k slot set) usable;
-  free = λ slot set. (ap p.ci (one_bit k slot set) ∙ free, ap p.taken (one_bit k slot set) ∙ none);
-  says = λ slot set. (m, places, (let P : ℕ → Type 0 = λ s. DecodesTo d.memory p.bases.clb s m places in subst P (sym (one_bit k slot set)) says));
-  queued = λ slot n more set said. (let P : ℕ → Type 0 = λ s. DecodesTo d.memory p.bases.clb s n more → is_queued n.operation ≡ true → p.sact s ≡ true in
+  slots_are_usable = λ slot set. rw (one_bit k slot set) usable;
+  slots_are_free = λ slot set. (ap p.ci (one_bit k slot set) ∙ free, ap p.taken (one_bit k slot set) ∙ none);
+  slots_say_commands = λ slot set. (m, places, (let P : ℕ → Type 0 = λ s. DecodesTo d.memory p.bases.clb s m places in subst P (sym (one_bit k slot set)) says));
+  sact_is_set = λ slot n more set said. (let P : ℕ → Type 0 = λ s. DecodesTo d.memory p.bases.clb s n more → is_queued n.operation ≡ true → p.sact s ≡ true in
       subst P (sym (one_bit k slot set)) (armed n more) said);
 }
 
@@ -204,9 +204,9 @@ none_is = is_disk no_disk (λ k. []) refl (λ k small. absurd (omega (arith, sma
 
 pub first_sane : HoldsBytesAndTellsDisks first
 first_sane = record {
-  bytes = memory_bytes;
-  disk = at_each (λ p. IsDisk p.disk) disk_is none_is;
-  told = λ _. at_each (λ p. HasKnownSectors p.disk) (first_disk_sector, refl) (λ k. [], refl);
+  memory_holds_bytes = memory_bytes;
+  disks_hold_sectors = at_each (λ p. IsDisk p.disk) disk_is none_is;
+  disks_are_told = λ _. at_each (λ p. HasKnownSectors p.disk) (first_disk_sector, refl) (λ k. [], refl);
 }
 
 first_reset : (q : ℕ) → IsAsReset (first.port q)
@@ -215,7 +215,7 @@ first_reset = at_each IsAsReset
     (record { bases = refl; control = refl; link = refl; due = refl; fresh = refl; halt = refl; broken = refl; notes = refl })
 
 pub first_reached : IsReachableByRun first
-first_reached = record { first = first; idle = first_idle; off = refl; reset = first_reset; sane = first_sane; events = []; may = tt; is = refl }
+first_reached = record { initial_device = first; starts_idle = first_idle; is_off = refl; ports_are_as_reset = first_reset; is_sane = first_sane; events = []; events_may_come = tt; device_is = refl }
 
 -- ---- what is safe
 
@@ -228,10 +228,10 @@ slot_guarded rs mem list slot m places s table is head rest whole count apart = 
   meaning = m;
   places = places;
   says = s;
-  head = covered rs _ _ head;
-  rest = covered rs _ _ rest;
-  table = λ at low high. covered rs table (table + 144) whole at (omega (arith, low, is.0)) (omega (arith, high, is.0, is.1));
-  count = spared rs _ _ count;
+  header_start_is_table = covered rs _ _ head;
+  header_end_is_table = covered rs _ _ rest;
+  table_is_guarded = λ at low high. covered rs table (table + 144) whole at (omega (arith, low, is.0)) (omega (arith, high, is.0, is.1));
+  prdbc_is_not_kept = spared rs _ _ count;
   places_avoid = avoided rs places apart;
 }
 
@@ -239,9 +239,9 @@ slot_guarded rs mem list slot m places s table is head rest whole count apart = 
 pub unused_port : (rs : List Range) (mem : ℕ → ℕ) (p : DevicePort) → ((k : ℕ) → p.ci k ≡ false) → ((k : ℕ) → p.taken k ≡ None)
     → (p.fre ≡ true → spares rs p.bases.fb (p.bases.fb + 256) ≡ true) → IsGuardedPort (PassesTest (is_in rs)) (PassesTest (is_in rs)) mem p
 unused_port rs mem p clear none area = record {
-  slot = λ k used. absurd (elim used [ inl issued ↦ true-false issued (clear k) | inr t ↦ (let e : None ≡ Some t.0 = sym (none k) ∙ t.1 in (cc)) ]);
-  taken = λ k t is. absurd (let e : None ≡ Some t = sym (none k) ∙ is in (cc));
-  received = λ on. spared rs _ _ (area on);
+  slots_are_guarded = λ k used. absurd (elim used [ inl issued ↦ true-false issued (clear k) | inr t ↦ (let e : None ≡ Some t.0 = sym (none k) ∙ t.1 in (cc)) ]);
+  taken_pieces_are_not_kept = λ k t is. absurd (let e : None ≡ Some t = sym (none k) ∙ is in (cc));
+  received_fis_is_not_kept = λ on. spared rs _ _ (area on);
 }
 
 -- one with commands that are issued and not taken
@@ -249,9 +249,9 @@ pub issued_port : (rs : List Range) (mem : ℕ → ℕ) (p : DevicePort)
     → ((k : ℕ) → p.ci k ≡ true → IsGuardedSlot (PassesTest (is_in rs)) (PassesTest (is_in rs)) mem p.bases.clb k) → ((k : ℕ) → p.taken k ≡ None)
     → (p.fre ≡ true → spares rs p.bases.fb (p.bases.fb + 256) ≡ true) → IsGuardedPort (PassesTest (is_in rs)) (PassesTest (is_in rs)) mem p
 issued_port rs mem p issued none area = record {
-  slot = λ k used. elim used [ inl set ↦ issued k set | inr t ↦ absurd (let e : None ≡ Some t.0 = sym (none k) ∙ t.1 in (cc)) ];
-  taken = λ k t is. absurd (let e : None ≡ Some t = sym (none k) ∙ is in (cc));
-  received = λ on. spared rs _ _ (area on);
+  slots_are_guarded = λ k used. elim used [ inl set ↦ issued k set | inr t ↦ absurd (let e : None ≡ Some t.0 = sym (none k) ∙ t.1 in (cc)) ];
+  taken_pieces_are_not_kept = λ k t is. absurd (let e : None ≡ Some t = sym (none k) ∙ is in (cc));
+  received_fis_is_not_kept = λ on. spared rs _ _ (area on);
 }
 
 -- a port as it was at first
@@ -269,8 +269,8 @@ unused_safe d clear none elsewhere = record {
   tables = is_in [];
   kept = is_in [];
   guarded = record {
-    within = λ at h. h;
-    port = λ q. elim (eqb_tells q 0) [
+    tables_are_kept = λ at h. h;
+    ports_are_guarded = λ q. elim (eqb_tells q 0) [
       | inl here ↦ (let P : ℕ → Type 0 = λ n. IsGuardedPort (PassesTest (is_in [])) (PassesTest (is_in [])) d.memory (d.port n) in
           subst P (sym here.1) (unused_port [] d.memory (d.port 0) clear none (λ on. refl)))
       | inr away ↦ (let P : DevicePort → Type 0 = λ p. IsGuardedPort (PassesTest (is_in [])) (PassesTest (is_in [])) d.memory p in

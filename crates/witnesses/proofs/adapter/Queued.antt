@@ -13,8 +13,8 @@ use Rattle.adapter.specs.Memory.{changed}
 use Rattle.adapter.specs.Steps.{Steps, Can, begun, device_after}
 use Rattle.adapter.specs.Steps.DeviceTransition.{Fetch, Move, Done, Fault}
 use Rattle.adapter.specs.declared.command.Operation.TheVariants.{ReadQueued, Trim}
-use Rattle.witnesses.specs.Runs.{AccessOrStep, IsReachableByRun, device_after_events}
-use Rattle.witnesses.specs.Runs.AccessOrStep.{Made, Came}
+use Rattle.witnesses.specs.AdapterRuns.{AccessOrStep, IsReachableByRun, device_after_events}
+use Rattle.witnesses.specs.AdapterRuns.AccessOrStep.{Made, Came}
 use Rattle.witnesses.proofs.adapter.Ports.{reached_more, issue_allowed, slot_guarded, issued_port, told_bytes, are_of, is_of, run_elsewhere, first, no_bit, untouched}
 use Rattle.witnesses.proofs.adapter.RunningAdapter.{memory, queued_read, first_says, first_table, second_says, second_table}
 use Rattle.witnesses.proofs.adapter.Sets.{Range, is_in, covers, spares, spares_all, true-false}
@@ -101,8 +101,8 @@ issued_here = issued_port kept memory (issued.port 0)
 
 pub issued_safe : IsGuarded (PassesTest (is_in kept)) (PassesTest (is_in kept)) issued
 issued_safe = record {
-  within = λ at h. h;
-  port = λ q. elim (eqb_tells q 0) [
+  tables_are_kept = λ at h. h;
+  ports_are_guarded = λ q. elim (eqb_tells q 0) [
     | inl here ↦ (let P : ℕ → Type 0 = λ n. IsGuardedPort (PassesTest (is_in kept)) (PassesTest (is_in kept)) memory (issued.port n) in subst P (sym here.1) issued_here)
     | inr other ↦ (let P : DevicePort → Type 0 = λ p. IsGuardedPort (PassesTest (is_in kept)) (PassesTest (is_in kept)) memory p in
         subst P (sym (issued_elsewhere q other.1)) (untouched kept memory q))
@@ -150,7 +150,7 @@ unfolding changed
 may_fetch = record {
   fetchable = record { st = refl; issued = refl; free = refl };
   working = record { running = refl; present = refl; fresh = refl; admitted = refl; whole = refl };
-  alone = λ slot t is. absurd (let e : None ≡ Some t = is in (cc));
+  is_unmixed = λ slot t is. absurd (let e : None ≡ Some t = is in (cc));
   says = first_says;
 }
 
@@ -162,7 +162,7 @@ unfolding changed
 may_fetch_other = record {
   fetchable = record { st = refl; issued = refl; free = refl };
   working = record { running = refl; present = refl; fresh = refl; admitted = refl; whole = refl };
-  alone = λ slot t is. only_one slot t is;
+  is_unmixed = λ slot t is. only_one slot t is;
   says = second_says;
 }
 
@@ -176,8 +176,8 @@ pub may_move : Can (Move 0 1 other (first_disk_sector 100)) taken
 unfolding changed
 may_move = record {
   works = record { taken = refl; working = record { running = refl; present = refl; fresh = refl; admitted = refl; whole = refl } };
-  left = omega arith;
-  sector = told_bytes 100 (omega arith);
+  piece_is_left = omega arith;
+  bytes_are_sector = told_bytes 100 (omega arith);
   brings = (omega arith, refl);
 }
 
@@ -197,15 +197,15 @@ pub may_end : Can (Done 0 1 3 other_moved) moved
 unfolding changed
 may_end = record {
   works = record { taken = refl; working = record { running = refl; present = refl; fresh = refl; admitted = refl; whole = refl } };
-  finished = record { moved = refl; cleared = λ e. absurd (not_a_trim e) };
-  shown = inr (inr refl);
+  finished = record { all_is_moved = refl; all_is_cleared = λ e. absurd (not_a_trim e) };
+  cause_is_allowed = inr (inr refl);
 }
 
 -- ---- the first fails
 
 pub may_fail : Can (Fault 0 0 0x40 0 one) taken
 unfolding changed
-may_fail = record { taken = refl; running = refl; is_byte = omega arith; kept = refl }
+may_fail = record { taken = refl; running = refl; is_byte = omega arith; kept_bits_are_allowed = refl }
 
 abbrev pub failed : Device
 failed = device_after (Fault 0 0 0x40 0 one) taken

@@ -7,8 +7,8 @@ use Rattle.adapter.specs.Access.Access.{Writing}
 use Rattle.adapter.specs.Device.{DevicePort, Device}
 use Rattle.adapter.specs.Guarded.{IsGuarded, IsGuardedPort, IsGuardedSlot, PassesTest}
 use Rattle.adapter.specs.Memory.{changed}
-use Rattle.witnesses.specs.Runs.{AccessOrStep, IsReachableByRun, device_after_events}
-use Rattle.witnesses.specs.Runs.AccessOrStep.{Made}
+use Rattle.witnesses.specs.AdapterRuns.{AccessOrStep, IsReachableByRun, device_after_events}
+use Rattle.witnesses.specs.AdapterRuns.AccessOrStep.{Made}
 use Rattle.witnesses.proofs.adapter.Ports.{are_of, is_of, first, issue_allowed, issued_port, no_bit, may_receive, may_start, reached_more, run_elsewhere, same_others, slot_guarded, untouched}
 use Rattle.witnesses.proofs.adapter.Queued.{one_issued, one_issued_reached, queue}
 use Rattle.witnesses.proofs.adapter.RunningAdapter.{memory, queued_read, first_says, first_table, other_port_says, other_port_table}
@@ -49,7 +49,7 @@ both_started = device_after_events (start 1) prepared
 both_started_reached : IsReachableByRun both_started
 unfolding changed same_others
 both_started_reached = reached_more prepared_reached (start 1) (
-  record { present = refl; det = refl; due = refl; fits = omega arith },
+  record { present = refl; no_comreset = refl; link_is_due = refl; sig_fits = omega arith },
   (
     ((record { ae = refl; no_reset = refl }, (omega arith, refl)), refl),
     (
@@ -135,8 +135,8 @@ elsewhere q zero one =
 
 pub resetting_safe : IsGuarded (PassesTest (is_in kept)) (PassesTest (is_in kept)) resetting
 resetting_safe = record {
-  within = λ at h. h;
-  port = λ q. elim (eqb_tells q 0) [
+  tables_are_kept = λ at h. h;
+  ports_are_guarded = λ q. elim (eqb_tells q 0) [
     | inl here ↦ (let P : ℕ → Type 0 = λ n. Safe n (resetting.port n) in subst P (sym here.1) port_zero)
     | inr away ↦ elim (eqb_tells q 1) [
       | inl there ↦ (let P : ℕ → Type 0 = λ n. Safe n (resetting.port n) in subst P (sym there.1) port_one)

@@ -74,46 +74,46 @@ says_by : (list slot table : ℕ) (m : Meaning) (address : ℕ)
 says_by list slot table m address size first points aligned zeros fis meaning entry many = record {
   table = table;
   prds = prd address ∷ [];
-  header = record { size = size; first = first; points = points; aligned = aligned; zeros = zeros_are _ 12 20 zeros };
+  header = record { size = size; dword0_is = first; table_address_is = points; aligned = aligned; zeros = zeros_are _ 12 20 zeros };
   fis = fis;
   meaning = meaning;
-  stand = (entry, tt);
-  few = omega arith;
-  whole = all_whole address;
-  in_order = refl;
-  as_many = many;
+  prds_stand = (entry, tt);
+  prd_count_is_allowed = omega arith;
+  prds_are_whole_pieces = all_whole address;
+  places_are = refl;
+  place_count_is = many;
 }
 
 pub first_says : DecodesTo memory 0 0 queued_read (0x28000 ∷ [])
 unfolding memory patched bytes_at zero_run
 first_says = says_by 0 0 0x1000 queued_read 0x28000 refl refl refl refl refl
-    (record { size = refl; kind = refl; c_bit = refl; code = refl; features = refl; lba = refl; device = refl; count = refl; zeros = zeros_are (bytes_at memory 0x1000 20) 14 6 refl })
+    (record { size = refl; fis_type = refl; c_bit = refl; code = refl; features = refl; lba = refl; device = refl; count = refl; zeros = zeros_are (bytes_at memory 0x1000 20) 14 6 refl })
     (record { ranged = λ _. (omega arith, omega arith, omega arith); not_ranged = λ h. absurd (true-false refl h) })
-    (record { size = refl; allowed = record { even_address = refl; even_bytes = refl; some = omega arith; limit = omega arith }; address = refl; upper = refl; count = refl })
+    (record { size = refl; allowed = record { even_address = refl; even_bytes = refl; is_not_empty = omega arith; is_at_most_4_mib = omega arith }; address = refl; upper_is_zero = refl; byte_count_is = refl })
     refl
 
 pub second_says : DecodesTo memory 0 1 queued_read (0x29000 ∷ [])
 unfolding memory patched bytes_at zero_run
 second_says = says_by 0 1 0x1400 queued_read 0x29000 refl refl refl refl refl
-    (record { size = refl; kind = refl; c_bit = refl; code = refl; features = refl; lba = refl; device = refl; count = refl; zeros = zeros_are (bytes_at memory 0x1400 20) 14 6 refl })
+    (record { size = refl; fis_type = refl; c_bit = refl; code = refl; features = refl; lba = refl; device = refl; count = refl; zeros = zeros_are (bytes_at memory 0x1400 20) 14 6 refl })
     (record { ranged = λ _. (omega arith, omega arith, omega arith); not_ranged = λ h. absurd (true-false refl h) })
-    (record { size = refl; allowed = record { even_address = refl; even_bytes = refl; some = omega arith; limit = omega arith }; address = refl; upper = refl; count = refl })
+    (record { size = refl; allowed = record { even_address = refl; even_bytes = refl; is_not_empty = omega arith; is_at_most_4_mib = omega arith }; address = refl; upper_is_zero = refl; byte_count_is = refl })
     refl
 
 pub trim_says : DecodesTo memory 0 2 a_trim (0x9000 ∷ [])
 unfolding memory patched bytes_at zero_run
 trim_says = says_by 0 2 0x1800 a_trim 0x9000 refl refl refl refl refl
-    (record { size = refl; kind = refl; c_bit = refl; code = refl; features = refl; lba = refl; device = refl; count = refl; zeros = zeros_are (bytes_at memory 0x1800 20) 14 6 refl })
+    (record { size = refl; fis_type = refl; c_bit = refl; code = refl; features = refl; lba = refl; device = refl; count = refl; zeros = zeros_are (bytes_at memory 0x1800 20) 14 6 refl })
     (record { ranged = λ h. absurd (true-false h refl); not_ranged = λ _. (refl, refl) })
-    (record { size = refl; allowed = record { even_address = refl; even_bytes = refl; some = omega arith; limit = omega arith }; address = refl; upper = refl; count = refl })
+    (record { size = refl; allowed = record { even_address = refl; even_bytes = refl; is_not_empty = omega arith; is_at_most_4_mib = omega arith }; address = refl; upper_is_zero = refl; byte_count_is = refl })
     refl
 
 pub other_port_says : DecodesTo memory 0x800 0 queued_read (0x2a000 ∷ [])
 unfolding memory patched bytes_at zero_run
 other_port_says = says_by 0x800 0 0x1c00 queued_read 0x2a000 refl refl refl refl refl
-    (record { size = refl; kind = refl; c_bit = refl; code = refl; features = refl; lba = refl; device = refl; count = refl; zeros = zeros_are (bytes_at memory 0x1c00 20) 14 6 refl })
+    (record { size = refl; fis_type = refl; c_bit = refl; code = refl; features = refl; lba = refl; device = refl; count = refl; zeros = zeros_are (bytes_at memory 0x1c00 20) 14 6 refl })
     (record { ranged = λ _. (omega arith, omega arith, omega arith); not_ranged = λ h. absurd (true-false refl h) })
-    (record { size = refl; allowed = record { even_address = refl; even_bytes = refl; some = omega arith; limit = omega arith }; address = refl; upper = refl; count = refl })
+    (record { size = refl; allowed = record { even_address = refl; even_bytes = refl; is_not_empty = omega arith; is_at_most_4_mib = omega arith }; address = refl; upper_is_zero = refl; byte_count_is = refl })
     refl
 
 pub first_table : (first_says.table ≡ 0x1000) × (length first_says.prds ≡ 1)

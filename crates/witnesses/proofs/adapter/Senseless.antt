@@ -9,8 +9,8 @@ use Rattle.adapter.specs.Decoding.{DecodesTo}
 use Rattle.adapter.specs.Encoding.{EncodesCommand}
 use Rattle.adapter.specs.Steps.{Can}
 use Rattle.adapter.specs.Steps.DeviceTransition.{FetchFault, Scribble}
-use Rattle.witnesses.specs.Runs.{AccessOrStep, IsReachableByRun, device_after_events}
-use Rattle.witnesses.specs.Runs.AccessOrStep.{Came}
+use Rattle.witnesses.specs.AdapterRuns.{AccessOrStep, IsReachableByRun, device_after_events}
+use Rattle.witnesses.specs.AdapterRuns.AccessOrStep.{Came}
 use Rattle.witnesses.proofs.adapter.Ports.{reached_more}
 use Rattle.witnesses.proofs.adapter.Queued.{issued_at, issued_at_reached}
 use Rattle.witnesses.proofs.adapter.RunningAdapter.{memory}
@@ -41,10 +41,10 @@ starts = refl
 
 says_nothing : (m : Meaning) (places : List ℕ) → DecodesTo scribbled 0 0 m places → ⊥
 says_nothing m places says =
-    let at : says.table ≡ 0x1000 = sym says.header.points ∙ points in
+    let at : says.table ≡ 0x1000 = sym says.header.table_address_is ∙ points in
     let P : ℕ → Type 0 = λ table. EncodesCommand (bytes_at scribbled table 20) (command_of m.operation 0 m.first m.count) in
     let fis : EncodesCommand (bytes_at scribbled 0x1000 20) (command_of m.operation 0 m.first m.count) = subst P at says.fis in
-    let no : 0x27 ≡ 0 = sym fis.kind ∙ starts in
+    let no : 0x27 ≡ 0 = sym fis.fis_type ∙ starts in
     omega (arith, no)
 
 pub may_fail : Can (FetchFault 0 0 true 0) senseless
@@ -53,5 +53,5 @@ may_fail = record {
   fetchable = record { st = refl; issued = refl; free = refl };
   working = record { running = refl; present = refl; fresh = refl; admitted = refl; whole = refl };
   says_nothing = says_nothing;
-  kept = refl;
+  kept_bits_are_allowed = refl;
 }

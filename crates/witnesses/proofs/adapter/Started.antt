@@ -7,8 +7,8 @@ use Rattle.adapter.specs.Access.Access.{Reading, Writing}
 use Rattle.adapter.specs.Device.{Device}
 use Rattle.adapter.specs.Memory.{changed}
 use Rattle.adapter.specs.Steps.DeviceTransition.{LinkUp}
-use Rattle.witnesses.specs.Runs.{AccessOrStep, IsReachableByRun, device_after_events}
-use Rattle.witnesses.specs.Runs.AccessOrStep.{Made, Came}
+use Rattle.witnesses.specs.AdapterRuns.{AccessOrStep, IsReachableByRun, device_after_events}
+use Rattle.witnesses.specs.AdapterRuns.AccessOrStep.{Made, Came}
 use Rattle.witnesses.proofs.adapter.Ports.{are_of, is_of, first, first_reached, may_receive, may_start, reached_more, run_elsewhere, same_others}
 
 abbrev pub at_port : ℕ → Port
@@ -71,7 +71,7 @@ started area = device_after_events (start 0) (prepared area)
 pub started_reached : (area : ℕ) → area % 256 ≡ 0 → area + 256 ≤ 4096 * 256 → IsReachableByRun (started area)
 unfolding changed same_others
 started_reached area aligned inside = reached_more (prepared_reached area aligned inside) (start 0) (
-  record { present = refl; det = refl; due = refl; fits = omega arith },
+  record { present = refl; no_comreset = refl; link_is_due = refl; sig_fits = omega arith },
   (
     ((record { ae = refl; no_reset = refl }, (omega arith, refl)), refl),
     (

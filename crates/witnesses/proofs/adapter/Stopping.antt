@@ -9,8 +9,8 @@ use Rattle.adapter.specs.FirstRead.{first_disk, first_disk_sector}
 use Rattle.adapter.specs.Memory.{changed}
 use Rattle.adapter.specs.Steps.{Can}
 use Rattle.adapter.specs.Steps.DeviceTransition.{Fall, Fatal, FrFall, LinkUp, Plug, Scribble, Unplug}
-use Rattle.witnesses.specs.Runs.{AccessOrStep, IsReachableByRun, CommandsAreSafe, device_after_events}
-use Rattle.witnesses.specs.Runs.AccessOrStep.{Made, Came}
+use Rattle.witnesses.specs.AdapterRuns.{AccessOrStep, IsReachableByRun, CommandsAreSafe, device_after_events}
+use Rattle.witnesses.specs.AdapterRuns.AccessOrStep.{Made, Came}
 use Rattle.witnesses.proofs.adapter.Ports.{are_of, is_of, disk_is, first, others_are, reached_more, run_elsewhere, same_others, unused_safe}
 use Rattle.witnesses.proofs.adapter.Sets.{all_bytes, are_bytes, true-false}
 use Rattle.witnesses.proofs.adapter.Started.{at_port, prepared, prepared_elsewhere, prepared_reached, started, started_elsewhere, started_reached}
@@ -29,7 +29,7 @@ linking_safe = unused_safe linking (λ k. refl) (λ k. refl) (prepared_elsewhere
 
 pub may_link : Can (LinkUp 0 0x101 true) linking
 unfolding changed
-may_link = record { present = refl; det = refl; due = refl; fits = omega arith }
+may_link = record { present = refl; no_comreset = refl; link_is_due = refl; sig_fits = omega arith }
 
 -- ---- the port runs
 
@@ -125,7 +125,7 @@ silent_reached = reached_more stopped_reached stop_receiving (
       record {
         start = λ h. absurd (true-false h refl);
         receive = λ h. absurd (true-false h refl);
-        stop_receiving = λ _. inr (record { stopped = refl; fallen = refl }, refl);
+        stop_receiving = λ _. inr (record { st_is_clear = refl; cr_is_clear = refl }, refl);
         others = others_are 0 0 refl;
       },
     ),

@@ -12,8 +12,8 @@ use Rattle.adapter.specs.Memory.{bytes_at, changed, patched}
 use Rattle.adapter.specs.Decoding.{DecodesTo}
 use Rattle.adapter.specs.Steps.{Steps, Can, begun, device_after}
 use Rattle.adapter.specs.Steps.DeviceTransition.{Fetch, Move, Clear}
-use Rattle.witnesses.specs.Runs.{AccessOrStep, IsReachableByRun, device_after_events}
-use Rattle.witnesses.specs.Runs.AccessOrStep.{Made, Came}
+use Rattle.witnesses.specs.AdapterRuns.{AccessOrStep, IsReachableByRun, device_after_events}
+use Rattle.witnesses.specs.AdapterRuns.AccessOrStep.{Made, Came}
 use Rattle.witnesses.proofs.adapter.Ports.{are_of, is_of, first, issue_allowed, issued_port, no_bit, reached_more, run_elsewhere, slot_guarded, untouched}
 use Rattle.witnesses.proofs.adapter.RunningAdapter.{memory, a_trim, trim_says, trim_table}
 use Rattle.witnesses.proofs.adapter.Sets.{Range, is_in, are_bytes, covers, spares, spares_all, is_sector, true-false}
@@ -67,8 +67,8 @@ elsewhere q away = run_elsewhere 0 issue (started 0x400) refl q away ∙ started
 
 pub issued_safe : IsGuarded (PassesTest (is_in kept)) (PassesTest (is_in kept)) issued
 issued_safe = record {
-  within = λ at h. h;
-  port = λ q. elim (eqb_tells q 0) [
+  tables_are_kept = λ at h. h;
+  ports_are_guarded = λ q. elim (eqb_tells q 0) [
     | inl here ↦ (let P : ℕ → Type 0 = λ n. Safe (issued.port n) in subst P (sym here.1) port_zero)
     | inr away ↦ (let P : DevicePort → Type 0 = Safe in subst P (sym (elsewhere q away.1)) (untouched kept memory q))
   ];
@@ -90,7 +90,7 @@ unfolding changed
 may_fetch = record {
   fetchable = record { st = refl; issued = refl; free = refl };
   working = record { running = refl; present = refl; fresh = refl; admitted = refl; whole = refl };
-  alone = λ slot t is. absurd (let e : None ≡ Some t = is in (cc));
+  is_unmixed = λ slot t is. absurd (let e : None ≡ Some t = is in (cc));
   says = trim_says;
 }
 
@@ -109,8 +109,8 @@ may_move : Can (Move 0 2 taken_trim block) fetched
 unfolding changed
 may_move = record {
   works = record { taken = refl; working = record { running = refl; present = refl; fresh = refl; admitted = refl; whole = refl } };
-  left = omega arith;
-  sector = is_sector block block_size block_bytes;
+  piece_is_left = omega arith;
+  bytes_are_sector = is_sector block block_size block_bytes;
   brings = refl;
 }
 
@@ -128,8 +128,8 @@ unfolding changed memory patched bytes_at
 may_clear = record {
   works = record { taken = refl; working = record { running = refl; present = refl; fresh = refl; admitted = refl; whole = refl } };
   trim = refl;
-  moved = refl;
-  next = refl;
-  sectors = refl;
+  block_is_moved = refl;
+  first_is_next = refl;
+  sectors_follow = refl;
   inside = inr (omega arith);
 }

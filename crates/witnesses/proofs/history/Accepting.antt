@@ -15,21 +15,21 @@ use Rattle.adapter.specs.ReadDone.{read_of}
 use Rattle.adapter.specs.Decoding.{piece_addresses}
 use Rattle.adapter.specs.declared.access.DeviceStep.{DeviceStep}
 use Rattle.refinement.specs.Relation.{port_at}
-use Rattle.refinement.specs.Slots.{ServesRequest, Stage}
-use Rattle.refinement.specs.Witness.{first_id}
+use Rattle.refinement.specs.Slots.{ServesRequest, IsInSomeStage}
+use Rattle.refinement.specs.ReadWitness.{first_id}
 use Rattle.block_machine.specs.Events.{Happens, AbstractState}
 use Rattle.block_machine.specs.Histories.{JointEvent, JointState}
 use Rattle.block_machine.specs.Expected.{after}
 use Rattle.block_machine.specs.Ports.{Evidence, Ports, SamePort}
 use Rattle.block_machine.specs.State.{Machine, Pending, unanswered}
-use Rattle.block_machine.specs.Steps.{Accept, Answer, Issue, May, newly_accepted}
+use Rattle.block_machine.specs.Steps.{Accept, Answer, Issue, IsEnabled, newly_accepted}
 use Rattle.block_machine.specs.declared.due.Unanswered.{Unanswered}
 use Rattle.identify.specs.declared.wanted.Wanted.TheVariants.{Any}
-use Rattle.driver_history.specs.Heeding.{ServesReady, tells_fault}
+use Rattle.driver_history.specs.EvidenceHandling.{ServicesReadyPort, tells_fault}
 use Rattle.driver_history.specs.Histories.{IsIssuedOn, IsIssuingAccess, CallCorresponds, PortCorresponds}
 use Rattle.driver_history.specs.PortInvariants.{DriverInvariantWith}
 use Rattle.witnesses.specs.ReadyPort.{ReadyPortHasBegun}
-use Rattle.witnesses.specs.RunningAdapter.{plain, running_port}
+use Rattle.witnesses.specs.RunningAdapter.{plain_disk_mode, running_port}
 use Rattle.witnesses.proofs.history.Command.{read_memory, told, zeros}
 use Rattle.witnesses.proofs.history.Holding.{IsUnnamed, first_slots, no_slots}
 use Rattle.witnesses.proofs.history.Issuing.{Submission, IsIssued, reading, submit_happens as happens_so, submit_part as part_of, submit_ties as ties_so}
@@ -76,7 +76,7 @@ abbrev pub issuing : Machine
 issuing = issuing_on.issuing submission
 
 abbrev pub waiting : Pending
-waiting = outstanding_as first_id 100 100 (issuing_on.accepted submission).held
+waiting = outstanding_as first_id 100 100 (issuing_on.accepted submission).held_blocks
 
 abbrev pub submitted_at : JointState Device
 submitted_at = issuing_on.submitted_at submission
@@ -91,8 +91,8 @@ issued_for age = record issuing { book = waiting_for age ∷ [] }
 abbrev pub issued_at : ℕ → JointState Device
 issued_at age = record { device = submitted; abstract = record { machine = issued_for age; ports = both } }
 
-may_issue : May (after start (Accept (issuing_on.accepted submission) ∷ [])) (Issue plain waits)
-may_issue = ((0, omega arith, refl), record { here = (0, omega arith, refl); clear = refl; slot = λ h. absurd (true≢false h) }, λ e h. absurd (nowhere e h), granted)
+may_issue : IsEnabled (after start (Accept (issuing_on.accepted submission) ∷ [])) (Issue plain_disk_mode waits)
+may_issue = ((0, omega arith, refl), record { is_in_book = (0, omega arith, refl); nothing_blocks = refl; slot_is_left = λ h. absurd (true≢false h) }, λ e h. absurd (nowhere e h), granted)
 
 stands : Stands issued
 stands = record { same = refl; quiet = λ place from. refl }
@@ -102,11 +102,11 @@ in_book age e here = only (waiting_for age) e here
 
 -- ---- what holds
 
-serves_stage : (age : ℕ) → Stage read_memory issued 0 0 (waiting_for age) (read_of 100 1) (piece_addresses 0x64000 1)
+serves_stage : (age : ℕ) → IsInSomeStage read_memory issued 0 0 (waiting_for age) (read_of 100 1) (piece_addresses 0x64000 1)
 serves_stage age = inl (record { started = refl; issued = refl; free = refl; sact = refl; block = tt; untouched = λ i. sym (le-ltb i 0 (omega arith)); unended = refl })
 
 pub serves : ServesRequest issuing read_memory issued 0 0 first_id
-serves = serves_one issuing read_memory issued 0 (read_of 100 1) first_id 100 100 waiting.request.held 0 refl (omega arith) (0, omega arith, refl) refl refl told (serves_stage 0)
+serves = serves_one issuing read_memory issued 0 (read_of 100 1) first_id 100 100 waiting.request.held_blocks 0 refl (omega arith) (0, omega arith, refl) refl refl told (serves_stage 0)
 
 pub serves_plain : is_queued serves.command.operation ≡ false
 unfolding serves serves_one
@@ -116,7 +116,7 @@ serves_plain = refl
 abbrev pub issued_under : List GrantRow → ℕ → Machine
 issued_under rows age = record (issued_for age) { rows = rows }
 
-has_one : (rows : List GrantRow) (age : ℕ) → HasOne plain_disks (issued_under rows age) [] read_memory issued (read_of 100 1) 100 100 waiting.request.held age
+has_one : (rows : List GrantRow) (age : ℕ) → HasOne plain_disks (issued_under rows age) [] read_memory issued (read_of 100 1) 100 100 waiting.request.held_blocks age
 has_one rows age = record {
   stands = stands;
   disks = (refl, refl, refl, refl);
@@ -134,7 +134,7 @@ has_one rows age = record {
 }
 
 pub issued_agrees : (rows : List GrantRow) (age : ℕ) → Agreeing plain_disks first_slots (issued_under rows age) [] read_memory issued
-issued_agrees rows age = agrees_one plain_disks (issued_under rows age) [] read_memory issued (read_of 100 1) 100 100 waiting.request.held age (has_one rows age)
+issued_agrees rows age = agrees_one plain_disks (issued_under rows age) [] read_memory issued (read_of 100 1) 100 100 waiting.request.held_blocks age (has_one rows age)
 
 pub holds_issued : (age : ℕ) → DriverInvariantWith (Any ∷ Any ∷ []) first_slots (issued_at age)
 holds_issued age = holds plain_disks first_slots (issued_for age) [] read_memory issued (issued_agrees two_rows age)
@@ -144,7 +144,7 @@ holds_submitted = holds_issued 0
 
 pub ready_has_begun : ReadyPortHasBegun
 ready_has_begun = record {
-  first = first;
+  initial_state = first;
   ready = (refl, refl);
   asked = ((0, omega arith, refl), (1, omega arith, refl));
   begun = ((starts, fit_ready plain_disks), begins plain_disks);
@@ -158,7 +158,7 @@ is_issued = record {
   agreeing = issued_agrees two_rows 0;
   takes = record { rows = refl; id_is = refl; left = omega arith; few = omega arith; owned = refl; free = refl; from = omega arith; to = omega arith; on_disk = omega arith };
   may = may_issue;
-  all_issued = λ port is. none_due plain (unanswered waiting ∷ []) (λ r here. ap (λ (x : Unanswered). x.issued) (only (unanswered waiting) r here)) port;
+  all_issued = λ port is. none_due plain_disk_mode (unanswered waiting ∷ []) (λ r here. ap (λ (x : Unanswered). x.issued) (only (unanswered waiting) r here)) port;
   due = issuing_on.due_alone submission refl may_issue.1 refl;
   does = submits;
   only = All-from_recursion (IsIssuingAccess (port_at 0)) submit_accesses (omega arith, (omega arith, (omega arith, (inr refl, tt))));
@@ -192,11 +192,11 @@ not_ended age e here is = true≢false (sym is ∙ ap (λ (x : Pending). x.ended
 -- where no command is taken yet, a slot whose bit of PxCI is clear serves no request
 pub bits_set : (age : ℕ) (p : DevicePort) → p.st ≡ true → ((k : ℕ) → p.ci k ≡ bit 1 k) → ((k : ℕ) → p.taken k ≡ None) → (e : Pending) (k : ℕ) → ServesRequest (issued_for age) read_memory p 0 k e.request.id → bit 1 k ≡ false → ⊥
 bits_set age p started waits free e k s ci = serves_none (issued_for age) read_memory p k e.request.id s started (waits k ∙ ci) (free k)
-    (ap (λ (x : Pending). x.ended) (⊎_elim (λ m. in_book age s.pending m.0) (λ m. absurd (nowhere s.pending m)) s.moves))
+    (ap (λ (x : Pending). x.ended) (⊎_elim (λ m. in_book age s.pending m.0) (λ m. absurd (nowhere s.pending m)) s.may_still_move))
 
 -- and no other port has one
 pub none_there : (age n : ℕ) (e : Pending) → IsIssuedOn (port_at (suc n)) (issued_for age) e → ⊥
-none_there age n e on = let z : 0 ≡ suc n = sym (ap (λ (x : Pending). x.request.port.0) (in_book age e on.here)) ∙ ap (λ (p : Port). p.0) on.port_is in omega (arith, z)
+none_there age n e on = let z : 0 ≡ suc n = sym (ap (λ (x : Pending). x.request.port.0) (in_book age e on.is_in_book)) ∙ ap (λ (p : Port). p.0) on.port_is in omega (arith, z)
 
 -- where this is the one step, there is one answer
 pub the_answer : (told : Outcome) (e : Pending) (o : Outcome) → Contains (Answer waiting told ∷ []) (Answer e o) → (e ≡ waiting) × (o ≡ told)
@@ -204,19 +204,19 @@ the_answer told e o here = let same : Answer e o ≡ Answer waiting told = only 
 
 -- and the other port is left alone, if it isn't named
 pub leaves_other : (told : Outcome) (evidence : Evidence) (new : AbstractState) → IsUnnamed evidence (port_at 1) → count_by (tells_fault (port_at 1)) (Answer waiting told ∷ []) ≤ 1 → SamePort both new.ports (port_at 1)
-    → ServesReady submitted_at.abstract evidence (Answer waiting told ∷ []) new (port_at 1)
+    → ServicesReadyPort submitted_at.abstract evidence (Answer waiting told ∷ []) new (port_at 1)
 leaves_other told evidence new un single same = record {
-  ended = λ e here at_port ended. absurd (not_ended 0 e here ended);
-  emptied = λ g. absurd (un.gone g);
-  told = λ g. absurd (un.gone g);
-  interrupts = λ why. absurd (⊎_elim un.failed un.gone why);
-  anew = λ why. absurd (⊎_elim un.failed un.stopped why);
-  single = single;
-  fatal = λ h. absurd (un.fatal h);
-  disk = λ shows. inl refl;
-  calm = inr (record {
-    same = same;
-    told = λ e o here at_port. absurd (let z : 0 ≡ 1 = sym (ap (λ (x : Pending). x.request.port.0) (the_answer told e o here).0) ∙ ap (λ (p : Port). p.0) at_port in omega (arith, z));
-    uninterrupted = λ why. ⊎_elim un.stopped un.stuck why;
+  answers_ended = λ e here at_port ended. absurd (not_ended 0 e here ended);
+  none_is_left = λ g. absurd (un.gone g);
+  others_are_told_alike = λ g. absurd (un.gone g);
+  is_interrupted = λ why. absurd (⊎_elim un.failed un.gone why);
+  none_stays_issued = λ why. absurd (⊎_elim un.failed un.stopped why);
+  one_fault_at_most = single;
+  fatal_tells_no_fault = λ h. absurd (un.fatal h);
+  shown_disk_was_in_or_came = λ shows. inl refl;
+  is_left_alone_if_calm = inr (record {
+    port_is_same = same;
+    only_ok_is_told = λ e o here at_port. absurd (let z : 0 ≡ 1 = sym (ap (λ (x : Pending). x.request.port.0) (the_answer told e o here).0) ∙ ap (λ (p : Port). p.0) at_port in omega (arith, z));
+    is_not_interrupted = λ why. ⊎_elim un.stopped un.stuck why;
   });
 }

@@ -13,17 +13,17 @@ use Rattle.adapter.specs.Device.{Device}
 use Rattle.adapter.specs.declared.access.DeviceStep.{DeviceStep}
 use Rattle.refinement.specs.Relation.{port_at}
 use Rattle.refinement.specs.Driver.{IsBacked}
-use Rattle.block_machine.specs.Due.{NoneDue}
+use Rattle.block_machine.specs.DueRequests.{NoneDue}
 use Rattle.block_machine.specs.Events.{AgesOnce, Happens, HasTimedOut, RestartsTimedOut, Served, Tick, is_age}
 use Rattle.block_machine.specs.Histories.{JointEvent}
 use Rattle.block_machine.specs.State.{Pending, unanswered}
-use Rattle.block_machine.specs.Steps.{Step, Again, Age, Answer}
+use Rattle.block_machine.specs.Steps.{Step, WaitAgain, Age, Answer}
 use Rattle.block_machine.specs.declared.due.Unanswered.{Unanswered}
 use Rattle.identify.specs.declared.wanted.Wanted.TheVariants.{Any}
 use Rattle.driver_history.specs.Evidence.{IsEvidencedOf, ShowsFailure, ShowsLoss}
 use Rattle.driver_history.specs.Histories.{IssuesDue, CallCorresponds, PortCorresponds}
-use Rattle.driver_history.specs.Trace.{IsAccessForPorts, LeavesEngine}
-use Rattle.witnesses.specs.RunningAdapter.{plain}
+use Rattle.driver_history.specs.AccessTrace.{IsAccessForPorts, LeavesEngine}
+use Rattle.witnesses.specs.RunningAdapter.{plain_disk_mode}
 use Rattle.witnesses.proofs.history.Accepting.{both, holds_issued, in_book, issued_at, issued_for, waiting_for}
 use Rattle.witnesses.proofs.history.Command.{read_memory}
 use Rattle.witnesses.proofs.history.Holding.{IsCalm, first_slots, no_trouble, unnamed_evidenced}
@@ -37,15 +37,15 @@ use Rattle.witnesses.proofs.history.Submitting.{issued, submitted}
 -- ---- who is hung
 
 pub hung_at : (age : ℕ) → 2 ≤ age → HasTimedOut (issued_at age).abstract (port_at 0)
-hung_at age old = record { ready = refl; pending = waiting_for age; here = (0, omega arith, refl); port_is = refl; issued = refl; old_enough = old }
+hung_at age old = record { ready = refl; pending = waiting_for age; is_in_book = (0, omega arith, refl); port_is = refl; issued = refl; old_enough = old }
 
 -- port 0 alone is ever
 pub hung_first : (age : ℕ) (port : Port) → HasTimedOut (issued_at age).abstract port → port ≡ port_at 0
-hung_first age port h = sym h.port_is ∙ ap (λ (e : Pending). e.request.port) (in_book age h.pending h.here)
+hung_first age port h = sym h.port_is ∙ ap (λ (e : Pending). e.request.port) (in_book age h.pending h.is_in_book)
 
 pub not_hung : (age : ℕ) → age < 2 → (port : Port) → HasTimedOut (issued_at age).abstract port → ⊥
 not_hung age young port h =
-    let same : h.pending.age ≡ age = ap (λ (e : Pending). e.age) (in_book age h.pending h.here) in
+    let same : h.pending.age ≡ age = ap (λ (e : Pending). e.age) (in_book age h.pending h.is_in_book) in
     let old = h.old_enough in
     omega (arith, same, old, young)
 
@@ -62,11 +62,11 @@ ready_is (suc (suc n)) = (λ t. absurd (true≢false (sym t)), λ is. absurd (le
 
 -- a call ages them once, and first of all
 pub ages_once : (later : List Step) → count_by is_age later ≡ 0 → AgesOnce both (later ++ ages ∷ [])
-ages_once later once = record { ready = two_served; is_ready = λ port. ready_is port.0; later = later; first = refl; once = once }
+ages_once later once = record { ready_ports = two_served; is_ready = λ port. ready_is port.0; later = later; age_is_first = refl; no_other_age = once }
 
 -- no request is due
-pub not_due : (age : ℕ) (port : Port) → NoneDue plain (unanswered (waiting_for age) ∷ []) port
-not_due age = none_due plain (unanswered (waiting_for age) ∷ []) (λ r here. ap (λ (x : Unanswered). x.issued) (only (unanswered (waiting_for age)) r here))
+pub not_due : (age : ℕ) (port : Port) → NoneDue plain_disk_mode (unanswered (waiting_for age) ∷ []) port
+not_due age = none_due plain_disk_mode (unanswered (waiting_for age) ∷ []) (λ r here. ap (λ (x : Unanswered). x.issued) (only (unanswered (waiting_for age)) r here))
 
 -- nor does a port tell of trouble
 pub quiet : (n : ℕ) → both.state (port_at n) ≡ Ready → (ShowsLoss (port_at n) submitted submitted → ⊥) × (ShowsFailure (submitted.port n) → ⊥)
@@ -85,16 +85,16 @@ module _ (age : ℕ) where
   unanswered_then : (e : Pending) (o : Outcome) → Contains (ages ∷ []) (Answer e o) → ⊥
   unanswered_then e o here = let same : Answer e o ≡ ages = only ages (Answer e o) here in cc
 
-  unrepeated : (e : Pending) → Contains (ages ∷ []) (Again e) → ⊥
-  unrepeated e here = let same : Again e ≡ ages = only ages (Again e) here in cc
+  unrepeated : (e : Pending) → Contains (ages ∷ []) (WaitAgain e) → ⊥
+  unrepeated e here = let same : WaitAgain e ≡ ages = only ages (WaitAgain e) here in cc
 
   pub backed : IsBacked submitted submitted (issued_for age) (ages ∷ [])
   backed = record {
     telling = refl;
-    gained = [];
-    tape = refl;
-    tells = (tt, λ d. d);
-    told = λ _. (tt, tt);
+    new_entries = [];
+    tape_is = refl;
+    tells_device_steps = (tt, λ d. d);
+    steps_are_faithful = λ _. (tt, tt);
     plugged = λ port. ([], sym (append-nil (submitted.port port).plugged), refl);
   }
 
@@ -111,55 +111,55 @@ module _ (age : ℕ) where
     restarts_none : RestartsTimedOut (issued_at age).abstract nothing (ages ∷ []) (issued_at (suc age)).abstract
     restarts_none = record {
       ports = λ port. inl (not_hung age young port, (refl, refl, refl, refl, refl, refl));
-      again = λ e here. absurd (unrepeated e here);
-      answer = λ e o here. absurd (unanswered_then e o here);
-      ended = λ port h. absurd (not_hung age young port h);
-      anew = λ port h. absurd (not_hung age young port h);
-      interrupts = λ port. (λ h. absurd (not_hung age young port h), λ why. absurd (⊎_elim (nowhere port) (nowhere port) why));
-      finds = λ e here. absurd (unanswered_then e outcome.Unplugged here);
-      disk = λ port h. absurd (not_hung age young port h);
+      only_timed_out_wait_again = λ e here. absurd (unrepeated e here);
+      only_timed_out_are_answered = λ e o here. absurd (unanswered_then e o here);
+      answers_ended = λ port h. absurd (not_hung age young port h);
+      none_stays_issued = λ port h. absurd (not_hung age young port h);
+      is_interrupted = λ port. (λ h. absurd (not_hung age young port h), λ why. absurd (⊎_elim (nowhere port) (nowhere port) why));
+      unplugged_lost_disk = λ e here. absurd (unanswered_then e outcome.Unplugged here);
+      shown_disk_was_in_or_came = λ port h. absurd (not_hung age young port h);
     }
 
     pub tick_happens : Happens (issued_at age).abstract tick.event
     tick_happens = record {
-      may = (tt, tt);
-      belong = (tt, inr tt);
-      last = (tt, λ id handled issued_in. absurd (true≢false (sym handled)));
-      lawful = tt;
-      fit = fit_ready plain_disks;
-      disks = λ e o here there same. (refl, refl);
-      answered = record {
-        tells = record { answers = []; same = IsPermutation-refl _; ordered = λ i j d less low. absurd (omega (arith, less, low)); told = refl };
-        ages = ages_once [] refl;
-        restarts = restarts_none;
-        unplugs = record {
-          emptied = λ e other here. absurd (unanswered_then e outcome.Unplugged here);
-          alike = λ e other here. absurd (unanswered_then e outcome.Unplugged here);
+      steps_are_enabled = (tt, tt);
+      steps_are_of_call = (tt, inr tt);
+      issues_are_last = (tt, λ id handled issued_in. absurd (true≢false (sym handled)));
+      answers_are_lawful = tt;
+      ports_are_well_formed = fit_ready plain_disks;
+      unanswered_keep_disk = λ e o here there same. (refl, refl);
+      is_answered = record {
+        replies_match = record { answers = []; is_permutation = IsPermutation-refl _; ordered = λ i j d less low. absurd (omega (arith, less, low)); replies_are = refl };
+        ages_once = ages_once [] refl;
+        restarts_timed_out = restarts_none;
+        answers_all_unplugged = record {
+          none_is_left = λ e other here. absurd (unanswered_then e outcome.Unplugged here);
+          none_is_told_dead = λ e other here. absurd (unanswered_then e outcome.Unplugged here);
         };
-        issues = λ port is. not_due (suc age) port;
-        emptied = λ port is not_ready. absurd (not_ready is);
+        none_is_due = λ port is. not_due (suc age) port;
+        empty_unless_ready = λ port is not_ready. absurd (not_ready is);
       };
     }
 
     pub tick_part : (n : ℕ) → PortCorresponds (issued_at age) tick [] (port_at n)
     tick_part n = record {
-      finds = λ h. absurd (not_hung age young (port_at n) h);
-      faults = tt;
-      probes = tt;
-      boots = λ h. absurd (not_hung age young (port_at n) h);
-      port_error = no_trouble nothing (issued_at age) both submitted (port_at n) [] refl (All-nil (IsCalm n)) (served_ready n) (quiet n);
-      well = λ why. absurd (⊎_elim (nowhere (port_at n)) (nowhere (port_at n)) why);
-      heeds = tt;
+      finds_done = λ h. absurd (not_hung age young (port_at n) h);
+      plain_faults_are_told = tt;
+      probes_disk = tt;
+      boots_anew = λ h. absurd (not_hung age young (port_at n) h);
+      loses_no_error = no_trouble nothing (issued_at age) both submitted (port_at n) [] refl (All-nil (IsCalm n)) (served_ready n) (quiet n);
+      runs_well_anew = λ why. absurd (⊎_elim (nowhere (port_at n)) (nowhere (port_at n)) why);
+      handles_evidence = tt;
     }
 
     unfoldable pub tick_ties : CallCorresponds (Any ∷ Any ∷ []) (issued_at age) tick
     tick_ties = record {
       accesses = [];
-      came = (refl, All-nil (IsAccessForPorts (HasTimedOut (issued_at age).abstract)));
-      backed = backed;
-      evidenced = record { faults = λ f here. absurd (nowhere f here); port = λ port. evidenced port.0 };
-      grounded = tt;
-      issues = λ port is. issues port;
-      port = λ port. tick_part port.0;
-      holds = (first_slots, holds_issued (suc age));
+      accesses_are_explained = (refl, All-nil (IsAccessForPorts (HasTimedOut (issued_at age).abstract)));
+      is_backed = backed;
+      is_evidenced = record { faults = λ f here. absurd (nowhere f here); port = λ port. evidenced port.0 };
+      only_failed_requeue = tt;
+      issues_all_due = λ port is. issues port;
+      ports_correspond = λ port. tick_part port.0;
+      invariant_holds = (first_slots, holds_issued (suc age));
     }

@@ -14,7 +14,7 @@ use Rattle.adapter.specs.Device.{Device}
 use Rattle.adapter.specs.declared.tape.Entry.TheVariants as entry
 use Rattle.refinement.specs.Relation.{port_at}
 use Rattle.refinement.specs.Driver.{IsBacked}
-use Rattle.refinement.specs.Witness.{first_id}
+use Rattle.refinement.specs.ReadWitness.{first_id}
 use Rattle.block_machine.specs.Histories.{JointEvent}
 use Rattle.block_machine.specs.Events.{ShownDiskWasInOrCame, Happens, Service, Served}
 use Rattle.block_machine.specs.Ports.{PortsWellFormed, IsStoppedOrStuck, IsServiced, SamePort}
@@ -31,10 +31,10 @@ use Rattle.adapter.specs.Access.Access.{Reading, Writing}
 use Rattle.adapter.specs.declared.access.DeviceStep.{DeviceStep}
 use Rattle.refinement.specs.Links.{IsPlugEvent}
 use Rattle.error_recovery.specs.Evidence.{ShowsFatal}
-use Rattle.driver_history.specs.Heeding.{ServesReady}
+use Rattle.driver_history.specs.EvidenceHandling.{ServicesReadyPort}
 use Rattle.driver_history.specs.Evidence.{TapeGainsEntry, IsEvidencedOf, ShowsLoss, ShowsFailure}
 use Rattle.driver_history.specs.Histories.{FindsDone, IsIssuedOn, CallCorresponds, PortCorresponds, BootsAnew, LosesNoPortError, RunsWellAnew, IsPortAlive}
-use Rattle.driver_history.specs.Trace.{DoesNotWriteCmd}
+use Rattle.driver_history.specs.AccessTrace.{DoesNotWriteCmd}
 use Rattle.port_control.specs.Engines.{Stops}
 use Rattle.witnesses.specs.Loss.{completing_turn, losing_turn, loss_evidence, LossIsAHistory}
 use Rattle.witnesses.proofs.history.Holding.{IsUnnamed, named, named_is, no_slots, tries_ready, unnamed_evidenced, IsCalm, no_trouble}
@@ -53,10 +53,10 @@ use Rattle.witnesses.proofs.history.Members.{nowhere}
 
 fit_one : PortsWellFormed one
 fit_one = record {
-  few = (fit_ready plain_disks).few;
-  absent = λ port is. absent_of port.0 is;
-  slots = λ port is. (omega arith, omega arith, λ _. refl);
-  causes = λ port cause is. absurd (no_cause port.0 cause is);
+  few_are_served = (fit_ready plain_disks).few_are_served;
+  unserved_are_absent = λ port is. absent_of port.0 is;
+  modes_are_valid = λ port is. (omega arith, omega arith, λ _. refl);
+  causes_are_valid = λ port cause is. absurd (no_cause port.0 cause is);
 }
   where
     absent_of : (n : ℕ) → one.served (port_at n) ≡ false → one.state (port_at n) ≡ Absent
@@ -112,9 +112,9 @@ becomes n = (
   λ is. absurd (not_dead n is),
   λ _. (
     record {
-      served = refl;
-      stuck = (λ is. absurd (not_dead_then n is), λ h. absurd (nowhere (port_at n) h));
-      keeps = λ is. (refl, refl);
+      served_is_kept = refl;
+      dead_is_stuck = (λ is. absurd (not_dead_then n is), λ h. absurd (nowhere (port_at n) h));
+      disk_is_kept = λ is. (refl, refl);
     },
     changes n,
   ),
@@ -133,38 +133,38 @@ had_disk (suc (suc n)) = inl (refl, refl, refl, refl, refl, refl)
 service_backed : IsBacked submitted lost issuing service_steps
 service_backed = record {
   telling = refl;
-  gained = gained;
-  tape = refl;
-  tells = (
+  new_entries = gained;
+  tape_is = refl;
+  tells_device_steps = (
     [],
     touching ∷ [],
     Unplug (port_at 1) ∷ Answer ended outcome.Ok ∷ End touched ∷ [],
     tt,
     record {
       pending = waiting;
-      moves = inl ((0, omega arith, refl), refl);
+      may_still_move = inl ((0, omega arith, refl), refl);
       port_is = refl;
       op_is = refl;
-      number = 0;
-      within = omega arith;
+      sector_number = 0;
+      number_is_in_range = omega arith;
       sector_is = refl;
       place_is = refl;
       direction_is = refl;
-      lent = refl;
-      step = refl;
+      frame_is_lent = refl;
+      step_is = refl;
     },
     (
       [],
       End touched ∷ [],
       Unplug (port_at 1) ∷ Answer ended outcome.Ok ∷ [],
       tt,
-      record { pending = touched; moves = inl ((0, omega arith, refl), refl); port_is = refl; op_is = refl; step = refl },
+      record { pending = touched; may_still_move = inl ((0, omega arith, refl), refl); port_is = refl; op_is = refl; step_is = refl },
       (Answer ended outcome.Ok ∷ [], Unplug (port_at 1) ∷ [], [], (tt, λ d. d), refl, tt, refl),
       refl,
     ),
     refl,
   );
-  told = λ _. ((((tt, λ _ b low. tells 100 b low), tt), tt), tt);
+  steps_are_faithful = λ _. ((((tt, λ _ b low. tells 100 b low), tt), tt), tt);
   plugged = λ port. ([], plugs port, refl);
 }
   where
@@ -182,10 +182,10 @@ stops = record {
   between = [];
   fallen = 0x4010;
   later = Writing (Px (port_at 1) Serr) 0xffffffff ∷ Reading (Px (port_at 1) Ssts) 0 ∷ [];
-  here = refl;
-  clears = refl;
-  only = All-nil (DoesNotWriteCmd (port_at 1));
-  shown = refl;
+  accesses_are = refl;
+  start_is_cleared = refl;
+  cmd_is_unwritten = All-nil (DoesNotWriteCmd (port_at 1));
+  stop_is_shown = refl;
 }
 
 of_second : WritesOf (IsOf (port_at 1)) turns
@@ -199,11 +199,11 @@ of_served = (tended 0 refl, (tended 0 refl, (tended 1 refl, (tended 1 refl, ((λ
 
 gains : TapeGainsEntry (IsPlugEvent 1) submitted lost
 gains = record {
-  gained = gained;
-  tape = refl;
+  new_entries = gained;
+  tape_is = refl;
   entry = entry.Unplug (port_at 1);
-  here = (2, omega arith, refl);
-  is = refl;
+  entry_is_new = (2, omega arith, refl);
+  entry_is_of_kind = refl;
 }
 
 -- a port but for the second one isn't named
@@ -228,8 +228,8 @@ service_evidenced (suc zero) =
     let quiet = calm submitted.tape read_memory issued refl refl refl (λ place from. refl) lost 1 refl in
     record {
       lost = λ h. inr (inr (inl gains));
-      gone_all = λ is loss. named 1;
-      gone_only = λ h. (refl, inr (inr gains));
+      link_changed_all = λ is loss. named 1;
+      link_changed_only = λ h. (refl, inr (inr gains));
       failed_all = λ is f. absurd (quiet.1 f);
       failed_only = λ h. absurd (nowhere (port_at 1) h);
       fatal_all = λ is f. absurd (quiet.1 (inl f));
@@ -246,40 +246,40 @@ done_there : FindsDone (port_at 0) turns submitted_at service_steps
 done_there = record {
   ci = 0;
   sact = 0;
-  reads = record { before = []; later = losing_turn; here = refl; running = All-nil (DoesNotWriteCmd (port_at 0)) };
-  exact = λ e slot on s. (λ ok. (no_bit slot, no_bit slot), λ clear. (ended, sym (ap (λ (x : Pending). x.request) (in_book 0 e on.here)), answer_here));
+  reads = record { before = []; later = losing_turn; accesses_are_split = refl; cmd_is_unwritten_before = All-nil (DoesNotWriteCmd (port_at 0)) };
+  exact = λ e slot on s. (λ ok. (no_bit slot, no_bit slot), λ clear. (ended, sym (ap (λ (x : Pending). x.request) (in_book 0 e on.is_in_book)), answer_here));
 }
 
 service_finds : (n : ℕ) (e : Pending) → IsIssuedOn (port_at n) issuing e → FindsDone (port_at n) turns submitted_at service_steps
 service_finds zero e on = done_there
 service_finds (suc n) e on = absurd (none_there 0 n e on)
 
-heeds : (n : ℕ) → both.state (port_at n) ≡ Ready → ServesReady submitted_at.abstract loss_evidence service_steps lost_at.abstract (port_at n)
+heeds : (n : ℕ) → both.state (port_at n) ≡ Ready → ServicesReadyPort submitted_at.abstract loss_evidence service_steps lost_at.abstract (port_at n)
 heeds zero is = record {
-  ended = λ e here at_port done. absurd (not_ended 0 e here done);
-  emptied = λ g e here. absurd (nowhere e here);
-  told = λ g. absurd ((unnamed 0 (omega arith)).gone g);
-  interrupts = λ why. absurd (⊎_elim (nowhere (port_at 0)) (unnamed 0 (omega arith)).gone why);
-  anew = λ why e here. absurd (nowhere e here);
-  single = omega arith;
-  fatal = λ h. absurd (nowhere (port_at 0) h);
-  disk = λ shows. inl refl;
-  calm = inr (record {
-    same = (refl, refl, refl, refl, refl, refl);
-    told = λ e o here at_port. inl (only_ok e o here);
-    uninterrupted = λ why. ⊎_elim (unnamed 0 (omega arith)).stopped (nowhere (port_at 0)) why;
+  answers_ended = λ e here at_port done. absurd (not_ended 0 e here done);
+  none_is_left = λ g e here. absurd (nowhere e here);
+  others_are_told_alike = λ g. absurd ((unnamed 0 (omega arith)).gone g);
+  is_interrupted = λ why. absurd (⊎_elim (nowhere (port_at 0)) (unnamed 0 (omega arith)).gone why);
+  none_stays_issued = λ why e here. absurd (nowhere e here);
+  one_fault_at_most = omega arith;
+  fatal_tells_no_fault = λ h. absurd (nowhere (port_at 0) h);
+  shown_disk_was_in_or_came = λ shows. inl refl;
+  is_left_alone_if_calm = inr (record {
+    port_is_same = (refl, refl, refl, refl, refl, refl);
+    only_ok_is_told = λ e o here at_port. inl (only_ok e o here);
+    is_not_interrupted = λ why. ⊎_elim (unnamed 0 (omega arith)).stopped (nowhere (port_at 0)) why;
   });
 }
 heeds (suc zero) is = record {
-  ended = λ e here at_port done. absurd (not_ended 0 e here done);
-  emptied = λ g e here. absurd (nowhere e here);
-  told = λ g. inl (λ e o here at_port. inl (only_ok e o here));
-  interrupts = λ why. inl (named 1);
-  anew = λ why e here. absurd (nowhere e here);
-  single = omega arith;
-  fatal = λ h. absurd (nowhere (port_at 1) h);
-  disk = λ shows. absurd shows;
-  calm = inl (inr (inl (named 1)));
+  answers_ended = λ e here at_port done. absurd (not_ended 0 e here done);
+  none_is_left = λ g e here. absurd (nowhere e here);
+  others_are_told_alike = λ g. inl (λ e o here at_port. inl (only_ok e o here));
+  is_interrupted = λ why. inl (named 1);
+  none_stays_issued = λ why e here. absurd (nowhere e here);
+  one_fault_at_most = omega arith;
+  fatal_tells_no_fault = λ h. absurd (nowhere (port_at 1) h);
+  shown_disk_was_in_or_came = λ shows. absurd shows;
+  is_left_alone_if_calm = inl (inr (inl (named 1)));
 }
 heeds (suc (suc n)) is = absurd (let x : Absent ≡ Ready = is in cc)
 
@@ -320,7 +320,7 @@ well (suc (suc n)) = λ why. absurd (⊎_elim (unnamed (suc (suc n)) (omega arit
 
 service_happens : Happens submitted_at.abstract service.event
 service_happens = record {
-  may = (
+  steps_are_enabled = (
     (
       (
         (tt, (inl ((0, omega arith, refl), refl), omega arith, refl, omega arith, λ e. absurd (let x : Read ≡ Write = e in cc))),
@@ -330,57 +330,57 @@ service_happens = record {
     ),
     refl,
   );
-  belong = ((((tt, inl tt), inl tt), inr tt), inl tt);
-  last = ((((tt, λ id h is. absurd (true≢false (sym is))), λ id h is. absurd (true≢false (sym is))), λ id h is. absurd (true≢false (sym is))), λ id h is. absurd (true≢false (sym is)));
-  lawful = (tt, (record { pending = waiting; here = (0, omega arith, refl); id_is = refl; issued = refl }, refl, all_touched, refl));
-  fit = fit_one;
-  disks = λ e o here. absurd (nowhere e here);
-  answered = record {
-    tells = record { answers = (ended, outcome.Ok) ∷ []; same = IsPermutation-refl _; ordered = λ i j d less low. absurd (omega (arith, less, low)); told = refl };
-    dead = λ e o here is. absurd (not_dead e.request.port.0 is);
-    unplugs = record { emptied = λ e other here. absurd (not_unplugged e here); alike = λ e other here. absurd (not_unplugged e here) };
-    issues = λ port is r at_port due. absurd (nowhere r due.here);
-    emptied = λ port other e here. absurd (nowhere e here);
-    ended = λ port is e here at_port done. absurd (not_ended 0 e here done);
-    becomes = λ port. becomes port.0;
-    disk = λ port. had_disk port.0;
+  steps_are_of_call = ((((tt, inl tt), inl tt), inr tt), inl tt);
+  issues_are_last = ((((tt, λ id h is. absurd (true≢false (sym is))), λ id h is. absurd (true≢false (sym is))), λ id h is. absurd (true≢false (sym is))), λ id h is. absurd (true≢false (sym is)));
+  answers_are_lawful = (tt, (record { pending = waiting; is_in_book = (0, omega arith, refl); id_is = refl; issued = refl }, refl, all_touched, refl));
+  ports_are_well_formed = fit_one;
+  unanswered_keep_disk = λ e o here. absurd (nowhere e here);
+  is_answered = record {
+    replies_match = record { answers = (ended, outcome.Ok) ∷ []; is_permutation = IsPermutation-refl _; ordered = λ i j d less low. absurd (omega (arith, less, low)); replies_are = refl };
+    tells_dead = λ e o here is. absurd (not_dead e.request.port.0 is);
+    answers_all_unplugged = record { none_is_left = λ e other here. absurd (not_unplugged e here); none_is_told_dead = λ e other here. absurd (not_unplugged e here) };
+    none_is_due = λ port is r at_port due. absurd (nowhere r due.is_in_book);
+    empty_unless_ready = λ port other e here. absurd (nowhere e here);
+    answers_ended = λ port is e here at_port done. absurd (not_ended 0 e here done);
+    port_is_serviced = λ port. becomes port.0;
+    shown_disk_was_in_or_came = λ port. had_disk port.0;
   };
 }
 
 service_part : (n : ℕ) → PortCorresponds submitted_at service turns (port_at n)
 service_part n = record {
-  finds = λ is e on. service_finds n e on;
-  faults = λ alone. absurd (true≢false (sym alone.shows.fault ∙ (no_flags n 30)));
-  probes = λ served none. tries_ready turns submitted_at one lost (port_at n) (served_ready n served);
-  boots = service_boots n;
-  port_error = port_error n;
-  well = well n;
-  heeds = heeds n;
+  finds_done = λ is e on. service_finds n e on;
+  plain_faults_are_told = λ alone. absurd (true≢false (sym alone.shows_only_tfes.tfes_is_set ∙ (no_flags n 30)));
+  probes_disk = λ served none. tries_ready turns submitted_at one lost (port_at n) (served_ready n served);
+  boots_anew = service_boots n;
+  loses_no_error = port_error n;
+  runs_well_anew = well n;
+  handles_evidence = heeds n;
 }
 
 service_ties : CallCorresponds (Any ∷ Any ∷ []) submitted_at service
 service_ties = record {
   accesses = turns;
-  came = (does_append completing_turn losing_turn submitted between lost finds loses, serving (IsPortAlive both) turns of_served);
-  backed = service_backed;
-  evidenced = record { faults = λ f here. absurd (nowhere f here); port = λ port. service_evidenced port.0 };
-  grounded = tt;
-  issues = λ port is r here. absurd (nowhere r here);
-  port = λ port. service_part port.0;
-  holds = (no_slots, holds_lost);
+  accesses_are_explained = (does_append completing_turn losing_turn submitted between lost finds loses, serving (IsPortAlive both) turns of_served);
+  is_backed = service_backed;
+  is_evidenced = record { faults = λ f here. absurd (nowhere f here); port = λ port. service_evidenced port.0 };
+  only_failed_requeue = tt;
+  issues_all_due = λ port is r here. absurd (nowhere r here);
+  ports_correspond = λ port. service_part port.0;
+  invariant_holds = (no_slots, holds_lost);
 }
 
 pub loss_is_a_history : LossIsAHistory
 unfolding service_ties
 loss_is_a_history = record {
-  first = first;
+  initial_state = first;
   ready = (refl, refl);
   submit = submit;
   asked = asked;
   reads = refl;
   submits = (refl, refl);
   service = service;
-  serves = (refl, refl);
+  asks_for_service = (refl, refl);
   between = between;
   finding = finds;
   finding_allowed = finding_allowed;

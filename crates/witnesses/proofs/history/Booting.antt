@@ -4,16 +4,16 @@ use Rattle.std.proofs.lemmas.Bool.{false≢true, true≢false}
 use Rattle.hba_regs.specs.declared.reg.Reg.TheVariants.{Px}
 use Rattle.hba_regs.specs.declared.reg.PortReg.{PortReg}
 use Rattle.hba_regs.specs.declared.reg.PortReg.TheVariants.{Clb, Clbu, Fb, Fbu, Is, Cmd, Tfd, Sig, Ssts, Sctl, Serr}
-use Rattle.adapter.specs.Access.{Access, DoesAll, PortShows, Reads, Writes, note, port_written}
+use Rattle.adapter.specs.Access.{Access, DoesAll, PortShows, Reads, Writes, note, port_after_write}
 use Rattle.adapter.specs.Device.{DevicePort, Device}
 use Rattle.adapter.specs.Rules.{MayWriteCmd}
-use Rattle.adapter.specs.Steps.{MayLinkUp, device_after, with_link, with_reset}
+use Rattle.adapter.specs.Steps.{MayLinkUp, device_after, port_after_link_up, port_after_reset}
 use Rattle.adapter.specs.Steps.DeviceTransition.{LinkUp, ResetEnds}
 use Rattle.refinement.specs.Relation.{port_at}
-use Rattle.refinement.specs.Places.{list_of, received_of}
-use Rattle.witnesses.specs.Allowed.{AreAllowed}
+use Rattle.refinement.specs.MemoryLayout.{list_of, received_of}
+use Rattle.witnesses.specs.AllowedAccesses.{AreAllowed}
 use Rattle.witnesses.specs.Reset.{boot_accesses, reset_and_boot_accesses}
-use Rattle.witnesses.specs.RunningAdapter.{device_with, port_or_empty, running_port}
+use Rattle.witnesses.specs.RunningAdapter.{running_device, port_or_empty, running_port}
 use Rattle.witnesses.proofs.history.Command.{read_memory}
 use Rattle.witnesses.proofs.history.Devices.{AlikeBut, but_first, but_second, put_device, reads, same_beside, writes}
 use Rattle.witnesses.proofs.history.Submitting.{pages, submitted}
@@ -22,48 +22,48 @@ use Rattle.witnesses.proofs.history.Submitting.{pages, submitted}
 
 -- a port as it is after a reset
 abbrev pub quieted : ℕ → DevicePort
-quieted port = with_reset (running_port port)
+quieted port = port_after_reset (running_port port)
 
 -- the link is up, and the device isn't an ATA disk
 abbrev up : DevicePort → DevicePort
-up p = with_link p 0xeb140101 false
+up p = port_after_link_up p 0xeb140101 false
 
 module _ (k : ℕ) where
   abbrev asked : DevicePort
   asked = record (quieted k) { notes = note Cmd 0 (quieted k) }
 
   abbrev with_list : DevicePort
-  with_list = port_written Clb (list_of k) 2 asked
+  with_list = port_after_write Clb (list_of k) 2 asked
 
   abbrev with_lists : DevicePort
-  with_lists = port_written Clbu 0 2 with_list
+  with_lists = port_after_write Clbu 0 2 with_list
 
   abbrev with_area : DevicePort
-  with_area = port_written Fb (received_of k) 2 with_lists
+  with_area = port_after_write Fb (received_of k) 2 with_lists
 
   abbrev placed : DevicePort
-  placed = port_written Fbu 0 2 with_area
+  placed = port_after_write Fbu 0 2 with_area
 
   abbrev asked_again : DevicePort
   asked_again = record placed { notes = note Cmd 0 placed }
 
   abbrev hearing : DevicePort
-  hearing = port_written Cmd 0x10 2 asked_again
+  hearing = port_after_write Cmd 0x10 2 asked_again
 
   abbrev sending : DevicePort
-  sending = port_written Sctl 1 2 hearing
+  sending = port_after_write Sctl 1 2 hearing
 
   abbrev awaiting : DevicePort
-  awaiting = port_written Sctl 0 2 sending
+  awaiting = port_after_write Sctl 0 2 sending
 
   abbrev shown : DevicePort
   shown = record (up awaiting) { notes = note Ssts 3 (up awaiting) }
 
   abbrev unchanged : DevicePort
-  unchanged = port_written Serr 0xffffffff 2 shown
+  unchanged = port_after_write Serr 0xffffffff 2 shown
 
   abbrev calmed : DevicePort
-  calmed = port_written Is 0xffffffff 2 unchanged
+  calmed = port_after_write Is 0xffffffff 2 unchanged
 
   abbrev idle : DevicePort
   idle = record calmed { notes = note Tfd 0x77 calmed }
@@ -74,14 +74,14 @@ module _ (k : ℕ) where
   -- the port stands at its place in these lists
   module _ (around : DevicePort → List DevicePort) (at : (p : DevicePort) → port_or_empty (around p) k ≡ p) (alike : (p q : DevicePort) → AlikeBut k (around p) (around q)) where
     abbrev pub dev : DevicePort → Device
-    dev p = device_with pages read_memory (around p)
+    dev p = running_device pages read_memory (around p)
 
     unfoldable pub reads_here : (r : PortReg) (v : ℕ) (p : DevicePort) → PortShows r v p → Reads (Px (port_at k) r) v (dev p) (dev (record p { notes = note r v p }))
     reads_here r v p shows = reads pages read_memory k (around p) (around (record p { notes = note r v p })) (alike p (record p { notes = note r v p })) r v
         (subst (PortShows r v) (sym (at p)) shows) (at (record p { notes = note r v p }) ∙ ap (λ (q : DevicePort). record q { notes = note r v q }) (sym (at p)))
 
-    unfoldable pub writes_here : (r : PortReg) (v : ℕ) (p : DevicePort) → Writes (Px (port_at k) r) v (dev p) (dev (port_written r v 2 p))
-    writes_here r v p = writes pages read_memory k (around p) (around (port_written r v 2 p)) (alike p (port_written r v 2 p)) r v (at (port_written r v 2 p) ∙ ap (port_written r v 2) (sym (at p)))
+    unfoldable pub writes_here : (r : PortReg) (v : ℕ) (p : DevicePort) → Writes (Px (port_at k) r) v (dev p) (dev (port_after_write r v 2 p))
+    writes_here r v p = writes pages read_memory k (around p) (around (port_after_write r v 2 p)) (alike p (port_after_write r v 2 p)) r v (at (port_after_write r v 2 p) ∙ ap (port_after_write r v 2) (sym (at p)))
 
     unfoldable pub comes_up : Reads (Px (port_at k) Ssts) 3 (dev awaiting) (dev shown)
     comes_up = record {
@@ -89,7 +89,7 @@ module _ (k : ℕ) where
       steps = record {
         steps = LinkUp k 0xeb140101 false ∷ [];
         lead = (
-          subst (λ (p : DevicePort). MayLinkUp p 0xeb140101) (sym (at awaiting)) (record { present = refl; det = refl; due = refl; fits = omega arith }),
+          subst (λ (p : DevicePort). MayLinkUp p 0xeb140101) (sym (at awaiting)) (record { present = refl; no_comreset = refl; link_is_due = refl; sig_fits = omega arith }),
           put_device pages read_memory k (around awaiting) (around (up awaiting)) (up (port_or_empty (around awaiting) k)) (at (up awaiting) ∙ ap up (sym (at awaiting))) (alike awaiting (up awaiting)),
         );
       };
@@ -119,10 +119,10 @@ abbrev second_quieted : DevicePort → List DevicePort
 second_quieted p = unfit 0 ∷ p ∷ []
 
 abbrev begun : Device
-begun = device_with pages read_memory (quieted 0 ∷ quieted 1 ∷ [])
+begun = running_device pages read_memory (quieted 0 ∷ quieted 1 ∷ [])
 
 abbrev pub rebooted : Device
-rebooted = device_with pages read_memory (unfit 0 ∷ unfit 1 ∷ [])
+rebooted = running_device pages read_memory (unfit 0 ∷ unfit 1 ∷ [])
 
 pub ports_are : port_or_empty (quieted 0 ∷ quieted 1 ∷ []) ≡ ended.port
 ports_are = λ i n. each n i
@@ -153,7 +153,7 @@ does = (
 may_hear : (k : ℕ) → MayWriteCmd (asked_again k) 0x10
 may_hear k = record {
   start = λ set. absurd (false≢true set);
-  receive = λ set. inr (record { fallen = refl; fb = refl; fbu = refl });
+  receive = λ set. inr (record { fr_is_clear = refl; fb = refl; fbu = refl });
   stop_receiving = λ clear. absurd (true≢false clear);
   others = λ place low start receive. same_beside 0x10 0 refl refl refl refl place start receive;
 }

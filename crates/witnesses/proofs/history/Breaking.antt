@@ -7,7 +7,7 @@ use Rattle.hba_regs.specs.Bits.{bit}
 use Rattle.hba_regs.specs.declared.reg.Reg.TheVariants.{Px}
 use Rattle.hba_regs.specs.declared.reg.Reg.TheVariants as registers
 use Rattle.hba_regs.specs.declared.reg.PortReg.TheVariants.{Is, Ssts}
-use Rattle.adapter.specs.Access.{DoesAll, Reads, Writes, note, port_written, shown_interrupt, with_is_bit_cleared}
+use Rattle.adapter.specs.Access.{DoesAll, Reads, Writes, note, port_after_write, shown_interrupt, port_after_hba_is_write}
 use Rattle.adapter.specs.Device.{DevicePort, Device}
 use Rattle.adapter.specs.Memory.{changed}
 use Rattle.adapter.specs.Rules.{AreAcknowledged}
@@ -16,9 +16,9 @@ use Rattle.adapter.specs.Steps.DeviceTransition.{Fatal}
 use Rattle.adapter.specs.declared.tape.Entry.{Entry}
 use Rattle.adapter.specs.declared.tape.Entry.TheVariants as entry
 use Rattle.refinement.specs.Relation.{port_at}
-use Rattle.witnesses.specs.Allowed.{AreAllowed}
-use Rattle.witnesses.specs.Fatal.{fatal_accesses}
-use Rattle.witnesses.specs.RunningAdapter.{device_with, port_or_empty}
+use Rattle.witnesses.specs.AllowedAccesses.{AreAllowed}
+use Rattle.witnesses.specs.FatalError.{fatal_accesses}
+use Rattle.witnesses.specs.RunningAdapter.{running_device, port_or_empty}
 use Rattle.witnesses.proofs.history.Command.{read_memory}
 use Rattle.witnesses.proofs.history.Devices.{but_first, other_bit, put_device, reads, writes}
 use Rattle.witnesses.proofs.history.Restarting.{Outset, reads_here, restart_allowed, restarts, unfit, writes_here}
@@ -30,23 +30,23 @@ abbrev pub tape_broken : List Entry
 tape_broken = pages ++ entry.Fatal (port_at 0) ∷ []
 
 abbrev pub dev : DevicePort → Device
-dev p = device_with tape_broken read_memory (p ∷ second ∷ [])
+dev p = running_device tape_broken read_memory (p ∷ second ∷ [])
 
 abbrev pub broken : DevicePort
 broken = record issued { is = changed issued.is 27 true; broken = true }
 
 abbrev cleared : DevicePort
-cleared = port_written Is 0x08000000 3 broken
+cleared = port_after_write Is 0x08000000 3 broken
 
 abbrev acknowledged : DevicePort
-acknowledged = with_is_bit_cleared cleared
+acknowledged = port_after_hba_is_write cleared
 
 abbrev linked : DevicePort
 linked = record acknowledged { notes = note Ssts 3 acknowledged }
 
 -- the masks are read then
 abbrev pub outset : Outset
-outset = record { gained = entry.Fatal (port_at 0) ∷ []; still = refl; flags = linked.is; broken = true; notes = linked.notes }
+outset = record { new_entries = entry.Fatal (port_at 0) ∷ []; still = refl; flags = linked.is; broken = true; notes = linked.notes }
 
 -- the fatal error comes
 pub can_break : Can (Fatal 0 27) submitted
@@ -75,9 +75,9 @@ tells = reads_here tape_broken Is 0x08000000 broken (λ place cause. ifs_shown p
 acknowledges : Writes registers.Is 1 (dev cleared) (dev acknowledged)
 acknowledges = record { mid = dev cleared; steps = record { steps = []; lead = refl }; effect = ap (λ (f : ℕ → DevicePort). record (dev cleared) { port = f }) (λ i n. each n i) }
   where
-    each : (n : ℕ) → port_or_empty (acknowledged ∷ second ∷ []) n ≡ (if bit 1 n then with_is_bit_cleared (port_or_empty (cleared ∷ second ∷ []) n) else port_or_empty (cleared ∷ second ∷ []) n)
+    each : (n : ℕ) → port_or_empty (acknowledged ∷ second ∷ []) n ≡ (if bit 1 n then port_after_hba_is_write (port_or_empty (cleared ∷ second ∷ []) n) else port_or_empty (cleared ∷ second ∷ []) n)
     each zero = refl
-    each (suc n) = sym (cond-false (bit 1 (suc n)) (with_is_bit_cleared (port_or_empty (cleared ∷ second ∷ []) (suc n))) (port_or_empty (cleared ∷ second ∷ []) (suc n)) (other_bit (suc n) (omega arith)))
+    each (suc n) = sym (cond-false (bit 1 (suc n)) (port_after_hba_is_write (port_or_empty (cleared ∷ second ∷ []) (suc n))) (port_or_empty (cleared ∷ second ∷ []) (suc n)) (other_bit (suc n) (omega arith)))
 
 pub does : DoesAll fatal_accesses (dev broken) (dev (unfit outset))
 does = (dev broken, tells, (dev cleared, writes_here tape_broken Is 0x08000000 broken, (dev acknowledged, acknowledges, (dev linked, reads_here tape_broken Ssts 3 acknowledged refl, restarts outset))))

@@ -14,10 +14,10 @@ use Rattle.block_machine.specs.Ports.{IsStoppedOrStuck, IsServiced, SamePort}
 use Rattle.block_machine.specs.State.{Pending}
 use Rattle.block_machine.specs.Steps.{Step, Answer}
 use Rattle.identify.specs.declared.wanted.Wanted.TheVariants.{Any}
-use Rattle.driver_history.specs.Heeding.{ServesReady}
+use Rattle.driver_history.specs.EvidenceHandling.{ServicesReadyPort}
 use Rattle.driver_history.specs.Histories.{BootsAnew, FindsDone, IsIssuedOn, IsPortAlive, CallCorresponds, PortCorresponds}
-use Rattle.driver_history.specs.Trace.{DoesNotWriteCmd}
-use Rattle.witnesses.specs.Fatal.{FatalErrorIsAHistory, fatal_accesses, fatal_evidence, fatal_look_accesses}
+use Rattle.driver_history.specs.AccessTrace.{DoesNotWriteCmd}
+use Rattle.witnesses.specs.FatalError.{FatalErrorIsAHistory, fatal_accesses, fatal_evidence, fatal_look_accesses}
 use Rattle.witnesses.proofs.history.Accepting.{asked, both, first, issuing, submit, submit_happens, submit_parts, submit_ties, waiting, bits_set, leaves_other, none_there, not_ended, the_answer}
 use Rattle.witnesses.proofs.history.Breaking.{allowed, broken, does, outset}
 use Rattle.witnesses.proofs.history.Devices.{AreServing, serving}
@@ -90,17 +90,17 @@ of_tended = (tended, ((λ is. cc, tended), ((λ is. cc, tt), (tended, of_served 
 
 -- ---- what it owes each port
 
-heeds : (n : ℕ) → both.state (port_at n) ≡ Ready → ServesReady broken_at.abstract fatal_evidence (answer ∷ []) (booted_at outset).abstract (port_at n)
+heeds : (n : ℕ) → both.state (port_at n) ≡ Ready → ServicesReadyPort broken_at.abstract fatal_evidence (answer ∷ []) (booted_at outset).abstract (port_at n)
 heeds zero is = record {
-  ended = λ e here at_port ended. absurd (not_ended 0 e here ended);
-  emptied = λ g. absurd (nowhere (port_at 0) g);
-  told = λ g. absurd (nowhere (port_at 0) g);
-  interrupts = λ why. inl (named 0);
-  anew = λ why e here. absurd (nowhere e here);
-  single = omega arith;
-  fatal = λ h. (named 0, refl);
-  disk = λ shows. inl refl;
-  calm = inl (inl (named 0));
+  answers_ended = λ e here at_port ended. absurd (not_ended 0 e here ended);
+  none_is_left = λ g. absurd (nowhere (port_at 0) g);
+  others_are_told_alike = λ g. absurd (nowhere (port_at 0) g);
+  is_interrupted = λ why. inl (named 0);
+  none_stays_issued = λ why e here. absurd (nowhere e here);
+  one_fault_at_most = omega arith;
+  fatal_tells_no_fault = λ h. (named 0, refl);
+  shown_disk_was_in_or_came = λ shows. inl refl;
+  is_left_alone_if_calm = inl (inl (named 0));
 }
 heeds (suc zero) is = leaves_other outcome.Unplugged fatal_evidence (booted_at outset).abstract (unnamed restart is_restart 0) (omega arith) (refl, refl, refl, refl, refl, refl)
 heeds (suc (suc n)) is = absurd (let x : Absent ≡ Ready = is in cc)
@@ -116,51 +116,51 @@ service_finds (suc n) e on = absurd (none_there 0 n e on)
 
 happens : Happens broken_at.abstract service.event
 happens = record {
-  may = (tt, ((0, omega arith, refl), tt));
-  belong = (tt, inr tt);
-  last = (tt, λ id h is. absurd (true≢false (sym is)));
-  lawful = (tt, (named 0, named 0));
-  fit = fit_one;
-  disks = λ e o here. absurd (nowhere e here);
-  answered = record {
-    tells = record { answers = (waiting, outcome.Unplugged) ∷ []; same = IsPermutation-refl _; ordered = λ i j d less low. absurd (omega (arith, less, low)); told = refl };
-    dead = λ e o here is. absurd (not_dead e.request.port.0 is);
-    unplugs = unplugs restart is_restart;
-    issues = λ port is r at_port due. absurd (nowhere r due.here);
-    emptied = λ port other e here. absurd (nowhere e here);
-    ended = λ port is e here at_port done. absurd (not_ended 0 e here done);
-    becomes = λ port. becomes port.0;
-    disk = λ port. had_disk port.0;
+  steps_are_enabled = (tt, ((0, omega arith, refl), tt));
+  steps_are_of_call = (tt, inr tt);
+  issues_are_last = (tt, λ id h is. absurd (true≢false (sym is)));
+  answers_are_lawful = (tt, (named 0, named 0));
+  ports_are_well_formed = fit_one;
+  unanswered_keep_disk = λ e o here. absurd (nowhere e here);
+  is_answered = record {
+    replies_match = record { answers = (waiting, outcome.Unplugged) ∷ []; is_permutation = IsPermutation-refl _; ordered = λ i j d less low. absurd (omega (arith, less, low)); replies_are = refl };
+    tells_dead = λ e o here is. absurd (not_dead e.request.port.0 is);
+    answers_all_unplugged = unplugs restart is_restart;
+    none_is_due = λ port is r at_port due. absurd (nowhere r due.is_in_book);
+    empty_unless_ready = λ port other e here. absurd (nowhere e here);
+    answers_ended = λ port is e here at_port done. absurd (not_ended 0 e here done);
+    port_is_serviced = λ port. becomes port.0;
+    shown_disk_was_in_or_came = λ port. had_disk port.0;
   };
 }
 
 part_of : (n : ℕ) → PortCorresponds broken_at service fatal_accesses (port_at n)
 part_of n = record {
-  finds = λ is e on. service_finds n e on;
-  faults = λ alone. absurd (true≢false (sym alone.shows.fault ∙ no_fault n));
-  probes = λ served none. tries_ready fatal_accesses broken_at one booted (port_at n) (served_ready n served);
-  boots = boots n;
-  port_error = port_error restart is_restart n;
-  well = well restart is_restart n;
-  heeds = heeds n;
+  finds_done = λ is e on. service_finds n e on;
+  plain_faults_are_told = λ alone. absurd (true≢false (sym alone.shows_only_tfes.tfes_is_set ∙ no_fault n));
+  probes_disk = λ served none. tries_ready fatal_accesses broken_at one booted (port_at n) (served_ready n served);
+  boots_anew = boots n;
+  loses_no_error = port_error restart is_restart n;
+  runs_well_anew = well restart is_restart n;
+  handles_evidence = heeds n;
 }
 
 ties : CallCorresponds (Any ∷ Any ∷ []) broken_at service
 ties = record {
   accesses = fatal_accesses;
-  came = (does, serving (IsPortAlive both) fatal_accesses of_tended);
-  backed = backed restart is_restart;
-  evidenced = record { faults = λ f here. absurd (nowhere f here); port = λ port. evidenced restart is_restart port.0 };
-  grounded = tt;
-  issues = λ port is r here. absurd (nowhere r here);
-  port = λ port. part_of port.0;
-  holds = (no_slots, holds_booted outset (unpaged 1));
+  accesses_are_explained = (does, serving (IsPortAlive both) fatal_accesses of_tended);
+  is_backed = backed restart is_restart;
+  is_evidenced = record { faults = λ f here. absurd (nowhere f here); port = λ port. evidenced restart is_restart port.0 };
+  only_failed_requeue = tt;
+  issues_all_due = λ port is r here. absurd (nowhere r here);
+  ports_correspond = λ port. part_of port.0;
+  invariant_holds = (no_slots, holds_booted outset (unpaged 1));
 }
 
 pub fatal_error_is_a_history : FatalErrorIsAHistory
 unfolding ties meeting_ties
 fatal_error_is_a_history = record {
-  first = first;
+  initial_state = first;
   submit = submit;
   asked = asked;
   reads = refl;
@@ -170,7 +170,7 @@ fatal_error_is_a_history = record {
   shows = shows_fatal;
   ready = refl;
   service = service;
-  serves = (refl, refl);
+  asks_for_service = (refl, refl);
   evidence = refl;
   unfit = refl;
   does = does;

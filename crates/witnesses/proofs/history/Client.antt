@@ -45,14 +45,14 @@ start = record {
   disk_ids = λ p. 0;
   sizes = λ p. slice_index_or (256 ∷ 256 ∷ []) p.0 0;
   disks = λ p k b. k;
-  aside = λ p k. [];
+  blocks_since_flush = λ p k. [];
   book = [];
   kept = [];
   lent = λ f. None;
   memory = λ f b. 0;
   rows = two_rows;
   owner = λ f. if is_behind_driver f then Some client else None;
-  next = 1;
+  next_id = 1;
 }
 
 pub starts : IsInitial start

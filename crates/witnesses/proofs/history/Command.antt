@@ -10,7 +10,7 @@ use Rattle.adapter.specs.ReadDone.{read_of}
 use Rattle.adapter.specs.Commands.{IsMeaning, Meaning, command_of, piece_count, reads_memory}
 use Rattle.adapter.specs.Decoding.{IsWholePieces, piece_addresses}
 use Rattle.adapter.specs.Encoding.{EncodesCommand, EncodesHeader, EncodesPrd}
-use Rattle.refinement.specs.Places.{table_of}
+use Rattle.refinement.specs.MemoryLayout.{table_of}
 use Rattle.adapter.specs.declared.command.Prd.{Prd}
 use Rattle.adapter.specs.declared.command.Operation.TheVariants.{ReadQueued}
 use Rattle.refinement.specs.Slots.{SlotDecodesTo}
@@ -47,29 +47,29 @@ pub told_one : (memory : ℕ → ℕ) (slot : ℕ) (c : Meaning) (address : ℕ)
     → EncodesCommand (bytes_at memory (table_of 0 slot) 20) (command_of c.operation slot c.first c.count) → IsMeaning c
     → EncodesPrd (bytes_at memory (table_of 0 slot + 128) 16) (record { address = address; bytes = 512 }) → 1 ≡ piece_count c.operation c.count → SlotDecodesTo memory 0 0 slot c (piece_addresses address 1)
 told_one memory slot c address header fis meaning prd many = record {
-  says = record {
+  decodes_to = record {
     table = table_of 0 slot;
     prds = record { address = address; bytes = 512 } ∷ [];
     header = header;
     fis = fis;
     meaning = meaning;
-    stand = (prd, tt);
-    few = omega arith;
-    whole = whole (record { address = address; bytes = 512 }) refl;
-    in_order = refl;
-    as_many = many;
+    prds_stand = (prd, tt);
+    prd_count_is_allowed = omega arith;
+    prds_are_whole_pieces = whole (record { address = address; bytes = 512 }) refl;
+    places_are = refl;
+    place_count_is = many;
   };
   table_is = refl;
-  few = omega arith;
+  prds_are_few = omega arith;
 }
 
 pub told : SlotDecodesTo read_memory 0 0 0 (read_of 100 1) (piece_addresses 0x64000 1)
 unfolding read_memory patched bytes_at
 told = told_one read_memory 0 (read_of 100 1) 0x64000
-    (record { size = refl; first = refl; points = refl; aligned = refl; zeros = λ i low high. zeros_past header_bytes 20 i low high })
+    (record { size = refl; dword0_is = refl; table_address_is = refl; aligned = refl; zeros = λ i low high. zeros_past header_bytes 20 i low high })
     (record {
       size = refl;
-      kind = refl;
+      fis_type = refl;
       c_bit = refl;
       code = refl;
       features = refl;
@@ -79,7 +79,7 @@ told = told_one read_memory 0 (read_of 100 1) 0x64000
       zeros = λ i low high. zeros_past read_bytes 6 i low high;
     })
     (record { ranged = λ _. (omega arith, omega arith, omega arith); not_ranged = λ h. absurd (true≢false h) })
-    (record { size = refl; allowed = record { even_address = refl; even_bytes = refl; some = omega arith; limit = omega arith }; address = refl; upper = refl; count = refl })
+    (record { size = refl; allowed = record { even_address = refl; even_bytes = refl; is_not_empty = omega arith; is_at_most_4_mib = omega arith }; address = refl; upper_is_zero = refl; byte_count_is = refl })
     refl
 
 -- ---- a queued read of one sector
@@ -102,11 +102,11 @@ pub told_queued : (memory : ℕ → ℕ) (slot k frame : ℕ) → k < 256 → li
     → bytes_at memory (table_of 0 slot + 128) 16 ≡ frame_head frame → SlotDecodesTo memory 0 0 slot (queued_read k) (piece_addresses (4096 * frame) 1)
 told_queued memory slot k frame low points aligned address even header fis prd = told_one memory slot (queued_read k) (4096 * frame)
     (subst (λ (bytes : List ℕ). EncodesHeader bytes false 1 (table_of 0 slot)) (sym header)
-    (record { size = refl; first = refl; points = points; aligned = aligned; zeros = λ i from to. zeros_past (header_to slot) 20 i from to }))
+    (record { size = refl; dword0_is = refl; table_address_is = points; aligned = aligned; zeros = λ i from to. zeros_past (header_to slot) 20 i from to }))
     (subst (λ (bytes : List ℕ). EncodesCommand bytes (command_of ReadQueued slot k 1)) (sym fis)
     (record {
       size = refl;
-      kind = refl;
+      fis_type = refl;
       c_bit = refl;
       code = refl;
       features = refl;
@@ -117,5 +117,5 @@ told_queued memory slot k frame low points aligned address even header fis prd =
     }))
     (record { ranged = λ _. (omega arith, omega arith, omega (arith, low)); not_ranged = λ h. absurd (true≢false h) })
     (subst (λ (bytes : List ℕ). EncodesPrd bytes (record { address = 4096 * frame; bytes = 512 })) (sym prd)
-    (record { size = refl; allowed = record { even_address = even; even_bytes = refl; some = omega arith; limit = omega arith }; address = address; upper = refl; count = refl }))
+    (record { size = refl; allowed = record { even_address = even; even_bytes = refl; is_not_empty = omega arith; is_at_most_4_mib = omega arith }; address = address; upper_is_zero = refl; byte_count_is = refl }))
     refl

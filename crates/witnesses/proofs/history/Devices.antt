@@ -12,7 +12,7 @@ use Rattle.hba_regs.specs.declared.reg.Reg.{Reg}
 use Rattle.hba_regs.specs.declared.reg.Reg.TheVariants.{Ghc, Px}
 use Rattle.hba_regs.specs.declared.reg.PortReg.{PortReg}
 use Rattle.hba_regs.specs.declared.reg.PortReg.TheVariants.{Cmd, Sctl}
-use Rattle.adapter.specs.Access.{Access, DoesAll, PortShows, Reads, Stores, Writes, note, port_written}
+use Rattle.adapter.specs.Access.{Access, DoesAll, PortShows, Reads, Stores, Writes, note, port_after_write}
 use Rattle.adapter.specs.Access.Access.{Reading, Writing, Loading, Storing}
 use Rattle.adapter.specs.Device.{DevicePort, Device}
 use Rattle.adapter.specs.Memory.{changed, patched}
@@ -21,8 +21,8 @@ use Rattle.adapter.specs.Steps.{Can, TransitionsLead, DeviceTransition, Steps, d
 use Rattle.adapter.specs.Steps.DeviceTransition.{Fall}
 use Rattle.adapter.specs.declared.tape.Entry.{Entry}
 use Rattle.refinement.specs.Relation.{port_at}
-use Rattle.driver_history.specs.Trace.{LeavesEngine, IsAccessForPorts, IsOfPorts}
-use Rattle.witnesses.specs.RunningAdapter.{device_with, port_or_empty}
+use Rattle.driver_history.specs.AccessTrace.{LeavesEngine, IsAccessForPorts, IsOfPorts}
+use Rattle.witnesses.specs.RunningAdapter.{running_device, port_or_empty}
 
 -- ---- one port is changed
 
@@ -65,30 +65,30 @@ but_second o p q rest (suc zero) ne = absurd (ne refl)
 but_second o p q rest (suc (suc n)) ne = refl
 
 pub put_device : (tape : List Entry) (memory : ℕ → ℕ) (k : ℕ) (old new : List DevicePort) (x : DevicePort) → port_or_empty new k ≡ x → AlikeBut k old new
-    → device_with tape memory new ≡ record (device_with tape memory old) { port = changed (port_or_empty old) k x }
-put_device tape memory k old new x here others = ap (λ (f : ℕ → DevicePort). record (device_with tape memory old) { port = f }) (put k (port_or_empty old) (port_or_empty new) x here others)
+    → running_device tape memory new ≡ record (running_device tape memory old) { port = changed (port_or_empty old) k x }
+put_device tape memory k old new x here others = ap (λ (f : ℕ → DevicePort). record (running_device tape memory old) { port = f }) (put k (port_or_empty old) (port_or_empty new) x here others)
 
 -- bytes are stored, and the device does nothing first
-pub stores : (at : ℕ) (bytes : List ℕ) (tape : List Entry) (memory : ℕ → ℕ) (ports : List DevicePort) → Stores at bytes (device_with tape memory ports) (device_with tape (patched memory at bytes) ports)
-stores at bytes tape memory ports = record { mid = device_with tape memory ports; steps = record { steps = []; lead = refl }; effect = refl }
+pub stores : (at : ℕ) (bytes : List ℕ) (tape : List Entry) (memory : ℕ → ℕ) (ports : List DevicePort) → Stores at bytes (running_device tape memory ports) (running_device tape (patched memory at bytes) ports)
+stores at bytes tape memory ports = record { mid = running_device tape memory ports; steps = record { steps = []; lead = refl }; effect = refl }
 
 module _ (tape : List Entry) (memory : ℕ → ℕ) (k : ℕ) (old new : List DevicePort) (others : AlikeBut k old new) where
   abbrev p : DevicePort
   p = port_or_empty old k
 
-  unfoldable pub reads : (r : PortReg) (v : ℕ) → PortShows r v p → port_or_empty new k ≡ record p { notes = note r v p } → Reads (Px (port_at k) r) v (device_with tape memory old) (device_with tape memory new)
+  unfoldable pub reads : (r : PortReg) (v : ℕ) → PortShows r v p → port_or_empty new k ≡ record p { notes = note r v p } → Reads (Px (port_at k) r) v (running_device tape memory old) (running_device tape memory new)
   reads r v shows here = record {
-    mid = device_with tape memory old;
+    mid = running_device tape memory old;
     steps = record { steps = []; lead = refl };
     shows = shows;
     effect = put_device tape memory k old new (record p { notes = note r v p }) here others;
   }
 
-  unfoldable pub writes : (r : PortReg) (v : ℕ) → port_or_empty new k ≡ port_written r v (length tape) p → Writes (Px (port_at k) r) v (device_with tape memory old) (device_with tape memory new)
+  unfoldable pub writes : (r : PortReg) (v : ℕ) → port_or_empty new k ≡ port_after_write r v (length tape) p → Writes (Px (port_at k) r) v (running_device tape memory old) (running_device tape memory new)
   writes r v here = record {
-    mid = device_with tape memory old;
+    mid = running_device tape memory old;
     steps = record { steps = []; lead = refl };
-    effect = put_device tape memory k old new (port_written r v (length tape) p) here others;
+    effect = put_device tape memory k old new (port_after_write r v (length tape) p) here others;
   }
 
 -- CR has fallen, and no command is taken
@@ -99,9 +99,9 @@ fall p = record p { cr = false; taken = λ _. None }
 unfoldable pub falls_reads : (tape : List Entry) (memory : ℕ → ℕ) (k v : ℕ) (old mid new : List DevicePort) → AlikeBut k old mid → AlikeBut k mid new
     → (port_or_empty old k).st ≡ false → (port_or_empty old k).cr ≡ true → port_or_empty mid k ≡ fall (port_or_empty old k)
     → PortShows Cmd v (port_or_empty mid k) → port_or_empty new k ≡ record (port_or_empty mid k) { notes = note Cmd v (port_or_empty mid k) }
-    → Reads (Px (port_at k) Cmd) v (device_with tape memory old) (device_with tape memory new)
+    → Reads (Px (port_at k) Cmd) v (running_device tape memory old) (running_device tape memory new)
 falls_reads tape memory k v old mid new first then st cr fallen shows here = record {
-  mid = device_with tape memory mid;
+  mid = running_device tape memory mid;
   steps = record { steps = Fall k ∷ []; lead = ((st, cr), put_device tape memory k old mid (fall (port_or_empty old k)) fallen first) };
   shows = shows;
   effect = put_device tape memory k mid new (record (port_or_empty mid k) { notes = note Cmd v (port_or_empty mid k) }) here then;

@@ -14,7 +14,7 @@ use Rattle.refinement.specs.Relation.{port_at}
 use Rattle.refinement.specs.Acts.{driver_state}
 use Rattle.refinement.specs.Driver.{IsBacked, DriverRelation}
 use Rattle.refinement.specs.Slots.{ServesRequest, RelatesSlot}
-use Rattle.refinement.specs.Witness.{first_id}
+use Rattle.refinement.specs.ReadWitness.{first_id}
 use Rattle.block_machine.specs.Events.{Service, Served, Happens}
 use Rattle.block_machine.specs.Histories.{JointEvent, JointState}
 use Rattle.block_machine.specs.Ports.{IsServiced, Ports, PortsWellFormed}
@@ -26,9 +26,9 @@ use Rattle.identify.specs.declared.wanted.Wanted.TheVariants.{Any}
 use Rattle.driver_history.specs.Evidence.{IsEvidencedOf}
 use Rattle.driver_history.specs.Histories.{CallCorresponds, PortCorresponds, ProbesDisk, HasUnservedDisk, IsPortAlive}
 use Rattle.driver_history.specs.PortInvariants.{PortStateInvariant, DriverInvariantWith, HasNoUnanswered}
-use Rattle.driver_history.specs.Trace.{LeavesEngine, IsAccessForPorts}
+use Rattle.driver_history.specs.AccessTrace.{LeavesEngine, IsAccessForPorts}
 use Rattle.host_boot.specs.Resets.{ReadsGlobalControl}
-use Rattle.witnesses.specs.Dead.{reset_accesses, StuckResetIsAHistory}
+use Rattle.witnesses.specs.StuckReset.{reset_accesses, StuckResetIsAHistory}
 use Rattle.witnesses.specs.RunningAdapter.{port_or_empty, ports_with_disks}
 use Rattle.hba_regs.specs.declared.reg.Reg.TheVariants.{Ghc}
 use Rattle.adapter.specs.Access.{DoesAll}
@@ -64,7 +64,7 @@ resets = (
 )
 
 abbrev stuck_evidence : Evidence
-stuck_evidence = record { faults = []; lost = []; gone = []; failed = []; fatal = []; stopped = []; stuck = port_at 0 ∷ port_at 1 ∷ [] }
+stuck_evidence = record { faults = []; lost = []; link_changed = []; failed = []; fatal = []; stopped = []; stuck = port_at 0 ∷ port_at 1 ∷ [] }
 
 abbrev reset : JointEvent Device DeviceStep
 reset = record {
@@ -81,17 +81,17 @@ not_on on = absurd (true≢false on.no_reset)
 -- nothing that the machine agrees with changes by a reset that is pending
 still_knows : (m : Machine) → DriverRelation m (driver_state first_slots submitted) → DriverRelation m (driver_state first_slots pending)
 still_knows m k = record {
-  agrees = record { slot = k.agrees.slot; apart = k.agrees.apart; received = k.agrees.received; disk = k.agrees.disk; memory = k.agrees.memory; sectors = k.agrees.sectors; lasting = k.agrees.lasting };
-  have = k.have;
+  state_relation = record { relates_slots = k.state_relation.relates_slots; serve_apart = k.state_relation.serve_apart; received_areas_are_placed = k.state_relation.received_areas_are_placed; disks_are_same = k.state_relation.disks_are_same; memory_is_same = k.state_relation.memory_is_same; sectors_are_same = k.state_relation.sectors_are_same; has_lasting = k.state_relation.has_lasting };
+  have_slots = k.have_slots;
 }
 
 -- what holds of each port, where requests are port 0's alone
 port_dead : (m : Machine) → ((n : ℕ) → n ≢ 0 → HasNoUnanswered m (port_at n)) → ((n : ℕ) → n ≢ 0 → NoneQuarantined m (port_at n)) → (n : ℕ)
     → PortStateInvariant (wanted_of (Any ∷ Any ∷ []) n) first_slots (record { device = pending; abstract = record { machine = m; ports = dead } }) (port_at n) (dead.served (port_at n)) (dead.state (port_at n))
-port_dead m waits kept zero = record { why = inr not_on; waits = λ on. absurd (not_on on) }
-port_dead m waits kept (suc zero) = record { why = inr not_on; waits = λ on. absurd (not_on on) }
+port_dead m waits kept zero = record { is_backed_or_off = inr not_on; has_no_unanswered = λ on. absurd (not_on on) }
+port_dead m waits kept (suc zero) = record { is_backed_or_off = inr not_on; has_no_unanswered = λ on. absurd (not_on on) }
 port_dead m waits kept (suc (suc n)) = unserved_at first_slots (record { device = pending; abstract = record { machine = m; ports = dead } }) (suc (suc n)) refl refl
-    (record { free = λ slot. refl; unparked = refl }) (waits (suc (suc n)) (omega arith)) (kept (suc (suc n)) (omega arith))
+    (record { all_are_free = λ slot. refl; none_is_parked = refl }) (waits (suc (suc n)) (omega arith)) (kept (suc (suc n)) (omega arith))
 
 all_dead : (n : ℕ) → dead.served (port_at n) ≡ true → dead.state (port_at n) ≡ Dead
 all_dead zero is = refl
@@ -101,10 +101,10 @@ all_dead (suc (suc n)) is = absurd (true≢false (sym is))
 holds_dead : (m : Machine) → DriverRelation m (driver_state first_slots pending) → ((n : ℕ) → n ≢ 0 → HasNoUnanswered m (port_at n)) → ((n : ℕ) → n ≢ 0 → NoneQuarantined m (port_at n))
     → DriverInvariantWith (Any ∷ Any ∷ []) first_slots (record { device = pending; abstract = record { machine = m; ports = dead } })
 holds_dead m knows waits kept = record {
-  knows = knows;
+  driver_relation = knows;
   served = λ port low. served_of pages read_memory (issued ∷ second ∷ []) port.0;
-  on = inr (λ port is. all_dead port.0 is);
-  port = λ port low. port_dead m waits kept port.0;
+  adapter_is_on = inr (λ port is. all_dead port.0 is);
+  ports_hold = λ port low. port_dead m waits kept port.0;
 }
 
 waits_first : (n : ℕ) → n ≢ 0 → HasNoUnanswered issuing (port_at n)
@@ -117,10 +117,10 @@ not_ready (suc (suc n)) is = let x : Absent ≡ Ready = is in cc
 
 fit_dead : PortsWellFormed dead
 fit_dead = record {
-  few = (fit_ready plain_disks).few;
-  absent = λ port is. absent_of port.0 is;
-  slots = λ port is. absurd (not_ready port.0 is);
-  causes = λ port cause is. absurd (no_cause port.0 cause is);
+  few_are_served = (fit_ready plain_disks).few_are_served;
+  unserved_are_absent = λ port is. absent_of port.0 is;
+  modes_are_valid = λ port is. absurd (not_ready port.0 is);
+  causes_are_valid = λ port cause is. absurd (no_cause port.0 cause is);
 }
   where
     absent_of : (n : ℕ) → dead.served (port_at n) ≡ false → dead.state (port_at n) ≡ Absent
@@ -140,20 +140,20 @@ stuck_is (suc (suc n)) = (refl, λ is. absurd (true≢false (sym is)), (refl, re
 
 reset_happens : Happens submitted_at.abstract reset.event
 reset_happens = record {
-  may = tt;
-  belong = tt;
-  last = tt;
-  lawful = tt;
-  fit = fit_dead;
-  disks = λ e o here there same. (refl, refl);
-  answered = (tt, λ port. stuck_is port.0);
+  steps_are_enabled = tt;
+  steps_are_of_call = tt;
+  issues_are_last = tt;
+  answers_are_lawful = tt;
+  ports_are_well_formed = fit_dead;
+  unanswered_keep_disk = λ e o here there same. (refl, refl);
+  is_answered = (tt, λ port. stuck_is port.0);
 }
 
 unchanged : (d : Device) → ((n : ℕ) → (d.port n).plugged ≡ (d.port n).plugged ++ [])
 unchanged d n = sym (append-nil (d.port n).plugged)
 
 reset_backed : IsBacked submitted pending issuing []
-reset_backed = record { telling = refl; gained = []; tape = refl; tells = tt; told = λ _. tt; plugged = λ port. ([], unchanged submitted port, refl) }
+reset_backed = record { telling = refl; new_entries = []; tape_is = refl; tells_device_steps = tt; steps_are_faithful = λ _. tt; plugged = λ port. ([], unchanged submitted port, refl) }
 
 -- the port is served if it is named
 named_served : (n : ℕ) → Contains (port_at 0 ∷ port_at 1 ∷ []) (port_at n) → both.served (port_at n) ≡ true
@@ -169,8 +169,8 @@ reset_evidenced n =
     let quiet = calm submitted.tape read_memory issued refl refl refl (λ place from. refl) pending n in
     record {
       lost = λ h. absurd (nowhere (port_at n) h);
-      gone_all = λ is loss. absurd ((quiet is).0 loss);
-      gone_only = λ h. absurd (nowhere (port_at n) h);
+      link_changed_all = λ is loss. absurd ((quiet is).0 loss);
+      link_changed_only = λ h. absurd (nowhere (port_at n) h);
       failed_all = λ is f. absurd ((quiet is).1 f);
       failed_only = λ h. absurd (nowhere (port_at n) h);
       fatal_all = λ is f. absurd ((quiet is).1 (inl f));
@@ -182,25 +182,25 @@ reset_evidenced n =
 
 reset_part : (n : ℕ) → PortCorresponds submitted_at reset reset_accesses (port_at n)
 reset_part n = record {
-  finds = tt;
-  faults = tt;
-  probes = tt;
-  boots = tt;
-  port_error = no_trouble stuck_evidence submitted_at dead pending (port_at n) [] refl (All-nil (IsCalm n)) (served_ready n) (calm submitted.tape read_memory issued refl refl refl (λ place from. refl) pending n);
-  well = λ why ready. absurd (not_ready n ready);
-  heeds = tt;
+  finds_done = tt;
+  plain_faults_are_told = tt;
+  probes_disk = tt;
+  boots_anew = tt;
+  loses_no_error = no_trouble stuck_evidence submitted_at dead pending (port_at n) [] refl (All-nil (IsCalm n)) (served_ready n) (calm submitted.tape read_memory issued refl refl refl (λ place from. refl) pending n);
+  runs_well_anew = λ why ready. absurd (not_ready n ready);
+  handles_evidence = tt;
 }
 
 reset_ties : CallCorresponds (Any ∷ Any ∷ []) submitted_at reset
 reset_ties = record {
   accesses = reset_accesses;
-  came = (resets, record { asked = []; shown = 0x80000001; here = refl; only = All-nil ReadsGlobalControl; pending = refl });
-  backed = reset_backed;
-  evidenced = record { faults = λ f here. absurd (nowhere f here); port = λ port. reset_evidenced port.0 };
-  grounded = tt;
-  issues = λ port is. absurd (not_ready port.0 is);
-  port = λ port. reset_part port.0;
-  holds = (first_slots, holds_dead issuing (still_knows issuing holds_submitted.knows) waits_first (λ n ne e kept. absurd (nowhere e kept)));
+  accesses_are_explained = (resets, record { polls = []; last_ghc = 0x80000001; accesses_are = refl; only_reads_ghc = All-nil ReadsGlobalControl; hr_is = refl });
+  is_backed = reset_backed;
+  is_evidenced = record { faults = λ f here. absurd (nowhere f here); port = λ port. reset_evidenced port.0 };
+  only_failed_requeue = tt;
+  issues_all_due = λ port is. absurd (not_ready port.0 is);
+  ports_correspond = λ port. reset_part port.0;
+  invariant_holds = (first_slots, holds_dead issuing (still_knows issuing holds_submitted.driver_relation) waits_first (λ n ne e kept. absurd (nowhere e kept)));
 }
 
 -- ---- the service
@@ -229,36 +229,36 @@ serves_kept =
     let s = serves in
     record {
       pending = s.pending;
-      moves = inr (0, omega arith, sym (⊎_elim (λ here. in_book 0 s.pending here.0) (λ kept. absurd (nowhere s.pending kept)) s.moves));
+      may_still_move = inr (0, omega arith, sym (⊎_elim (λ here. in_book 0 s.pending here.0) (λ kept. absurd (nowhere s.pending kept)) s.may_still_move));
       id_is = s.id_is;
       port_is = s.port_is;
-      placed = s.placed;
+      list_is_in_place = s.list_is_in_place;
       command = s.command;
       places = s.places;
-      told = s.told;
+      slot_decodes_to = s.slot_decodes_to;
       means = s.means;
       stage = s.stage;
     }
 
 slot_kept : (n k : ℕ) → RelatesSlot answered read_memory pages (port_or_empty (issued ∷ second ∷ []) n) n k (uses_first n k)
 slot_kept zero zero = serves_kept
-slot_kept zero (suc k) = holds_submitted.knows.agrees.slot zero (suc k)
-slot_kept (suc n) k = holds_submitted.knows.agrees.slot (suc n) k
+slot_kept zero (suc k) = holds_submitted.driver_relation.state_relation.relates_slots zero (suc k)
+slot_kept (suc n) k = holds_submitted.driver_relation.state_relation.relates_slots (suc n) k
 
 knows_kept : DriverRelation answered (driver_state first_slots pending)
 knows_kept =
-    let k : DriverRelation issuing (driver_state first_slots submitted) = holds_submitted.knows in
+    let k : DriverRelation issuing (driver_state first_slots submitted) = holds_submitted.driver_relation in
     record {
-      agrees = record {
-        slot = slot_kept;
-        apart = k.agrees.apart;
-        received = k.agrees.received;
-        disk = λ n. let d = k.agrees.disk n in record { present = d.present; id = d.id; size = d.size };
-        memory = k.agrees.memory;
-        sectors = λ telling n. let d = k.agrees.sectors telling n in record { told = d.told; tells = d.tells; same = d.same };
-        lasting = k.agrees.lasting;
+      state_relation = record {
+        relates_slots = slot_kept;
+        serve_apart = k.state_relation.serve_apart;
+        received_areas_are_placed = k.state_relation.received_areas_are_placed;
+        disks_are_same = λ n. let d = k.state_relation.disks_are_same n in record { present = d.present; id = d.id; size = d.size };
+        memory_is_same = k.state_relation.memory_is_same;
+        sectors_are_same = λ telling n. let d = k.state_relation.sectors_are_same telling n in record { told_sectors = d.told_sectors; disk_tells = d.disk_tells; bytes_are_same = d.bytes_are_same };
+        has_lasting = k.state_relation.has_lasting;
       };
-      have = λ n e may at_port. inr (⊎_elim
+      have_slots = λ n e may at_port. inr (⊎_elim
           (λ here. absurd (nowhere e here.0))
           (λ kept. have_first e n (ap (λ (x : Pending). x.request.port.0) (is_kept e kept)) (ap (λ (x : Pending). x.request.id) (is_kept e kept)) at_port) may);
     }
@@ -276,9 +276,9 @@ becomes (suc (suc n)) = (
   λ is. (refl, refl, refl, refl, refl, refl),
   λ other. (
     record {
-      served = refl;
-      stuck = (λ is. absurd (let x : Absent ≡ Dead = is in cc), λ h. absurd (nowhere (port_at (suc (suc n))) h));
-      keeps = λ is. (refl, refl);
+      served_is_kept = refl;
+      dead_is_stuck = (λ is. absurd (let x : Absent ≡ Dead = is in cc), λ h. absurd (nowhere (port_at (suc (suc n))) h));
+      disk_is_kept = λ is. (refl, refl);
     },
     inl (refl, refl, refl, refl, refl, refl),
   ),
@@ -286,21 +286,21 @@ becomes (suc (suc n)) = (
 
 service_happens : Happens pending_at.abstract service.event
 service_happens = record {
-  may = (tt, ((0, omega arith, refl), tt));
-  belong = (tt, inr tt);
-  last = (tt, λ id handled issued_in. absurd (true≢false (sym issued_in)));
-  lawful = (tt, refl);
-  fit = fit_dead;
-  disks = λ e o here. absurd (nowhere e here);
-  answered = record {
-    tells = record { answers = (waiting, outcome.PortDead) ∷ []; same = IsPermutation-refl _; ordered = λ i j d less low. absurd (omega (arith, less, low)); told = refl };
-    dead = λ e o here is. (the_answer outcome.PortDead e o here).1;
-    unplugs = record { emptied = λ e other here. absurd (not_unplugged e here); alike = λ e other here. absurd (not_unplugged e here) };
-    issues = λ port is r at_port due. absurd (nowhere r due.here);
-    emptied = λ port other e here. absurd (nowhere e here);
-    ended = λ port is e here at_port done. absurd (not_ended 0 e here done);
-    becomes = λ port. becomes port.0;
-    disk = λ port. inl (refl, refl, refl, refl, refl, refl);
+  steps_are_enabled = (tt, ((0, omega arith, refl), tt));
+  steps_are_of_call = (tt, inr tt);
+  issues_are_last = (tt, λ id handled issued_in. absurd (true≢false (sym issued_in)));
+  answers_are_lawful = (tt, refl);
+  ports_are_well_formed = fit_dead;
+  unanswered_keep_disk = λ e o here. absurd (nowhere e here);
+  is_answered = record {
+    replies_match = record { answers = (waiting, outcome.PortDead) ∷ []; is_permutation = IsPermutation-refl _; ordered = λ i j d less low. absurd (omega (arith, less, low)); replies_are = refl };
+    tells_dead = λ e o here is. (the_answer outcome.PortDead e o here).1;
+    answers_all_unplugged = record { none_is_left = λ e other here. absurd (not_unplugged e here); none_is_told_dead = λ e other here. absurd (not_unplugged e here) };
+    none_is_due = λ port is r at_port due. absurd (nowhere r due.is_in_book);
+    empty_unless_ready = λ port other e here. absurd (nowhere e here);
+    answers_ended = λ port is e here at_port done. absurd (not_ended 0 e here done);
+    port_is_serviced = λ port. becomes port.0;
+    shown_disk_was_in_or_came = λ port. inl (refl, refl, refl, refl, refl, refl);
   };
 }
 
@@ -331,40 +331,40 @@ untended (suc (suc n)) tends = true≢false (sym tends.0)
 
 service_part : (n : ℕ) → PortCorresponds pending_at service [] (port_at n)
 service_part n = record {
-  finds = λ is. absurd (not_ready n is);
-  faults = λ alone. absurd (not_ready n alone.ready);
-  probes = λ served none. probes n served;
-  boots = (λ is. absurd (not_ready n is), inl (refl, refl, refl, refl, refl, refl));
-  port_error = record {
+  finds_done = λ is. absurd (not_ready n is);
+  plain_faults_are_told = λ alone. absurd (not_ready n alone.ready);
+  probes_disk = λ served none. probes n served;
+  boots_anew = (λ is. absurd (not_ready n is), inl (refl, refl, refl, refl, refl, refl));
+  loses_no_error = record {
     errors = λ is. absurd (not_ready n is);
     changes = λ tends. absurd (untended n tends);
     fault = λ is. absurd (not_ready n is);
     fatal = λ is. absurd (not_ready n is);
     disk = λ is. absurd (not_ready n is);
   };
-  well = λ why is. absurd (not_ready n is);
-  heeds = λ is. absurd (not_ready n is);
+  runs_well_anew = λ why is. absurd (not_ready n is);
+  handles_evidence = λ is. absurd (not_ready n is);
 }
 
 service_backed : IsBacked pending pending issuing (answer ∷ [])
-service_backed = record { telling = refl; gained = []; tape = refl; tells = (tt, λ d. d); told = λ _. (tt, tt); plugged = λ port. ([], unchanged pending port, refl) }
+service_backed = record { telling = refl; new_entries = []; tape_is = refl; tells_device_steps = (tt, λ d. d); steps_are_faithful = λ _. (tt, tt); plugged = λ port. ([], unchanged pending port, refl) }
 
 service_ties : CallCorresponds (Any ∷ Any ∷ []) pending_at service
 service_ties = record {
   accesses = [];
-  came = (refl, All-nil (IsAccessForPorts (IsPortAlive dead)));
-  backed = service_backed;
-  evidenced = record { faults = λ f here. absurd (nowhere f here); port = λ port. service_evidenced port.0 };
-  grounded = tt;
-  issues = λ port is. absurd (not_ready port.0 is);
-  port = λ port. service_part port.0;
-  holds = (first_slots, holds_dead answered knows_kept (λ n ne e here. absurd (nowhere e here)) kept_first);
+  accesses_are_explained = (refl, All-nil (IsAccessForPorts (IsPortAlive dead)));
+  is_backed = service_backed;
+  is_evidenced = record { faults = λ f here. absurd (nowhere f here); port = λ port. service_evidenced port.0 };
+  only_failed_requeue = tt;
+  issues_all_due = λ port is. absurd (not_ready port.0 is);
+  ports_correspond = λ port. service_part port.0;
+  invariant_holds = (first_slots, holds_dead answered knows_kept (λ n ne e here. absurd (nowhere e here)) kept_first);
 }
 
 pub death_is_a_history : StuckResetIsAHistory
 unfolding reset_ties service_ties
 death_is_a_history = record {
-  first = first;
+  initial_state = first;
   submit = submit;
   asked = asked;
   submits = (refl, refl);
@@ -372,7 +372,7 @@ death_is_a_history = record {
   resets = (refl, refl);
   dead = (refl, refl);
   service = service;
-  serves = (refl, refl);
+  asks_for_service = (refl, refl);
   history = (((((starts, fit_ready plain_disks), begins plain_disks), submit_happens, submit_ties), reset_happens, reset_ties), service_happens, service_ties);
   kept = waiting;
   keeps = ((0, omega arith, refl), refl);

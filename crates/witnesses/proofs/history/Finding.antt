@@ -29,7 +29,7 @@ use Rattle.refinement.specs.Acts.{DriverSlots}
 use Rattle.refinement.specs.Relation.{port_at}
 use Rattle.refinement.specs.Driver.{IsBacked}
 use Rattle.refinement.specs.Slots.{ServesRequest}
-use Rattle.block_machine.specs.Due.{IsDue, NoneDue}
+use Rattle.block_machine.specs.DueRequests.{IsDue, NoneDue}
 use Rattle.block_machine.specs.Events.{Happens, Service, Served, ShowsDisk}
 use Rattle.block_machine.specs.Histories.{JointState, JointEvent}
 use Rattle.block_machine.specs.Expected.{after}
@@ -38,11 +38,11 @@ use Rattle.block_machine.specs.State.{Block, Machine, Pending, unanswered}
 use Rattle.block_machine.specs.Steps.{Step, Answer, End, Touch, AllTouched, mark_ended, touch}
 use Rattle.block_machine.specs.declared.due.Unanswered.{Unanswered}
 use Rattle.identify.specs.declared.wanted.Wanted.TheVariants.{Any}
-use Rattle.driver_history.specs.Heeding.{ServesReady}
+use Rattle.driver_history.specs.EvidenceHandling.{ServicesReadyPort}
 use Rattle.driver_history.specs.Evidence.{IsEvidencedOf, ShowsFailure, ShowsLoss}
 use Rattle.driver_history.specs.Histories.{FindsDone, IsAnsweredOk, IsIssuedOn, IsPortAlive, CallCorresponds, PortCorresponds, with_issue_undone}
 use Rattle.driver_history.specs.PortInvariants.{mode_of_disk}
-use Rattle.driver_history.specs.Trace.{DoesNotWriteCmd, LeavesEngine}
+use Rattle.driver_history.specs.AccessTrace.{DoesNotWriteCmd, LeavesEngine}
 use Rattle.witnesses.specs.RunningAdapter.{queueing_cap}
 use Rattle.witnesses.proofs.history.Command.{queued_read}
 use Rattle.witnesses.proofs.history.Devices.{serving}
@@ -60,9 +60,9 @@ stay_serviced disk evidence n unstuck = (
   λ is. absurd (not_dead n is),
   λ _. (
     record {
-      served = refl;
-      stuck = (λ is. absurd (not_dead n is), λ h. absurd (unstuck h));
-      keeps = λ is. (refl, refl);
+      served_is_kept = refl;
+      dead_is_stuck = (λ is. absurd (not_dead n is), λ h. absurd (unstuck h));
+      disk_is_kept = λ is. (refl, refl);
     },
     inl (refl, refl, refl, refl, refl, refl),
   ),
@@ -167,38 +167,38 @@ module _ (c : Discovery) where
     pub backed : IsBacked before.device served_at.device c.machine steps
     backed = record {
       telling = refl;
-      gained = gained;
-      tape = refl;
-      tells = (
+      new_entries = gained;
+      tape_is = refl;
+      tells_device_steps = (
         [],
         touching ∷ [],
         Answer ended outcome.Ok ∷ End (touch 0 outstanding) ∷ [],
         tt,
         record {
           pending = outstanding;
-          moves = inl (is.here, refl);
+          may_still_move = inl (is.here, refl);
           port_is = refl;
           op_is = refl;
-          number = 0;
-          within = omega arith;
+          sector_number = 0;
+          number_is_in_range = omega arith;
           sector_is = refl;
           place_is = omega arith;
           direction_is = refl;
-          lent = is.lent;
-          step = refl;
+          frame_is_lent = is.lent;
+          step_is = refl;
         },
         (
           [],
           End (touch 0 outstanding) ∷ [],
           Answer ended outcome.Ok ∷ [],
           tt,
-          record { pending = touch 0 outstanding; moves = inl (is.touched_here, refl); port_is = refl; op_is = refl; step = refl },
+          record { pending = touch 0 outstanding; may_still_move = inl (is.touched_here, refl); port_is = refl; op_is = refl; step_is = refl },
           (tt, λ d. d),
           refl,
         ),
         refl,
       );
-      told = λ _. (((tt, λ _ b low. brought b low), tt), tt);
+      steps_are_faithful = λ _. (((tt, λ _ b low. brought b low), tt), tt);
       plugged = λ port. ([], unplugged c.port c.port_then is.agreed.stands is.agreeing.stands port, refl);
     }
       where
@@ -216,28 +216,28 @@ module _ (c : Discovery) where
     finds zero e on = record {
       ci = c.ci;
       sact = c.sact;
-      reads = record { before = []; later = []; here = refl; running = All-from_recursion (DoesNotWriteCmd (port_at 0)) [] tt };
+      reads = record { before = []; later = []; accesses_are_split = refl; cmd_is_unwritten_before = All-from_recursion (DoesNotWriteCmd (port_at 0)) [] tt };
       exact = is.exact;
     }
-    finds (suc n) e on = absurd (let z : 0 ≡ suc n = sym (is.agreed.first_alone e on.here) ∙ ap (λ (q : Port). q.0) on.port_is in omega (arith, z))
+    finds (suc n) e on = absurd (let z : 0 ≡ suc n = sym (is.agreed.first_alone e on.is_in_book) ∙ ap (λ (q : Port). q.0) on.port_is in omega (arith, z))
 
     not_ended : (e : Pending) → Contains c.machine.book e → e.ended ≡ true → ⊥
     not_ended e here at = true≢false (sym at ∙ is.unended e here)
 
-    heeds : (n : ℕ) → ServesReady before.abstract nothing steps served_at.abstract (port_at n)
+    heeds : (n : ℕ) → ServicesReadyPort before.abstract nothing steps served_at.abstract (port_at n)
     heeds n = record {
-      ended = λ e here at_port done. absurd (not_ended e here done);
-      emptied = λ g. absurd (nowhere (port_at n) g);
-      told = λ g. absurd (nowhere (port_at n) g);
-      interrupts = λ why. absurd (⊎_elim (nowhere (port_at n)) (nowhere (port_at n)) why);
-      anew = λ why. absurd (⊎_elim (nowhere (port_at n)) (nowhere (port_at n)) why);
-      single = omega arith;
-      fatal = λ h. absurd (nowhere (port_at n) h);
-      disk = λ shows. inl (in_of n shows);
-      calm = inr (record {
-        same = (refl, refl, refl, refl, refl, refl);
-        told = λ e o here at_port. inl (only_answer e o here).1;
-        uninterrupted = λ why. ⊎_elim (nowhere (port_at n)) (nowhere (port_at n)) why;
+      answers_ended = λ e here at_port done. absurd (not_ended e here done);
+      none_is_left = λ g. absurd (nowhere (port_at n) g);
+      others_are_told_alike = λ g. absurd (nowhere (port_at n) g);
+      is_interrupted = λ why. absurd (⊎_elim (nowhere (port_at n)) (nowhere (port_at n)) why);
+      none_stays_issued = λ why. absurd (⊎_elim (nowhere (port_at n)) (nowhere (port_at n)) why);
+      one_fault_at_most = omega arith;
+      fatal_tells_no_fault = λ h. absurd (nowhere (port_at n) h);
+      shown_disk_was_in_or_came = λ shows. inl (in_of n shows);
+      is_left_alone_if_calm = inr (record {
+        port_is_same = (refl, refl, refl, refl, refl, refl);
+        only_ok_is_told = λ e o here at_port. inl (only_answer e o here).1;
+        is_not_interrupted = λ why. ⊎_elim (nowhere (port_at n)) (nowhere (port_at n)) why;
       });
     }
       where
@@ -251,27 +251,27 @@ module _ (c : Discovery) where
 
     pub service_happens : Happens before.abstract service.event
     service_happens = record {
-      may = (
+      steps_are_enabled = (
         (
           (tt, (inl (is.here, refl), omega arith, in_then, sizes, λ e. absurd (let x : Read ≡ Write = e in cc))),
           (inl (is.touched_here, refl), all_touched, in_then),
         ),
         (is.ended_here, tt),
       );
-      belong = (((tt, inl tt), inl tt), inr tt);
-      last = (((tt, λ id h i. absurd (true≢false (sym i))), λ id h i. absurd (true≢false (sym i))), λ id h i. absurd (true≢false (sym i)));
-      lawful = (tt, (record { pending = outstanding; here = is.here; id_is = refl; issued = refl }, refl, all_touched, refl));
-      fit = fit_ready c.disk;
-      disks = λ e o here there same. (refl, refl);
-      answered = record {
-        tells = record { answers = (ended, outcome.Ok) ∷ []; same = IsPermutation-refl _; ordered = λ i j d less low. absurd (omega (arith, less, low)); told = refl };
-        dead = λ e o here dead. absurd (not_dead e.request.port.0 dead);
-        unplugs = record { emptied = λ e other here. absurd (not_unplugged e here); alike = λ e other here. absurd (not_unplugged e here) };
-        issues = λ port ready. is.none_due port;
-        emptied = λ port other e here at. other (ap (λ (n : ℕ). two_states (port_at n)) (ap (λ (q : Port). q.0) (sym at) ∙ is.agreeing.first_alone e here));
-        ended = λ port ready e here at_port done. absurd (true≢false (sym done ∙ is.unended e here));
-        becomes = λ port. stay_serviced c.disk nothing port.0 (nowhere port);
-        disk = λ port. inl (refl, refl, refl, refl, refl, refl);
+      steps_are_of_call = (((tt, inl tt), inl tt), inr tt);
+      issues_are_last = (((tt, λ id h i. absurd (true≢false (sym i))), λ id h i. absurd (true≢false (sym i))), λ id h i. absurd (true≢false (sym i)));
+      answers_are_lawful = (tt, (record { pending = outstanding; is_in_book = is.here; id_is = refl; issued = refl }, refl, all_touched, refl));
+      ports_are_well_formed = fit_ready c.disk;
+      unanswered_keep_disk = λ e o here there same. (refl, refl);
+      is_answered = record {
+        replies_match = record { answers = (ended, outcome.Ok) ∷ []; is_permutation = IsPermutation-refl _; ordered = λ i j d less low. absurd (omega (arith, less, low)); replies_are = refl };
+        tells_dead = λ e o here dead. absurd (not_dead e.request.port.0 dead);
+        answers_all_unplugged = record { none_is_left = λ e other here. absurd (not_unplugged e here); none_is_told_dead = λ e other here. absurd (not_unplugged e here) };
+        none_is_due = λ port ready. is.none_due port;
+        empty_unless_ready = λ port other e here at. other (ap (λ (n : ℕ). two_states (port_at n)) (ap (λ (q : Port). q.0) (sym at) ∙ is.agreeing.first_alone e here));
+        answers_ended = λ port ready e here at_port done. absurd (true≢false (sym done ∙ is.unended e here));
+        port_is_serviced = λ port. stay_serviced c.disk nothing port.0 (nowhere port);
+        shown_disk_was_in_or_came = λ port. inl (refl, refl, refl, refl, refl, refl);
       };
     }
       where
@@ -280,26 +280,26 @@ module _ (c : Discovery) where
 
     pub service_part : (n : ℕ) → PortCorresponds before service masks (port_at n)
     service_part n = record {
-      finds = λ ready e on. finds n e on;
-      faults = λ alone. absurd ((quiet n alone.ready).1 (inr alone.shows.fault));
-      probes = λ served none. tries_ready masks before (two_ready c.disk) served_at.device (port_at n) (served_ready n served);
-      boots = (λ ready f. absurd (⊎_elim (λ fatal. (quiet n ready).1 (inl fatal)) (quiet n ready).0 f), inl (refl, refl, refl, refl, refl, refl));
-      port_error = no_trouble nothing before (two_ready c.disk) served_at.device (port_at n) gained refl (gained_calm n) (served_ready n) (quiet n);
-      well = λ why. absurd (⊎_elim (nowhere (port_at n)) (nowhere (port_at n)) why);
-      heeds = λ ready. heeds n;
+      finds_done = λ ready e on. finds n e on;
+      plain_faults_are_told = λ alone. absurd ((quiet n alone.ready).1 (inr alone.shows_only_tfes.tfes_is_set));
+      probes_disk = λ served none. tries_ready masks before (two_ready c.disk) served_at.device (port_at n) (served_ready n served);
+      boots_anew = (λ ready f. absurd (⊎_elim (λ fatal. (quiet n ready).1 (inl fatal)) (quiet n ready).0 f), inl (refl, refl, refl, refl, refl, refl));
+      loses_no_error = no_trouble nothing before (two_ready c.disk) served_at.device (port_at n) gained refl (gained_calm n) (served_ready n) (quiet n);
+      runs_well_anew = λ why. absurd (⊎_elim (nowhere (port_at n)) (nowhere (port_at n)) why);
+      handles_evidence = λ ready. heeds n;
     }
 
     unfoldable pub service_ties : CallCorresponds (Any ∷ Any ∷ []) before service
     service_ties = record {
       accesses = masks;
-      came = (is.does, serving (IsPortAlive (two_ready c.disk)) masks ((refl, not_dead 0), ((refl, not_dead 0), tt)));
-      backed = backed;
-      evidenced = record { faults = λ f here. absurd (nowhere f here); port = λ port. evidenced port.0 };
-      grounded = tt;
-      issues = λ port ready r here at_port. (
+      accesses_are_explained = (is.does, serving (IsPortAlive (two_ready c.disk)) masks ((refl, not_dead 0), ((refl, not_dead 0), tt)));
+      is_backed = backed;
+      is_evidenced = record { faults = λ f here. absurd (nowhere f here); port = λ port. evidenced port.0 };
+      only_failed_requeue = tt;
+      issues_all_due = λ port ready r here at_port. (
         λ issued. absurd (true≢false (sym issued)),
         λ due. absurd (is.none_due port r at_port (subst (λ (book : List Unanswered). IsDue (mode_of_disk queueing_cap c.disk.info) book r) is.none_issued due)),
       );
-      port = λ port. service_part port.0;
-      holds = (c.slots_then, holds c.disk c.slots_then answered (c.more ++ gained) memory_then c.port_then is.agreeing);
+      ports_correspond = λ port. service_part port.0;
+      invariant_holds = (c.slots_then, holds c.disk c.slots_then answered (c.more ++ gained) memory_then c.port_then is.agreeing);
     }

@@ -22,7 +22,7 @@ use Rattle.refinement.specs.Acts.{DriverSlots}
 use Rattle.refinement.specs.Relation.{port_at}
 use Rattle.refinement.specs.PortFacts.{IsFaulted, IsFaultOf}
 use Rattle.refinement.specs.Slots.{Free, Serves, SlotStates, IsMove}
-use Rattle.refinement.specs.Witness.{first_id}
+use Rattle.refinement.specs.ReadWitness.{first_id}
 use Rattle.block_machine.specs.Events.{AbstractCall, CallResult}
 use Rattle.block_machine.specs.Histories.{JointState}
 use Rattle.block_machine.specs.Ports.{Ports, Evidence}
@@ -35,7 +35,7 @@ use Rattle.error_recovery.specs.Evidence.{GainsSinceStart}
 use Rattle.driver_history.specs.Evidence.{IsEvidencedOf, ShowsFailure, ShowsLoss, TapeGainsEntry}
 use Rattle.driver_history.specs.Histories.{HasUnservedDisk, ProbesDisk, LosesNoPortError}
 use Rattle.driver_history.specs.PortInvariants.{HasNothingInSlots, ReadySlotsInvariant, IsFreeOrServes, IsQueuedAsAsked, IsUnservedAt, HasNoUnanswered, EngineRuns}
-use Rattle.driver_history.specs.Trace.{LeavesEngine}
+use Rattle.driver_history.specs.AccessTrace.{LeavesEngine}
 use Rattle.witnesses.specs.RunningAdapter.{page_entry, page_move}
 use Rattle.witnesses.proofs.history.Pages.{Kind}
 use Rattle.witnesses.proofs.history.Members.{only}
@@ -66,11 +66,11 @@ answers_first_only (suc port) slot id is = absurd (let x : Free ≡ Serves id = 
 pub unserved_at : (s : DriverSlots) (i : JointState Device) (port : ℕ) → i.abstract.ports.state (port_at port) ≡ Absent → i.device.port port ≡ empty_port → HasNothingInSlots s port → HasNoUnanswered i.abstract.machine (port_at port)
     → NoneQuarantined i.abstract.machine (port_at port) → IsUnservedAt s i (port_at port)
 unserved_at s i port absent quiet slots waits kept = record {
-  absent = absent;
-  idle = subst IsIdlePort (sym quiet) (record { st = refl; cr = refl; fre = refl; fr = refl; ci = λ s. refl; sact = λ s. refl; taken = λ s. refl });
-  slots = slots;
-  waits = waits;
-  kept = kept;
+  state_is_absent = absent;
+  port_is_idle = subst IsIdlePort (sym quiet) (record { st = refl; cr = refl; fre = refl; fr = refl; ci = λ s. refl; sact = λ s. refl; taken = λ s. refl });
+  has_nothing_in_slots = slots;
+  has_no_unanswered = waits;
+  none_is_quarantined = kept;
 }
 
 -- nothing has halted it
@@ -85,38 +85,38 @@ runs_on port d st cr fre bases saw known linked calm whole = record {
   cr = cr;
   fre = fre;
   bases = bases;
-  saw = saw;
-  recorded = record { known = known; linked = linked; flag = λ f. absurd (true≢false (sym f ∙ calm)); fault = λ f. absurd (unfaulted (subst IsFaulted whole f)) };
+  device_was_seen = saw;
+  faults_are_recorded = record { st_set_is_on_tape = known; no_link_is_due = linked; tfes_tells_fault = λ f. absurd (true≢false (sym f ∙ calm)); shows_last_fault = λ f. absurd (unfaulted (subst IsFaulted whole f)) };
 }
 
 -- the last page of its disk stands on the tape
 pub fit_disk : (disk : Kind) (port : ℕ) (d : Device) (before later : List Entry) → d.tape ≡ before ++ page_entry disk.page port ∷ later → (d.port port).sctl_det ≡ 0 → (d.port port).ie ≡ named_causes
     → (d.port port).notes.sctl_written_at ≡ 0 → All (λ e. IsMove port Identify e → ⊥) later → HasFitDisk None port d disk.info
 fit_disk disk port d before later is det ie since last = record {
-  det = det;
-  tells = ie;
-  page = disk.page;
-  has = record {
+  no_comreset = det;
+  ie_is_named = ie;
+  last_identify_page = disk.page;
+  page_is_last = record {
     before = before;
     move = page_move disk.page port;
     later = later;
-    here = is;
-    since = omega (arith, since);
+    tape_is = is;
+    came_after_sctl = omega (arith, since);
     is_move = (refl, refl);
-    last = last;
-    bytes = refl;
+    no_later_page = last;
+    bytes_are = refl;
   };
-  fit = disk.fits;
+  disk_is_fit = disk.fits;
 }
 
 -- nothing is in its slots
 pub requests_none : (s : DriverSlots) (i : JointState Device) (port : Port) (mode : QueueMode) → ((slot : ℕ) → s.uses port.0 slot ≡ Free) → s.parked port.0 ≡ [] → ReadySlotsInvariant s i port mode
 requests_none s i port mode free unparked = record {
-  clients = λ slot. inl (free slot);
-  low = λ slot above. free slot;
-  unparked = unparked;
-  kinds = λ slot e in_slot. absurd (unserved slot e.request.id in_slot.serves);
-  alone = λ slot e in_slot. absurd (unserved slot e.request.id in_slot.serves);
+  slots_serve_clients = λ slot. inl (free slot);
+  unusable_are_free = λ slot above. free slot;
+  none_is_parked = unparked;
+  commands_are_as_asked = λ slot e in_slot. absurd (unserved slot e.request.id in_slot.serves);
+  plain_is_alone = λ slot e in_slot. absurd (unserved slot e.request.id in_slot.serves);
 }
   where
     unserved : (slot : ℕ) (id : RequestId) → s.uses port.0 slot ≡ Serves id → ⊥
@@ -125,11 +125,11 @@ requests_none s i port mode free unparked = record {
 -- slot 0 of port 0 serves the one request, by a command of its kind
 pub requests_first : (i : JointState Device) (mode : QueueMode) → 1 ≤ mode.usable → ((e : Pending) → Contains i.abstract.machine.book e → IsQueuedAsAsked mode i.device 0 0 e) → ReadySlotsInvariant first_slots i (port_at 0) mode
 requests_first i mode usable kind = record {
-  clients = clients;
-  low = λ slot above. low slot (omega (arith, usable, above));
-  unparked = refl;
-  kinds = λ slot e s unended. kinds slot e s.here s.serves;
-  alone = λ slot e s plain. alone slot e s.serves;
+  slots_serve_clients = clients;
+  unusable_are_free = λ slot above. low slot (omega (arith, usable, above));
+  none_is_parked = refl;
+  commands_are_as_asked = λ slot e s unended. kinds slot e s.is_in_book s.serves;
+  plain_is_alone = λ slot e s plain. alone slot e s.serves;
 }
   where
     clients : (slot : ℕ) → IsFreeOrServes (uses_first 0 slot)
@@ -164,7 +164,7 @@ named_is port n here = ap (λ (p : Port). p.0) (only (port_at port) (port_at n) 
 -- the evidence names the port nowhere
 pub record IsUnnamed (evidence : Evidence) (port : Port) : Type 0 where
   pub lost : Contains evidence.lost port → ⊥
-  pub gone : Contains evidence.gone port → ⊥
+  pub gone : Contains evidence.link_changed port → ⊥
   pub failed : Contains evidence.failed port → ⊥
   pub fatal : Contains evidence.fatal port → ⊥
   pub stopped : Contains evidence.stopped port → ⊥
@@ -176,7 +176,7 @@ unlost port old new n x there loss = ⊎_elim (λ change. ⊎_elim (λ a. absurd
 
 -- and one with no bit of PxIS that tells of trouble
 pub unfailing : (p : DevicePort) → ((place : ℕ) → 27 ≤ place → p.is place ≡ false) → ShowsFailure p → ⊥
-unfailing p calm fails = ⊎_elim (λ fatal. absurd (true≢false (sym fatal.set ∙ calm fatal.place fatal.from))) (λ fault. absurd (true≢false (sym fault ∙ calm 30 (omega arith)))) fails
+unfailing p calm fails = ⊎_elim (λ fatal. absurd (true≢false (sym fatal.cause_is_set ∙ calm fatal.place fatal.from))) (λ fault. absurd (true≢false (sym fault ∙ calm 30 (omega arith)))) fails
 
 -- a port that isn't named, wasn't stopped, and showed no trouble if it was ready
 pub unnamed_evidenced : (ask : AbstractCall DeviceStep) (said : CallResult) (accesses : List Access) (old : JointState Device) (ports : Ports) (new : Device) (evidence : Evidence) (port : Port) → IsUnnamed evidence port
@@ -184,8 +184,8 @@ pub unnamed_evidenced : (ask : AbstractCall DeviceStep) (said : CallResult) (acc
     → IsEvidencedOf ask said accesses old ports new evidence port
 unnamed_evidenced ask said accesses old ports new evidence port un calm left = record {
   lost = λ h. absurd (un.lost h);
-  gone_all = λ is loss. absurd ((calm is).0 loss);
-  gone_only = λ h. absurd (un.gone h);
+  link_changed_all = λ is loss. absurd ((calm is).0 loss);
+  link_changed_only = λ h. absurd (un.gone h);
   failed_all = λ is f. absurd ((calm is).1 f);
   failed_only = λ h. absurd (un.failed h);
   fatal_all = λ is f. absurd ((calm is).1 (inl f));
@@ -218,17 +218,17 @@ tries_ready accesses old ports new port ready = record {
 -- nothing of this kind was gained
 pub gained_none : (Is : Entry → Type 0) (old new : Device) (gained : List Entry) → new.tape ≡ old.tape ++ gained → All (λ e. Is e → ⊥) gained → TapeGainsEntry Is old new → ⊥
 gained_none Is old new gained is none g =
-    let same : g.gained ≡ gained = append_cancel_left old.tape g.gained gained (sym g.tape ∙ is) in
-    All-contains (λ e. Is e → ⊥) gained g.entry none (subst (λ (es : List Entry). Contains es g.entry) same g.here) g.is
+    let same : g.new_entries ≡ gained = append_cancel_left old.tape g.new_entries gained (sym g.tape_is ∙ is) in
+    All-contains (λ e. Is e → ⊥) gained g.entry none (subst (λ (es : List Entry). Contains es g.entry) same g.entry_is_new) g.entry_is_of_kind
 
 -- so it was not while ST was one either
 pub ran_none : (Is : Entry → Type 0) (port : ℕ) (old new : Device) → (TapeGainsEntry Is old new → ⊥) → GainsSinceStart Is port old new → ⊥
 ran_none Is port old new none g = none (record {
-  gained = g.before ++ (g.entry ∷ g.later);
-  tape = g.tape;
+  new_entries = g.before ++ (g.entry ∷ g.later);
+  tape_is = g.tape;
   entry = g.entry;
-  here = Contains-append_right g.before (g.entry ∷ g.later) g.entry (0, omega arith, refl);
-  is = g.is;
+  entry_is_new = Contains-append_right g.before (g.entry ∷ g.later) g.entry (0, omega arith, refl);
+  entry_is_of_kind = g.is_of_kind;
 })
 
 -- neither a fault, nor a fatal error, nor a disk of the port that goes or comes

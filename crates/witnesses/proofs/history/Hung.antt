@@ -16,11 +16,11 @@ use Rattle.block_machine.specs.Events.{Happens, HasTimedOut, RestartsTimedOut, S
 use Rattle.block_machine.specs.Histories.{JointEvent}
 use Rattle.block_machine.specs.Ports.{IsStoppedOrStuck, MayBecome, SamePort}
 use Rattle.block_machine.specs.State.{Pending}
-use Rattle.block_machine.specs.Steps.{Again, Answer, Step}
+use Rattle.block_machine.specs.Steps.{WaitAgain, Answer, Step}
 use Rattle.identify.specs.declared.wanted.Wanted.TheVariants.{Any}
 use Rattle.driver_history.specs.Histories.{BootsAnew, FindsDone, CallCorresponds, PortCorresponds}
-use Rattle.driver_history.specs.Trace.{DoesNotWriteCmd}
-use Rattle.witnesses.specs.Hung.{HungPortIsAHistory}
+use Rattle.driver_history.specs.AccessTrace.{DoesNotWriteCmd}
+use Rattle.witnesses.specs.HungPort.{HungPortIsAHistory}
 use Rattle.witnesses.specs.Restart.{restart_evidence, restart_accesses}
 use Rattle.witnesses.proofs.history.Accepting.{asked, bits_set, both, first, issued_at, issued_for, not_ended, submit, submit_happens, submit_parts, submit_ties, waiting_for}
 use Rattle.witnesses.proofs.history.Aging.{ages, ages_once, hung_at, hung_first, not_hung, tick, tick_happens, tick_part, tick_ties}
@@ -38,7 +38,7 @@ use Rattle.witnesses.proofs.history.Submitting.{issued, submitted}
 
 -- the port was as when the read was issued
 abbrev outset : Outset
-outset = record { gained = []; still = refl; flags = issued.is; broken = issued.broken; notes = issued.notes }
+outset = record { new_entries = []; still = refl; flags = issued.is; broken = issued.broken; notes = issued.notes }
 
 abbrev booted : Device
 booted = rebooted.booted outset
@@ -69,8 +69,8 @@ the_answer e o here = ⊎_elim
     (either answer ages (Answer e o) here)
 
 -- no request waits again
-unrepeated : (e : Pending) → Contains steps (Again e) → ⊥
-unrepeated e here = ⊎_elim (λ (same : Again e ≡ answer). cc) (λ (same : Again e ≡ ages). cc) (either answer ages (Again e) here)
+unrepeated : (e : Pending) → Contains steps (WaitAgain e) → ⊥
+unrepeated e here = ⊎_elim (λ (same : WaitAgain e ≡ answer). cc) (λ (same : WaitAgain e ≡ ages). cc) (either answer ages (WaitAgain e) here)
 
 -- it is port 0's
 answers_first : (e : Pending) (o : Outcome) → Contains steps (Answer e o) → e.request.port ≡ port_at 0
@@ -121,13 +121,13 @@ becomes (suc n) = inl (other n, others_same n)
 restarts_hung : RestartsTimedOut (issued_at 2).abstract (restart_evidence []) steps (booted_at outset).abstract
 restarts_hung = record {
   ports = λ port. becomes port.0;
-  again = λ e here. absurd (unrepeated e here);
-  answer = λ e o here. is_hung e.request.port (answers_first e o here);
-  ended = λ port h e here at_port ended. absurd (not_ended 2 e here ended);
-  anew = λ port h e here. absurd (nowhere e here);
-  interrupts = λ port. (λ h. subst (IsStoppedOrStuck (restart_evidence [])) (sym (hung_first 2 port h)) (inl (named 0)), interrupted port);
-  finds = λ e here. (not_dead_then e.request.port.0, λ ready. absurd (not_ready_first e.request.port (answers_first e outcome.Unplugged here) ready));
-  disk = λ port h shows. inl (subst (λ (p : Port). (issued_for 2).present p ≡ true) (sym (hung_first 2 port h)) refl);
+  only_timed_out_wait_again = λ e here. absurd (unrepeated e here);
+  only_timed_out_are_answered = λ e o here. is_hung e.request.port (answers_first e o here);
+  answers_ended = λ port h e here at_port ended. absurd (not_ended 2 e here ended);
+  none_stays_issued = λ port h e here. absurd (nowhere e here);
+  is_interrupted = λ port. (λ h. subst (IsStoppedOrStuck (restart_evidence [])) (sym (hung_first 2 port h)) (inl (named 0)), interrupted port);
+  unplugged_lost_disk = λ e here. (not_dead_then e.request.port.0, λ ready. absurd (not_ready_first e.request.port (answers_first e outcome.Unplugged here) ready));
+  shown_disk_was_in_or_came = λ port h shows. inl (subst (λ (p : Port). (issued_for 2).present p ≡ true) (sym (hung_first 2 port h)) refl);
 }
   where
     not_ready_first : (port : Port) → port ≡ port_at 0 → one.state port ≡ Ready → ⊥
@@ -135,19 +135,19 @@ restarts_hung = record {
 
 happens : Happens (issued_at 2).abstract restarting_tick.event
 happens = record {
-  may = ((tt, tt), ((0, omega arith, refl), tt));
-  belong = ((tt, inr tt), inr (inl tt));
-  last = ((tt, λ id handled issued_in. absurd (true≢false (sym handled))), λ id handled issued_in. absurd (true≢false (sym issued_in)));
-  lawful = (tt, (named 0, named 0));
-  fit = fit_one;
-  disks = λ e o here. absurd (nowhere e here);
-  answered = record {
-    tells = record { answers = (waiting_for 3, outcome.Unplugged) ∷ []; same = IsPermutation-refl _; ordered = λ i j d less low. absurd (omega (arith, less, low)); told = refl };
-    ages = ages_once (answer ∷ []) refl;
-    restarts = restarts_hung;
-    unplugs = unplugs restart is_restart;
-    issues = λ port is r at_port due. absurd (nowhere r due.here);
-    emptied = λ port is not_ready e here. absurd (nowhere e here);
+  steps_are_enabled = ((tt, tt), ((0, omega arith, refl), tt));
+  steps_are_of_call = ((tt, inr tt), inr (inl tt));
+  issues_are_last = ((tt, λ id handled issued_in. absurd (true≢false (sym handled))), λ id handled issued_in. absurd (true≢false (sym issued_in)));
+  answers_are_lawful = (tt, (named 0, named 0));
+  ports_are_well_formed = fit_one;
+  unanswered_keep_disk = λ e o here. absurd (nowhere e here);
+  is_answered = record {
+    replies_match = record { answers = (waiting_for 3, outcome.Unplugged) ∷ []; is_permutation = IsPermutation-refl _; ordered = λ i j d less low. absurd (omega (arith, less, low)); replies_are = refl };
+    ages_once = ages_once (answer ∷ []) refl;
+    restarts_timed_out = restarts_hung;
+    answers_all_unplugged = unplugs restart is_restart;
+    none_is_due = λ port is r at_port due. absurd (nowhere r due.is_in_book);
+    empty_unless_ready = λ port is not_ready e here. absurd (nowhere e here);
   };
 }
 
@@ -163,25 +163,25 @@ boots (suc n) h = absurd (other n h)
 
 part_of : (n : ℕ) → PortCorresponds (issued_at 2) restarting_tick restart_accesses (port_at n)
 part_of n = record {
-  finds = finds_there n;
-  faults = tt;
-  probes = tt;
-  boots = boots n;
-  port_error = port_error restart is_restart n;
-  well = well restart is_restart n;
-  heeds = tt;
+  finds_done = finds_there n;
+  plain_faults_are_told = tt;
+  probes_disk = tt;
+  boots_anew = boots n;
+  loses_no_error = port_error restart is_restart n;
+  runs_well_anew = well restart is_restart n;
+  handles_evidence = tt;
 }
 
 ties : CallCorresponds (Any ∷ Any ∷ []) (issued_at 2) restarting_tick
 ties = record {
   accesses = restart_accesses;
-  came = (restarts outset, serving (HasTimedOut (issued_at 2).abstract) restart_accesses (of_served (HasTimedOut (issued_at 2).abstract) hung));
-  backed = backed restart is_restart;
-  evidenced = record { faults = λ f here. absurd (nowhere f here); port = λ port. evidenced restart is_restart port.0 };
-  grounded = tt;
-  issues = λ port is r here. absurd (nowhere r here);
-  port = λ port. part_of port.0;
-  holds = (no_slots, holds_booted outset (no_page 1));
+  accesses_are_explained = (restarts outset, serving (HasTimedOut (issued_at 2).abstract) restart_accesses (of_served (HasTimedOut (issued_at 2).abstract) hung));
+  is_backed = backed restart is_restart;
+  is_evidenced = record { faults = λ f here. absurd (nowhere f here); port = λ port. evidenced restart is_restart port.0 };
+  only_failed_requeue = tt;
+  issues_all_due = λ port is r here. absurd (nowhere r here);
+  ports_correspond = λ port. part_of port.0;
+  invariant_holds = (no_slots, holds_booted outset (no_page 1));
 }
 
 -- ---- the history
@@ -194,16 +194,16 @@ runs_well = record {
   det = refl;
   present = refl;
   fresh = refl;
-  linked = refl;
-  running = refl;
-  whole = refl;
-  quiet = record { serr_n = refl; serr_x = refl; quiet = λ place from to. refl };
+  no_link_is_due = refl;
+  is_not_halted = refl;
+  is_not_broken = refl;
+  shows_no_trouble = record { serr_n = refl; serr_x = refl; no_error_bit_is_set = λ place from to. refl };
 }
 
 pub hung_port_is_a_history : HungPortIsAHistory
 unfolding ties tick_ties
 hung_port_is_a_history = record {
-  first = first;
+  initial_state = first;
   submit = submit;
   asked = asked;
   reads = refl;
@@ -215,7 +215,7 @@ hung_port_is_a_history = record {
   ticks_again = (refl, refl);
   young_then = not_hung 1 (omega arith);
   ready = refl;
-  well = runs_well;
+  port_runs_well = runs_well;
   hung = hung;
   alone = hung_first 2;
   restart = restarting_tick;

@@ -23,21 +23,21 @@ use Rattle.adapter.specs.declared.access.DeviceStep.{DeviceStep}
 use Rattle.refinement.specs.Acts.{DriverSlots}
 use Rattle.refinement.specs.Relation.{port_at}
 use Rattle.refinement.specs.Driver.{IsBacked}
-use Rattle.block_machine.specs.Due.{IsDue}
-use Rattle.block_machine.specs.Events.{Happens, Submit, Submitted, NoneDueWhereReady, IsIssuedIn, situation_of}
+use Rattle.block_machine.specs.DueRequests.{IsDue}
+use Rattle.block_machine.specs.Events.{Happens, Submit, Submitted, NoneDueWhereReady, IsIssuedIn, admission_context_of}
 use Rattle.block_machine.specs.Histories.{JointState, JointEvent}
 use Rattle.block_machine.specs.Expected.{after}
 use Rattle.block_machine.specs.Ports.{Evidence}
 use Rattle.block_machine.specs.Refusals.{IsAcceptable}
 use Rattle.block_machine.specs.Rules.{IsNamed}
 use Rattle.block_machine.specs.State.{Accepted, Block, Machine, block_of, unanswered}
-use Rattle.block_machine.specs.Steps.{Step, Accept, Issue, MayAccept, May, newly_accepted, unanswered_count}
+use Rattle.block_machine.specs.Steps.{Step, Accept, Issue, MayAccept, IsEnabled, newly_accepted, unanswered_count}
 use Rattle.block_machine.specs.declared.due.Unanswered.{Unanswered}
 use Rattle.identify.specs.declared.wanted.Wanted.TheVariants.{Any}
 use Rattle.driver_history.specs.Evidence.{IsEvidencedOf}
 use Rattle.driver_history.specs.Histories.{IssuesDue, IsIssuingAccess, CallCorresponds, PortCorresponds, with_issue_undone}
 use Rattle.driver_history.specs.PortInvariants.{mode_of_disk}
-use Rattle.driver_history.specs.Trace.{LeavesEngine}
+use Rattle.driver_history.specs.AccessTrace.{LeavesEngine}
 use Rattle.witnesses.specs.RunningAdapter.{port_or_empty, queueing_cap}
 use Rattle.witnesses.proofs.history.Holding.{IsCalm, IsUnnamed, each, no_trouble, unnamed_evidenced}
 use Rattle.witnesses.proofs.history.Members.{nowhere, only}
@@ -52,13 +52,13 @@ abbrev pub reading : ℕ → ℕ → Request
 reading k n = record { client = client; grant = 0; op = Read; first = record { 0 = k }; count = 1; frames = record { items = frame n ∷ [] } }
 
 abbrev pub accepted_as : RequestId → ℕ → ℕ → (ℕ → Block) → Accepted
-accepted_as id k n held = record { id = id; port = port_at 0; asked = reading k n; held = held }
+accepted_as id k n held = record { id = id; port = port_at 0; asked = reading k n; held_blocks = held }
 
 -- The machine may take it next: its frame is free, and the client hasn't too many.
 pub record MayTake (disk : Kind) (m : Machine) (id : RequestId) (k n : ℕ) : Type 0 where
   pub rows : m.rows ≡ two_rows
-  pub id_is : id.0 ≡ m.next
-  pub left : m.next < 2 ^ 64
+  pub id_is : id.0 ≡ m.next_id
+  pub left : m.next_id < 2 ^ 64
   pub few : unanswered_count m.book client < 16
   pub owned : m.owner (frame n) ≡ Some client
   pub free : m.lent (frame n) ≡ None
@@ -75,7 +75,7 @@ module _ (disk : Kind) (m : Machine) (id : RequestId) (k n : ℕ) (may : MayTake
   its_frame zero f e = (refl, cc)
   its_frame (suc i) f e = absurd (let none : None ≡ Some f = e in cc)
 
-  pub is_acceptable : IsAcceptable (situation_of (record { machine = m; ports = two_ready disk })) (reading k n)
+  pub is_acceptable : IsAcceptable (admission_context_of (record { machine = m; ports = two_ready disk })) (reading k n)
   is_acceptable (refused.Rule NoGrant) h = h (row 0) (subst (λ (rows : List GrantRow). Contains rows (row 0)) (sym may.rows) (0, omega arith, refl), (refl, refl))
   is_acceptable (refused.Rule NoRight) (r, named, not_allowed) = not_allowed (ap (λ (x : GrantRow). x.rights.read) (named_row r named))
   is_acceptable (refused.Rule BadCount) h = h (omega arith, omega arith)
@@ -90,7 +90,7 @@ module _ (disk : Kind) (m : Machine) (id : RequestId) (k n : ℕ) (may : MayTake
   is_acceptable (refused.PortNotReady state) (not_ready, (r, named, is)) = not_ready (sym is ∙ ap (λ (x : GrantRow). two_states x.port) (named_row r named))
   is_acceptable refused.OutsideDisk (_, (r, named, small)) =
       let on_disk = may.on_disk in
-      let size = ap (λ (x : GrantRow). (situation_of (record { machine = m; ports = two_ready disk })).sectors x.port) (named_row r named) in
+      let size = ap (λ (x : GrantRow). (admission_context_of (record { machine = m; ports = two_ready disk })).sectors x.port) (named_row r named) in
       omega (arith, on_disk, size, small)
   is_acceptable refused.TrimUnsupported h = let is : Read ≡ Trim = h.0 in cc
   is_acceptable refused.ClientFull many = let few = may.few in omega (arith, few, many)
@@ -110,7 +110,7 @@ module _ (disk : Kind) (m : Machine) (id : RequestId) (k n : ℕ) (may : MayTake
 
 -- nothing is named
 abbrev pub nothing : Evidence
-nothing = record { faults = []; lost = []; gone = []; failed = []; fatal = []; stopped = []; stuck = [] }
+nothing = record { faults = []; lost = []; link_changed = []; failed = []; fatal = []; stopped = []; stuck = [] }
 
 pub none_named : (port : Port) → IsUnnamed nothing port
 none_named port = record { lost = nowhere port; gone = nowhere port; failed = nowhere port; fatal = nowhere port; stopped = nowhere port; stuck = nowhere port }
@@ -176,7 +176,7 @@ module _ (c : Submission) where
     pub stands : Stands c.port
     pub agreeing : Agreeing c.disk c.slots_then issuing [] c.memory_then c.port_then
     pub takes : MayTake c.disk c.machine c.id c.sector c.frame_number
-    pub may : May (after c.machine (Accept accepted ∷ [])) (Issue (mode_of_disk queueing_cap c.disk.info) (newly_accepted accepted))
+    pub may : IsEnabled (after c.machine (Accept accepted ∷ [])) (Issue (mode_of_disk queueing_cap c.disk.info) (newly_accepted accepted))
     pub all_issued : NoneDueWhereReady submitted_at.abstract
     pub due : (port : Port) → IssuesDue (mode_of_disk queueing_cap c.disk.info) submit_steps issuing port
     pub does : DoesAll c.accesses before.device submitted_at.device
@@ -199,22 +199,22 @@ module _ (c : Submission) where
   module _ (is : IsIssued) where
     pub submit_happens : Happens before.abstract submit.event
     submit_happens = record {
-      may = ((tt, is_new c.disk c.machine c.id c.sector c.frame_number is.takes), is.may);
-      belong = ((tt, inr refl), inr (refl, refl));
-      last = ((tt, λ id handled issued_in. absurd (true≢false (sym handled))), λ id handled issued_in. absurd (true≢false (sym issued_in)));
-      lawful = tt;
-      fit = fit_ready c.disk;
-      disks = λ e o here there same. (refl, refl);
-      answered = (is_acceptable c.disk c.machine c.id c.sector c.frame_number is.takes, (accepted, refl, refl), λ port. (refl, refl, refl, refl, refl, refl), is.all_issued);
+      steps_are_enabled = ((tt, is_new c.disk c.machine c.id c.sector c.frame_number is.takes), is.may);
+      steps_are_of_call = ((tt, inr refl), inr (refl, refl));
+      issues_are_last = ((tt, λ id handled issued_in. absurd (true≢false (sym handled))), λ id handled issued_in. absurd (true≢false (sym issued_in)));
+      answers_are_lawful = tt;
+      ports_are_well_formed = fit_ready c.disk;
+      unanswered_keep_disk = λ e o here there same. (refl, refl);
+      is_answered = (is_acceptable c.disk c.machine c.id c.sector c.frame_number is.takes, (accepted, refl, refl), λ port. (refl, refl, refl, refl, refl, refl), is.all_issued);
     }
 
     pub backed : IsBacked before.device submitted_at.device c.machine submit_steps
     backed = record {
       telling = refl;
-      gained = [];
-      tape = sym (append-nil _);
-      tells = ((tt, λ d. d), λ d. d);
-      told = λ _. ((tt, tt), tt);
+      new_entries = [];
+      tape_is = sym (append-nil _);
+      tells_device_steps = ((tt, λ d. d), λ d. d);
+      steps_are_faithful = λ _. ((tt, tt), tt);
       plugged = λ port. ([], unplugged c.port c.port_then is.stands is.agreeing.stands port, refl);
     }
 
@@ -225,24 +225,24 @@ module _ (c : Submission) where
 
     pub submit_part : (port : ℕ) → PortCorresponds before submit c.accesses (port_at port)
     submit_part port = record {
-      finds = tt;
-      faults = tt;
-      probes = tt;
-      boots = tt;
-      port_error = no_trouble nothing before (two_ready c.disk) submitted_at.device (port_at port) [] (sym (append-nil _)) (All-nil (IsCalm port)) (served_ready port)
+      finds_done = tt;
+      plain_faults_are_told = tt;
+      probes_disk = tt;
+      boots_anew = tt;
+      loses_no_error = no_trouble nothing before (two_ready c.disk) submitted_at.device (port_at port) [] (sym (append-nil _)) (All-nil (IsCalm port)) (served_ready port)
           (shows_none before.device.tape c.memory c.port is.stands submitted_at.device port);
-      well = λ why. absurd (⊎_elim (nowhere (port_at port)) (nowhere (port_at port)) why);
-      heeds = λ why. ⊎_elim (λ h. nowhere (port_at port) h) (λ h. nowhere (port_at port) h) why;
+      runs_well_anew = λ why. absurd (⊎_elim (nowhere (port_at port)) (nowhere (port_at port)) why);
+      handles_evidence = λ why. ⊎_elim (λ h. nowhere (port_at port) h) (λ h. nowhere (port_at port) h) why;
     }
 
     unfoldable pub submit_ties : CallCorresponds (Any ∷ Any ∷ []) before submit
     submit_ties = record {
       accesses = c.accesses;
-      came = (is.does, (row 0, (subst (λ (rows : List GrantRow). Contains rows (row 0)) (sym is.takes.rows) (0, omega arith, refl), (refl, refl)), is.only));
-      backed = backed;
-      evidenced = record { faults = λ f here. absurd (nowhere f here); port = λ port. evidenced port.0 };
-      grounded = tt;
-      issues = λ port ready. is.due port;
-      port = λ port. submit_part port.0;
-      holds = (c.slots_then, holds c.disk c.slots_then issuing [] c.memory_then c.port_then is.agreeing);
+      accesses_are_explained = (is.does, (row 0, (subst (λ (rows : List GrantRow). Contains rows (row 0)) (sym is.takes.rows) (0, omega arith, refl), (refl, refl)), is.only));
+      is_backed = backed;
+      is_evidenced = record { faults = λ f here. absurd (nowhere f here); port = λ port. evidenced port.0 };
+      only_failed_requeue = tt;
+      issues_all_due = λ port ready. is.due port;
+      ports_correspond = λ port. submit_part port.0;
+      invariant_holds = (c.slots_then, holds c.disk c.slots_then issuing [] c.memory_then c.port_then is.agreeing);
     }

@@ -7,7 +7,7 @@ use Rattle.hba_regs.specs.Bits.{bit}
 use Rattle.hba_regs.specs.declared.reg.Reg.TheVariants.{Px}
 use Rattle.hba_regs.specs.declared.reg.PortReg.{PortReg}
 use Rattle.hba_regs.specs.declared.reg.PortReg.TheVariants.{Is, Cmd, Ssts, Serr}
-use Rattle.adapter.specs.Access.{DoesAll, PortShows, Reads, Writes, note, port_written, shown_interrupt}
+use Rattle.adapter.specs.Access.{DoesAll, PortShows, Reads, Writes, note, port_after_write, shown_interrupt}
 use Rattle.adapter.specs.Device.{DevicePort, Device}
 use Rattle.adapter.specs.Rules.{MayWriteCmd}
 use Rattle.adapter.specs.Steps.{Can, device_after}
@@ -15,9 +15,9 @@ use Rattle.adapter.specs.Steps.DeviceTransition.{Unplug}
 use Rattle.adapter.specs.declared.tape.Entry.{Entry}
 use Rattle.adapter.specs.declared.tape.Entry.TheVariants as entry
 use Rattle.refinement.specs.Relation.{port_at}
-use Rattle.witnesses.specs.Allowed.{AreAllowed}
-use Rattle.witnesses.specs.RunningAdapter.{device_with}
-use Rattle.witnesses.specs.Missing.{unfit_look_accesses, missing_look_accesses}
+use Rattle.witnesses.specs.AllowedAccesses.{AreAllowed}
+use Rattle.witnesses.specs.RunningAdapter.{running_device}
+use Rattle.witnesses.specs.MissingDisk.{unfit_look_accesses, missing_look_accesses}
 use Rattle.witnesses.proofs.history.Booting.{rebooted, unfit}
 use Rattle.witnesses.proofs.history.Command.{read_memory}
 use Rattle.witnesses.proofs.history.Devices.{but_first, but_second, no_bit, put_device, reads, writes}
@@ -30,7 +30,7 @@ abbrev pub tape_gone : List Entry
 tape_gone = pages ++ gained
 
 abbrev pub dev : DevicePort → DevicePort → Device
-dev p q = device_with tape_gone read_memory (p ∷ q ∷ [])
+dev p q = running_device tape_gone read_memory (p ∷ q ∷ [])
 
 -- ---- the disk is taken out
 
@@ -58,13 +58,13 @@ abbrev commanded : DevicePort
 commanded = record looked { notes = note Cmd 0x4010 looked }
 
 abbrev stopping : DevicePort
-stopping = port_written Cmd 0x4010 3 commanded
+stopping = port_after_write Cmd 0x4010 3 commanded
 
 abbrev stopped : DevicePort
 stopped = record stopping { notes = note Cmd 0x4010 stopping }
 
 abbrev cleared : DevicePort
-cleared = port_written Serr 0xffffffff 3 stopped
+cleared = port_after_write Serr 0xffffffff 3 stopped
 
 abbrev pub absent : DevicePort
 absent = record cleared { notes = note Ssts 0 cleared }
@@ -82,8 +82,8 @@ looked_over = dev absent passed
 unfoldable pub reads_here : (r : PortReg) (v : ℕ) (p : DevicePort) → PortShows r v p → Reads (Px (port_at 0) r) v (dev p (unfit 1)) (dev (record p { notes = note r v p }) (unfit 1))
 reads_here r v p shows = reads tape_gone read_memory 0 (p ∷ unfit 1 ∷ []) (record p { notes = note r v p } ∷ unfit 1 ∷ []) (but_first p (record p { notes = note r v p }) (unfit 1 ∷ [])) r v shows refl
 
-unfoldable pub writes_here : (r : PortReg) (v : ℕ) (p : DevicePort) → Writes (Px (port_at 0) r) v (dev p (unfit 1)) (dev (port_written r v 3 p) (unfit 1))
-writes_here r v p = writes tape_gone read_memory 0 (p ∷ unfit 1 ∷ []) (port_written r v 3 p ∷ unfit 1 ∷ []) (but_first p (port_written r v 3 p) (unfit 1 ∷ [])) r v refl
+unfoldable pub writes_here : (r : PortReg) (v : ℕ) (p : DevicePort) → Writes (Px (port_at 0) r) v (dev p (unfit 1)) (dev (port_after_write r v 3 p) (unfit 1))
+writes_here r v p = writes tape_gone read_memory 0 (p ∷ unfit 1 ∷ []) (port_after_write r v 3 p ∷ unfit 1 ∷ []) (but_first p (port_after_write r v 3 p) (unfit 1 ∷ [])) r v refl
 
 unfoldable pub reads_there : (r : PortReg) (v : ℕ) (q : DevicePort) → PortShows r v q → Reads (Px (port_at 1) r) v (dev absent q) (dev absent (record q { notes = note r v q }))
 reads_there r v q shows = reads tape_gone read_memory 1 (absent ∷ q ∷ []) (absent ∷ record q { notes = note r v q } ∷ []) (but_second absent q (record q { notes = note r v q }) []) r v shows refl

@@ -5,12 +5,12 @@ use Rattle.std.proofs.lemmas.List.Elements.{All-replicate}
 use Rattle.hba_regs.specs.declared.reg.Reg.TheVariants.{Px}
 use Rattle.hba_regs.specs.declared.reg.PortReg.{PortReg}
 use Rattle.hba_regs.specs.declared.reg.PortReg.TheVariants.{Cmd, Ssts, Serr, Sact, Ci}
-use Rattle.adapter.specs.Access.{DoesAll, PortShows, Reads, Writes, note, port_written}
+use Rattle.adapter.specs.Access.{DoesAll, PortShows, Reads, Writes, note, port_after_write}
 use Rattle.adapter.specs.Device.{IsSector, DevicePort, Device}
 use Rattle.adapter.specs.FirstRead.{first_disk_sector}
 use Rattle.adapter.specs.Memory.{changed, patched}
-use Rattle.witnesses.specs.Allowed.{AreAllowed}
-use Rattle.adapter.specs.Steps.{Steps, done_entry, move_of, with_done, with_move}
+use Rattle.witnesses.specs.AllowedAccesses.{AreAllowed}
+use Rattle.adapter.specs.Steps.{Steps, done_entry, move_of, port_after_done, port_after_move}
 use Rattle.adapter.specs.Steps.DeviceTransition.{Move, Done, Unplug}
 use Rattle.adapter.specs.declared.command.Operation.TheVariants.{Read, Trim}
 use Rattle.adapter.specs.declared.tape.Entry.{Entry}
@@ -18,7 +18,7 @@ use Rattle.adapter.specs.declared.tape.Entry.TheVariants as entry
 use Rattle.refinement.specs.Relation.{port_at}
 use Rattle.refinement.specs.Slots.{IsEmptySlot}
 use Rattle.witnesses.specs.Loss.{completing_turn, losing_turn}
-use Rattle.witnesses.specs.RunningAdapter.{device_with}
+use Rattle.witnesses.specs.RunningAdapter.{running_device}
 use Rattle.witnesses.proofs.history.Command.{read_memory}
 use Rattle.witnesses.proofs.history.Submitting.{command, fetches, issued, others_clear, pages, second, submitted, taken}
 use Rattle.witnesses.proofs.history.Devices.{may_stop, but_first, but_second, fall, falls_reads, no_bit, past_first, put_device, reads, step_first, writes}
@@ -26,10 +26,10 @@ use Rattle.witnesses.proofs.history.Devices.{may_stop, but_first, but_second, fa
 -- ---- the read is done
 
 abbrev moved : DevicePort
-moved = with_move taken 0 command (first_disk_sector 100)
+moved = port_after_move taken 0 command (first_disk_sector 100)
 
 abbrev done : DevicePort
-done = with_done moved 0 0 Read
+done = port_after_done moved 0 0 Read
 
 abbrev pub tape_moved : List Entry
 tape_moved = pages ++ entry.Move (move_of 0 0 command (first_disk_sector 100)) ∷ []
@@ -44,26 +44,26 @@ pub is_sector : (k : ℕ) → k < 256 → IsSector (first_disk_sector k)
 unfolding first_disk_sector
 is_sector k low = (length-replicate {A = ℕ} 512 k, All-replicate (λ b. b < 256) 512 k low)
 
-moves : (new : Device) → Steps (device_with tape_moved memory_done (moved ∷ second ∷ [])) new → Steps (device_with pages read_memory (taken ∷ second ∷ [])) new
+moves : (new : Device) → Steps (running_device tape_moved memory_done (moved ∷ second ∷ [])) new → Steps (running_device pages read_memory (taken ∷ second ∷ [])) new
 unfolding changed memory_done
-moves new = step_first (Move 0 0 command (first_disk_sector 100)) (device_with pages read_memory (taken ∷ second ∷ [])) (device_with tape_moved memory_done (moved ∷ second ∷ [])) new
+moves new = step_first (Move 0 0 command (first_disk_sector 100)) (running_device pages read_memory (taken ∷ second ∷ [])) (running_device tape_moved memory_done (moved ∷ second ∷ [])) new
     (record {
       works = record { taken = refl; working = record { running = refl; present = refl; fresh = refl; admitted = refl; whole = refl } };
-      left = omega arith;
-      sector = is_sector 100 (omega arith);
+      piece_is_left = omega arith;
+      bytes_are_sector = is_sector 100 (omega arith);
       brings = (omega arith, refl);
     })
     (put_device tape_moved memory_done 0 (taken ∷ second ∷ []) (moved ∷ second ∷ []) moved refl (but_first taken moved (second ∷ [])))
 
-ends : Steps (device_with tape_moved memory_done (moved ∷ second ∷ [])) (device_with tape_done memory_done (done ∷ second ∷ []))
+ends : Steps (running_device tape_moved memory_done (moved ∷ second ∷ [])) (running_device tape_done memory_done (done ∷ second ∷ []))
 unfolding changed
 ends = record {
   steps = Done 0 0 0 (record command { moved = 1 }) ∷ [];
   lead = (
     record {
       works = record { taken = refl; working = record { running = refl; present = refl; fresh = refl; admitted = refl; whole = refl } };
-      finished = record { moved = refl; cleared = λ e. absurd (let x : Read ≡ Trim = e in cc) };
-      shown = inl refl;
+      finished = record { all_is_moved = refl; all_is_cleared = λ e. absurd (let x : Read ≡ Trim = e in cc) };
+      cause_is_allowed = inl refl;
     },
     put_device tape_done memory_done 0 (moved ∷ second ∷ []) (done ∷ second ∷ []) done refl (but_first moved done (second ∷ [])),
   );
@@ -82,14 +82,14 @@ abbrev pub found : DevicePort
 found = record seen { notes = note Sact 0 seen }
 
 abbrev pub between : Device
-between = device_with tape_done memory_done (found ∷ second ∷ [])
+between = running_device tape_done memory_done (found ∷ second ∷ [])
 
 pub finds : DoesAll completing_turn submitted between
 finds = (
-  device_with tape_done memory_done (seen ∷ second ∷ []),
+  running_device tape_done memory_done (seen ∷ second ∷ []),
   record {
-    mid = device_with tape_done memory_done (done ∷ second ∷ []);
-    steps = fetches (device_with tape_done memory_done (done ∷ second ∷ [])) (moves (device_with tape_done memory_done (done ∷ second ∷ [])) ends);
+    mid = running_device tape_done memory_done (done ∷ second ∷ []);
+    steps = fetches (running_device tape_done memory_done (done ∷ second ∷ [])) (moves (running_device tape_done memory_done (done ∷ second ∷ [])) ends);
     shows = λ k low. no_bit k ∙ sym (done_clear k);
     effect = put_device tape_done memory_done 0 (done ∷ second ∷ []) (seen ∷ second ∷ []) seen refl (but_first done seen (second ∷ []));
   },
@@ -116,13 +116,13 @@ abbrev commanded : DevicePort
 commanded = record looked { notes = note Cmd 0xc011 looked }
 
 abbrev stopping : DevicePort
-stopping = port_written Cmd 0xc010 5 commanded
+stopping = port_after_write Cmd 0xc010 5 commanded
 
 abbrev stopped : DevicePort
 stopped = record (fall stopping) { notes = note Cmd 0x4010 (fall stopping) }
 
 abbrev cleared : DevicePort
-cleared = port_written Serr 0xffffffff 5 stopped
+cleared = port_after_write Serr 0xffffffff 5 stopped
 
 abbrev pub gone : DevicePort
 gone = record cleared { notes = note Ssts 0 cleared }
@@ -131,7 +131,7 @@ abbrev pub tape_lost : List Entry
 tape_lost = tape_done ++ entry.Unplug (port_at 1) ∷ []
 
 abbrev lost_with : DevicePort → Device
-lost_with p = device_with tape_lost memory_done (found ∷ p ∷ [])
+lost_with p = running_device tape_lost memory_done (found ∷ p ∷ [])
 
 abbrev pub lost : Device
 lost = lost_with gone
@@ -143,8 +143,8 @@ goes = record { steps = Unplug 1 ∷ []; lead = (refl, put_device tape_lost memo
 reads_there : (r : PortReg) (v : ℕ) (p : DevicePort) → PortShows r v p → Reads (Px (port_at 1) r) v (lost_with p) (lost_with (record p { notes = note r v p }))
 reads_there r v p shows = reads tape_lost memory_done 1 (found ∷ p ∷ []) (found ∷ record p { notes = note r v p } ∷ []) (but_second found p (record p { notes = note r v p }) []) r v shows refl
 
-writes_there : (r : PortReg) (v : ℕ) (p : DevicePort) → Writes (Px (port_at 1) r) v (lost_with p) (lost_with (port_written r v 5 p))
-writes_there r v p = writes tape_lost memory_done 1 (found ∷ p ∷ []) (found ∷ port_written r v 5 p ∷ []) (but_second found p (port_written r v 5 p) []) r v refl
+writes_there : (r : PortReg) (v : ℕ) (p : DevicePort) → Writes (Px (port_at 1) r) v (lost_with p) (lost_with (port_after_write r v 5 p))
+writes_there r v p = writes tape_lost memory_done 1 (found ∷ p ∷ []) (found ∷ port_after_write r v 5 p ∷ []) (but_second found p (port_after_write r v 5 p) []) r v refl
 
 falls : Reads (Px (port_at 1) Cmd) 0x4010 (lost_with stopping) (lost_with stopped)
 falls = falls_reads tape_lost memory_done 1 0x4010 (found ∷ stopping ∷ []) (found ∷ fall stopping ∷ []) (found ∷ stopped ∷ []) (but_second found stopping (fall stopping) []) (but_second found (fall stopping) stopped [])

@@ -25,7 +25,7 @@ use Rattle.block_machine.specs.Steps.{Step, Touch, End, Answer, Unplug, AllTouch
 use Rattle.host_boot.specs.TakeOver.{wanted_of}
 use Rattle.identify.specs.declared.wanted.Wanted.TheVariants.{Any}
 use Rattle.driver_history.specs.PortInvariants.{PortStateInvariant, DriverInvariantWith, IsReadyAt, IsStoppedAt}
-use Rattle.witnesses.specs.RunningAdapter.{port_or_empty, page_entry, plain, ports_with_disks}
+use Rattle.witnesses.specs.RunningAdapter.{port_or_empty, page_entry, plain_disk_mode, ports_with_disks}
 use Rattle.witnesses.proofs.history.Holding.{fit_disk, no_slots, requests_none, runs_on, unserved_at}
 use Rattle.witnesses.proofs.history.Submitting.{command}
 use Rattle.witnesses.proofs.history.Accepting.{issuing, waiting}
@@ -95,37 +95,37 @@ unpaged port =
 lost_ready : IsReadyAt Any no_slots lost_at (port_at 0)
 unfolding changed
 lost_ready = record {
-  on = record { ae = refl; no_reset = refl };
-  runs = runs_on 0 lost refl refl refl refl refl (omega arith) refl refl refl;
+  adapter_is_on = record { ae = refl; no_reset = refl };
+  engine_runs = runs_on 0 lost refl refl refl refl refl (omega arith) refl refl refl;
   info = plain_disks.info;
-  disk = fit_disk plain_disks 0 lost [] (page_entry plain_disks.page 1 ∷ gained) refl refl refl refl (other_page plain_disks.page gained (unpaged 0));
-  shows = record { serial = refl; sectors = refl; trims = refl; mode = refl };
-  slots = requests_none no_slots lost_at (port_at 0) plain (λ slot. refl) refl;
-  kept = λ e k. absurd (nowhere e k);
+  has_fit_disk = fit_disk plain_disks 0 lost [] (page_entry plain_disks.page 1 ∷ gained) refl refl refl refl (other_page plain_disks.page gained (unpaged 0));
+  shows_disk_info = record { serial = refl; sectors = refl; trims = refl; mode = refl };
+  slots_invariant = requests_none no_slots lost_at (port_at 0) plain_disk_mode (λ slot. refl) refl;
+  none_is_quarantined = λ e k. absurd (nowhere e k);
 }
 
 lost_absent : IsStoppedAt Any no_slots lost_at (port_at 1) Absent
 lost_absent = record {
-  on = record { ae = refl; no_reset = refl };
-  shown = λ bad. absurd bad;
-  ends = (
+  adapter_is_on = record { ae = refl; no_reset = refl };
+  shows_disk_if_in = λ bad. absurd bad;
+  backs_state = (
     record { halted = record { st = refl; cr = refl; ci = λ k. refl; taken = λ k. refl }; sact = λ k. refl },
     ((λ e. let x : 0 ≡ 3 = e in omega (arith, x)), refl),
   );
-  slots = record { free = λ k. refl; unparked = refl };
-  waits = λ e here. absurd (nowhere e here);
-  kept = λ e k. absurd (nowhere e k);
+  has_nothing_in_slots = record { all_are_free = λ k. refl; none_is_parked = refl };
+  has_no_unanswered = λ e here. absurd (nowhere e here);
+  none_is_quarantined = λ e k. absurd (nowhere e k);
 }
 
 port_lost : (n : ℕ) → PortStateInvariant (wanted_of (Any ∷ Any ∷ []) n) no_slots lost_at (port_at n) (one.served (port_at n)) (one.state (port_at n))
 port_lost zero = lost_ready
 port_lost (suc zero) = lost_absent
-port_lost (suc (suc n)) = unserved_at no_slots lost_at (suc (suc n)) refl refl (record { free = λ slot. refl; unparked = refl }) (λ e here. absurd (nowhere e here)) (λ e kept. absurd (nowhere e kept))
+port_lost (suc (suc n)) = unserved_at no_slots lost_at (suc (suc n)) refl refl (record { all_are_free = λ slot. refl; none_is_parked = refl }) (λ e here. absurd (nowhere e here)) (λ e kept. absurd (nowhere e kept))
 
 pub holds_lost : DriverInvariantWith (Any ∷ Any ∷ []) no_slots lost_at
 holds_lost = record {
-  knows = knows_lost;
+  driver_relation = knows_lost;
   served = λ port low. served_of tape_lost memory_done (found ∷ gone ∷ []) port.0;
-  on = inl (record { ae = refl; no_reset = refl });
-  port = λ port low. port_lost port.0;
+  adapter_is_on = inl (record { ae = refl; no_reset = refl });
+  ports_hold = λ port low. port_lost port.0;
 }

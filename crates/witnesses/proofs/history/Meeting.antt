@@ -22,8 +22,8 @@ use Rattle.refinement.specs.Driver.{IsBacked, DriverRelation}
 use Rattle.refinement.specs.PortFacts.{IsFaultOf}
 use Rattle.refinement.specs.Links.{IsPlugEvent}
 use Rattle.refinement.specs.Slots.{IsMove, RelatesSlot, ServesRequest}
-use Rattle.refinement.specs.Witness.{first_id}
-use Rattle.block_machine.specs.Due.{is_plain}
+use Rattle.refinement.specs.ReadWitness.{first_id}
+use Rattle.block_machine.specs.DueRequests.{is_plain}
 use Rattle.block_machine.specs.Events.{Device as Told, Happens, Stepped}
 use Rattle.block_machine.specs.Histories.{JointEvent, JointState}
 use Rattle.block_machine.specs.State.{Pending}
@@ -33,8 +33,8 @@ use Rattle.identify.specs.declared.wanted.Wanted.TheVariants.{Any}
 use Rattle.driver_history.specs.Evidence.{TapeGainsEntry, IsEvidencedOf, ShowsFailure, ShowsLoss}
 use Rattle.driver_history.specs.Histories.{LosesNoPortError, CallCorresponds, PortCorresponds}
 use Rattle.driver_history.specs.PortInvariants.{PortStateInvariant, DriverInvariantWith, IsQueuedAsAsked, IsReadyAt}
-use Rattle.driver_history.specs.Trace.{LeavesEngine}
-use Rattle.witnesses.specs.RunningAdapter.{port_or_empty, page_entry, plain}
+use Rattle.driver_history.specs.AccessTrace.{LeavesEngine}
+use Rattle.witnesses.specs.RunningAdapter.{port_or_empty, page_entry, plain_disk_mode}
 use Rattle.witnesses.proofs.history.Accepting.{both, holds_submitted, in_book, issuing, submitted_at, waiting}
 use Rattle.witnesses.proofs.history.Breaking.{breaks, broken, can_break, dev, tape_broken}
 use Rattle.witnesses.proofs.history.Command.{read_memory, told}
@@ -62,7 +62,7 @@ unpaged port = All-cons (λ e. IsMove port Identify e → ⊥) (entry.Fatal (por
 
 pub shows_fatal : ShowsFatal broken
 unfolding changed
-shows_fatal = record { place = 27; from = omega arith; to = omega arith; set = refl }
+shows_fatal = record { place = 27; from = omega arith; to = omega arith; cause_is_set = refl }
 
 -- it has no other flag
 pub no_fault : (n : ℕ) → ((dev broken).port n).is 30 ≡ false
@@ -73,13 +73,13 @@ no_fault (suc (suc n)) = refl
 
 -- the slot serves the request as before
 serves_still : ServesRequest issuing read_memory broken 0 0 first_id
-serves_still = serves_one issuing read_memory broken 0 (read_of 100 1) first_id 100 100 waiting.request.held 0 refl (omega arith) (0, omega arith, refl) refl refl told
+serves_still = serves_one issuing read_memory broken 0 (read_of 100 1) first_id 100 100 waiting.request.held_blocks 0 refl (omega arith) (0, omega arith, refl) refl refl told
     (inl (record { started = refl; issued = refl; free = refl; sact = refl; block = tt; untouched = λ i. sym (le-ltb i 0 (omega arith)); unended = refl }))
 
 slots : (n k : ℕ) → RelatesSlot issuing read_memory tape_broken (port_or_empty (broken ∷ second ∷ []) n) n k (uses_first n k)
 slots zero zero = serves_still
 slots zero (suc k) = record { issued = others_clear k; free = refl; unarmed = refl }
-slots (suc n) k = holds_submitted.knows.agrees.slot (suc n) k
+slots (suc n) k = holds_submitted.driver_relation.state_relation.relates_slots (suc n) k
 
 present : (n : ℕ) → issuing.present (port_at n) ≡ (port_or_empty (broken ∷ second ∷ []) n).present
 present zero = refl
@@ -89,40 +89,40 @@ present (suc (suc n)) = refl
 knows : DriverRelation issuing (driver_state first_slots (dev broken))
 knows = agreeing issuing first_slots tape_broken read_memory broken second
     (record { own_first = refl; own_second = refl; disks = (refl, refl); present = present; ids = refl; sizes = refl; bytes = refl; lasting = (refl, refl); still = refl })
-    slots holds_submitted.knows.agrees.apart (λ f b from small. past_driver f b from) holds_submitted.knows.have
+    slots holds_submitted.driver_relation.state_relation.serve_apart (λ f b from small. past_driver f b from) holds_submitted.driver_relation.have_slots
 
-kind_of : (e : Pending) → e ≡ waiting → IsQueuedAsAsked plain (dev broken) 0 0 e
+kind_of : (e : Pending) → e ≡ waiting → IsQueuedAsAsked plain_disk_mode (dev broken) 0 0 e
 kind_of e is = record {
   command = read_of 100 1;
   places = piece_addresses 0x64000 1;
-  told = told;
-  kind = subst (λ (x : Pending). is_queued (read_of 100 1).operation ≡ not (is_plain plain x.request.asked.op)) (sym is) refl;
+  slot_decodes_to = told;
+  kind = subst (λ (x : Pending). is_queued (read_of 100 1).operation ≡ not (is_plain plain_disk_mode x.request.asked.op)) (sym is) refl;
 }
 
 port_ready : IsReadyAt Any first_slots broken_at (port_at 0)
 port_ready = record {
-  on = record { ae = refl; no_reset = refl };
-  runs = runs_on 0 (dev broken) refl refl refl refl refl (omega arith) refl (no_fault 0) refl;
+  adapter_is_on = record { ae = refl; no_reset = refl };
+  engine_runs = runs_on 0 (dev broken) refl refl refl refl refl (omega arith) refl (no_fault 0) refl;
   info = plain_disks.info;
-  disk = fit_disk plain_disks 0 (dev broken) [] (page_entry plain_disks.page 1 ∷ gained) refl refl refl refl (other_page plain_disks.page gained (unpaged 0));
-  shows = record { serial = refl; sectors = refl; trims = refl; mode = refl };
-  slots = requests_first broken_at plain (omega arith) (λ e here. kind_of e (in_book 0 e here));
-  kept = λ e k. absurd (nowhere e k);
+  has_fit_disk = fit_disk plain_disks 0 (dev broken) [] (page_entry plain_disks.page 1 ∷ gained) refl refl refl refl (other_page plain_disks.page gained (unpaged 0));
+  shows_disk_info = record { serial = refl; sectors = refl; trims = refl; mode = refl };
+  slots_invariant = requests_first broken_at plain_disk_mode (omega arith) (λ e here. kind_of e (in_book 0 e here));
+  none_is_quarantined = λ e k. absurd (nowhere e k);
 }
 
 port_broken : (n : ℕ) → PortStateInvariant (wanted_of (Any ∷ Any ∷ []) n) first_slots broken_at (port_at n) (both.served (port_at n)) (both.state (port_at n))
 port_broken zero = port_ready
 port_broken (suc zero) = second_ready plain_disks first_slots issuing gained read_memory broken (unpaged 1) (λ slot. refl) refl refl
-port_broken (suc (suc n)) = unserved_at first_slots broken_at (suc (suc n)) refl refl (record { free = λ slot. refl; unparked = refl })
+port_broken (suc (suc n)) = unserved_at first_slots broken_at (suc (suc n)) refl refl (record { all_are_free = λ slot. refl; none_is_parked = refl })
     (λ e here is. let z : 0 ≡ suc (suc n) = sym (ap (λ (x : Pending). x.request.port.0) (in_book 0 e here)) ∙ ap (λ (p : Port). p.0) is in omega (arith, z))
     (λ e kept. absurd (nowhere e kept))
 
 pub holds_broken : DriverInvariantWith (Any ∷ Any ∷ []) first_slots broken_at
 holds_broken = record {
-  knows = knows;
+  driver_relation = knows;
   served = λ port low. served_of tape_broken read_memory (broken ∷ second ∷ []) port.0;
-  on = inl (record { ae = refl; no_reset = refl });
-  port = λ port low. port_broken port.0;
+  adapter_is_on = inl (record { ae = refl; no_reset = refl });
+  ports_hold = λ port low. port_broken port.0;
 }
 
 -- ---- the call
@@ -135,22 +135,22 @@ meeting = record {
 
 pub meeting_happens : Happens submitted_at.abstract meeting.event
 meeting_happens = record {
-  may = tt;
-  belong = tt;
-  last = tt;
-  lawful = tt;
-  fit = fit_ready plain_disks;
-  disks = λ e o here there same. (refl, refl);
-  answered = (tt, λ port. (refl, refl, refl, refl, refl, refl));
+  steps_are_enabled = tt;
+  steps_are_of_call = tt;
+  issues_are_last = tt;
+  answers_are_lawful = tt;
+  ports_are_well_formed = fit_ready plain_disks;
+  unanswered_keep_disk = λ e o here there same. (refl, refl);
+  is_answered = (tt, λ port. (refl, refl, refl, refl, refl, refl));
 }
 
 pub backed : IsBacked submitted (dev broken) issuing []
 backed = record {
   telling = refl;
-  gained = gained;
-  tape = refl;
-  tells = ([], [], [], tt, refl, tt, refl);
-  told = λ _. tt;
+  new_entries = gained;
+  tape_is = refl;
+  tells_device_steps = ([], [], [], tt, refl, tt, refl);
+  steps_are_faithful = λ _. tt;
   plugged = λ port. ([], plugs port, refl);
 }
   where
@@ -190,23 +190,23 @@ port_error (suc n) = no_trouble nothing submitted_at both (dev broken) (port_at 
 
 pub meeting_part : (n : ℕ) → PortCorresponds submitted_at meeting [] (port_at n)
 meeting_part n = record {
-  finds = tt;
-  faults = tt;
-  probes = tt;
-  boots = tt;
-  port_error = port_error n;
-  well = λ why. absurd (⊎_elim (nowhere (port_at n)) (nowhere (port_at n)) why);
-  heeds = λ why. ⊎_elim (nowhere (port_at n)) (nowhere (port_at n)) why;
+  finds_done = tt;
+  plain_faults_are_told = tt;
+  probes_disk = tt;
+  boots_anew = tt;
+  loses_no_error = port_error n;
+  runs_well_anew = λ why. absurd (⊎_elim (nowhere (port_at n)) (nowhere (port_at n)) why);
+  handles_evidence = λ why. ⊎_elim (nowhere (port_at n)) (nowhere (port_at n)) why;
 }
 
 unfoldable pub meeting_ties : CallCorresponds (Any ∷ Any ∷ []) submitted_at meeting
 meeting_ties = record {
   accesses = [];
-  came = (refl, inl (record { can = can_break; effect = breaks }));
-  backed = backed;
-  evidenced = record { faults = λ f here. absurd (nowhere f here); port = λ port. evidenced port.0 };
-  grounded = tt;
-  issues = λ port. tt;
-  port = λ port. meeting_part port.0;
-  holds = (first_slots, holds_broken);
+  accesses_are_explained = (refl, inl (record { can = can_break; effect = breaks }));
+  is_backed = backed;
+  is_evidenced = record { faults = λ f here. absurd (nowhere f here); port = λ port. evidenced port.0 };
+  only_failed_requeue = tt;
+  issues_all_due = λ port. tt;
+  ports_correspond = λ port. meeting_part port.0;
+  invariant_holds = (first_slots, holds_broken);
 }

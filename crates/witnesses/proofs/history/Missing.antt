@@ -30,9 +30,9 @@ use Rattle.port_control.specs.Engines.{Stops}
 use Rattle.driver_history.specs.Evidence.{TapeGainsEntry, IsEvidencedOf, ShowsChange}
 use Rattle.driver_history.specs.Histories.{HasUnservedDisk, IsPortAlive, CallCorresponds, PortCorresponds, ProbesDisk}
 use Rattle.driver_history.specs.PortInvariants.{PortStateInvariant}
-use Rattle.driver_history.specs.Trace.{DoesNotWriteCmd, LeavesEngine, ResetsLink}
+use Rattle.driver_history.specs.AccessTrace.{DoesNotWriteCmd, LeavesEngine, ResetsLink}
 use Rattle.witnesses.specs.RunningAdapter.{port_or_empty, ports_with_disks}
-use Rattle.witnesses.specs.Missing.{MissingDiskIsAHistory, unfit_look_accesses, missing_look_accesses}
+use Rattle.witnesses.specs.MissingDisk.{MissingDiskIsAHistory, unfit_look_accesses, missing_look_accesses}
 use Rattle.witnesses.proofs.history.Accepting.{first, submit, submit_happens, submit_ties}
 use Rattle.witnesses.proofs.history.Booting.{rebooted, unfit}
 use Rattle.witnesses.proofs.history.Command.{read_memory}
@@ -69,7 +69,7 @@ one_absent = ports_with_disks plain_disks.info (true ∷ true ∷ []) (Absent �
 
 -- port 0 was stopped
 abbrev evidence : Evidence
-evidence = record { faults = []; lost = []; gone = []; failed = []; fatal = []; stopped = port_at 0 ∷ []; stuck = [] }
+evidence = record { faults = []; lost = []; link_changed = []; failed = []; fatal = []; stopped = port_at 0 ∷ []; stuck = [] }
 
 abbrev service : JointEvent Device DeviceStep
 service = record {
@@ -94,10 +94,10 @@ not_dead_then (suc (suc n)) is = let x : Absent ≡ Dead = is in cc
 
 fit_then : PortsWellFormed one_absent
 fit_then = record {
-  few = fit.few;
-  absent = λ port is. absent_of port.0 is;
-  slots = λ port is. absurd (not_ready_then port.0 is);
-  causes = λ port cause is. cause_of port.0 cause is;
+  few_are_served = fit.few_are_served;
+  unserved_are_absent = λ port is. absent_of port.0 is;
+  modes_are_valid = λ port is. absurd (not_ready_then port.0 is);
+  causes_are_valid = λ port cause is. cause_of port.0 cause is;
 }
   where
     absent_of : (n : ℕ) → one_absent.served (port_at n) ≡ false → one_absent.state (port_at n) ≡ Absent
@@ -118,7 +118,7 @@ same_past (suc n) = (refl, refl, refl, refl, refl, refl)
 becomes : (n : ℕ) → IsServiced unfit_ports evidence one_absent (port_at n)
 becomes n = (
   λ is. absurd (not_dead n is),
-  λ _. (record { served = refl; stuck = (λ is. absurd (not_dead_then n is), λ h. absurd (nowhere (port_at n) h)); keeps = λ is. (refl, refl) }, changes n),
+  λ _. (record { served_is_kept = refl; dead_is_stuck = (λ is. absurd (not_dead_then n is), λ h. absurd (nowhere (port_at n) h)); disk_is_kept = λ is. (refl, refl) }, changes n),
 )
   where
     changes : (n : ℕ) → SamePort unfit_ports one_absent (port_at n) ⊎ IsStoppedOrStuck evidence (port_at n)
@@ -133,13 +133,13 @@ had_disk (suc n) = inl (same_past n)
 
 unplug_happens : Happens rebooted_at.abstract unplug.event
 unplug_happens = record {
-  may = (tt, refl);
-  belong = (tt, inl tt);
-  last = (tt, λ id handled issued_in. absurd (true≢false (sym handled)));
-  lawful = tt;
-  fit = fit;
-  disks = λ e o here. absurd (nowhere e here);
-  answered = ((tt, tt), λ port. (refl, refl, refl, refl, refl, refl));
+  steps_are_enabled = (tt, refl);
+  steps_are_of_call = (tt, inl tt);
+  issues_are_last = (tt, λ id handled issued_in. absurd (true≢false (sym handled)));
+  answers_are_lawful = tt;
+  ports_are_well_formed = fit;
+  unanswered_keep_disk = λ e o here. absurd (nowhere e here);
+  is_answered = ((tt, tt), λ port. (refl, refl, refl, refl, refl, refl));
 }
 
 -- another port's disk neither goes nor comes
@@ -156,19 +156,19 @@ quiet (suc n) (inr is) = true≢false (sym is)
 
 unplug_part : (n : ℕ) → PortCorresponds rebooted_at unplug [] (port_at n)
 unplug_part n = record {
-  finds = tt;
-  faults = tt;
-  probes = tt;
-  boots = tt;
-  port_error = record {
+  finds_done = tt;
+  plain_faults_are_told = tt;
+  probes_disk = tt;
+  boots_anew = tt;
+  loses_no_error = record {
     errors = λ ready why. absurd (not_ready n ready);
     changes = λ tends why. inr (changes n why);
     fault = λ ready g. absurd (not_ready n ready);
     fatal = λ ready g. absurd (not_ready n ready);
     disk = λ ready g. absurd (not_ready n ready);
   };
-  well = λ why ready. absurd (not_ready n ready);
-  heeds = λ why. ⊎_elim (nowhere (port_at n)) (nowhere (port_at n)) why;
+  runs_well_anew = λ why ready. absurd (not_ready n ready);
+  handles_evidence = λ why. ⊎_elim (nowhere (port_at n)) (nowhere (port_at n)) why;
 }
   where
     changes : (n : ℕ) → ShowsChange (rebooted.port n) ⊎ TapeGainsEntry (IsPlugEvent n) rebooted unplugged → ShowsChange (unplugged.port n)
@@ -178,10 +178,10 @@ unplug_part n = record {
 unplug_backed : IsBacked rebooted unplugged answered (going ∷ [])
 unplug_backed = record {
   telling = refl;
-  gained = gained;
-  tape = refl;
-  tells = ([], going ∷ [], [], tt, refl, tt, refl);
-  told = λ _. (tt, tt);
+  new_entries = gained;
+  tape_is = refl;
+  tells_device_steps = ([], going ∷ [], [], tt, refl, tt, refl);
+  steps_are_faithful = λ _. (tt, tt);
   plugged = λ port. ([], plugs port, refl);
 }
   where
@@ -207,28 +207,28 @@ unplug_knows = agreeing without no_slots tape_gone read_memory gone (unfit 1)
 
 still_unfit : (n : ℕ) → PortStateInvariant (wanted_of (Any ∷ Any ∷ []) n) no_slots unplugged_at (port_at n) (unfit_ports.served (port_at n)) (unfit_ports.state (port_at n))
 still_unfit zero = record {
-  on = record { ae = refl; no_reset = refl };
-  ends = (
+  adapter_is_on = record { ae = refl; no_reset = refl };
+  backs_state = (
     record { halted = record { st = refl; cr = refl; ci = λ k. refl; taken = λ k. refl }; sact = λ k. refl },
     inr (inl (refl, (0xeb140101, ((refl, refl), refl, refl, λ (e : 0xeb140101 ≡ 0x101). omega (arith, e))))),
   );
-  shown = λ bad. inr refl;
-  slots = record { free = λ k. refl; unparked = refl };
-  waits = λ e here. absurd (nowhere e here);
-  kept = λ e k. absurd (nowhere e k);
+  shows_disk_if_in = λ bad. inr refl;
+  has_nothing_in_slots = record { all_are_free = λ k. refl; none_is_parked = refl };
+  has_no_unanswered = λ e here. absurd (nowhere e here);
+  none_is_quarantined = λ e k. absurd (nowhere e k);
 }
 still_unfit (suc zero) = record {
-  on = record { ae = refl; no_reset = refl };
-  ends = (
+  adapter_is_on = record { ae = refl; no_reset = refl };
+  backs_state = (
     record { halted = record { st = refl; cr = refl; ci = λ k. refl; taken = λ k. refl }; sact = λ k. refl },
     inr (inl (refl, (0xeb140101, ((refl, refl), refl, refl, λ (e : 0xeb140101 ≡ 0x101). omega (arith, e))))),
   );
-  shown = λ bad. inl refl;
-  slots = record { free = λ k. refl; unparked = refl };
-  waits = λ e here. absurd (nowhere e here);
-  kept = λ e k. absurd (nowhere e k);
+  shows_disk_if_in = λ bad. inl refl;
+  has_nothing_in_slots = record { all_are_free = λ k. refl; none_is_parked = refl };
+  has_no_unanswered = λ e here. absurd (nowhere e here);
+  none_is_quarantined = λ e k. absurd (nowhere e k);
 }
-still_unfit (suc (suc n)) = unserved_at no_slots unplugged_at (suc (suc n)) refl refl (record { free = λ slot. refl; unparked = refl }) (λ e here. absurd (nowhere e here)) (λ e kept. absurd (nowhere e kept))
+still_unfit (suc (suc n)) = unserved_at no_slots unplugged_at (suc (suc n)) refl refl (record { all_are_free = λ slot. refl; none_is_parked = refl }) (λ e here. absurd (nowhere e here)) (λ e kept. absurd (nowhere e kept))
 
 unplug_evidenced : (n : ℕ) → IsEvidencedOf unplug.event.ask unplug.event.said [] rebooted_at unfit_ports unplugged nothing (port_at n)
 unplug_evidenced n = unnamed_evidenced unplug.event.ask unplug.event.said [] rebooted_at unfit_ports unplugged nothing (port_at n) (none_named (port_at n)) (λ ready. absurd (not_ready n ready)) (All-nil (LeavesEngine (port_at n)))
@@ -236,19 +236,19 @@ unplug_evidenced n = unnamed_evidenced unplug.event.ask unplug.event.said [] reb
 unfoldable unplug_ties : CallCorresponds (Any ∷ Any ∷ []) rebooted_at unplug
 unplug_ties = record {
   accesses = [];
-  came = (refl, inl (record { can = can_go; effect = goes }));
-  backed = unplug_backed;
-  evidenced = record { faults = λ f here. absurd (nowhere f here); port = λ port. unplug_evidenced port.0 };
-  grounded = tt;
-  issues = λ port. tt;
-  port = λ port. unplug_part port.0;
-  holds = (
+  accesses_are_explained = (refl, inl (record { can = can_go; effect = goes }));
+  is_backed = unplug_backed;
+  is_evidenced = record { faults = λ f here. absurd (nowhere f here); port = λ port. unplug_evidenced port.0 };
+  only_failed_requeue = tt;
+  issues_all_due = λ port. tt;
+  ports_correspond = λ port. unplug_part port.0;
+  invariant_holds = (
     no_slots,
     record {
-      knows = unplug_knows;
+      driver_relation = unplug_knows;
       served = λ port low. served_of tape_gone read_memory (gone ∷ unfit 1 ∷ []) port.0;
-      on = inl (record { ae = refl; no_reset = refl });
-      port = λ port low. still_unfit port.0;
+      adapter_is_on = inl (record { ae = refl; no_reset = refl });
+      ports_hold = λ port low. still_unfit port.0;
     },
   );
 }
@@ -257,25 +257,25 @@ unplug_ties = record {
 
 answers : AnswersService unplugged_at.abstract evidence [] [] looked_at.abstract
 answers = record {
-  tells = record { answers = []; same = IsPermutation-refl _; ordered = λ i j d less low. absurd (omega (arith, less, low)); told = refl };
-  dead = λ e o here. absurd (nowhere (Answer e o) here);
-  unplugs = record { emptied = λ e other here. absurd (nowhere (Answer e outcome.Unplugged) here); alike = λ e other here. absurd (nowhere (Answer e outcome.Unplugged) here) };
-  issues = λ port ready. absurd (not_ready_then port.0 ready);
-  emptied = λ port other e here. absurd (nowhere e here);
-  ended = λ port ready e here. absurd (nowhere e here);
-  becomes = λ port. becomes port.0;
-  disk = λ port. had_disk port.0;
+  replies_match = record { answers = []; is_permutation = IsPermutation-refl _; ordered = λ i j d less low. absurd (omega (arith, less, low)); replies_are = refl };
+  tells_dead = λ e o here. absurd (nowhere (Answer e o) here);
+  answers_all_unplugged = record { none_is_left = λ e other here. absurd (nowhere (Answer e outcome.Unplugged) here); none_is_told_dead = λ e other here. absurd (nowhere (Answer e outcome.Unplugged) here) };
+  none_is_due = λ port ready. absurd (not_ready_then port.0 ready);
+  empty_unless_ready = λ port other e here. absurd (nowhere e here);
+  answers_ended = λ port ready e here. absurd (nowhere e here);
+  port_is_serviced = λ port. becomes port.0;
+  shown_disk_was_in_or_came = λ port. had_disk port.0;
 }
 
 service_happens : Happens unplugged_at.abstract service.event
 service_happens = record {
-  may = tt;
-  belong = tt;
-  last = tt;
-  lawful = tt;
-  fit = fit_then;
-  disks = λ e o here. absurd (nowhere e here);
-  answered = answers;
+  steps_are_enabled = tt;
+  steps_are_of_call = tt;
+  issues_are_last = tt;
+  answers_are_lawful = tt;
+  ports_are_well_formed = fit_then;
+  unanswered_keep_disk = λ e o here. absurd (nowhere e here);
+  is_answered = answers;
 }
 
 stops : Stops (port_at 0) (missing_look_accesses ++ unfit_look_accesses)
@@ -285,10 +285,10 @@ stops = record {
   between = [];
   fallen = 0x4010;
   later = Writing (Px (port_at 0) Serr) 0xffffffff ∷ Reading (Px (port_at 0) Ssts) 0 ∷ unfit_look_accesses;
-  here = refl;
-  clears = refl;
-  only = All-nil (DoesNotWriteCmd (port_at 0));
-  shown = refl;
+  accesses_are = refl;
+  start_is_cleared = refl;
+  cmd_is_unwritten = All-nil (DoesNotWriteCmd (port_at 0));
+  stop_is_shown = refl;
 }
 
 of_first : WritesOf (IsOf (port_at 0)) (missing_look_accesses ++ unfit_look_accesses)
@@ -313,8 +313,8 @@ unnamed n = record {
 service_evidenced : (n : ℕ) → IsEvidencedOf Service (Served []) (missing_look_accesses ++ unfit_look_accesses) unplugged_at one_absent looked_over evidence (port_at n)
 service_evidenced zero = record {
   lost = λ h. absurd (nowhere (port_at 0) h);
-  gone_all = λ ready loss. absurd (not_ready 0 ready);
-  gone_only = λ h. absurd (nowhere (port_at 0) h);
+  link_changed_all = λ ready loss. absurd (not_ready 0 ready);
+  link_changed_only = λ h. absurd (nowhere (port_at 0) h);
   failed_all = λ ready f. absurd (not_ready 0 ready);
   failed_only = λ h. absurd (nowhere (port_at 0) h);
   fatal_all = λ ready f. absurd (not_ready 0 ready);
@@ -356,19 +356,19 @@ probes (suc (suc n)) = record {
 
 service_part : (n : ℕ) → PortCorresponds unplugged_at service (missing_look_accesses ++ unfit_look_accesses) (port_at n)
 service_part n = record {
-  finds = λ ready. absurd (not_ready n ready);
-  faults = λ alone. absurd (not_ready n alone.ready);
-  probes = λ served none. probes n;
-  boots = (λ ready. absurd (not_ready n ready), boots n);
-  port_error = record {
+  finds_done = λ ready. absurd (not_ready n ready);
+  plain_faults_are_told = λ alone. absurd (not_ready n alone.ready);
+  probes_disk = λ served none. probes n;
+  boots_anew = (λ ready. absurd (not_ready n ready), boots n);
+  loses_no_error = record {
     errors = λ ready why. absurd (not_ready n ready);
     changes = λ tends why. changes n why;
     fault = λ ready g. absurd (not_ready_then n ready);
     fatal = λ ready g. absurd (not_ready_then n ready);
     disk = λ ready g. absurd (not_ready_then n ready);
   };
-  well = λ why ready. absurd (not_ready_then n ready);
-  heeds = λ ready. absurd (not_ready n ready);
+  runs_well_anew = λ why ready. absurd (not_ready_then n ready);
+  handles_evidence = λ ready. absurd (not_ready n ready);
 }
   where
     boots : (n : ℕ) → SamePort unfit_ports one_absent (port_at n) ⊎ ((one_absent.state (port_at n) ≡ Dead) ⊎ ((one_absent.state (port_at n) ≡ Absent) ⊎ ResetsLink (port_at n) (missing_look_accesses ++ unfit_look_accesses)))
@@ -386,10 +386,10 @@ service_part n = record {
 service_backed : IsBacked unplugged looked_over without []
 service_backed = record {
   telling = refl;
-  gained = [];
-  tape = sym (append-nil _);
-  tells = tt;
-  told = λ _. tt;
+  new_entries = [];
+  tape_is = sym (append-nil _);
+  tells_device_steps = tt;
+  steps_are_faithful = λ _. tt;
   plugged = λ port. ([], plugs port, refl);
 }
   where
@@ -415,45 +415,45 @@ service_knows = agreeing without no_slots tape_gone read_memory absent passed
 
 holds_of : (n : ℕ) → PortStateInvariant (wanted_of (Any ∷ Any ∷ []) n) no_slots looked_at (port_at n) (one_absent.served (port_at n)) (one_absent.state (port_at n))
 holds_of zero = record {
-  on = record { ae = refl; no_reset = refl };
-  ends = (
+  adapter_is_on = record { ae = refl; no_reset = refl };
+  backs_state = (
     record { halted = record { st = refl; cr = refl; ci = λ k. refl; taken = λ k. refl }; sact = λ k. refl },
     (λ (e : 0 ≡ 3). omega (arith, e), refl),
   );
-  shown = λ bad. inr refl;
-  slots = record { free = λ k. refl; unparked = refl };
-  waits = λ e here. absurd (nowhere e here);
-  kept = λ e k. absurd (nowhere e k);
+  shows_disk_if_in = λ bad. inr refl;
+  has_nothing_in_slots = record { all_are_free = λ k. refl; none_is_parked = refl };
+  has_no_unanswered = λ e here. absurd (nowhere e here);
+  none_is_quarantined = λ e k. absurd (nowhere e k);
 }
 holds_of (suc zero) = record {
-  on = record { ae = refl; no_reset = refl };
-  ends = (
+  adapter_is_on = record { ae = refl; no_reset = refl };
+  backs_state = (
     record { halted = record { st = refl; cr = refl; ci = λ k. refl; taken = λ k. refl }; sact = λ k. refl },
     inr (inl (refl, (0xeb140101, ((refl, refl), refl, refl, λ (e : 0xeb140101 ≡ 0x101). omega (arith, e))))),
   );
-  shown = λ bad. inl refl;
-  slots = record { free = λ k. refl; unparked = refl };
-  waits = λ e here. absurd (nowhere e here);
-  kept = λ e k. absurd (nowhere e k);
+  shows_disk_if_in = λ bad. inl refl;
+  has_nothing_in_slots = record { all_are_free = λ k. refl; none_is_parked = refl };
+  has_no_unanswered = λ e here. absurd (nowhere e here);
+  none_is_quarantined = λ e k. absurd (nowhere e k);
 }
-holds_of (suc (suc n)) = unserved_at no_slots looked_at (suc (suc n)) refl refl (record { free = λ slot. refl; unparked = refl }) (λ e here. absurd (nowhere e here)) (λ e kept. absurd (nowhere e kept))
+holds_of (suc (suc n)) = unserved_at no_slots looked_at (suc (suc n)) refl refl (record { all_are_free = λ slot. refl; none_is_parked = refl }) (λ e here. absurd (nowhere e here)) (λ e kept. absurd (nowhere e kept))
 
 service_ties : CallCorresponds (Any ∷ Any ∷ []) unplugged_at service
 service_ties = record {
   accesses = missing_look_accesses ++ unfit_look_accesses;
-  came = (does, serving (IsPortAlive unfit_ports) (missing_look_accesses ++ unfit_look_accesses) of_served);
-  backed = service_backed;
-  evidenced = record { faults = λ f here. absurd (nowhere f here); port = λ port. service_evidenced port.0 };
-  grounded = tt;
-  issues = λ port ready. absurd (not_ready_then port.0 ready);
-  port = λ port. service_part port.0;
-  holds = (
+  accesses_are_explained = (does, serving (IsPortAlive unfit_ports) (missing_look_accesses ++ unfit_look_accesses) of_served);
+  is_backed = service_backed;
+  is_evidenced = record { faults = λ f here. absurd (nowhere f here); port = λ port. service_evidenced port.0 };
+  only_failed_requeue = tt;
+  issues_all_due = λ port ready. absurd (not_ready_then port.0 ready);
+  ports_correspond = λ port. service_part port.0;
+  invariant_holds = (
     no_slots,
     record {
-      knows = service_knows;
+      driver_relation = service_knows;
       served = λ port low. served_of tape_gone read_memory (absent ∷ passed ∷ []) port.0;
-      on = inl (record { ae = refl; no_reset = refl });
-      port = λ port low. holds_of port.0;
+      adapter_is_on = inl (record { ae = refl; no_reset = refl });
+      ports_hold = λ port low. holds_of port.0;
     },
   );
 }
@@ -463,14 +463,14 @@ service_ties = record {
 pub missing_disk_is_a_history : MissingDiskIsAHistory
 unfolding service_ties unplug_ties
 missing_disk_is_a_history = record {
-  first = first;
+  initial_state = first;
   past = reset ∷ submit ∷ [];
   unfit = (refl, refl);
   unplug = unplug;
-  goes = (refl, refl);
+  disk_is_unplugged = (refl, refl);
   unseen = refl;
   service = service;
-  serves = (refl, refl);
+  asks_for_service = (refl, refl);
   absent = refl;
   stays = refl;
   does = does;

@@ -10,7 +10,7 @@ use Rattle.identify.specs.Page.{HasNoUnfit, AllowsTrim, identity_word}
 use Rattle.identify.specs.declared.DiskInfo.{DiskInfo}
 use Rattle.identify.specs.declared.Unfit.TheVariants.{BadChecksum, Word83, No48Bit, SectorSize, NoFlush, NoSectors}
 use Rattle.port_boot.specs.States.{IsFit}
-use Rattle.witnesses.specs.RunningAdapter.{fit_page, page_rest, page_with, queueing_cap, queueing_page}
+use Rattle.witnesses.specs.RunningAdapter.{fit_page, page_rest, identify_page, queueing_cap, queueing_page}
 
 -- what a page with this queue says
 abbrev pub info_with : ℕ → Bool → DiskInfo
@@ -18,7 +18,7 @@ info_with depth ncq = record { serial = replicate 20 0; depth = depth; ncq = ncq
 
 module _ (depth queues : ℕ) where
   abbrev page : List ℕ
-  page = page_with depth queues
+  page = identify_page depth queues
 
   no_fault : HasNoUnfit page
   no_fault BadChecksum (a, b) = let x : 0 ≡ 0xa5 = a in absurd (omega (arith, x))
@@ -38,7 +38,7 @@ module _ (depth queues : ℕ) where
   pub page_fits : (ncq : Bool) → IsTrue ncq ↔ (bit_at (identity_word page 76) 8 ≡ 1) → IsFit None page (info_with (identity_word page 75 % 2 ^ 5 + 1) ncq)
   page_fits ncq queue = record {
     no_fault = no_fault;
-    tells = record {
+    page_tells = record {
       serial = record {
         size = refl;
         high = λ i low. zero_in (2 * i) (omega (arith, low)) ∙ sym (zero_at (21 + 2 * i) (omega (arith, low)));
@@ -49,7 +49,7 @@ module _ (depth queues : ℕ) where
       sectors = refl;
       trim = (λ f. absurd (true≢false (sym f)), λ (a : AllowsTrim page). let x : 0 ≡ 1 = a.trim in absurd (omega (arith, x)));
     };
-    fits = tt;
+    serial_matches = tt;
   }
 
 -- Disks of a kind: their page, and what it says; a port with such a disk has a mode.

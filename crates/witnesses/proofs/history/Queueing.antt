@@ -8,17 +8,17 @@ use Rattle.ata_types.specs.declared.memory.TheConstants.{DRIVER_FRAMES}
 use Rattle.hba_regs.specs.Bits.{bit}
 use Rattle.hba_regs.specs.declared.reg.Reg.TheVariants.{Px}
 use Rattle.hba_regs.specs.declared.reg.PortReg.TheVariants.{Sact, Ci}
-use Rattle.adapter.specs.Access.{Access, DoesAll, port_written}
+use Rattle.adapter.specs.Access.{Access, DoesAll, port_after_write}
 use Rattle.adapter.specs.Access.Access.{Writing, Storing}
 use Rattle.adapter.specs.Device.{DevicePort}
 use Rattle.adapter.specs.Memory.{bytes_at, patched}
 use Rattle.adapter.specs.Decoding.{piece_addresses}
 use Rattle.adapter.specs.declared.tape.Entry.{Entry}
 use Rattle.refinement.specs.Relation.{port_at}
-use Rattle.refinement.specs.Places.{table_of}
+use Rattle.refinement.specs.MemoryLayout.{table_of}
 use Rattle.refinement.specs.Slots.{SlotDecodesTo}
 use Rattle.driver_history.specs.Histories.{IsIssuingAccess}
-use Rattle.witnesses.specs.RunningAdapter.{device_with, running_port}
+use Rattle.witnesses.specs.RunningAdapter.{running_device, running_port}
 use Rattle.witnesses.proofs.history.Command.{header_to, frame_head, queued_bytes, queued_read, told_queued, zeros}
 use Rattle.witnesses.proofs.history.Devices.{but_first, other_bit, stores, writes}
 use Rattle.witnesses.proofs.history.Memory.{spares}
@@ -67,29 +67,29 @@ two_zeros f b from =
 
 -- the slot's bit of PxSACT is written, and then that of PxCI
 abbrev pub with_bits : ℕ → DevicePort → DevicePort
-with_bits v p = port_written Ci v 0 (port_written Sact v 0 p)
+with_bits v p = port_after_write Ci v 0 (port_after_write Sact v 0 p)
 
 abbrev pub queue_accesses : (slot k frame v : ℕ) → List Access
 queue_accesses slot k frame v =
     Storing (32 * slot) (header_to slot) ∷ Storing (table_of 0 slot) (queued_bytes slot k) ∷ Storing (table_of 0 slot + 128) (frame_head frame)
     ∷ Writing (Px (port_at 0) Sact) v ∷ Writing (Px (port_at 0) Ci) v ∷ []
 
-pub queues : (tape : List Entry) (memory : ℕ → ℕ) (p : DevicePort) (slot k frame v : ℕ) → DoesAll (queue_accesses slot k frame v) (device_with tape memory (p ∷ second ∷ []))
-    (device_with tape (with_read memory slot k frame) (with_bits v p ∷ second ∷ []))
+pub queues : (tape : List Entry) (memory : ℕ → ℕ) (p : DevicePort) (slot k frame v : ℕ) → DoesAll (queue_accesses slot k frame v) (running_device tape memory (p ∷ second ∷ []))
+    (running_device tape (with_read memory slot k frame) (with_bits v p ∷ second ∷ []))
 queues tape memory p slot k frame v = (
-  device_with tape (patched memory (32 * slot) (header_to slot)) (p ∷ second ∷ []),
+  running_device tape (patched memory (32 * slot) (header_to slot)) (p ∷ second ∷ []),
   stores (32 * slot) (header_to slot) tape memory (p ∷ second ∷ []),
   (
-    device_with tape (patched (patched memory (32 * slot) (header_to slot)) (table_of 0 slot) (queued_bytes slot k)) (p ∷ second ∷ []),
+    running_device tape (patched (patched memory (32 * slot) (header_to slot)) (table_of 0 slot) (queued_bytes slot k)) (p ∷ second ∷ []),
     stores (table_of 0 slot) (queued_bytes slot k) tape (patched memory (32 * slot) (header_to slot)) (p ∷ second ∷ []),
     (
-      device_with tape (with_read memory slot k frame) (p ∷ second ∷ []),
+      running_device tape (with_read memory slot k frame) (p ∷ second ∷ []),
       stores (table_of 0 slot + 128) (frame_head frame) tape (patched (patched memory (32 * slot) (header_to slot)) (table_of 0 slot) (queued_bytes slot k)) (p ∷ second ∷ []),
       (
-        device_with tape (with_read memory slot k frame) (armed ∷ second ∷ []),
+        running_device tape (with_read memory slot k frame) (armed ∷ second ∷ []),
         writes tape (with_read memory slot k frame) 0 (p ∷ second ∷ []) (armed ∷ second ∷ []) (but_first p armed (second ∷ [])) Sact v refl,
         (
-          device_with tape (with_read memory slot k frame) (with_bits v p ∷ second ∷ []),
+          running_device tape (with_read memory slot k frame) (with_bits v p ∷ second ∷ []),
           writes tape (with_read memory slot k frame) 0 (armed ∷ second ∷ []) (with_bits v p ∷ second ∷ []) (but_first armed (with_bits v p) (second ∷ [])) Ci v refl,
           refl,
         ),
@@ -99,7 +99,7 @@ queues tape memory p slot k frame v = (
 )
   where
     armed : DevicePort
-    armed = port_written Sact v 0 p
+    armed = port_after_write Sact v 0 p
 
 -- ---- the port
 

@@ -25,7 +25,7 @@ use Rattle.host_boot.specs.TakeOver.{IsServed, wanted_of}
 use Rattle.identify.specs.declared.wanted.Wanted.TheVariants.{Any, Nothing}
 use Rattle.port_control.specs.Ports.{programmed}
 pub use Rattle.witnesses.proofs.history.Client.{client, frame, granted, its_row, row, start, starts, two_rows}
-use Rattle.witnesses.specs.RunningAdapter.{device_with, port_or_empty, page_entry, queueing_cap, running_port, ports_with_disks}
+use Rattle.witnesses.specs.RunningAdapter.{running_device, port_or_empty, page_entry, queueing_cap, running_port, ports_with_disks}
 use Rattle.witnesses.proofs.history.Still.{all_still, first_lasting, still_bytes}
 use Rattle.witnesses.proofs.history.Holding.{fit_disk, no_slots, requests_none, runs_on, unfailing, unlost, unserved_at}
 use Rattle.witnesses.proofs.history.Command.{zeros}
@@ -66,9 +66,9 @@ module _ (m : Machine) (s : DriverSlots) (tape : List Entry) (memory : ℕ → �
   size_of (suc (suc n)) = refl
 
   sectors_of : (n : ℕ) → SameSectors start (port_or_empty (p ∷ q ∷ []) n).disk n
-  sectors_of zero = record { told = first_disk_sector; tells = ap (λ (d : Disk). d.sectors) are.disks.0; same = λ k b kl bl. tells k b bl }
-  sectors_of (suc zero) = record { told = first_disk_sector; tells = ap (λ (d : Disk). d.sectors) are.disks.1; same = λ k b kl bl. tells k b bl }
-  sectors_of (suc (suc n)) = record { told = λ k. []; tells = refl; same = λ k b kl bl. absurd (omega (arith, kl)) }
+  sectors_of zero = record { told_sectors = first_disk_sector; disk_tells = ap (λ (d : Disk). d.sectors) are.disks.0; bytes_are_same = λ k b kl bl. tells k b bl }
+  sectors_of (suc zero) = record { told_sectors = first_disk_sector; disk_tells = ap (λ (d : Disk). d.sectors) are.disks.1; bytes_are_same = λ k b kl bl. tells k b bl }
+  sectors_of (suc (suc n)) = record { told_sectors = λ k. []; disk_tells = refl; bytes_are_same = λ k b kl bl. absurd (omega (arith, kl)) }
 
   lasts : (n : ℕ) → HasLasting m tape (port_or_empty (p ∷ q ∷ []) n) n
   lasts zero k inside bytes w = inl (λ b bl. still_bytes tape (p.lasting) 0 k bytes are.lasting.0 are.still w b bl ∙ sym (ap (λ (f : Port → ℕ → ℕ → ℕ). f (port_at 0) k b) are.bytes))
@@ -76,22 +76,22 @@ module _ (m : Machine) (s : DriverSlots) (tape : List Entry) (memory : ℕ → �
   lasts (suc (suc n)) k inside bytes w = absurd (omega (arith, inside))
 
   pub agreeing : ((n k : ℕ) → RelatesSlot m memory tape (port_or_empty (p ∷ q ∷ []) n) n k (s.uses n k)) → ServeApart s.uses → SameMemory m memory → ((n : ℕ) → HaveSlots s.uses m n (s.parked n))
-      → DriverRelation m (driver_state s (device_with tape memory (p ∷ q ∷ [])))
+      → DriverRelation m (driver_state s (running_device tape memory (p ∷ q ∷ [])))
   agreeing slots apart same have = record {
-    agrees = record {
-      slot = slots;
-      apart = apart;
-      received = received;
-      disk = λ n. record {
+    state_relation = record {
+      relates_slots = slots;
+      serve_apart = apart;
+      received_areas_are_placed = received;
+      disks_are_same = λ n. record {
         present = are.present n;
         id = ap (λ (f : Port → ℕ). f (port_at n)) are.ids ∙ name_of n;
         size = ap (λ (f : Port → ℕ). f (port_at n)) are.sizes ∙ size_of n;
       };
-      memory = same;
-      sectors = λ _ n. let d = sectors_of n in record { told = d.told; tells = d.tells; same = λ k b kl bl. d.same k b kl bl ∙ sym (ap (λ (f : Port → ℕ → ℕ → ℕ). f (port_at n) k b) are.bytes) };
-      lasting = λ _ n. lasts n;
+      memory_is_same = same;
+      sectors_are_same = λ _ n. let d = sectors_of n in record { told_sectors = d.told_sectors; disk_tells = d.disk_tells; bytes_are_same = λ k b kl bl. d.bytes_are_same k b kl bl ∙ sym (ap (λ (f : Port → ℕ → ℕ → ℕ). f (port_at n) k b) are.bytes) };
+      has_lasting = λ _ n. lasts n;
     };
-    have = have;
+    have_slots = have;
   }
 
 -- ---- ports
@@ -120,10 +120,10 @@ not_dead (suc (suc n)) is = let x : Absent ≡ Dead = is in cc
 
 pub fit_ready : (disk : Kind) → PortsWellFormed (two_ready disk)
 fit_ready disk = record {
-  few = λ port is. few_of port.0 is;
-  absent = λ port is. absent_of port.0 is;
-  slots = λ port is. disk.mode;
-  causes = λ port cause is. absurd (no_cause port.0 cause is);
+  few_are_served = λ port is. few_of port.0 is;
+  unserved_are_absent = λ port is. absent_of port.0 is;
+  modes_are_valid = λ port is. disk.mode;
+  causes_are_valid = λ port cause is. absurd (no_cause port.0 cause is);
 }
   where
     few_of : (n : ℕ) → two_served (port_at n) ≡ true → n < 4
@@ -141,16 +141,16 @@ fit_ready disk = record {
     no_cause (suc zero) cause is = let x : Ready ≡ Unfit cause = is in cc
     no_cause (suc (suc n)) cause is = let x : Absent ≡ Unfit cause = is in cc
 
-pub served_of : (tape : List Entry) (memory : ℕ → ℕ) (ports : List DevicePort) (n : ℕ) → (two_served (port_at n) ≡ true) ↔ IsServed (wanted_of (Any ∷ Any ∷ []) n) n (device_with tape memory ports)
+pub served_of : (tape : List Entry) (memory : ℕ → ℕ) (ports : List DevicePort) (n : ℕ) → (two_served (port_at n) ≡ true) ↔ IsServed (wanted_of (Any ∷ Any ∷ []) n) n (running_device tape memory ports)
 served_of tape memory ports zero = (λ _. ((λ e. let x : Any ≡ Nothing = e in absurd cc), refl), λ _. refl)
 served_of tape memory ports (suc zero) = (λ _. ((λ e. let x : Any ≡ Nothing = e in absurd cc), refl), λ _. refl)
-served_of tape memory ports (suc (suc n)) = (λ f. absurd (true≢false (sym f)), λ (s : IsServed (wanted_of (Any ∷ Any ∷ []) (suc (suc n))) (suc (suc n)) (device_with tape memory ports)). absurd (s.0 refl))
+served_of tape memory ports (suc (suc n)) = (λ f. absurd (true≢false (sym f)), λ (s : IsServed (wanted_of (Any ∷ Any ∷ []) (suc (suc n))) (suc (suc n)) (running_device tape memory ports)). absurd (s.0 refl))
 
 -- no ready port shows trouble before its call
 pub calm : (tape : List Entry) (memory : ℕ → ℕ) (p : DevicePort) → p.serr_n ≡ false → p.serr_x ≡ false → p.ssts_det ≡ 3 → ((place : ℕ) → 27 ≤ place → p.is place ≡ false) → (new : Device) (n : ℕ) → two_states (port_at n) ≡ Ready
-    → (ShowsLoss (port_at n) (device_with tape memory (p ∷ second ∷ [])) new → ⊥) × (ShowsFailure (port_or_empty (p ∷ second ∷ []) n) → ⊥)
-calm tape memory p n x there quiet new zero is = (unlost (port_at 0) (device_with tape memory (p ∷ second ∷ [])) new n x there, unfailing p quiet)
-calm tape memory p n x there quiet new (suc zero) is = (unlost (port_at 1) (device_with tape memory (p ∷ second ∷ [])) new refl refl refl, unfailing second (λ place from. refl))
+    → (ShowsLoss (port_at n) (running_device tape memory (p ∷ second ∷ [])) new → ⊥) × (ShowsFailure (port_or_empty (p ∷ second ∷ []) n) → ⊥)
+calm tape memory p n x there quiet new zero is = (unlost (port_at 0) (running_device tape memory (p ∷ second ∷ [])) new n x there, unfailing p quiet)
+calm tape memory p n x there quiet new (suc zero) is = (unlost (port_at 1) (running_device tape memory (p ∷ second ∷ [])) new refl refl refl, unfailing second (λ place from. refl))
 calm tape memory p n x there quiet new (suc (suc k)) is = absurd (let z : Absent ≡ Ready = is in cc)
 
 -- ---- what holds
@@ -179,14 +179,14 @@ pub record Stands (p : DevicePort) : Type 0 where
 
 -- such a port shows none
 pub shows_none : (tape : List Entry) (memory : ℕ → ℕ) (p : DevicePort) → Stands p → (new : Device) (n : ℕ) → two_states (port_at n) ≡ Ready
-    → (ShowsLoss (port_at n) (device_with tape memory (p ∷ second ∷ [])) new → ⊥) × (ShowsFailure (port_or_empty (p ∷ second ∷ []) n) → ⊥)
+    → (ShowsLoss (port_at n) (running_device tape memory (p ∷ second ∷ [])) new → ⊥) × (ShowsFailure (port_or_empty (p ∷ second ∷ []) n) → ⊥)
 shows_none tape memory p stands =
     calm tape memory p (ap (λ (q : DevicePort). q.serr_n) stands.same) (ap (λ (q : DevicePort). q.serr_x) stands.same) (ap (λ (q : DevicePort). q.ssts_det) stands.same) stands.quiet
 
 module _ (disk : Kind) (s : DriverSlots) (m : Machine) (more : List Entry) (memory : ℕ → ℕ) (p : DevicePort) where
   -- both disks have sent their pages, and this was done since
   abbrev pub served_with : Device
-  served_with = device_with (sent disk.page ++ more) memory (p ∷ second ∷ [])
+  served_with = running_device (sent disk.page ++ more) memory (p ∷ second ∷ [])
 
   abbrev pub instant_with : JointState Device
   instant_with = record { device = served_with; abstract = record { machine = m; ports = two_ready disk } }
@@ -194,13 +194,13 @@ module _ (disk : Kind) (s : DriverSlots) (m : Machine) (more : List Entry) (memo
   -- port 1 is ready as long as its disk is in
   pub second_ready : All (λ e. IsMove 1 Identify e → ⊥) more → ((slot : ℕ) → s.uses 1 slot ≡ Free) → s.parked 1 ≡ [] → m.kept ≡ [] → IsReadyAt Any s instant_with (port_at 1)
   second_ready unpaged free unparked unkept = record {
-    on = record { ae = refl; no_reset = refl };
-    runs = runs_on 1 served_with refl refl refl refl refl (omega arith) refl refl refl;
+    adapter_is_on = record { ae = refl; no_reset = refl };
+    engine_runs = runs_on 1 served_with refl refl refl refl refl (omega arith) refl refl refl;
     info = disk.info;
-    disk = fit_disk disk 1 served_with (page_entry disk.page 0 ∷ []) more refl refl refl refl unpaged;
-    shows = record { serial = refl; sectors = refl; trims = refl; mode = refl };
-    slots = requests_none s instant_with (port_at 1) (mode_of_disk queueing_cap disk.info) free unparked;
-    kept = λ e k. absurd (nowhere e (subst (λ (es : List Pending). Contains es e) unkept k));
+    has_fit_disk = fit_disk disk 1 served_with (page_entry disk.page 0 ∷ []) more refl refl refl refl unpaged;
+    shows_disk_info = record { serial = refl; sectors = refl; trims = refl; mode = refl };
+    slots_invariant = requests_none s instant_with (port_at 1) (mode_of_disk queueing_cap disk.info) free unparked;
+    none_is_quarantined = λ e k. absurd (nowhere e (subst (λ (es : List Pending). Contains es e) unkept k));
   }
 
   -- What is in the slots, all of them port 0's, is in the machine's book.
@@ -260,29 +260,29 @@ module _ (disk : Kind) (s : DriverSlots) (m : Machine) (more : List Entry) (memo
 
     first_ready : IsReadyAt Any s instant_with (port_at 0)
     first_ready = record {
-      on = record { ae = refl; no_reset = refl };
-      runs = runs_on 0 served_with (was (λ q. q.st)) (was (λ q. q.cr)) (was (λ q. q.fre)) (was (λ q. q.bases)) (was (λ q. q.notes.link_count))
+      adapter_is_on = record { ae = refl; no_reset = refl };
+      engine_runs = runs_on 0 served_with (was (λ q. q.st)) (was (λ q. q.cr)) (was (λ q. q.fre)) (was (λ q. q.bases)) (was (λ q. q.notes.link_count))
           (let set = was (λ q. q.notes.st_set_at) in omega (arith, set)) (was (λ q. q.link_due)) (a.stands.quiet 30 (omega arith)) (was (λ q. q.halt));
       info = disk.info;
-      disk = fit_disk disk 0 served_with [] (page_entry disk.page 1 ∷ more) refl (was (λ q. q.sctl_det)) (was (λ q. q.ie)) (was (λ q. q.notes.sctl_written_at)) (other_page disk.page more (a.unpaged 0));
-      shows = record { serial = refl; sectors = refl; trims = refl; mode = refl };
-      slots = a.requests;
-      kept = unkept 0;
+      has_fit_disk = fit_disk disk 0 served_with [] (page_entry disk.page 1 ∷ more) refl (was (λ q. q.sctl_det)) (was (λ q. q.ie)) (was (λ q. q.notes.sctl_written_at)) (other_page disk.page more (a.unpaged 0));
+      shows_disk_info = record { serial = refl; sectors = refl; trims = refl; mode = refl };
+      slots_invariant = a.requests;
+      none_is_quarantined = unkept 0;
     }
 
     port_of : (n : ℕ) → PortStateInvariant (wanted_of (Any ∷ Any ∷ []) n) s instant_with (port_at n) (two_served (port_at n)) (two_states (port_at n))
     port_of zero = first_ready
     port_of (suc zero) = second_ready (a.unpaged 1) (a.others 0) (a.unparked 1) a.unkept
-    port_of (suc (suc n)) = unserved_at s instant_with (suc (suc n)) refl refl (record { free = a.others (suc n); unparked = a.unparked (suc (suc n)) })
+    port_of (suc (suc n)) = unserved_at s instant_with (suc (suc n)) refl refl (record { all_are_free = a.others (suc n); none_is_parked = a.unparked (suc (suc n)) })
         (λ e here is. let z : 0 ≡ suc (suc n) = sym (a.first_alone e here) ∙ ap (λ (q : Port). q.0) is in omega (arith, z))
         (unkept (suc (suc n)))
 
     pub holds : DriverInvariantWith (Any ∷ Any ∷ []) s instant_with
     holds = record {
-      knows = agreeing m s (sent disk.page ++ more) memory p second are_disks slot_of a.apart a.frames have_of;
+      driver_relation = agreeing m s (sent disk.page ++ more) memory p second are_disks slot_of a.apart a.frames have_of;
       served = λ port low. served_of (sent disk.page ++ more) memory (p ∷ second ∷ []) port.0;
-      on = inl (record { ae = refl; no_reset = refl });
-      port = λ port low. port_of port.0;
+      adapter_is_on = inl (record { ae = refl; no_reset = refl });
+      ports_hold = λ port low. port_of port.0;
     }
 
 -- ---- it begins

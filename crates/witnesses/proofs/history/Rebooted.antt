@@ -24,7 +24,7 @@ use Rattle.refinement.specs.Driver.{IsBacked, DriverRelation}
 use Rattle.refinement.specs.Links.{DoesNotWrite}
 use Rattle.refinement.specs.Slots.{IsEmptySlot, IsMove, ServesRequest}
 use Rattle.refinement.specs.Tape.{NoneByDevice, PutsInDisks}
-use Rattle.refinement.specs.Witness.{first_id}
+use Rattle.refinement.specs.ReadWitness.{first_id}
 use Rattle.block_machine.specs.Events.{AbstractCall, CallResult, AnswersAllUnplugged}
 use Rattle.block_machine.specs.Histories.{JointState}
 use Rattle.block_machine.specs.Expected.{AllStepsFaithful, after}
@@ -37,10 +37,10 @@ use Rattle.driver_history.specs.Evidence.{IsEvidencedOf, ShowsFailure, ShowsLoss
 use Rattle.error_recovery.specs.Evidence.{ShowsFatal}
 use Rattle.driver_history.specs.Histories.{FindsDone, IsAnsweredOk, LosesNoPortError, RunsWellAnew}
 use Rattle.driver_history.specs.PortInvariants.{PortStateInvariant, DriverInvariantWith, IsReadyAt, IsStoppedAt}
-use Rattle.driver_history.specs.Trace.{DoesNotWriteCmd, ResetsLink}
+use Rattle.driver_history.specs.AccessTrace.{DoesNotWriteCmd, ResetsLink}
 use Rattle.port_control.specs.Engines.{Stops}
 use Rattle.witnesses.specs.Restart.{mask_accesses, placing_accesses, comreset_accesses, restart_evidence, restart_accesses, stop_accesses}
-use Rattle.witnesses.specs.RunningAdapter.{port_or_empty, page_entry, plain, ports_with_disks}
+use Rattle.witnesses.specs.RunningAdapter.{port_or_empty, page_entry, plain_disk_mode, ports_with_disks}
 use Rattle.witnesses.proofs.history.Accepting.{asked, both, issuing, waiting}
 use Rattle.witnesses.proofs.history.Command.{read_memory}
 use Rattle.witnesses.proofs.history.Devices.{AreServing, IsOf, WritesOf, leaves}
@@ -59,10 +59,10 @@ one = ports_with_disks plain_disks.info (true ∷ true ∷ []) (Unfit 8 ∷ Read
 
 pub fit_one : PortsWellFormed one
 fit_one = record {
-  few = (fit_ready plain_disks).few;
-  absent = λ port is. absent_of port.0 is;
-  slots = λ port is. plain_disks.mode;
-  causes = λ port cause is. cause_of port.0 cause is;
+  few_are_served = (fit_ready plain_disks).few_are_served;
+  unserved_are_absent = λ port is. absent_of port.0 is;
+  modes_are_valid = λ port is. plain_disks.mode;
+  causes_are_valid = λ port cause is. cause_of port.0 cause is;
 }
   where
     absent_of : (n : ℕ) → one.served (port_at n) ≡ false → one.state (port_at n) ≡ Absent
@@ -86,9 +86,9 @@ not_ready_then is = let x : Unfit 8 ≡ Ready = is in cc
 -- what a restart may make of them
 pub may_become : (failed : List Port) (n : ℕ) → MayBecome both (restart_evidence failed) one (port_at n)
 may_become failed n = record {
-  served = refl;
-  stuck = (λ is. absurd (not_dead_then n is), λ h. absurd (nowhere (port_at n) h));
-  keeps = λ is. (refl, refl);
+  served_is_kept = refl;
+  dead_is_stuck = (λ is. absurd (not_dead_then n is), λ h. absurd (nowhere (port_at n) h));
+  disk_is_kept = λ is. (refl, refl);
 }
 
 -- and the others are left as they are
@@ -131,41 +131,41 @@ module _ (c : Outset) where
   -- its signature was read, and is no ATA disk's
   port_unfit : IsStoppedAt Any no_slots booted_at (port_at 0) (Unfit 8)
   port_unfit = record {
-    on = record { ae = refl; no_reset = refl };
-    ends = (
+    adapter_is_on = record { ae = refl; no_reset = refl };
+    backs_state = (
       record { halted = record { st = refl; cr = refl; ci = λ k. refl; taken = λ k. refl }; sact = λ k. refl },
       inr (inl (refl, (0xeb140101, ((refl, refl), refl, refl, λ (e : 0xeb140101 ≡ 0x101). omega (arith, e))))),
     );
-    shown = λ bad. inl refl;
-    slots = record { free = λ k. refl; unparked = refl };
-    waits = λ e here. absurd (nowhere e here);
-    kept = λ e k. absurd (nowhere e k);
+    shows_disk_if_in = λ bad. inl refl;
+    has_nothing_in_slots = record { all_are_free = λ k. refl; none_is_parked = refl };
+    has_no_unanswered = λ e here. absurd (nowhere e here);
+    none_is_quarantined = λ e k. absurd (nowhere e k);
   }
 
   -- where no page of port 1 came since its boot
-  module _ (unpaged : All (λ e. IsMove 1 Identify e → ⊥) c.gained) where
+  module _ (unpaged : All (λ e. IsMove 1 Identify e → ⊥) c.new_entries) where
     port_ready : IsReadyAt Any no_slots booted_at (port_at 1)
     port_ready = record {
-      on = record { ae = refl; no_reset = refl };
-      runs = runs_on 1 booted refl refl refl refl refl (omega arith) refl refl refl;
+      adapter_is_on = record { ae = refl; no_reset = refl };
+      engine_runs = runs_on 1 booted refl refl refl refl refl (omega arith) refl refl refl;
       info = plain_disks.info;
-      disk = fit_disk plain_disks 1 booted (page_entry plain_disks.page 0 ∷ []) c.gained refl refl refl refl unpaged;
-      shows = record { serial = refl; sectors = refl; trims = refl; mode = refl };
-      slots = requests_none no_slots booted_at (port_at 1) plain (λ slot. refl) refl;
-      kept = λ e k. absurd (nowhere e k);
+      has_fit_disk = fit_disk plain_disks 1 booted (page_entry plain_disks.page 0 ∷ []) c.new_entries refl refl refl refl unpaged;
+      shows_disk_info = record { serial = refl; sectors = refl; trims = refl; mode = refl };
+      slots_invariant = requests_none no_slots booted_at (port_at 1) plain_disk_mode (λ slot. refl) refl;
+      none_is_quarantined = λ e k. absurd (nowhere e k);
     }
 
     port_booted : (n : ℕ) → PortStateInvariant (wanted_of (Any ∷ Any ∷ []) n) no_slots booted_at (port_at n) (one.served (port_at n)) (one.state (port_at n))
     port_booted zero = port_unfit
     port_booted (suc zero) = port_ready
-    port_booted (suc (suc n)) = unserved_at no_slots booted_at (suc (suc n)) refl refl (record { free = λ slot. refl; unparked = refl }) (λ e here. absurd (nowhere e here)) (λ e kept. absurd (nowhere e kept))
+    port_booted (suc (suc n)) = unserved_at no_slots booted_at (suc (suc n)) refl refl (record { all_are_free = λ slot. refl; none_is_parked = refl }) (λ e here. absurd (nowhere e here)) (λ e kept. absurd (nowhere e kept))
 
     pub holds_booted : DriverInvariantWith (Any ∷ Any ∷ []) no_slots booted_at
     holds_booted = record {
-      knows = knows;
+      driver_relation = knows;
       served = λ port low. served_of (tape c) read_memory (unfit c ∷ second ∷ []) port.0;
-      on = inl (record { ae = refl; no_reset = refl });
-      port = λ port low. port_booted port.0;
+      adapter_is_on = inl (record { ae = refl; no_reset = refl });
+      ports_hold = λ port low. port_booted port.0;
     }
 
 -- ---- what the accesses tell
@@ -185,10 +185,10 @@ module _ (looked : List Access) where
     between = [];
     fallen = 0x4010;
     later = placing_accesses ++ comreset_accesses;
-    here = sym (append_assoc looked (mask_accesses ++ Reading (Px (port_at 0) Cmd) 0xc011 ∷ []) _);
-    clears = refl;
-    only = All-nil (DoesNotWriteCmd (port_at 0));
-    shown = refl;
+    accesses_are = sym (append_assoc looked (mask_accesses ++ Reading (Px (port_at 0) Cmd) 0xc011 ∷ []) _);
+    start_is_cleared = refl;
+    cmd_is_unwritten = All-nil (DoesNotWriteCmd (port_at 0));
+    stop_is_shown = refl;
   }
 
   pub resets : ResetsLink (port_at 0) (looked ++ restart_accesses)
@@ -198,11 +198,11 @@ module _ (looked : List Access) where
     later = rest;
     sending = 1;
     ending = 0;
-    here = sym (append_assoc looked (mask_accesses ++ (stop_accesses ++ placing_accesses)) _);
-    sends = refl;
-    ends = refl;
-    held = All-nil (DoesNotWrite (Px (port_at 0) Sctl));
-    left = All-from_recursion (DoesNotWrite (Px (port_at 0) Sctl)) rest (tt, (λ is. cc, (λ is. cc, (tt, (tt, tt)))));
+    accesses_are_split = sym (append_assoc looked (mask_accesses ++ (stop_accesses ++ placing_accesses)) _);
+    sends_comreset = refl;
+    ends_comreset = refl;
+    sctl_is_unwritten_between = All-nil (DoesNotWrite (Px (port_at 0) Sctl));
+    sctl_is_unwritten_later = All-from_recursion (DoesNotWrite (Px (port_at 0) Sctl)) rest (tt, (λ is. cc, (λ is. cc, (tt, (tt, tt)))));
   }
 
 -- they write registers of port 0, and IS
@@ -286,8 +286,8 @@ module _ (c : Restart) where
     pub evidenced : (n : ℕ) → IsEvidencedOf c.ask c.said accesses old one after_it evidence (port_at n)
     evidenced zero = record {
       lost = λ h. inr (inr (inr (not_dead_then 0, λ ready. absurd (not_ready_then ready))));
-      gone_all = λ ready loss. absurd (there 0 ready loss);
-      gone_only = λ h. absurd (nowhere (port_at 0) h);
+      link_changed_all = λ ready loss. absurd (there 0 ready loss);
+      link_changed_only = λ h. absurd (nowhere (port_at 0) h);
       failed_all = λ ready f. is.failed_all f;
       failed_only = λ h. (refl, inl (inl (is.failed_only 0 h).1));
       fatal_all = λ ready f. is.failed_all (inl f);
@@ -309,17 +309,17 @@ module _ (c : Restart) where
     -- and no request is left
     pub unplugs : AnswersAllUnplugged c.steps answered
     unplugs = record {
-      emptied = λ e other here there. absurd (nowhere other there);
-      alike = λ e other here there. absurd (let x : outcome.PortDead ≡ outcome.Unplugged = is.told other outcome.PortDead there in cc);
+      none_is_left = λ e other here there. absurd (nowhere other there);
+      none_is_told_dead = λ e other here there. absurd (let x : outcome.PortDead ≡ outcome.Unplugged = is.told other outcome.PortDead there in cc);
     }
 
     pub backed : IsBacked old_device after_it c.machine c.steps
     backed = record {
       telling = refl;
-      gained = [];
-      tape = sym (append-nil _);
-      tells = is.own.0;
-      told = λ _. is.own.1;
+      new_entries = [];
+      tape_is = sym (append-nil _);
+      tells_device_steps = is.own.0;
+      steps_are_faithful = λ _. is.own.1;
       plugged = λ port. ([], plugs port, is.own.2 port);
     }
       where
@@ -332,7 +332,7 @@ module _ (c : Restart) where
     finds = record {
       ci = 1;
       sact = 0;
-      reads = record { before = c.looked; later = stop_accesses ++ (placing_accesses ++ comreset_accesses); here = refl; running = is.running };
+      reads = record { before = c.looked; later = stop_accesses ++ (placing_accesses ++ comreset_accesses); accesses_are_split = refl; cmd_is_unwritten_before = is.running };
       exact = λ e slot on s. (λ ok. absurd (none_ok e ok), λ clear. absurd (is.unfound e slot s clear.0));
     }
 

@@ -26,7 +26,7 @@ use Rattle.refinement.specs.Errors.{IsFatalOf}
 use Rattle.refinement.specs.PortFacts.{IsFaultOf, RunsWell}
 use Rattle.refinement.specs.Links.{IsPlugEvent}
 use Rattle.refinement.specs.Slots.{IsEmptySlot, IsMove}
-use Rattle.refinement.specs.Witness.{first_id}
+use Rattle.refinement.specs.ReadWitness.{first_id}
 use Rattle.block_machine.specs.Events.{Service, Served, Happens}
 use Rattle.block_machine.specs.Histories.{JointEvent, JointState}
 use Rattle.block_machine.specs.Expected.{after}
@@ -35,11 +35,11 @@ use Rattle.block_machine.specs.Steps.{Step, Answer}
 use Rattle.host_boot.specs.TakeOver.{wanted_of}
 use Rattle.identify.specs.declared.wanted.Wanted.TheVariants.{Any}
 use Rattle.error_recovery.specs.Evidence.{GainsSinceStart}
-use Rattle.driver_history.specs.Heeding.{ServesReady}
+use Rattle.driver_history.specs.EvidenceHandling.{ServicesReadyPort}
 use Rattle.driver_history.specs.Evidence.{TapeGainsEntry, IsEvidencedOf, ShowsLoss, ShowsFailure}
 use Rattle.driver_history.specs.Histories.{CallCorresponds, PortCorresponds, FindsDone, IsAnsweredOk, IsIssuedOn, LosesNoPortError, RunsWellAnew, IsPortAlive}
 use Rattle.driver_history.specs.PortInvariants.{PortStateInvariant, DriverInvariantWith, IsReadyAt}
-use Rattle.driver_history.specs.Trace.{DoesNotWriteCmd}
+use Rattle.driver_history.specs.AccessTrace.{DoesNotWriteCmd}
 use Rattle.port_control.specs.Engines.{Stops}
 use Rattle.witnesses.specs.Recovery.{fault_evidence, recovery_accesses, told_fault, RecoveryIsAHistory}
 use Rattle.witnesses.specs.RunningAdapter.{port_or_empty, page_entry}
@@ -88,26 +88,26 @@ unpaged port = All-cons (λ e. IsMove port Identify e → ⊥) (entry.Fault faul
 ready : IsReadyAt Any no_slots recovered_at (port_at 0)
 unfolding changed
 ready = record {
-  on = record { ae = refl; no_reset = refl };
-  runs = runs_on 0 recovered refl refl refl refl refl (omega arith) refl refl refl;
+  adapter_is_on = record { ae = refl; no_reset = refl };
+  engine_runs = runs_on 0 recovered refl refl refl refl refl (omega arith) refl refl refl;
   info = plain_disks.info;
-  disk = fit_disk plain_disks 0 recovered [] (page_entry plain_disks.page 1 ∷ entry.Fault fault ∷ []) refl refl refl refl (other_page plain_disks.page (entry.Fault fault ∷ []) (unpaged 0));
-  shows = record { serial = refl; sectors = refl; trims = refl; mode = refl };
-  slots = requests_none no_slots recovered_at (port_at 0) (both.mode (port_at 0)) (λ slot. refl) refl;
-  kept = λ e k. absurd (nowhere e k);
+  has_fit_disk = fit_disk plain_disks 0 recovered [] (page_entry plain_disks.page 1 ∷ entry.Fault fault ∷ []) refl refl refl refl (other_page plain_disks.page (entry.Fault fault ∷ []) (unpaged 0));
+  shows_disk_info = record { serial = refl; sectors = refl; trims = refl; mode = refl };
+  slots_invariant = requests_none no_slots recovered_at (port_at 0) (both.mode (port_at 0)) (λ slot. refl) refl;
+  none_is_quarantined = λ e k. absurd (nowhere e k);
 }
 
 port_recovered : (n : ℕ) → PortStateInvariant (wanted_of (Any ∷ Any ∷ []) n) no_slots recovered_at (port_at n) (both.served (port_at n)) (both.state (port_at n))
 port_recovered zero = ready
 port_recovered (suc zero) = second_ready plain_disks no_slots answered (entry.Fault fault ∷ []) read_memory started (unpaged 1) (λ slot. refl) refl refl
-port_recovered (suc (suc n)) = unserved_at no_slots recovered_at (suc (suc n)) refl refl (record { free = λ slot. refl; unparked = refl }) (λ e here. absurd (nowhere e here)) (λ e kept. absurd (nowhere e kept))
+port_recovered (suc (suc n)) = unserved_at no_slots recovered_at (suc (suc n)) refl refl (record { all_are_free = λ slot. refl; none_is_parked = refl }) (λ e here. absurd (nowhere e here)) (λ e kept. absurd (nowhere e kept))
 
 holds_recovered : DriverInvariantWith (Any ∷ Any ∷ []) no_slots recovered_at
 holds_recovered = record {
-  knows = knows;
+  driver_relation = knows;
   served = λ port low. served_of tape_failed read_memory (started ∷ second ∷ []) port.0;
-  on = inl (record { ae = refl; no_reset = refl });
-  port = λ port low. port_recovered port.0;
+  adapter_is_on = inl (record { ae = refl; no_reset = refl });
+  ports_hold = λ port low. port_recovered port.0;
 }
 
 -- ---- the call
@@ -128,10 +128,10 @@ stops = record {
   between = [];
   fallen = 0x4010;
   later = from_fall;
-  here = refl;
-  clears = refl;
-  only = All-nil (DoesNotWriteCmd (port_at 0));
-  shown = refl;
+  accesses_are = refl;
+  start_is_cleared = refl;
+  cmd_is_unwritten = All-nil (DoesNotWriteCmd (port_at 0));
+  stop_is_shown = refl;
 }
 
 of_first : WritesOf (IsOf (port_at 0)) recovery_accesses
@@ -139,11 +139,11 @@ of_first = (refl, (refl, (refl, (refl, tt))))
 
 gains : TapeGainsEntry (IsFaultOf 0) submitted recovered
 gains = record {
-  gained = entry.Fault fault ∷ [];
-  tape = refl;
+  new_entries = entry.Fault fault ∷ [];
+  tape_is = refl;
   entry = entry.Fault fault;
-  here = (0, omega arith, refl);
-  is = refl;
+  entry_is_new = (0, omega arith, refl);
+  entry_is_of_kind = refl;
 }
 
 unnamed : (n : ℕ) → IsUnnamed fault_evidence (port_at (suc n))
@@ -168,8 +168,8 @@ quiet = calm submitted.tape read_memory issued refl refl refl (λ place from. re
 evidenced_of : (n : ℕ) → IsEvidencedOf Service (Served replies) recovery_accesses submitted_at both recovered fault_evidence (port_at n)
 evidenced_of zero = record {
   lost = λ h. absurd (nowhere (port_at 0) h);
-  gone_all = λ is loss. absurd ((quiet 0 is).0 loss);
-  gone_only = λ h. absurd (nowhere (port_at 0) h);
+  link_changed_all = λ is loss. absurd ((quiet 0 is).0 loss);
+  link_changed_only = λ h. absurd (nowhere (port_at 0) h);
   failed_all = λ is f. named 0;
   failed_only = λ h. (refl, inr (inl gains));
   fatal_all = λ is f. absurd ((quiet 0 is).1 (inl f));
@@ -192,7 +192,7 @@ finds : FindsDone (port_at 0) recovery_accesses submitted_at (answer ∷ [])
 finds = record {
   ci = 1;
   sact = 0;
-  reads = record { before = []; later = Reading (Px (port_at 0) Tfd) 0x4041 ∷ from_stop; here = refl; running = All-nil (DoesNotWriteCmd (port_at 0)) };
+  reads = record { before = []; later = Reading (Px (port_at 0) Tfd) 0x4041 ∷ from_stop; accesses_are_split = refl; cmd_is_unwritten_before = All-nil (DoesNotWriteCmd (port_at 0)) };
   exact = λ e slot on s. (λ ok. absurd (none_ok e ok), λ clear. absurd (bits_set 0 issued refl (λ k. refl) (λ k. refl) e slot s clear.0));
 }
 
@@ -200,17 +200,17 @@ service_finds : (n : ℕ) (e : Pending) → IsIssuedOn (port_at n) issuing e →
 service_finds zero e on = finds
 service_finds (suc n) e on = absurd (none_there 0 n e on)
 
-heeds : (n : ℕ) → both.state (port_at n) ≡ Ready → ServesReady submitted_at.abstract fault_evidence (answer ∷ []) recovered_at.abstract (port_at n)
+heeds : (n : ℕ) → both.state (port_at n) ≡ Ready → ServicesReadyPort submitted_at.abstract fault_evidence (answer ∷ []) recovered_at.abstract (port_at n)
 heeds zero is = record {
-  ended = λ e here at_port ended. absurd (not_ended 0 e here ended);
-  emptied = λ g. absurd (nowhere (port_at 0) g);
-  told = λ g. absurd (nowhere (port_at 0) g);
-  interrupts = λ why. inl (named 0);
-  anew = λ why e here. absurd (nowhere e here);
-  single = omega arith;
-  fatal = λ h. absurd (nowhere (port_at 0) h);
-  disk = λ shows. inl refl;
-  calm = inl (inl (named 0));
+  answers_ended = λ e here at_port ended. absurd (not_ended 0 e here ended);
+  none_is_left = λ g. absurd (nowhere (port_at 0) g);
+  others_are_told_alike = λ g. absurd (nowhere (port_at 0) g);
+  is_interrupted = λ why. inl (named 0);
+  none_stays_issued = λ why e here. absurd (nowhere e here);
+  one_fault_at_most = omega arith;
+  fatal_tells_no_fault = λ h. absurd (nowhere (port_at 0) h);
+  shown_disk_was_in_or_came = λ shows. inl refl;
+  is_left_alone_if_calm = inl (inl (named 0));
 }
 heeds (suc zero) is = leaves_other (outcome.DeviceError 0x41 0x40) fault_evidence recovered_at.abstract (unnamed 0) (omega arith) (refl, refl, refl, refl, refl, refl)
 heeds (suc (suc n)) is = absurd (let x : Absent ≡ Ready = is in cc)
@@ -225,7 +225,7 @@ too_early g =
     let same : g.before ++ (g.entry ∷ g.later) ≡ entry.Fault fault ∷ [] = append_cancel_left pages (g.before ++ (g.entry ∷ g.later)) (entry.Fault fault ∷ []) (sym g.tape) in
     let long : length (g.before ++ (g.entry ∷ g.later)) ≡ 1 = ap (λ (es : List Entry). length es) same in
     let parts = length-append g.before (g.entry ∷ g.later) in
-    let since = g.since in
+    let since = g.came_since_start in
     omega (arith, since, long, parts)
 
 port_error : (n : ℕ) → LosesNoPortError fault_evidence submitted_at both recovered (port_at n)
@@ -253,10 +253,10 @@ runs_well = record {
   det = refl;
   present = refl;
   fresh = refl;
-  linked = refl;
-  running = refl;
-  whole = refl;
-  quiet = record { serr_n = refl; serr_x = refl; quiet = λ place from to. quiet_again place };
+  no_link_is_due = refl;
+  is_not_halted = refl;
+  is_not_broken = refl;
+  shows_no_trouble = record { serr_n = refl; serr_x = refl; no_error_bit_is_set = λ place from to. quiet_again place };
 }
 
 -- its fault came before ST was set again: port 0 runs well; and no other port was stopped
@@ -266,22 +266,22 @@ well (suc n) = λ why. absurd (⊎_elim (unnamed n).stopped (unnamed n).stuck wh
 
 part_of : (n : ℕ) → PortCorresponds submitted_at service recovery_accesses (port_at n)
 part_of n = record {
-  finds = λ is e on. service_finds n e on;
-  faults = λ alone. absurd (true≢false (sym alone.shows.fault ∙ (no_flags n 30)));
-  probes = λ served none. tries_ready recovery_accesses submitted_at both recovered (port_at n) (served_ready n served);
-  boots = (λ is f. absurd (⊎_elim (λ fatal. (quiet n is).1 (inl fatal)) (quiet n is).0 f), inl (refl, refl, refl, refl, refl, refl));
-  port_error = port_error n;
-  well = well n;
-  heeds = heeds n;
+  finds_done = λ is e on. service_finds n e on;
+  plain_faults_are_told = λ alone. absurd (true≢false (sym alone.shows_only_tfes.tfes_is_set ∙ (no_flags n 30)));
+  probes_disk = λ served none. tries_ready recovery_accesses submitted_at both recovered (port_at n) (served_ready n served);
+  boots_anew = (λ is f. absurd (⊎_elim (λ fatal. (quiet n is).1 (inl fatal)) (quiet n is).0 f), inl (refl, refl, refl, refl, refl, refl));
+  loses_no_error = port_error n;
+  runs_well_anew = well n;
+  handles_evidence = heeds n;
 }
 
 backed : IsBacked submitted recovered issuing (answer ∷ [])
 backed = record {
   telling = refl;
-  gained = entry.Fault fault ∷ [];
-  tape = refl;
-  tells = ([], [], answer ∷ [], tt, refl, (tt, λ d. d), refl);
-  told = λ _. (tt, tt);
+  new_entries = entry.Fault fault ∷ [];
+  tape_is = refl;
+  tells_device_steps = ([], [], answer ∷ [], tt, refl, (tt, λ d. d), refl);
+  steps_are_faithful = λ _. (tt, tt);
   plugged = λ port. ([], plugs port, refl);
 }
   where
@@ -295,61 +295,61 @@ unplugged_not e here = let x : outcome.Unplugged ≡ outcome.DeviceError 0x41 0x
 
 happens : Happens submitted_at.abstract service.event
 happens = record {
-  may = (tt, ((0, omega arith, refl), tt));
-  belong = (tt, inr tt);
-  last = (tt, λ id is none. absurd (true≢false (sym none)));
-  lawful = (
+  steps_are_enabled = (tt, ((0, omega arith, refl), tt));
+  steps_are_of_call = (tt, inr tt);
+  issues_are_last = (tt, λ id is none. absurd (true≢false (sym none)));
+  answers_are_lawful = (
     tt,
     (
-      record { pending = waiting; here = (0, omega arith, refl); id_is = refl; issued = refl },
+      record { pending = waiting; is_in_book = (0, omega arith, refl); id_is = refl; issued = refl },
       refl,
       (0, omega arith, refl),
       named 0,
     ),
   );
-  fit = fit_ready plain_disks;
-  disks = λ e o here. absurd (nowhere e here);
-  answered = record {
-    tells = record { answers = (waiting, outcome.DeviceError 0x41 0x40) ∷ []; same = IsPermutation-refl _; ordered = λ i j d less low. absurd (omega (arith, less, low)); told = refl };
-    dead = λ e o here is. absurd (not_dead e.request.port.0 is);
-    unplugs = record { emptied = λ e other here. absurd (unplugged_not e here); alike = λ e other here. absurd (unplugged_not e here) };
-    issues = λ port is r at_port due. absurd (nowhere r due.here);
-    emptied = λ port other e here. absurd (nowhere e here);
-    ended = λ port is e here at_port done. absurd (not_ended 0 e here done);
-    becomes = λ port. stay_serviced plain_disks fault_evidence port.0 (nowhere port);
-    disk = λ port. inl (refl, refl, refl, refl, refl, refl);
+  ports_are_well_formed = fit_ready plain_disks;
+  unanswered_keep_disk = λ e o here. absurd (nowhere e here);
+  is_answered = record {
+    replies_match = record { answers = (waiting, outcome.DeviceError 0x41 0x40) ∷ []; is_permutation = IsPermutation-refl _; ordered = λ i j d less low. absurd (omega (arith, less, low)); replies_are = refl };
+    tells_dead = λ e o here is. absurd (not_dead e.request.port.0 is);
+    answers_all_unplugged = record { none_is_left = λ e other here. absurd (unplugged_not e here); none_is_told_dead = λ e other here. absurd (unplugged_not e here) };
+    none_is_due = λ port is r at_port due. absurd (nowhere r due.is_in_book);
+    empty_unless_ready = λ port other e here. absurd (nowhere e here);
+    answers_ended = λ port is e here at_port done. absurd (not_ended 0 e here done);
+    port_is_serviced = λ port. stay_serviced plain_disks fault_evidence port.0 (nowhere port);
+    shown_disk_was_in_or_came = λ port. inl (refl, refl, refl, refl, refl, refl);
   };
 }
 
 ties : CallCorresponds (Any ∷ Any ∷ []) submitted_at service
 ties = record {
   accesses = recovery_accesses;
-  came = (does, serving (IsPortAlive both) recovery_accesses of_served);
-  backed = backed;
-  evidenced = record {
+  accesses_are_explained = (does, serving (IsPortAlive both) recovery_accesses of_served);
+  is_backed = backed;
+  is_evidenced = record {
     faults = λ f here. told f (only told_fault f here);
     port = λ port. evidenced_of port.0;
   };
-  grounded = (tt, named 0);
-  issues = λ port is r here. absurd (nowhere r here);
-  port = λ port. part_of port.0;
-  holds = (no_slots, holds_recovered);
+  only_failed_requeue = (tt, named 0);
+  issues_all_due = λ port is r here. absurd (nowhere r here);
+  ports_correspond = λ port. part_of port.0;
+  invariant_holds = (no_slots, holds_recovered);
 }
 
 pub recovery_ties : RecoveryIsAHistory
 unfolding ties
 recovery_ties = record {
-  first = first;
+  initial_state = first;
   submit = submit;
   asked = asked;
   reads = refl;
   submits = (refl, refl);
   ready = refl;
   service = service;
-  serves = (refl, refl);
+  asks_for_service = (refl, refl);
   evidence = refl;
   still = refl;
-  well = runs_well;
+  port_runs_well = runs_well;
   does = does;
   allowed = allowed;
   history = ((((starts, fit_ready plain_disks), begins plain_disks), submit_happens, submit_ties), happens, ties);

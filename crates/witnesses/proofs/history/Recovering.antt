@@ -6,12 +6,12 @@ use Rattle.std.proofs.lemmas.List.Elements.{All-nil, All-cons}
 use Rattle.hba_regs.specs.declared.reg.Reg.TheVariants.{Px}
 use Rattle.hba_regs.specs.declared.reg.PortReg.{PortReg}
 use Rattle.hba_regs.specs.declared.reg.PortReg.TheVariants.{Is, Cmd, Tfd, Serr, Sact, Ci}
-use Rattle.adapter.specs.Access.{Access, DoesAll, PortShows, Reads, Writes, note, port_written}
+use Rattle.adapter.specs.Access.{Access, DoesAll, PortShows, Reads, Writes, note, port_after_write}
 use Rattle.adapter.specs.Access.Access.{Reading, Writing}
 use Rattle.adapter.specs.Device.{DevicePort, Device}
 use Rattle.adapter.specs.Memory.{changed}
-use Rattle.witnesses.specs.Allowed.{AreAllowed}
-use Rattle.adapter.specs.Steps.{Steps, with_fault}
+use Rattle.witnesses.specs.AllowedAccesses.{AreAllowed}
+use Rattle.adapter.specs.Steps.{Steps, port_after_fault}
 use Rattle.adapter.specs.Steps.DeviceTransition.{Fault as FaultStep}
 use Rattle.adapter.specs.declared.tape.Entry.{Entry}
 use Rattle.adapter.specs.declared.tape.Entry.TheVariants as entry
@@ -21,9 +21,9 @@ use Rattle.block_machine.specs.Ports.{RequestFault}
 use Rattle.block_machine.specs.State.{Pending}
 use Rattle.error_recovery.specs.Evidence.{HasFailed}
 use Rattle.driver_history.specs.Evidence.{IsFaultTold}
-use Rattle.driver_history.specs.Trace.{DoesNotWriteCmd}
+use Rattle.driver_history.specs.AccessTrace.{DoesNotWriteCmd}
 use Rattle.witnesses.specs.Recovery.{recovery_accesses, told_fault}
-use Rattle.witnesses.specs.RunningAdapter.{device_with}
+use Rattle.witnesses.specs.RunningAdapter.{running_device}
 use Rattle.witnesses.proofs.history.Command.{read_memory}
 use Rattle.witnesses.proofs.history.Devices.{may_start, may_stop, but_first, fall, falls_reads, no_bit, put_device, reads, writes}
 use Rattle.witnesses.proofs.history.Submitting.{command, fetches, pages, second, submitted, taken}
@@ -38,10 +38,10 @@ abbrev pub tape_failed : List Entry
 tape_failed = pages ++ entry.Fault fault ∷ []
 
 abbrev dev : DevicePort → Device
-dev p = device_with tape_failed read_memory (p ∷ second ∷ [])
+dev p = running_device tape_failed read_memory (p ∷ second ∷ [])
 
 abbrev failed : DevicePort
-failed = with_fault taken false 0x40 0
+failed = port_after_fault taken false 0x40 0
 
 abbrev seen_ci : DevicePort
 seen_ci = record failed { notes = note Ci 1 failed }
@@ -56,16 +56,16 @@ abbrev commanded : DevicePort
 commanded = record looked { notes = note Cmd 0xc011 looked }
 
 abbrev stopping : DevicePort
-stopping = port_written Cmd 0xc010 3 commanded
+stopping = port_after_write Cmd 0xc010 3 commanded
 
 abbrev stopped : DevicePort
 stopped = record (fall stopping) { notes = note Cmd 0x4010 (fall stopping) }
 
 abbrev unchanged_link : DevicePort
-unchanged_link = port_written Serr 0xffffffff 3 stopped
+unchanged_link = port_after_write Serr 0xffffffff 3 stopped
 
 abbrev cleared : DevicePort
-cleared = port_written Is 0xffffffff 3 unchanged_link
+cleared = port_after_write Is 0xffffffff 3 unchanged_link
 
 abbrev checked : DevicePort
 checked = record cleared { notes = note Tfd 0x4041 cleared }
@@ -74,14 +74,14 @@ abbrev asked_again : DevicePort
 asked_again = record checked { notes = note Cmd 0x4010 checked }
 
 abbrev pub started : DevicePort
-started = port_written Cmd 0x4011 3 asked_again
+started = port_after_write Cmd 0x4011 3 asked_again
 
-fails : Steps (device_with pages read_memory (taken ∷ second ∷ [])) (dev failed)
+fails : Steps (running_device pages read_memory (taken ∷ second ∷ [])) (dev failed)
 unfolding changed
 fails = record {
   steps = FaultStep 0 0 0x40 0 command ∷ [];
   lead = (
-    record { taken = refl; running = refl; is_byte = omega arith; kept = refl },
+    record { taken = refl; running = refl; is_byte = omega arith; kept_bits_are_allowed = refl },
     put_device tape_failed read_memory 0 (taken ∷ second ∷ []) (failed ∷ second ∷ []) failed refl (but_first taken failed (second ∷ [])),
   );
 }
@@ -98,8 +98,8 @@ reads_masks = record {
 reads_here : (r : PortReg) (v : ℕ) (p : DevicePort) → PortShows r v p → Reads (Px (port_at 0) r) v (dev p) (dev (record p { notes = note r v p }))
 reads_here r v p shows = reads tape_failed read_memory 0 (p ∷ second ∷ []) (record p { notes = note r v p } ∷ second ∷ []) (but_first p (record p { notes = note r v p }) (second ∷ [])) r v shows refl
 
-writes_here : (r : PortReg) (v : ℕ) (p : DevicePort) → Writes (Px (port_at 0) r) v (dev p) (dev (port_written r v 3 p))
-writes_here r v p = writes tape_failed read_memory 0 (p ∷ second ∷ []) (port_written r v 3 p ∷ second ∷ []) (but_first p (port_written r v 3 p) (second ∷ [])) r v refl
+writes_here : (r : PortReg) (v : ℕ) (p : DevicePort) → Writes (Px (port_at 0) r) v (dev p) (dev (port_after_write r v 3 p))
+writes_here r v p = writes tape_failed read_memory 0 (p ∷ second ∷ []) (port_after_write r v 3 p ∷ second ∷ []) (but_first p (port_after_write r v 3 p) (second ∷ [])) r v refl
 
 abbrev pub until_stop : List Access
 until_stop = Reading (Px (port_at 0) Ci) 1 ∷ Reading (Px (port_at 0) Sact) 0 ∷ Reading (Px (port_at 0) Tfd) 0x4041 ∷ []
@@ -193,7 +193,7 @@ allowed = (
                         record { ae = refl; no_reset = refl },
                         (omega arith, refl),
                         may_start asked_again 0x4011 0x4010 refl refl refl refl
-                            (record { fallen = refl; receives = refl; programmed = record { clb = refl; clbu = refl; fb = refl; fbu = refl }; link = refl; not_busy = refl }),
+                            (record { cr_is_clear = refl; receives = refl; programmed = record { clb = refl; clbu = refl; fb = refl; fbu = refl }; link_was_seen = refl; not_busy = refl }),
                       ),
                       tt,
                     ),
@@ -218,29 +218,29 @@ running =
 
 has_failed : HasFailed (port_at 0) recovery_accesses submitted recovered fault
 has_failed = record {
-  at = dev looked;
-  running = record {
+  device_before_stop = dev looked;
+  cmd_is_unwritten = record {
     early = until_stop;
     late = from_stop;
-    here = refl;
-    running = running;
-    first = looks [] (dev looked) refl;
-    rest = rest;
+    accesses_are = refl;
+    cmd_is_unwritten = running;
+    does_early = looks [] (dev looked) refl;
+    does_late = rest;
   };
-  here = (2, omega arith, refl);
+  fault_is_told = (2, omega arith, refl);
   port_is = refl;
 }
 
 pub told : (t : RequestFault) → t ≡ told_fault → IsFaultTold submitted_at recovered recovery_accesses t
 told t is = subst (IsFaultTold submitted_at recovered recovery_accesses) (sym is) (record {
   pending = waiting;
-  here = (0, omega arith, refl);
+  is_in_book = (0, omega arith, refl);
   issued = refl;
   id_is = refl;
   slot = 0;
   serves = serves;
   plain = λ _. record {
-    alone = λ other here at is. ap (λ (e : Pending). e.request.id) (in_book 0 other here);
+    is_only_issued = λ other here at is. ap (λ (e : Pending). e.request.id) (in_book 0 other here);
     fault = fault;
     failed = has_failed;
     slot_is = refl;

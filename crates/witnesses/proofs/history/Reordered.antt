@@ -15,16 +15,16 @@ use Rattle.adapter.specs.declared.command.Operation.{Operation}
 use Rattle.adapter.specs.declared.command.Operation.TheVariants as operation
 use Rattle.refinement.specs.Relation.{SameMemory, port_at}
 use Rattle.refinement.specs.PortFacts.{IsDisturbance, RunsWell}
-use Rattle.refinement.specs.Places.{table_of}
+use Rattle.refinement.specs.MemoryLayout.{table_of}
 use Rattle.refinement.specs.TwoReads.{second_id}
 use Rattle.refinement.specs.Slots.{IsMove, ServesRequest, op_of}
-use Rattle.refinement.specs.Witness.{first_id}
+use Rattle.refinement.specs.ReadWitness.{first_id}
 use Rattle.block_machine.specs.State.{Accepted, Pending, unanswered}
 use Rattle.block_machine.specs.declared.due.Unanswered.{Unanswered}
 use Rattle.driver_history.specs.Evidence.{StaysHealthy}
 use Rattle.driver_history.specs.Histories.{IsAnsweredOk, IsIssuedOn}
-use Rattle.witnesses.specs.Queued.{ReadsEndInAnyOrder}
-use Rattle.witnesses.specs.RunningAdapter.{queued, running_port}
+use Rattle.witnesses.specs.QueuedReads.{ReadsEndInAnyOrder}
+use Rattle.witnesses.specs.RunningAdapter.{queued_disk_mode, running_port}
 use Rattle.witnesses.proofs.history.Command.{queued_read, told_queued}
 use Rattle.witnesses.proofs.history.Devices.{no_bit, other_bit}
 use Rattle.witnesses.proofs.history.Finding as found_on
@@ -100,18 +100,18 @@ names operation.ReadLog slot first count is = absurd (let x : None ≡ Some Read
 -- the slot's FIS names the first sector of the request that it serves
 its_sector : (slot : ℕ) (id : RequestId) (s : ServesRequest both_issuing two_memory two_issued 0 slot id) → s.pending.request.asked.op ≡ Read → named_sector two_memory slot ≡ s.pending.request.asked.first.0
 its_sector slot id s reads =
-    let read = names s.command.operation slot s.command.first s.command.count (s.means.op ∙ ap Some reads) in
-    ap (λ (table : ℕ). little_from 4 3 (bytes_at two_memory table 20) + 2 ^ 24 * little_from 8 3 (bytes_at two_memory table 20)) (sym s.told.table_is)
-    ∙ s.told.says.fis.lba ∙ read.0 ∙ s.means.first read.1
+    let read = names s.command.operation slot s.command.first s.command.count (s.means.op_is ∙ ap Some reads) in
+    ap (λ (table : ℕ). little_from 4 3 (bytes_at two_memory table 20) + 2 ^ 24 * little_from 8 3 (bytes_at two_memory table 20)) (sym s.slot_decodes_to.table_is)
+    ∙ s.slot_decodes_to.decodes_to.fis.lba ∙ read.0 ∙ s.means.first_sector_is read.1
 
 -- no slot but 0 and 1 serves a request
 no_third : (slot : ℕ) (id : RequestId) → ServesRequest both_issuing two_memory two_issued 0 (suc (suc slot)) id → ⊥
 no_third slot id s = serves_none both_issuing two_memory two_issued (suc (suc slot)) id s refl (neither slot) refl
-    (⊎_elim (λ here. each_has (λ x. x.ended ≡ false) refl refl s.pending here.0) (λ kept. absurd (nowhere s.pending kept)) s.moves)
+    (⊎_elim (λ here. each_has (λ x. x.ended ≡ false) refl refl s.pending here.0) (λ kept. absurd (nowhere s.pending kept)) s.may_still_move)
 
 -- and the request that one serves under the id of one of the book is that
 served_is : (e : Pending) (slot : ℕ) → Contains both_issuing.book e → (s : ServesRequest both_issuing two_memory two_issued 0 slot e.request.id) → s.pending ≡ e
-served_is e slot here s = ⊎_elim (λ found. same s.pending e found.0 here s.id_is) (λ kept. absurd (nowhere s.pending kept)) s.moves
+served_is e slot here s = ⊎_elim (λ found. same s.pending e found.0 here s.id_is) (λ kept. absurd (nowhere s.pending kept)) s.may_still_move
   where
     same : (a b : Pending) → Contains both_issuing.book a → Contains both_issuing.book b → a.request.id ≡ b.request.id → a ≡ b
     same a b here there ids = ⊎_elim
@@ -193,7 +193,7 @@ exact_two : (e : Pending) (slot : ℕ) → IsIssuedOn (port_at 0) both_issuing e
 exact_two e slot on s = ⊎_elim
     (λ (x : (e ≡ outstanding_first) × (slot ≡ 0)). right e slot outstanding_first 0 x.0 x.1 (λ a. absurd (not_answered a), λ clear. absurd (true≢false clear.1)))
     (λ (x : (e ≡ outstanding_second) × (slot ≡ 1)). right e slot outstanding_second 1 x.0 x.1 (λ a. (refl, refl), λ clear. (found_on.ended discovery_two, refl, (0, omega arith, refl))))
-    (in_slot e slot on.here s)
+    (in_slot e slot on.is_in_book s)
   where
     right : (e : Pending) (slot : ℕ) (f : Pending) (k : ℕ) → e ≡ f → slot ≡ k → IsAnsweredOk f (found_on.steps discovery_two) ↔ ((bit 0 k ≡ false) × (bit 1 k ≡ false))
         → IsAnsweredOk e (found_on.steps discovery_two) ↔ ((bit 0 slot ≡ false) × (bit 1 slot ≡ false))
@@ -216,7 +216,7 @@ found_two = record {
   lent = refl;
   on_disk = omega arith;
   unended = each_has (λ x. x.ended ≡ false) refl refl;
-  none_due = none_due queued (unanswered outstanding_first ∷ []) (λ r here. ap (λ (x : Unanswered). x.issued) (only (unanswered outstanding_first) r here));
+  none_due = none_due queued_disk_mode (unanswered outstanding_first ∷ []) (λ r here. ap (λ (x : Unanswered). x.issued) (only (unanswered outstanding_first) r here));
   none_issued = refl;
   does = finds_second.0;
   exact = exact_two;
@@ -241,12 +241,12 @@ found_one = record {
   lent = refl;
   on_disk = omega arith;
   unended = λ e here. ap (λ (x : Pending). x.ended) (only outstanding_first e here);
-  none_due = λ port r at due. absurd (nowhere r due.here);
+  none_due = λ port r at due. absurd (nowhere r due.is_in_book);
   none_issued = refl;
   does = finds_first.0;
   exact = λ e slot on s. (
     λ a. (no_bit slot, no_bit slot),
-    λ clear. (found_on.ended discovery_one, sym (ap (λ (x : Pending). x.request) (only outstanding_first e on.here)), (0, omega arith, refl)),
+    λ clear. (found_on.ended discovery_one, sym (ap (λ (x : Pending). x.request) (only outstanding_first e on.is_in_book)), (0, omega arith, refl)),
   );
 }
 
@@ -260,10 +260,10 @@ runs_well p stands = record {
   det = was (λ q. q.ssts_det);
   present = was (λ q. q.present);
   fresh = was (λ q. q.fresh);
-  linked = was (λ q. q.link_due);
-  running = was (λ q. q.halt);
-  whole = was (λ q. q.broken);
-  quiet = record { serr_n = was (λ q. q.serr_n); serr_x = was (λ q. q.serr_x); quiet = λ place from to. stands.quiet place from };
+  no_link_is_due = was (λ q. q.link_due);
+  is_not_halted = was (λ q. q.halt);
+  is_not_broken = was (λ q. q.broken);
+  shows_no_trouble = record { serr_n = was (λ q. q.serr_n); serr_x = was (λ q. q.serr_x); no_error_bit_is_set = λ place from to. stands.quiet place from };
 }
   where
     was : {A : Type 0} (part : DevicePort → A) → part (but_commands p) ≡ part (but_commands (running_port 0))
@@ -272,14 +272,14 @@ runs_well p stands = record {
 -- nothing goes wrong on it in such a service
 stays_healthy : (c : Discovery) → IsFound c → StaysHealthy 0 (found_on.before c).device (found_on.served_at c).device
 stays_healthy c is = record {
-  well = runs_well c.port is.agreed.stands;
-  undisturbed = record { gained = found_on.gained c; tape = refl; calm = All-from_recursion (λ e. IsDisturbance 0 e → ⊥) (found_on.gained c) (λ x. x, (λ x. x, tt)) };
+  port_runs_well = runs_well c.port is.agreed.stands;
+  undisturbed = record { new_entries = found_on.gained c; tape_is = refl; no_disturbance = All-from_recursion (λ e. IsDisturbance 0 e → ⊥) (found_on.gained c) (λ x. x, (λ x. x, tt)) };
 }
 
 pub order_is_free : ReadsEndInAnyOrder
 unfolding issued_on.submit_ties found_on.service_ties
 order_is_free = record {
-  first = first;
+  initial_state = first;
   queues = refl;
   submit_first = issued_on.submit submission_one;
   asked_first = reading 100 100;
@@ -298,7 +298,7 @@ order_is_free = record {
   answers_first_only = (refl, refl);
   ready = (refl, refl, refl, refl, refl);
   healthy = (stays_healthy discovery_two found_two, stays_healthy discovery_one found_one);
-  well = runs_well found_again again_stands;
+  port_runs_well = runs_well found_again again_stands;
   finds_second = finds_second.0;
   finds_first = finds_first.0;
   allowed = (finds_second.1, finds_first.1);

@@ -22,9 +22,9 @@ use Rattle.refinement.specs.Acts.{driver_state}
 use Rattle.refinement.specs.Relation.{port_at}
 use Rattle.refinement.specs.Driver.{IsBacked, DriverRelation}
 use Rattle.refinement.specs.Links.{DoesNotWrite}
-use Rattle.refinement.specs.Places.{list_of, received_of}
+use Rattle.refinement.specs.MemoryLayout.{list_of, received_of}
 use Rattle.refinement.specs.Slots.{IsEmptySlot}
-use Rattle.refinement.specs.Witness.{first_id}
+use Rattle.refinement.specs.ReadWitness.{first_id}
 use Rattle.block_machine.specs.Events.{AnswersReset, Happens, Reset, ShowsDisk, WasReset}
 use Rattle.block_machine.specs.Histories.{JointEvent, JointState}
 use Rattle.block_machine.specs.Expected.{after}
@@ -36,7 +36,7 @@ use Rattle.identify.specs.declared.wanted.Wanted.TheVariants.{Any}
 use Rattle.driver_history.specs.Evidence.{IsEvidencedOf}
 use Rattle.driver_history.specs.Histories.{IsPortServed, CallCorresponds, PortCorresponds}
 use Rattle.driver_history.specs.PortInvariants.{PortStateInvariant}
-use Rattle.driver_history.specs.Trace.{IsDriversOwn, IsOfPorts, LeavesEngine, ResetsLink}
+use Rattle.driver_history.specs.AccessTrace.{IsDriversOwn, IsOfPorts, LeavesEngine, ResetsLink}
 use Rattle.witnesses.specs.Reset.{ResetIsAHistory, adapter_reset, boot_accesses, reset_and_boot_accesses}
 use Rattle.witnesses.specs.RunningAdapter.{port_or_empty, ports_with_disks}
 use Rattle.witnesses.proofs.history.Accepting.{asked, both, first, issuing, submit, submit_happens, submit_parts, submit_ties, submitted_at, waiting}
@@ -57,7 +57,7 @@ unfit_ports = ports_with_disks plain_disks.info (true ∷ true ∷ []) (Unfit 8 
 
 -- both ports were stopped, and port 0 has lost its disk
 abbrev evidence : Evidence
-evidence = record { faults = []; lost = port_at 0 ∷ []; gone = []; failed = []; fatal = []; stopped = port_at 0 ∷ port_at 1 ∷ []; stuck = [] }
+evidence = record { faults = []; lost = port_at 0 ∷ []; link_changed = []; failed = []; fatal = []; stopped = port_at 0 ∷ port_at 1 ∷ []; stuck = [] }
 
 abbrev answer : Step
 answer = Answer waiting outcome.Unplugged
@@ -94,10 +94,10 @@ not_dead (suc (suc n)) is = let x : Absent ≡ Dead = is in cc
 
 pub fit : PortsWellFormed unfit_ports
 fit = record {
-  few = (fit_ready plain_disks).few;
-  absent = λ port is. absent_of port.0 is;
-  slots = λ port is. absurd (not_ready port.0 is);
-  causes = λ port cause is. cause_of port.0 cause is;
+  few_are_served = (fit_ready plain_disks).few_are_served;
+  unserved_are_absent = λ port is. absent_of port.0 is;
+  modes_are_valid = λ port is. absurd (not_ready port.0 is);
+  causes_are_valid = λ port cause is. cause_of port.0 cause is;
 }
   where
     absent_of : (n : ℕ) → unfit_ports.served (port_at n) ≡ false → unfit_ports.state (port_at n) ≡ Absent
@@ -126,9 +126,9 @@ served_stopped (suc (suc n)) h = absurd (⊎_elim
 
 becomes : (n : ℕ) → MayBecome both evidence unfit_ports (port_at n)
 becomes n = record {
-  served = refl;
-  stuck = (λ is. absurd (not_dead n is), λ h. absurd (nowhere (port_at n) h));
-  keeps = λ is. (refl, refl);
+  served_is_kept = refl;
+  dead_is_stuck = (λ is. absurd (not_dead n is), λ h. absurd (nowhere (port_at n) h));
+  disk_is_kept = λ is. (refl, refl);
 }
 
 -- ---- the machine
@@ -148,30 +148,30 @@ had (suc (suc n)) shows = absurd shows
 
 answers : AnswersReset submitted_at.abstract evidence steps replies rebooted_at.abstract
 answers = record {
-  tells = record { answers = (waiting, outcome.Unplugged) ∷ []; same = IsPermutation-refl _; ordered = λ i j d less low. absurd (omega (arith, less, low)); told = refl };
-  releases = record { later = answer ∷ []; earlier = []; split = refl; before = tt; once = refl };
-  unplugs = record {
-    emptied = λ e other here there. absurd (nowhere other there);
-    alike = λ e other here there. absurd (let x : outcome.PortDead ≡ outcome.Unplugged = (the_answer other outcome.PortDead there).1 in cc);
+  replies_match = record { answers = (waiting, outcome.Unplugged) ∷ []; is_permutation = IsPermutation-refl _; ordered = λ i j d less low. absurd (omega (arith, less, low)); replies_are = refl };
+  releases_once = record { later = answer ∷ []; earlier = []; split = refl; before = tt; once = refl };
+  answers_all_unplugged = record {
+    none_is_left = λ e other here there. absurd (nowhere other there);
+    none_is_told_dead = λ e other here there. absurd (let x : outcome.PortDead ≡ outcome.Unplugged = (the_answer other outcome.PortDead there).1 in cc);
   };
-  finds = λ e here. (not_dead e.request.port.0, λ ready. absurd (not_ready e.request.port.0 ready));
-  issues = λ port is r at_port due. absurd (nowhere r due.here);
-  emptied = λ port other e here. absurd (nowhere e here);
-  becomes = λ port. becomes port.0;
-  anew = λ port e here. absurd (nowhere e here);
-  stopped = λ port. stopped_served port.0;
-  disk = λ port shows. inl (had port.0 shows);
+  unplugged_lost_disk = λ e here. (not_dead e.request.port.0, λ ready. absurd (not_ready e.request.port.0 ready));
+  none_is_due = λ port is r at_port due. absurd (nowhere r due.is_in_book);
+  empty_unless_ready = λ port other e here. absurd (nowhere e here);
+  port_may_become = λ port. becomes port.0;
+  none_stays_issued = λ port e here. absurd (nowhere e here);
+  served_are_stopped = λ port. stopped_served port.0;
+  shown_disk_was_in_or_came = λ port shows. inl (had port.0 shows);
 }
 
 pub happens : Happens submitted_at.abstract reset.event
 happens = record {
-  may = ((tt, tt), ((0, omega arith, refl), tt));
-  belong = ((tt, inr tt), inr tt);
-  last = ((tt, λ id handled issued_in. absurd (true≢false (sym handled))), λ id handled issued_in. absurd (true≢false (sym issued_in)));
-  lawful = (tt, (named 0, (0, omega arith, refl)));
-  fit = fit;
-  disks = λ e o here. absurd (nowhere e here);
-  answered = answers;
+  steps_are_enabled = ((tt, tt), ((0, omega arith, refl), tt));
+  steps_are_of_call = ((tt, inr tt), inr tt);
+  issues_are_last = ((tt, λ id handled issued_in. absurd (true≢false (sym handled))), λ id handled issued_in. absurd (true≢false (sym issued_in)));
+  answers_are_lawful = (tt, (named 0, (0, omega arith, refl)));
+  ports_are_well_formed = fit;
+  unanswered_keep_disk = λ e o here. absurd (nowhere e here);
+  is_answered = answers;
 }
 
 -- ---- the accesses
@@ -210,11 +210,11 @@ links zero is = record {
   later = after_link 0 ++ boot_accesses 1;
   sending = 1;
   ending = 0;
-  here = refl;
-  sends = refl;
-  ends = refl;
-  held = All-nil (DoesNotWrite (Px (port_at 0) Sctl));
-  left = All-from_recursion (DoesNotWrite (Px (port_at 0) Sctl)) (after_link 0 ++ boot_accesses 1)
+  accesses_are_split = refl;
+  sends_comreset = refl;
+  ends_comreset = refl;
+  sctl_is_unwritten_between = All-nil (DoesNotWrite (Px (port_at 0) Sctl));
+  sctl_is_unwritten_later = All-from_recursion (DoesNotWrite (Px (port_at 0) Sctl)) (after_link 0 ++ boot_accesses 1)
       (tt, (λ is. cc, (λ is. cc, (tt, (tt, (tt, (other_port Clb, (other_port Clbu, (other_port Fb, (other_port Fbu, (tt, (other_port Cmd, (other_port Sctl, (other_port Sctl, (tt, (other_port Serr, (other_port Is, (tt, (tt, tt)))))))))))))))))));
 }
 links (suc zero) is = record {
@@ -223,11 +223,11 @@ links (suc zero) is = record {
   later = after_link 1;
   sending = 1;
   ending = 0;
-  here = refl;
-  sends = refl;
-  ends = refl;
-  held = All-nil (DoesNotWrite (Px (port_at 1) Sctl));
-  left = All-from_recursion (DoesNotWrite (Px (port_at 1) Sctl)) (after_link 1) (tt, (λ is. cc, (λ is. cc, (tt, (tt, tt)))));
+  accesses_are_split = refl;
+  sends_comreset = refl;
+  ends_comreset = refl;
+  sctl_is_unwritten_between = All-nil (DoesNotWrite (Px (port_at 1) Sctl));
+  sctl_is_unwritten_later = All-from_recursion (DoesNotWrite (Px (port_at 1) Sctl)) (after_link 1) (tt, (λ is. cc, (λ is. cc, (tt, (tt, tt)))));
 }
 links (suc (suc n)) is = absurd (true≢false (sym is))
 
@@ -242,8 +242,8 @@ evidenced n =
     let quiet = calm submitted.tape read_memory issued refl refl refl (λ place from. refl) rebooted n in
     record {
       lost = λ h. inr (inr (inr (not_dead n, λ ready. absurd (not_ready n ready))));
-      gone_all = λ is loss. absurd ((quiet is).0 loss);
-      gone_only = λ h. absurd (nowhere (port_at n) h);
+      link_changed_all = λ is loss. absurd ((quiet is).0 loss);
+      link_changed_only = λ h. absurd (nowhere (port_at n) h);
       failed_all = λ is f. absurd ((quiet is).1 f);
       failed_only = λ h. absurd (nowhere (port_at n) h);
       fatal_all = λ is f. absurd ((quiet is).1 (inl f));
@@ -266,19 +266,19 @@ evidenced n =
 
 part_of : (n : ℕ) → PortCorresponds submitted_at reset reset_and_boot_accesses (port_at n)
 part_of n = record {
-  finds = tt;
-  faults = tt;
-  probes = tt;
-  boots = λ served. inr (links n served);
-  port_error = record {
+  finds_done = tt;
+  plain_faults_are_told = tt;
+  probes_disk = tt;
+  boots_anew = λ served. inr (links n served);
+  loses_no_error = record {
     errors = λ ready why. inl (inl (stopped_served n (was_served n ready)));
     changes = λ tends why. inl (inl (stopped_served n tends.0));
     fault = λ ready g. absurd (not_ready n ready);
     fatal = λ ready g. absurd (not_ready n ready);
     disk = λ ready g. absurd (not_ready n ready);
   };
-  well = λ why ready. absurd (not_ready n ready);
-  heeds = tt;
+  runs_well_anew = λ why ready. absurd (not_ready n ready);
+  handles_evidence = tt;
 }
   where
     was_served : (n : ℕ) → both.state (port_at n) ≡ Ready → both.served (port_at n) ≡ true
@@ -289,10 +289,10 @@ part_of n = record {
 backed : IsBacked submitted rebooted issuing steps
 backed = record {
   telling = refl;
-  gained = [];
-  tape = sym (append-nil _);
-  tells = ((tt, λ d. d), λ d. d);
-  told = λ _. ((tt, tt), tt);
+  new_entries = [];
+  tape_is = sym (append-nil _);
+  tells_device_steps = ((tt, λ d. d), λ d. d);
+  steps_are_faithful = λ _. ((tt, tt), tt);
   plugged = λ port. ([], plugs port, refl);
 }
   where
@@ -320,45 +320,45 @@ knows = agreeing answered no_slots pages read_memory (unfit 0) (unfit 1)
 
 pub holds_of : (n : ℕ) → PortStateInvariant (wanted_of (Any ∷ Any ∷ []) n) no_slots rebooted_at (port_at n) (unfit_ports.served (port_at n)) (unfit_ports.state (port_at n))
 holds_of zero = record {
-  on = record { ae = refl; no_reset = refl };
-  ends = (
+  adapter_is_on = record { ae = refl; no_reset = refl };
+  backs_state = (
     record { halted = record { st = refl; cr = refl; ci = λ k. refl; taken = λ k. refl }; sact = λ k. refl },
     inr (inl (refl, (0xeb140101, ((refl, refl), refl, refl, λ (e : 0xeb140101 ≡ 0x101). omega (arith, e))))),
   );
-  shown = λ bad. inl refl;
-  slots = record { free = λ k. refl; unparked = refl };
-  waits = λ e here. absurd (nowhere e here);
-  kept = λ e k. absurd (nowhere e k);
+  shows_disk_if_in = λ bad. inl refl;
+  has_nothing_in_slots = record { all_are_free = λ k. refl; none_is_parked = refl };
+  has_no_unanswered = λ e here. absurd (nowhere e here);
+  none_is_quarantined = λ e k. absurd (nowhere e k);
 }
 holds_of (suc zero) = record {
-  on = record { ae = refl; no_reset = refl };
-  ends = (
+  adapter_is_on = record { ae = refl; no_reset = refl };
+  backs_state = (
     record { halted = record { st = refl; cr = refl; ci = λ k. refl; taken = λ k. refl }; sact = λ k. refl },
     inr (inl (refl, (0xeb140101, ((refl, refl), refl, refl, λ (e : 0xeb140101 ≡ 0x101). omega (arith, e))))),
   );
-  shown = λ bad. inl refl;
-  slots = record { free = λ k. refl; unparked = refl };
-  waits = λ e here. absurd (nowhere e here);
-  kept = λ e k. absurd (nowhere e k);
+  shows_disk_if_in = λ bad. inl refl;
+  has_nothing_in_slots = record { all_are_free = λ k. refl; none_is_parked = refl };
+  has_no_unanswered = λ e here. absurd (nowhere e here);
+  none_is_quarantined = λ e k. absurd (nowhere e k);
 }
-holds_of (suc (suc n)) = unserved_at no_slots rebooted_at (suc (suc n)) refl refl (record { free = λ slot. refl; unparked = refl }) (λ e here. absurd (nowhere e here)) (λ e kept. absurd (nowhere e kept))
+holds_of (suc (suc n)) = unserved_at no_slots rebooted_at (suc (suc n)) refl refl (record { all_are_free = λ slot. refl; none_is_parked = refl }) (λ e here. absurd (nowhere e here)) (λ e kept. absurd (nowhere e kept))
 
 pub ties : CallCorresponds (Any ∷ Any ∷ []) submitted_at reset
 ties = record {
   accesses = reset_and_boot_accesses;
-  came = (does, own, of_ports, record { rest = Reading Ghc 0 ∷ Writing Ghc 0x80000002 ∷ (boot_accesses 0 ++ boot_accesses 1); here = refl }, (record { ae = refl; no_reset = refl }, refl));
-  backed = backed;
-  evidenced = record { faults = λ f here. absurd (nowhere f here); port = λ port. evidenced port.0 };
-  grounded = tt;
-  issues = λ port is. absurd (not_ready port.0 is);
-  port = λ port. part_of port.0;
-  holds = (
+  accesses_are_explained = (does, own, of_ports, record { rest = Reading Ghc 0 ∷ Writing Ghc 0x80000002 ∷ (boot_accesses 0 ++ boot_accesses 1); accesses_are = refl }, (record { ae = refl; no_reset = refl }, refl));
+  is_backed = backed;
+  is_evidenced = record { faults = λ f here. absurd (nowhere f here); port = λ port. evidenced port.0 };
+  only_failed_requeue = tt;
+  issues_all_due = λ port is. absurd (not_ready port.0 is);
+  ports_correspond = λ port. part_of port.0;
+  invariant_holds = (
     no_slots,
     record {
-      knows = knows;
+      driver_relation = knows;
       served = λ port low. served_of pages read_memory (unfit 0 ∷ unfit 1 ∷ []) port.0;
-      on = inl (record { ae = refl; no_reset = refl });
-      port = λ port low. holds_of port.0;
+      adapter_is_on = inl (record { ae = refl; no_reset = refl });
+      ports_hold = λ port low. holds_of port.0;
     },
   );
 }
@@ -371,12 +371,12 @@ frame = record { 0 = 100 }
 pub reset_is_a_history : ResetIsAHistory
 unfolding ties
 reset_is_a_history = record {
-  first = first;
+  initial_state = first;
   submit = submit;
   asked = asked;
   submits = (refl, refl);
   frame = frame;
-  its = refl;
+  frames_are = refl;
   lent = refl;
   reset = reset;
   resets = (refl, refl);

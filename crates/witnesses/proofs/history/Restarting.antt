@@ -4,17 +4,17 @@ use Rattle.std.proofs.lemmas.Bool.{false≢true, true≢false}
 use Rattle.hba_regs.specs.declared.reg.Reg.TheVariants.{Px}
 use Rattle.hba_regs.specs.declared.reg.PortReg.{PortReg}
 use Rattle.hba_regs.specs.declared.reg.PortReg.TheVariants.{Clb, Clbu, Fb, Fbu, Is, Cmd, Tfd, Sig, Ssts, Sctl, Serr, Sact, Ci}
-use Rattle.adapter.specs.Access.{DoesAll, PortShows, Reads, Writes, note, port_written}
+use Rattle.adapter.specs.Access.{DoesAll, PortShows, Reads, Writes, note, port_after_write}
 use Rattle.adapter.specs.Device.{Notes, DevicePort, Device}
 use Rattle.adapter.specs.Memory.{changed}
 use Rattle.adapter.specs.Rules.{MayWriteCmd}
-use Rattle.adapter.specs.Steps.{Can, DeviceTransition, device_after, with_link}
+use Rattle.adapter.specs.Steps.{Can, DeviceTransition, device_after, port_after_link_up}
 use Rattle.adapter.specs.Steps.DeviceTransition.{FrFall, LinkUp}
 use Rattle.adapter.specs.declared.tape.Entry.{Entry}
 use Rattle.refinement.specs.Relation.{port_at}
-use Rattle.witnesses.specs.Allowed.{AreAllowed}
+use Rattle.witnesses.specs.AllowedAccesses.{AreAllowed}
 use Rattle.witnesses.specs.Restart.{placing_accesses, comreset_accesses, restart_accesses, stop_accesses}
-use Rattle.witnesses.specs.RunningAdapter.{device_with, port_or_empty}
+use Rattle.witnesses.specs.RunningAdapter.{running_device, port_or_empty}
 use Rattle.witnesses.proofs.history.Command.{read_memory}
 use Rattle.witnesses.proofs.history.Devices.{but_first, fall, falls_reads, may_stop, no_bit, put_device, reads, same_beside, writes}
 use Rattle.witnesses.proofs.history.Still.{all_still}
@@ -24,7 +24,7 @@ use Rattle.witnesses.proofs.history.Submitting.{issued, pages, second}
 
 module _ (tape : List Entry) where
   abbrev pub dev : DevicePort → Device
-  dev p = device_with tape read_memory (p ∷ second ∷ [])
+  dev p = running_device tape read_memory (p ∷ second ∷ [])
 
   alike : (p q : DevicePort) → dev q ≡ record (dev p) { port = changed (port_or_empty (p ∷ second ∷ [])) 0 q }
   alike p q = put_device tape read_memory 0 (p ∷ second ∷ []) (q ∷ second ∷ []) q refl (but_first p q (second ∷ []))
@@ -32,8 +32,8 @@ module _ (tape : List Entry) where
   unfoldable pub reads_here : (r : PortReg) (v : ℕ) (p : DevicePort) → PortShows r v p → Reads (Px (port_at 0) r) v (dev p) (dev (record p { notes = note r v p }))
   reads_here r v p shows = reads tape read_memory 0 (p ∷ second ∷ []) (record p { notes = note r v p } ∷ second ∷ []) (but_first p (record p { notes = note r v p }) (second ∷ [])) r v shows refl
 
-  unfoldable pub writes_here : (r : PortReg) (v : ℕ) (p : DevicePort) → Writes (Px (port_at 0) r) v (dev p) (dev (port_written r v (length tape) p))
-  writes_here r v p = writes tape read_memory 0 (p ∷ second ∷ []) (port_written r v (length tape) p ∷ second ∷ []) (but_first p (port_written r v (length tape) p) (second ∷ [])) r v refl
+  unfoldable pub writes_here : (r : PortReg) (v : ℕ) (p : DevicePort) → Writes (Px (port_at 0) r) v (dev p) (dev (port_after_write r v (length tape) p))
+  writes_here r v p = writes tape read_memory 0 (p ∷ second ∷ []) (port_after_write r v (length tape) p ∷ second ∷ []) (but_first p (port_after_write r v (length tape) p) (second ∷ [])) r v refl
 
   -- a register is read when the device has just made a step
   reads_after : (step : DeviceTransition) (p q : DevicePort) (r : PortReg) (v : ℕ) → Can step (dev p) → dev q ≡ device_after step (dev p) → PortShows r v q → Reads (Px (port_at 0) r) v (dev p) (dev (record q { notes = note r v q }))
@@ -47,20 +47,20 @@ unheard p = record p { fr = false }
 
 -- the link is up, and the device isn't an ATA disk
 abbrev up : DevicePort → DevicePort
-up p = with_link p 0xeb140101 false
+up p = port_after_link_up p 0xeb140101 false
 
 -- What is so of port 0, with the read issued, when its masks are read: what the tape has gained since the ports were booted, the bits of PxIS,
 -- whether a fatal error has stopped it, and what was noted of it.
 pub record Outset : Type 0 where
-  pub gained : List Entry
-  pub still : all_still gained ≡ true
+  pub new_entries : List Entry
+  pub still : all_still new_entries ≡ true
   pub flags : ℕ → Bool
   pub broken : Bool
   pub notes : Notes
 
 module _ (c : Outset) where
   abbrev pub tape : List Entry
-  tape = pages ++ c.gained
+  tape = pages ++ c.new_entries
 
   abbrev pub outset : DevicePort
   outset = record issued { is = c.flags; broken = c.broken; notes = c.notes }
@@ -75,7 +75,7 @@ module _ (c : Outset) where
   commanded = record seen_masks { notes = note Cmd 0xc011 seen_masks }
 
   abbrev stopping_port : DevicePort
-  stopping_port = port_written Cmd 0xc010 (length tape) commanded
+  stopping_port = port_after_write Cmd 0xc010 (length tape) commanded
 
   abbrev stopped : DevicePort
   stopped = record (fall stopping_port) { notes = note Cmd 0x4010 (fall stopping_port) }
@@ -84,43 +84,43 @@ module _ (c : Outset) where
   commanded_again = record stopped { notes = note Cmd 0x4010 stopped }
 
   abbrev closing : DevicePort
-  closing = port_written Cmd 0x4000 (length tape) commanded_again
+  closing = port_after_write Cmd 0x4000 (length tape) commanded_again
 
   abbrev closed : DevicePort
   closed = record (unheard closing) { notes = note Cmd 0 (unheard closing) }
 
   abbrev with_list : DevicePort
-  with_list = port_written Clb 0 (length tape) closed
+  with_list = port_after_write Clb 0 (length tape) closed
 
   abbrev with_lists : DevicePort
-  with_lists = port_written Clbu 0 (length tape) with_list
+  with_lists = port_after_write Clbu 0 (length tape) with_list
 
   abbrev with_area : DevicePort
-  with_area = port_written Fb 0x400 (length tape) with_lists
+  with_area = port_after_write Fb 0x400 (length tape) with_lists
 
   abbrev placed : DevicePort
-  placed = port_written Fbu 0 (length tape) with_area
+  placed = port_after_write Fbu 0 (length tape) with_area
 
   abbrev asked_again : DevicePort
   asked_again = record placed { notes = note Cmd 0 placed }
 
   abbrev hearing : DevicePort
-  hearing = port_written Cmd 0x10 (length tape) asked_again
+  hearing = port_after_write Cmd 0x10 (length tape) asked_again
 
   abbrev sending : DevicePort
-  sending = port_written Sctl 1 (length tape) hearing
+  sending = port_after_write Sctl 1 (length tape) hearing
 
   abbrev awaiting : DevicePort
-  awaiting = port_written Sctl 0 (length tape) sending
+  awaiting = port_after_write Sctl 0 (length tape) sending
 
   abbrev shown : DevicePort
   shown = record (up awaiting) { notes = note Ssts 3 (up awaiting) }
 
   abbrev unchanged : DevicePort
-  unchanged = port_written Serr 0xffffffff (length tape) shown
+  unchanged = port_after_write Serr 0xffffffff (length tape) shown
 
   abbrev quieted : DevicePort
-  quieted = port_written Is 0xffffffff (length tape) unchanged
+  quieted = port_after_write Is 0xffffffff (length tape) unchanged
 
   abbrev idle : DevicePort
   idle = record quieted { notes = note Tfd 0x77 quieted }
@@ -138,7 +138,7 @@ module _ (c : Outset) where
   closes = reads_after tape (FrFall 0) closing (unheard closing) Cmd 0 (refl, refl, refl) (alike tape closing (unheard closing)) (refl, refl, refl, refl)
 
   comes_up : Reads (Px (port_at 0) Ssts) 3 (dev tape awaiting) (dev tape shown)
-  comes_up = reads_after tape (LinkUp 0 0xeb140101 false) awaiting (up awaiting) Ssts 3 (record { present = refl; det = refl; due = refl; fits = omega arith }) (alike tape awaiting (up awaiting)) refl
+  comes_up = reads_after tape (LinkUp 0 0xeb140101 false) awaiting (up awaiting) Ssts 3 (record { present = refl; no_comreset = refl; link_is_due = refl; sig_fits = omega arith }) (alike tape awaiting (up awaiting)) refl
 
   resets : DoesAll comreset_accesses (dev tape hearing) (dev tape unfit)
   resets = (dev tape sending, writes_here tape Sctl 1 hearing, (dev tape awaiting, writes_here tape Sctl 0 sending, (dev tape shown, comes_up, (dev tape unchanged, writes_here tape Serr 0xffffffff shown, (dev tape quieted, writes_here tape Is 0xffffffff unchanged, (dev tape idle, reads_here tape Tfd 0x77 quieted refl, (dev tape unfit, reads_here tape Sig 0xeb140101 idle refl, refl)))))))
@@ -158,14 +158,14 @@ module _ (c : Outset) where
   may_close = record {
     start = λ set. absurd (false≢true set);
     receive = λ set. absurd (false≢true set);
-    stop_receiving = λ clear. inr (record { stopped = refl; fallen = refl }, refl);
+    stop_receiving = λ clear. inr (record { st_is_clear = refl; cr_is_clear = refl }, refl);
     others = λ place low start receive. same_beside 0x4000 0x4010 refl refl refl refl place start receive;
   }
 
   may_hear : MayWriteCmd asked_again 0x10
   may_hear = record {
     start = λ set. absurd (false≢true set);
-    receive = λ set. inr (record { fallen = refl; fb = refl; fbu = refl });
+    receive = λ set. inr (record { fr_is_clear = refl; fb = refl; fbu = refl });
     stop_receiving = λ clear. absurd (true≢false clear);
     others = λ place low start receive. same_beside 0x10 0 refl refl refl refl place start receive;
   }

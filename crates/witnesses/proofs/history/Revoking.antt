@@ -17,7 +17,7 @@ use Rattle.block_machine.specs.State.{Pending}
 use Rattle.block_machine.specs.Steps.{Answer, Revoke, Step}
 use Rattle.identify.specs.declared.wanted.Wanted.TheVariants.{Any}
 use Rattle.driver_history.specs.Histories.{IsIssuingAccess, CallCorresponds, PortCorresponds}
-use Rattle.driver_history.specs.Trace.{LeavesEngine}
+use Rattle.driver_history.specs.AccessTrace.{LeavesEngine}
 use Rattle.witnesses.specs.Revocation.{RevocationIsAHistory}
 use Rattle.witnesses.proofs.history.Accepting.{asked, both, first, in_book, issued_agrees, issued_at, issued_under, submit, submit_happens, submit_parts, submit_ties, waiting_for}
 use Rattle.witnesses.proofs.history.Aging.{not_due, quiet}
@@ -55,62 +55,62 @@ unanswered_then e o here = let same : Answer e o ≡ Revoke client 0 = only (Rev
 
 happens : Happens (issued_at 0).abstract revoke.event
 happens = record {
-  may = (tt, granted);
-  belong = (tt, inr (refl, refl));
-  last = (tt, λ id handled issued_in. absurd (true≢false (sym handled)));
-  lawful = tt;
-  fit = fit_ready plain_disks;
-  disks = λ e o here there same. (refl, refl);
-  answered = record {
-    there = granted;
+  steps_are_enabled = (tt, granted);
+  steps_are_of_call = (tt, inr (refl, refl));
+  issues_are_last = (tt, λ id handled issued_in. absurd (true≢false (sym handled)));
+  answers_are_lawful = tt;
+  ports_are_well_formed = fit_ready plain_disks;
+  unanswered_keep_disk = λ e o here there same. (refl, refl);
+  is_answered = record {
+    has_row = granted;
     rows = refl;
-    tells = record { answers = []; same = IsPermutation-refl _; ordered = λ i j d less low. absurd (omega (arith, less, low)); told = refl };
-    told = λ e. (
+    replies_match = record { answers = []; is_permutation = IsPermutation-refl _; ordered = λ i j d less low. absurd (omega (arith, less, low)); replies_are = refl };
+    waiting_are_revoked = λ e. (
       λ here. absurd (unanswered_then e outcome.Revoked here),
       λ of. absurd (true≢false (sym (ap (λ (x : Pending). x.issued) (in_book 0 e of.0)) ∙ of.1)),
     );
-    same = λ port. (refl, refl, refl, refl, refl, refl);
-    issues = λ port is. not_due 0 port;
+    ports_are_same = λ port. (refl, refl, refl, refl, refl, refl);
+    none_is_due = λ port is. not_due 0 port;
   };
 }
 
 part : (n : ℕ) → PortCorresponds (issued_at 0) revoke [] (port_at n)
 part n = record {
-  finds = tt;
-  faults = tt;
-  probes = tt;
-  boots = tt;
-  port_error = no_trouble nothing (issued_at 0) both submitted (port_at n) [] refl (All-nil (IsCalm n)) (served_ready n) (quiet n);
-  well = λ why. absurd (⊎_elim (nowhere (port_at n)) (nowhere (port_at n)) why);
-  heeds = λ why. ⊎_elim (nowhere (port_at n)) (nowhere (port_at n)) why;
+  finds_done = tt;
+  plain_faults_are_told = tt;
+  probes_disk = tt;
+  boots_anew = tt;
+  loses_no_error = no_trouble nothing (issued_at 0) both submitted (port_at n) [] refl (All-nil (IsCalm n)) (served_ready n) (quiet n);
+  runs_well_anew = λ why. absurd (⊎_elim (nowhere (port_at n)) (nowhere (port_at n)) why);
+  handles_evidence = λ why. ⊎_elim (nowhere (port_at n)) (nowhere (port_at n)) why;
 }
 
 unfoldable ties : CallCorresponds (Any ∷ Any ∷ []) (issued_at 0) revoke
 ties = record {
   accesses = [];
-  came = (refl, ((row 0, (0, omega arith, refl), (refl, refl)), All-nil (IsIssuingAccess (port_at 0)), λ ready. refl));
-  backed = record {
+  accesses_are_explained = (refl, ((row 0, (0, omega arith, refl), (refl, refl)), All-nil (IsIssuingAccess (port_at 0)), λ ready. refl));
+  is_backed = record {
     telling = refl;
-    gained = [];
-    tape = refl;
-    tells = (tt, λ d. d);
-    told = λ _. (tt, tt);
+    new_entries = [];
+    tape_is = refl;
+    tells_device_steps = (tt, λ d. d);
+    steps_are_faithful = λ _. (tt, tt);
     plugged = λ port. ([], sym (append-nil (submitted.port port).plugged), refl);
   };
-  evidenced = record {
+  is_evidenced = record {
     faults = λ f here. absurd (nowhere f here);
     port = λ port. unnamed_evidenced (RevokeOf client 0) (WasRevoked (Some [])) [] (issued_at 0) both submitted nothing (port_at port.0) (none_named (port_at port.0)) (quiet port.0) (All-nil (LeavesEngine (port_at port.0)));
   };
-  grounded = tt;
-  issues = λ port is r here at_port. (λ f. absurd (true≢false (sym f)), λ due. absurd (not_due 0 port r at_port due));
-  port = λ port. part port.0;
-  holds = (first_slots, holds plain_disks first_slots (issued_under left 0) [] read_memory issued (issued_agrees left 0));
+  only_failed_requeue = tt;
+  issues_all_due = λ port is r here at_port. (λ f. absurd (true≢false (sym f)), λ due. absurd (not_due 0 port r at_port due));
+  ports_correspond = λ port. part port.0;
+  invariant_holds = (first_slots, holds plain_disks first_slots (issued_under left 0) [] read_memory issued (issued_agrees left 0));
 }
 
 pub revocation_is_a_history : RevocationIsAHistory
 unfolding ties
 revocation_is_a_history = record {
-  first = first;
+  initial_state = first;
   submit = submit;
   asked = asked;
   submits = (refl, refl);

@@ -11,10 +11,10 @@ use Rattle.adapter.specs.Decoding.{piece_addresses}
 use Rattle.adapter.specs.declared.command.Operation.TheVariants.{Identify}
 use Rattle.adapter.specs.declared.tape.Entry.{Entry}
 use Rattle.refinement.specs.Relation.{ServeApart, SameMemory}
-use Rattle.refinement.specs.Places.{place_in}
-use Rattle.refinement.specs.Slots.{IsDropped, IsEnded, IsEmptySlot, IsMove, RelatesSlot, Serves, IsTakenFor, ServesRequest, Stage, SlotDecodesTo, Waits, op_of}
-use Rattle.refinement.specs.Witness.{first_id}
-use Rattle.block_machine.specs.Due.{NoneDue, waits_for, is_unblocked, is_plain}
+use Rattle.refinement.specs.MemoryLayout.{place_in}
+use Rattle.refinement.specs.Slots.{IsDropped, IsEnded, IsEmptySlot, IsMove, RelatesSlot, Serves, IsTakenFor, ServesRequest, IsInSomeStage, SlotDecodesTo, AwaitsFetch, op_of}
+use Rattle.refinement.specs.ReadWitness.{first_id}
+use Rattle.block_machine.specs.DueRequests.{NoneDue, waits_for, is_unblocked, is_plain}
 use Rattle.block_machine.specs.State.{Block, Machine, Pending}
 use Rattle.block_machine.specs.Steps.{newly_issued, newly_accepted}
 use Rattle.block_machine.specs.declared.due.QueueMode.{QueueMode}
@@ -39,18 +39,18 @@ aged age e = record e { age = age }
 
 unfoldable pub serves_one : (m : Machine) (memory : ℕ → ℕ) (p : DevicePort) (slot : ℕ) (c : Meaning) (id : RequestId) (k n : ℕ) (held : ℕ → Block) (age : ℕ) → p.bases.clb ≡ 0 → slot < 32
     → Contains m.book (aged age (outstanding_as id k n held)) → op_of c.operation ≡ Some Read → c.first ≡ k → SlotDecodesTo memory 0 0 slot c (piece_addresses (4096 * n) 1)
-    → Stage memory p 0 slot (aged age (outstanding_as id k n held)) c (piece_addresses (4096 * n) 1) → ServesRequest m memory p 0 slot id
+    → IsInSomeStage memory p 0 slot (aged age (outstanding_as id k n held)) c (piece_addresses (4096 * n) 1) → ServesRequest m memory p 0 slot id
 serves_one m memory p slot c id k n held age list below here op first told stage =
     record {
       pending = aged age (outstanding_as id k n held);
-      moves = inl (here, refl);
+      may_still_move = inl (here, refl);
       id_is = refl;
       port_is = refl;
-      placed = record { port_below = omega arith; slot_below = below; list = list };
+      list_is_in_place = record { port_below = omega arith; slot_below = below; list = list };
       command = c;
       places = piece_addresses (4096 * n) 1;
-      told = subst (λ (at : ℕ). SlotDecodesTo memory at 0 slot c (piece_addresses (4096 * n) 1)) (sym list) told;
-      means = record { op = op; first = λ _. first; places_are = (refl, places); head = λ e. absurd (let x : Read ≡ Trim = e in cc) };
+      slot_decodes_to = subst (λ (at : ℕ). SlotDecodesTo memory at 0 slot c (piece_addresses (4096 * n) 1)) (sym list) told;
+      means = record { op_is = op; first_sector_is = λ _. first; places_are = (refl, places); trim_is_in_slot_0 = λ e. absurd (let x : Read ≡ Trim = e in cc) };
       stage = stage;
     }
   where
@@ -62,7 +62,7 @@ serves_one m memory p slot c id k n held age list below here op first told stage
 pub serves_none : (m : Machine) (memory : ℕ → ℕ) (p : DevicePort) (slot : ℕ) (id : RequestId) (s : ServesRequest m memory p 0 slot id) → p.st ≡ true → p.ci slot ≡ false → p.taken slot ≡ None
     → s.pending.ended ≡ false → ⊥
 serves_none m memory p slot id s started with_issue_undone free unended = ⊎_elim
-    (λ (w : Waits memory p 0 slot s.pending s.command). true≢false (sym w.issued ∙ with_issue_undone))
+    (λ (w : AwaitsFetch memory p 0 slot s.pending s.command). true≢false (sym w.issued ∙ with_issue_undone))
     (λ r. ⊎_elim
     (λ (w : IsTakenFor memory p 0 slot s.pending s.command s.places). let x : None ≡ Some w.command = sym free ∙ w.taken in cc)
     (λ r. ⊎_elim
@@ -94,7 +94,7 @@ module _ (disk : Kind) (m : Machine) (more : List Entry) (memory : ℕ → ℕ) 
     pub first : c.first ≡ k
     pub kind : is_queued c.operation ≡ not (is_plain (mode_of_disk queueing_cap disk.info) Read)
     pub told : SlotDecodesTo memory 0 0 0 c (piece_addresses (4096 * n) 1)
-    pub stage : Stage memory p 0 0 (aged age (outstanding_as first_id k n held)) c (piece_addresses (4096 * n) 1)
+    pub stage : IsInSomeStage memory p 0 0 (aged age (outstanding_as first_id k n held)) c (piece_addresses (4096 * n) 1)
     pub others : (slot : ℕ) → IsEmptySlot p (suc slot)
     pub frames : SameMemory m memory
 
@@ -110,7 +110,7 @@ module _ (disk : Kind) (m : Machine) (more : List Entry) (memory : ℕ → ℕ) 
     kind_of e is = subst (IsQueuedAsAsked mode (served_with disk first_slots m more memory p) 0 0) (sym is) (record {
       command = c;
       places = piece_addresses (4096 * n) 1;
-      told = subst (λ (at : ℕ). SlotDecodesTo memory at 0 0 c (piece_addresses (4096 * n) 1)) (sym (ap (λ (q : DevicePort). q.bases.clb) has.stands.same)) has.told;
+      slot_decodes_to = subst (λ (at : ℕ). SlotDecodesTo memory at 0 0 c (piece_addresses (4096 * n) 1)) (sym (ap (λ (q : DevicePort). q.bases.clb) has.stands.same)) has.told;
       kind = has.kind;
     })
 
@@ -136,5 +136,5 @@ module _ (disk : Kind) (m : Machine) (more : List Entry) (memory : ℕ → ℕ) 
 -- no request is due where each is issued
 pub none_due : (mode : QueueMode) (book : List Unanswered) → ((r : Unanswered) → Contains book r → r.issued ≡ true) → (port : Port) → NoneDue mode book port
 none_due mode book all port r at_port due =
-    let held : is_unblocked mode book r ≡ false = ap (λ (issued : Bool). not issued && not (list_any (waits_for mode r) book)) (all r due.here) in
-    absurd (true≢false (sym due.clear ∙ held))
+    let held : is_unblocked mode book r ≡ false = ap (λ (issued : Bool). not issued && not (list_any (waits_for mode r) book)) (all r due.is_in_book) in
+    absurd (true≢false (sym due.nothing_blocks ∙ held))

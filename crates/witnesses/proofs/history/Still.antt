@@ -13,7 +13,7 @@ use Rattle.witnesses.proofs.history.Memory.{tells}
 
 -- what of the first disk is lasting, before any flush
 abbrev pub first_lasting : Lasting
-first_lasting = record { sectors = first_disk.sectors; since = 0 }
+first_lasting = record { sectors = first_disk.sectors; tape_length = 0 }
 
 -- the entry puts nothing anywhere
 abbrev pub is_still : Entry → Bool

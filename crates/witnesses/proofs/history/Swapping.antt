@@ -11,16 +11,16 @@ use Rattle.adapter.specs.Device.{Disk, DevicePort, FetchedCommand, Device}
 use Rattle.adapter.specs.FirstRead.{first_disk_sector}
 use Rattle.adapter.specs.Memory.{changed, patched}
 use Rattle.adapter.specs.Decoding.{DecodesTo, piece_addresses}
-use Rattle.adapter.specs.Steps.{admits, Brings, IsUnmixed, IsWorking, Steps, begun, done_entry, move_of, with_done, with_fetch, with_move}
+use Rattle.adapter.specs.Steps.{admits, MayBring, IsUnmixed, IsWorking, Steps, begun, done_entry, move_of, port_after_done, port_after_fetch, port_after_move}
 use Rattle.adapter.specs.Steps.DeviceTransition.{Fetch, Move, Done}
 use Rattle.adapter.specs.declared.command.Operation.TheVariants.{ReadQueued, Trim}
 use Rattle.adapter.specs.declared.tape.Entry.{Entry}
 use Rattle.adapter.specs.declared.tape.Entry.TheVariants as entry
 use Rattle.refinement.specs.Relation.{port_at}
 use Rattle.refinement.specs.Slots.{SlotDecodesTo}
-use Rattle.witnesses.specs.Allowed.{AreAllowed}
-use Rattle.witnesses.specs.Queued.{first_found, second_found}
-use Rattle.witnesses.specs.RunningAdapter.{device_with, queueing_page}
+use Rattle.witnesses.specs.AllowedAccesses.{AreAllowed}
+use Rattle.witnesses.specs.QueuedReads.{first_done_accesses, second_done_accesses}
+use Rattle.witnesses.specs.RunningAdapter.{running_device, queueing_page}
 use Rattle.witnesses.proofs.history.Command.{queued_read}
 use Rattle.witnesses.proofs.history.Devices.{but_first, changed_here, no_bit, other_bit, past_first, past_second, put_device, reads, step_first}
 use Rattle.witnesses.proofs.history.Losing.{is_sector}
@@ -35,7 +35,7 @@ reads_into k n = begun (queued_read k) (piece_addresses (4096 * n) 1)
 
 -- the sector is moved, and the command ends with a Set Device Bits FIS
 abbrev pub finished : ℕ → ℕ → ℕ → DevicePort → DevicePort
-finished slot k n p = with_done (with_move p slot (reads_into k n) (first_disk_sector k)) slot 3 ReadQueued
+finished slot k n p = port_after_done (port_after_move p slot (reads_into k n) (first_disk_sector k)) slot 3 ReadQueued
 
 works : (p : DevicePort) → Stands p → IsWorking p ReadQueued
 works p stands = record {
@@ -49,42 +49,42 @@ works p stands = record {
 module _ (tape : List Entry) (memory : ℕ → ℕ) (p : DevicePort) (stands : Stands p) (slot k n : ℕ) where
   -- the command is taken, and then the device does more
   fetches : p.ci slot ≡ true → p.taken slot ≡ None → IsUnmixed p ReadQueued → SlotDecodesTo memory 0 0 slot (queued_read k) (piece_addresses (4096 * n) 1) → (new : Device)
-      → Steps (device_with tape memory (with_fetch p slot (queued_read k) (piece_addresses (4096 * n) 1) ∷ second ∷ [])) new → Steps (device_with tape memory (p ∷ second ∷ [])) new
-  fetches issued free alone told new = step_first (Fetch 0 slot (queued_read k) (piece_addresses (4096 * n) 1)) (device_with tape memory (p ∷ second ∷ [])) (device_with tape memory (taken ∷ second ∷ [])) new
+      → Steps (running_device tape memory (port_after_fetch p slot (queued_read k) (piece_addresses (4096 * n) 1) ∷ second ∷ [])) new → Steps (running_device tape memory (p ∷ second ∷ [])) new
+  fetches issued free alone told new = step_first (Fetch 0 slot (queued_read k) (piece_addresses (4096 * n) 1)) (running_device tape memory (p ∷ second ∷ [])) (running_device tape memory (taken ∷ second ∷ [])) new
       (record {
         fetchable = record { st = ap (λ (q : DevicePort). q.st) stands.same; issued = issued; free = free };
         working = works p stands;
-        alone = alone;
-        says = subst (λ (list : ℕ). DecodesTo memory list slot (queued_read k) (piece_addresses (4096 * n) 1)) (sym (ap (λ (q : DevicePort). q.bases.clb) stands.same)) told.says;
+        is_unmixed = alone;
+        says = subst (λ (list : ℕ). DecodesTo memory list slot (queued_read k) (piece_addresses (4096 * n) 1)) (sym (ap (λ (q : DevicePort). q.bases.clb) stands.same)) told.decodes_to;
       })
       (put_device tape memory 0 (p ∷ second ∷ []) (taken ∷ second ∷ []) taken refl (but_first p taken (second ∷ [])))
     where
       taken : DevicePort
-      taken = with_fetch p slot (queued_read k) (piece_addresses (4096 * n) 1)
+      taken = port_after_fetch p slot (queued_read k) (piece_addresses (4096 * n) 1)
 
   -- so it is once the sector was moved, and the command has ended
   finishes : p.taken slot ≡ Some (reads_into k n) → k < 256 → (new : Device)
-      → Steps (device_with ((tape ++ entry.Move (move_of 0 slot (reads_into k n) (first_disk_sector k)) ∷ []) ++ done_entry 0 slot ReadQueued ∷ []) (patched memory (4096 * n) (first_disk_sector k)) (finished slot k n p ∷ second ∷ [])) new
-      → Steps (device_with tape memory (p ∷ second ∷ [])) new
+      → Steps (running_device ((tape ++ entry.Move (move_of 0 slot (reads_into k n) (first_disk_sector k)) ∷ []) ++ done_entry 0 slot ReadQueued ∷ []) (patched memory (4096 * n) (first_disk_sector k)) (finished slot k n p ∷ second ∷ [])) new
+      → Steps (running_device tape memory (p ∷ second ∷ [])) new
   finishes taken low new rest =
-      step_first (Move 0 slot (reads_into k n) (first_disk_sector k)) (device_with tape memory (p ∷ second ∷ [])) (device_with tape_moved memory_moved (moved ∷ second ∷ [])) new
+      step_first (Move 0 slot (reads_into k n) (first_disk_sector k)) (running_device tape memory (p ∷ second ∷ [])) (running_device tape_moved memory_moved (moved ∷ second ∷ [])) new
       (record {
         works = record { taken = taken; working = works p stands };
-        left = omega arith;
-        sector = is_sector k low;
-        brings = subst (λ (disk : Disk). Brings disk memory (reads_into k n) ReadQueued (first_disk_sector k)) (sym (ap (λ (q : DevicePort). q.disk) stands.same)) (omega (arith, low), ap first_disk_sector (let same : k ≡ k + 0 = omega arith in same));
+        piece_is_left = omega arith;
+        bytes_are_sector = is_sector k low;
+        brings = subst (λ (disk : Disk). MayBring disk memory (reads_into k n) ReadQueued (first_disk_sector k)) (sym (ap (λ (q : DevicePort). q.disk) stands.same)) (omega (arith, low), ap first_disk_sector (let same : k ≡ k + 0 = omega arith in same));
       })
       (put_device tape_moved memory_moved 0 (p ∷ second ∷ []) (moved ∷ second ∷ []) moved refl (but_first p moved (second ∷ [])))
-      (step_first (Done 0 slot 3 (record (reads_into k n) { moved = 1 })) (device_with tape_moved memory_moved (moved ∷ second ∷ [])) (device_with tape_done memory_moved (finished slot k n p ∷ second ∷ [])) new
+      (step_first (Done 0 slot 3 (record (reads_into k n) { moved = 1 })) (running_device tape_moved memory_moved (moved ∷ second ∷ [])) (running_device tape_done memory_moved (finished slot k n p ∷ second ∷ [])) new
       (record {
         works = record { taken = moved_taken; working = works_moved };
-        finished = record { moved = refl; cleared = λ e. absurd (let x : ReadQueued ≡ Trim = e in cc) };
-        shown = inr (inr refl);
+        finished = record { all_is_moved = refl; all_is_cleared = λ e. absurd (let x : ReadQueued ≡ Trim = e in cc) };
+        cause_is_allowed = inr (inr refl);
       })
       (put_device tape_done memory_moved 0 (moved ∷ second ∷ []) (finished slot k n p ∷ second ∷ []) (finished slot k n p) refl (but_first moved (finished slot k n p) (second ∷ []))) rest)
     where
       moved : DevicePort
-      moved = with_move p slot (reads_into k n) (first_disk_sector k)
+      moved = port_after_move p slot (reads_into k n) (first_disk_sector k)
 
       tape_moved : List Entry
       tape_moved = tape ++ entry.Move (move_of 0 slot (reads_into k n) (first_disk_sector k)) ∷ []
@@ -106,41 +106,41 @@ module _ (tape : List Entry) (memory : ℕ → ℕ) (p : DevicePort) (stands : S
 abbrev pub seen : ℕ → ℕ → DevicePort → DevicePort
 seen ci sact p = record p { notes = note Sact sact (record p { notes = note Ci ci p }) }
 
-module _ (old : Device) (tape : List Entry) (memory : ℕ → ℕ) (p : DevicePort) (ci sact : ℕ) (steps : Steps old (device_with tape memory (p ∷ second ∷ []))) (waits : PortShows Ci ci p) (active : PortShows Sact sact p) where
+module _ (old : Device) (tape : List Entry) (memory : ℕ → ℕ) (p : DevicePort) (ci sact : ℕ) (steps : Steps old (running_device tape memory (p ∷ second ∷ []))) (waits : PortShows Ci ci p) (active : PortShows Sact sact p) where
   abbrev masks : List Access
   masks = Reading (Px (port_at 0) Ci) ci ∷ Reading (Px (port_at 0) Sact) sact ∷ []
 
   abbrev with_ci : DevicePort
   with_ci = record p { notes = note Ci ci p }
 
-  unfoldable reads_masks : DoesAll masks old (device_with tape memory (seen ci sact p ∷ second ∷ []))
+  unfoldable reads_masks : DoesAll masks old (running_device tape memory (seen ci sact p ∷ second ∷ []))
   reads_masks = (
-    device_with tape memory (with_ci ∷ second ∷ []),
+    running_device tape memory (with_ci ∷ second ∷ []),
     record {
-      mid = device_with tape memory (p ∷ second ∷ []);
+      mid = running_device tape memory (p ∷ second ∷ []);
       steps = steps;
       shows = waits;
       effect = put_device tape memory 0 (p ∷ second ∷ []) (with_ci ∷ second ∷ []) with_ci refl (but_first p with_ci (second ∷ []));
     },
     (
-      device_with tape memory (seen ci sact p ∷ second ∷ []),
+      running_device tape memory (seen ci sact p ∷ second ∷ []),
       reads tape memory 0 (with_ci ∷ second ∷ []) (seen ci sact p ∷ second ∷ []) (but_first with_ci (seen ci sact p) (second ∷ [])) Sact sact active refl,
       refl,
     ),
   )
 
   -- and that keeps to the rules
-  pub finds : (does : DoesAll masks old (device_with tape memory (seen ci sact p ∷ second ∷ []))) × AreAllowed masks old (device_with tape memory (seen ci sact p ∷ second ∷ [])) does
+  pub finds : (does : DoesAll masks old (running_device tape memory (seen ci sact p ∷ second ∷ []))) × AreAllowed masks old (running_device tape memory (seen ci sact p ∷ second ∷ [])) does
   unfolding reads_masks reads
   finds = (reads_masks, ((record { ae = refl; no_reset = refl }, (omega arith, refl)), ((record { ae = refl; no_reset = refl }, (omega arith, refl)), tt)))
 
 -- ---- both are taken
 
 abbrev first_taken : DevicePort
-first_taken = with_fetch two_issued 0 (queued_read 100) (piece_addresses (4096 * 100) 1)
+first_taken = port_after_fetch two_issued 0 (queued_read 100) (piece_addresses (4096 * 100) 1)
 
 abbrev both_taken : DevicePort
-both_taken = with_fetch first_taken 1 (queued_read 101) (piece_addresses (4096 * 101) 1)
+both_taken = port_after_fetch first_taken 1 (queued_read 101) (piece_addresses (4096 * 101) 1)
 
 -- the first command is queued, so the second may be taken beside it
 beside : IsUnmixed first_taken ReadQueued
@@ -229,19 +229,19 @@ abbrev pub swapped_memory : ℕ → ℕ
 swapped_memory = patched two_memory (4096 * 101) (first_disk_sector 101)
 
 abbrev pub swapped : Device
-swapped = device_with (pages ++ ends 1 101 101) swapped_memory (found ∷ second ∷ [])
+swapped = running_device (pages ++ ends 1 101 101) swapped_memory (found ∷ second ∷ [])
 
 abbrev pub ended : Device
-ended = device_with (pages ++ (ends 1 101 101 ++ ends 0 100 100)) (patched swapped_memory (4096 * 100) (first_disk_sector 100)) (found_again ∷ second ∷ [])
+ended = running_device (pages ++ (ends 1 101 101 ++ ends 0 100 100)) (patched swapped_memory (4096 * 100) (first_disk_sector 100)) (found_again ∷ second ∷ [])
 
 abbrev issued_device : Device
-issued_device = device_with pages two_memory (two_issued ∷ second ∷ [])
+issued_device = running_device pages two_memory (two_issued ∷ second ∷ [])
 
 abbrev second_ended : Device
-second_ended = device_with (pages ++ ends 1 101 101) swapped_memory (second_done ∷ second ∷ [])
+second_ended = running_device (pages ++ ends 1 101 101) swapped_memory (second_done ∷ second ∷ [])
 
 abbrev first_ended : Device
-first_ended = device_with (pages ++ (ends 1 101 101 ++ ends 0 100 100)) (patched swapped_memory (4096 * 100) (first_disk_sector 100)) (first_done ∷ second ∷ [])
+first_ended = running_device (pages ++ (ends 1 101 101 ++ ends 0 100 100)) (patched swapped_memory (4096 * 100) (first_disk_sector 100)) (first_done ∷ second ∷ [])
 
 stays : (d : Device) → Steps d d
 stays d = record { steps = []; lead = refl }
@@ -258,9 +258,9 @@ second_ends =
 first_ends : Steps swapped first_ended
 first_ends = finishes (pages ++ ends 1 101 101) swapped_memory found found_stands 0 100 100 found_taken (omega arith) first_ended (stays first_ended)
 
-pub finds_second : (does : DoesAll second_found issued_device swapped) × AreAllowed second_found issued_device swapped does
+pub finds_second : (does : DoesAll second_done_accesses issued_device swapped) × AreAllowed second_done_accesses issued_device swapped does
 finds_second = finds issued_device (pages ++ ends 1 101 101) swapped_memory second_done 0 1 second_ends (λ k low. no_bit k ∙ sym (none_waits k)) (λ k low. sym (one_active k))
 
-pub finds_first : (does : DoesAll first_found swapped ended) × AreAllowed first_found swapped ended does
+pub finds_first : (does : DoesAll first_done_accesses swapped ended) × AreAllowed first_done_accesses swapped ended does
 finds_first = finds swapped (pages ++ (ends 1 101 101 ++ ends 0 100 100)) (patched swapped_memory (4096 * 100) (first_disk_sector 100)) first_done 0 0 first_ends
     (λ k low. no_bit k ∙ sym (none_waits k)) (λ k low. no_bit k ∙ sym (none_active k))

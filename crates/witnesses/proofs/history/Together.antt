@@ -9,18 +9,18 @@ use Rattle.adapter.specs.Decoding.{piece_addresses}
 use Rattle.refinement.specs.Acts.{DriverSlots}
 use Rattle.refinement.specs.Relation.{ServeApart, port_at}
 use Rattle.refinement.specs.TwoReads.{second_id}
-use Rattle.refinement.specs.Slots.{Free, RelatesSlot, Serves, Stage, SlotStates}
-use Rattle.refinement.specs.Witness.{first_id}
-use Rattle.block_machine.specs.Due.{IsDue, is_plain}
+use Rattle.refinement.specs.Slots.{Free, RelatesSlot, Serves, IsInSomeStage, SlotStates}
+use Rattle.refinement.specs.ReadWitness.{first_id}
+use Rattle.block_machine.specs.DueRequests.{IsDue, is_plain}
 use Rattle.block_machine.specs.Events.{IsIssuedIn}
 use Rattle.block_machine.specs.Histories.{JointState}
 use Rattle.block_machine.specs.Expected.{after}
 use Rattle.block_machine.specs.State.{Block, Machine, Pending, unanswered}
-use Rattle.block_machine.specs.Steps.{Accept, Issue, May, newly_accepted}
+use Rattle.block_machine.specs.Steps.{Accept, Issue, IsEnabled, newly_accepted}
 use Rattle.block_machine.specs.declared.due.Unanswered.{Unanswered}
 use Rattle.driver_history.specs.Histories.{IssuesDue}
 use Rattle.driver_history.specs.PortInvariants.{ReadySlotsInvariant, IsFreeOrServes, IsQueuedAsAsked}
-use Rattle.witnesses.specs.RunningAdapter.{queued, running_port}
+use Rattle.witnesses.specs.RunningAdapter.{queued_disk_mode, running_port}
 use Rattle.witnesses.proofs.history.Command.{queued_read, zeros}
 use Rattle.witnesses.proofs.history.Devices.{other_bit}
 use Rattle.witnesses.proofs.history.Holding.{first_slots, no_slots}
@@ -87,10 +87,10 @@ abbrev pub both_issuing : Machine
 both_issuing = issued_on.issuing submission_two
 
 abbrev pub held : ℕ → Block
-held = (issued_on.accepted submission_one).held
+held = (issued_on.accepted submission_one).held_blocks
 
 abbrev pub held_too : ℕ → Block
-held_too = (issued_on.accepted submission_two).held
+held_too = (issued_on.accepted submission_two).held_blocks
 
 abbrev pub outstanding_first : Pending
 outstanding_first = outstanding_as first_id 100 100 held
@@ -123,8 +123,8 @@ has_one = record {
 one_agrees : Agreeing queueing_disks first_slots first_issuing [] one_memory one_issued
 one_agrees = agrees_one queueing_disks first_issuing [] one_memory one_issued (queued_read 100) 100 100 held 0 has_one
 
-may_first : May (after start (Accept (issued_on.accepted submission_one) ∷ [])) (Issue queued (newly_accepted (issued_on.accepted submission_one)))
-may_first = ((0, omega arith, refl), record { here = (0, omega arith, refl); clear = refl; slot = λ _. omega arith }, λ e h. absurd (nowhere e h), granted)
+may_first : IsEnabled (after start (Accept (issued_on.accepted submission_one) ∷ [])) (Issue queued_disk_mode (newly_accepted (issued_on.accepted submission_one)))
+may_first = ((0, omega arith, refl), record { is_in_book = (0, omega arith, refl); nothing_blocks = refl; slot_is_left = λ _. omega arith }, λ e h. absurd (nowhere e h), granted)
 
 pub issued_first : IsIssued submission_one
 unfolding one_memory
@@ -133,7 +133,7 @@ issued_first = record {
   agreeing = one_agrees;
   takes = record { rows = refl; id_is = refl; left = omega arith; few = omega arith; owned = refl; free = refl; from = omega arith; to = omega arith; on_disk = omega arith };
   may = may_first;
-  all_issued = λ port is. none_due queued (unanswered outstanding_first ∷ []) (λ r here. ap (λ (x : Unanswered). x.issued) (only (unanswered outstanding_first) r here)) port;
+  all_issued = λ port is. none_due queued_disk_mode (unanswered outstanding_first ∷ []) (λ r here. ap (λ (x : Unanswered). x.issued) (only (unanswered outstanding_first) r here)) port;
   due = issued_on.due_alone submission_one refl may_first.1 refl;
   does = queues pages zeros (running_port 0) 0 100 100 1;
   only = one_submits;
@@ -151,7 +151,7 @@ in_book e here = either outstanding_first outstanding_second e here
 pub each_has : (P : Pending → Type 0) → P outstanding_first → P outstanding_second → (e : Pending) → Contains both_issuing.book e → P e
 each_has P a b e here = ⊎_elim (λ (is : e ≡ outstanding_first). subst P (sym is) a) (λ (is : e ≡ outstanding_second). subst P (sym is) b) (in_book e here)
 
-waits_in : (k n slot : ℕ) (id : RequestId) (block : ℕ → Block) → two_issued.ci slot ≡ true → two_issued.sact slot ≡ true → Stage two_memory two_issued 0 slot (outstanding_as id k n block) (queued_read k) (piece_addresses (4096 * n) 1)
+waits_in : (k n slot : ℕ) (id : RequestId) (block : ℕ → Block) → two_issued.ci slot ≡ true → two_issued.sact slot ≡ true → IsInSomeStage two_memory two_issued 0 slot (outstanding_as id k n block) (queued_read k) (piece_addresses (4096 * n) 1)
 waits_in k n slot id block issued active = inl (record { started = refl; issued = issued; free = refl; sact = active; block = tt; untouched = λ i. sym (le-ltb i 0 (omega arith)); unended = refl })
 
 two_serve : (slot : ℕ) → RelatesSlot both_issuing two_memory pages two_issued 0 slot (two_uses 0 slot)
@@ -174,13 +174,13 @@ two_apart zero slot (suc q) k id u v = absurd (let x : Free ≡ Serves id = v in
 two_apart zero slot zero (suc (suc k)) id u v = absurd (let x : Free ≡ Serves id = v in cc)
 
 -- the command of each is queued, and so is its request
-two_requests : ReadySlotsInvariant two_slots (issued_on.submitted_at submission_two) (port_at 0) queued
+two_requests : ReadySlotsInvariant two_slots (issued_on.submitted_at submission_two) (port_at 0) queued_disk_mode
 two_requests = record {
-  clients = clients;
-  low = low;
-  unparked = refl;
-  kinds = λ slot e s unended. kinds slot e s.here s.serves;
-  alone = λ slot e s plain. absurd (true≢false (sym plain ∙ each_has (λ x. is_plain queued x.request.asked.op ≡ false) refl refl e s.here));
+  slots_serve_clients = clients;
+  unusable_are_free = low;
+  none_is_parked = refl;
+  commands_are_as_asked = λ slot e s unended. kinds slot e s.is_in_book s.serves;
+  plain_is_alone = λ slot e s plain. absurd (true≢false (sym plain ∙ each_has (λ x. is_plain queued_disk_mode x.request.asked.op ≡ false) refl refl e s.is_in_book));
 }
   where
     clients : (slot : ℕ) → IsFreeOrServes (two_uses 0 slot)
@@ -193,12 +193,12 @@ two_requests = record {
     low (suc zero) above = absurd (omega (arith, above))
     low (suc (suc slot)) above = refl
 
-    kind_of : (e : Pending) → Contains both_issuing.book e → true ≡ not (is_plain queued e.request.asked.op)
-    kind_of = each_has (λ x. true ≡ not (is_plain queued x.request.asked.op)) refl refl
+    kind_of : (e : Pending) → Contains both_issuing.book e → true ≡ not (is_plain queued_disk_mode e.request.asked.op)
+    kind_of = each_has (λ x. true ≡ not (is_plain queued_disk_mode x.request.asked.op)) refl refl
 
-    kinds : (slot : ℕ) (e : Pending) → Contains both_issuing.book e → two_uses 0 slot ≡ Serves e.request.id → IsQueuedAsAsked queued (issued_on.submitted_at submission_two).device 0 slot e
-    kinds zero e here u = record { command = queued_read 100; places = piece_addresses 0x64000 1; told = first_told; kind = kind_of e here }
-    kinds (suc zero) e here u = record { command = queued_read 101; places = piece_addresses 0x65000 1; told = second_told; kind = kind_of e here }
+    kinds : (slot : ℕ) (e : Pending) → Contains both_issuing.book e → two_uses 0 slot ≡ Serves e.request.id → IsQueuedAsAsked queued_disk_mode (issued_on.submitted_at submission_two).device 0 slot e
+    kinds zero e here u = record { command = queued_read 100; places = piece_addresses 0x64000 1; slot_decodes_to = first_told; kind = kind_of e here }
+    kinds (suc zero) e here u = record { command = queued_read 101; places = piece_addresses 0x65000 1; slot_decodes_to = second_told; kind = kind_of e here }
     kinds (suc (suc slot)) e here u = absurd (let x : Free ≡ Serves e.request.id = u in cc)
 
 pub two_agree : Agreeing queueing_disks two_slots both_issuing [] two_memory two_issued
@@ -221,17 +221,17 @@ two_agree = record {
 abbrev waits_second : Pending
 waits_second = newly_accepted (issued_on.accepted submission_two)
 
-may_second : May (after first_issuing (Accept (issued_on.accepted submission_two) ∷ [])) (Issue queued waits_second)
-may_second = ((1, omega arith, refl), record { here = (1, omega arith, refl); clear = refl; slot = λ _. omega arith }, λ e h. absurd (nowhere e h), granted)
+may_second : IsEnabled (after first_issuing (Accept (issued_on.accepted submission_two) ∷ [])) (Issue queued_disk_mode waits_second)
+may_second = ((1, omega arith, refl), record { is_in_book = (1, omega arith, refl); nothing_blocks = refl; slot_is_left = λ _. omega arith }, λ e h. absurd (nowhere e h), granted)
 
-due_second : (port : Port) → IssuesDue queued (issued_on.submit_steps submission_two) both_issuing port
+due_second : (port : Port) → IssuesDue queued_disk_mode (issued_on.submit_steps submission_two) both_issuing port
 due_second port r here at_port = ⊎_elim
-    (λ (is : r ≡ unanswered outstanding_first). subst Right (sym is) (λ f. absurd (true≢false (sym f)), λ due. absurd (true≢false (sym due.clear))))
+    (λ (is : r ≡ unanswered outstanding_first). subst Right (sym is) (λ f. absurd (true≢false (sym f)), λ due. absurd (true≢false (sym due.nothing_blocks))))
     (λ (is : r ≡ unanswered waits_second). subst Right (sym is) (λ _. may_second.1, λ _. refl))
     (either (unanswered outstanding_first) (unanswered waits_second) r here)
   where
     Right : Unanswered → Type 0
-    Right x = IsIssuedIn x.id (issued_on.submit_steps submission_two) ↔ IsDue queued (unanswered outstanding_first ∷ unanswered waits_second ∷ []) x
+    Right x = IsIssuedIn x.id (issued_on.submit_steps submission_two) ↔ IsDue queued_disk_mode (unanswered outstanding_first ∷ unanswered waits_second ∷ []) x
 
 pub issued_second : IsIssued submission_two
 unfolding two_memory
@@ -240,7 +240,7 @@ issued_second = record {
   agreeing = two_agree;
   takes = record { rows = refl; id_is = refl; left = omega arith; few = omega arith; owned = refl; free = refl; from = omega arith; to = omega arith; on_disk = omega arith };
   may = may_second;
-  all_issued = λ port is. none_due queued (unanswered outstanding_first ∷ unanswered outstanding_second ∷ []) all_issued port;
+  all_issued = λ port is. none_due queued_disk_mode (unanswered outstanding_first ∷ unanswered outstanding_second ∷ []) all_issued port;
   due = due_second;
   does = queues pages one_memory one_issued 1 101 101 2;
   only = two_submits;

@@ -1,6 +1,6 @@
 // A full book: 16 unanswered requests of each of eight clients on four ports, and which of them are due.
 ghost use Rattle.std.specs.Prelude.{◌≡◌, ◌<◌, ◌≤◌, ◌+◌, [], All};
-ghost use Rattle.request_queue.specs.Entries.{IsNewlyAccepted};
+ghost use Rattle.request_queue.specs.BookEntries.{IsNewlyAccepted};
 
 use ata_types::{ClientId, Op, Port, Range, RequestId, Sector};
 use block_machine::QueueMode;
@@ -43,7 +43,7 @@ fn fill(rt: &impl Abort, book: &mut Book, table: &mut FrameTable)
 {
     for number in 0..128u64 {
         let entry = request(number + 1);
-        assert!(rt; book.unanswered(entry.client) < 16);
+        assert!(rt; book.unanswered_count(entry.client) < 16);
         book.accept(entry, &[], table);
     }
 }
@@ -92,7 +92,7 @@ fn due_requests_of_a_full_book_on_four_ports(rt: HostRuntime) -> Result<(), Fail
     fill(&rt, &mut book, &mut table);
     let mut full = true;
     for client in 1..=8 {
-        full &= book.unanswered(ClientId(client)) == 16;
+        full &= book.unanswered_count(ClientId(client)) == 16;
     }
     let due = (
         due_as_wanted(&book, 32),

@@ -25,8 +25,8 @@ fn bits_of_the_adapter(rt: HostRuntime) {
 #[test]
 fn bits_of_an_engine(rt: HostRuntime) {
     let command = PortCommand(0x0000_c011);
-    let set = (command.is_started(), command.receives());
-    let running = (command.receive_running(), command.list_running());
+    let set = (command.is_started(), command.is_receive_enabled());
+    let running = (command.is_receive_running(), command.is_list_running());
     assert_eq!(rt;
         (set, running, command.current_slot()),
         ((true, true), (true, true), 0)

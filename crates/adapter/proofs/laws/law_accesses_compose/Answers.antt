@@ -1,14 +1,14 @@
 use Rattle.adapter.proofs.Calls.{does_append, driven_none, driven_one, driven_then}
 use Rattle.adapter.proofs.laws.law_accesses_compose.Goals as goal
 
-pub returns-clause-none : goal.returns-clause-none
-returns-clause-none c = driven_none
+pub returns-clause-reflexive : goal.returns-clause-reflexive
+returns-clause-reflexive c = driven_none
 
-pub returns-clause-one : goal.returns-clause-one
-returns-clause-one c = driven_one
+pub returns-clause-single_access : goal.returns-clause-single_access
+returns-clause-single_access c = driven_one
 
-pub returns-clause-more : goal.returns-clause-more
-returns-clause-more c = λ old mid new a b. driven_then a b
+pub returns-clause-transitive : goal.returns-clause-transitive
+returns-clause-transitive c = λ old mid new a b. driven_then a b
 
-pub returns-clause-all : goal.returns-clause-all
-returns-clause-all c = does_append
+pub returns-clause-lists_append : goal.returns-clause-lists_append
+returns-clause-lists_append c = does_append

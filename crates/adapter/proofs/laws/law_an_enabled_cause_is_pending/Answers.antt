@@ -13,5 +13,5 @@ returns-clause-shown c = shown_pends
 pub returns-clause-raised : goal.returns-clause-raised
 returns-clause-raised c = raised_pends
 
-pub returns-clause-exactly : goal.returns-clause-exactly
-returns-clause-exactly c = named_exactly
+pub returns-clause-no_other_is_named : goal.returns-clause-no_other_is_named
+returns-clause-no_other_is_named c = named_exactly

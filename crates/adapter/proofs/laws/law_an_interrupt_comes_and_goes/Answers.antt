@@ -3,34 +3,34 @@ use Rattle.adapter.specs.Memory.{changed}
 use Rattle.adapter.proofs.Pending.{named_enabled}
 use Rattle.adapter.proofs.laws.law_an_interrupt_comes_and_goes.Goals as goal
 
-pub returns-clause-none : goal.returns-clause-none
+pub returns-clause-none_is_pending : goal.returns-clause-none_is_pending
 unfolding changed
-returns-clause-none c = refl
+returns-clause-none_is_pending c = refl
 
-pub returns-clause-tells : goal.returns-clause-tells
+pub returns-clause-causes_are_enabled : goal.returns-clause-causes_are_enabled
 unfolding changed
-returns-clause-tells c = (refl, named_enabled)
+returns-clause-causes_are_enabled c = (refl, named_enabled)
 
-pub returns-clause-ends : goal.returns-clause-ends
+pub returns-clause-flush_may_end : goal.returns-clause-flush_may_end
 unfolding changed
-returns-clause-ends c = record {
+returns-clause-flush_may_end c = record {
   works = record { taken = refl; working = record { running = refl; present = refl; fresh = refl; admitted = refl; whole = refl } };
-  finished = record { moved = refl; cleared = λ e. refl };
-  shown = inl refl;
+  finished = record { all_is_moved = refl; all_is_cleared = λ e. refl };
+  cause_is_allowed = inl refl;
 }
 
-pub returns-clause-comes : goal.returns-clause-comes
+pub returns-clause-end_is_pending : goal.returns-clause-end_is_pending
 unfolding changed
-returns-clause-comes c = refl
+returns-clause-end_is_pending c = refl
 
-pub returns-clause-again : goal.returns-clause-again
+pub returns-clause-stays_while_cause_shows : goal.returns-clause-stays_while_cause_shows
 unfolding changed
-returns-clause-again c = refl
+returns-clause-stays_while_cause_shows c = refl
 
-pub returns-clause-stays : goal.returns-clause-stays
+pub returns-clause-stays_without_cause : goal.returns-clause-stays_without_cause
 unfolding changed
-returns-clause-stays c = refl
+returns-clause-stays_without_cause c = refl
 
-pub returns-clause-goes : goal.returns-clause-goes
+pub returns-clause-goes_by_is_write : goal.returns-clause-goes_by_is_write
 unfolding changed
-returns-clause-goes c = refl
+returns-clause-goes_by_is_write c = refl

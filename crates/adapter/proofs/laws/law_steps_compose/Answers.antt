@@ -1,8 +1,8 @@
 use Rattle.adapter.proofs.Runs.{Steps-refl, Steps-trans}
 use Rattle.adapter.proofs.laws.law_steps_compose.Goals as goal
 
-pub returns-clause-none : goal.returns-clause-none
-returns-clause-none c = Steps-refl
+pub returns-clause-reflexive : goal.returns-clause-reflexive
+returns-clause-reflexive c = Steps-refl
 
-pub returns-clause-more : goal.returns-clause-more
-returns-clause-more c = λ old mid new a b. Steps-trans a b
+pub returns-clause-transitive : goal.returns-clause-transitive
+returns-clause-transitive c = λ old mid new a b. Steps-trans a b

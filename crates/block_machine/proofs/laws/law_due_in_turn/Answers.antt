@@ -1,6 +1,6 @@
 use Rattle.std.proofs.Common.{map, refl}
 use Rattle.block_machine.specs.declared.due.Unanswered.{Unanswered}
-use Rattle.block_machine.specs.Due.{due_of}
+use Rattle.block_machine.specs.DueRequests.{due_of}
 use Rattle.block_machine.proofs.Turns.{in_turn}
 use Rattle.block_machine.proofs.laws.law_due_in_turn.Goals as goal
 

@@ -1,7 +1,7 @@
 use Rattle.std.proofs.Common.{ℕ, ◌≡◌, ◌↔◌, List, Bool, false, IsTrue, sym, ◌∙◌}
 use Rattle.std.proofs.lemmas.Bool.{false≢true}
 use Rattle.refinement.specs.Relation.{port_at}
-use Rattle.request_queue.specs.Entries.{BookEntry, IsAnyOverdue, IsOverdue}
+use Rattle.request_queue.specs.BookEntries.{BookEntry, IsAnyOverdue, IsOverdue}
 use Rattle.block_server.proofs.Four.{of_four}
 use Rattle.block_server.proofs.by_port.overdue_ports.Goals as goal
 
@@ -19,4 +19,4 @@ returns-then-not-any_overdue c =
     of_four (IsTold c.args.book.now) false false false false false (rests 0) (rests 1) (rests 2) (rests 3)
 
 pub returns : goal.returns
-returns c = of_four (IsTold c.args.book.now) false c.overdue.result c.overdue-2.result c.overdue-3.result c.overdue-4.result c.overdue.ensures c.overdue-2.ensures c.overdue-3.ensures c.overdue-4.ensures
+returns c = of_four (IsTold c.args.book.now) false c.has_overdue.result c.has_overdue-2.result c.has_overdue-3.result c.has_overdue-4.result c.has_overdue.ensures c.has_overdue-2.ensures c.has_overdue-3.ensures c.has_overdue-4.ensures

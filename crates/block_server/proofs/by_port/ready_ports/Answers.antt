@@ -2,7 +2,7 @@ use Rattle.std.proofs.Common.{rules, ℕ, ◌≡◌, ◌<◌, List, [], ◌∷�
 use Rattle.std.proofs.Math.ListN.{get_or-eq_default}
 use Rattle.std.proofs.lemmas.List.{get_or_default}
 use Rattle.server_history.specs.Turns.{is_ready}
-use Rattle.port_driver.specs.Parts.{no_port}
+use Rattle.port_driver.specs.PortAndShared.{no_port}
 use Rattle.block_server.specs.FourPorts.{port_in}
 use Rattle.port_driver.specs.declared.served_port.ServedPort.{ServedPort}
 use Rattle.block_server.proofs.by_port.ready_ports.Goals as goal

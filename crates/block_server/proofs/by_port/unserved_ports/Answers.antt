@@ -1,6 +1,6 @@
 use Rattle.server_history.specs.ErrorHandling.{HasNoUsedSlot}
-use Rattle.server_history.specs.Server.{plain_mode}
-use Rattle.port_driver.specs.Parts.{no_port}
+use Rattle.server_history.specs.ServerState.{plain_mode}
+use Rattle.port_driver.specs.PortAndShared.{no_port}
 use Rattle.block_server.proofs.Four.{of_four}
 use Rattle.block_server.proofs.by_port.unserved_ports.Goals as goal
 

@@ -12,4 +12,4 @@ returns g c =
       reads = c.law_reads_hold.ensures;
       lasts = c.law_replugs_keep_flushed_writes.ensures;
     } in
-    record { none = no_call laws g.A.Adapter.device; one = one_call laws g.A.Adapter.device; more = more_calls laws g.A.Adapter.device }
+    record { no_calls = no_call laws g.A.Adapter.device; one_call = one_call laws g.A.Adapter.device; calls_join = more_calls laws g.A.Adapter.device }

@@ -4,10 +4,10 @@ use Rattle.std.proofs.Math.ListN.{get_or-map}
 use Rattle.std.proofs.lemmas.List.{drop_all, get_or_default, length-map, map-set, take_all}
 use Rattle.std.proofs.lemmas.List.Edits.{map_over_more}
 use Rattle.dma_frames.specs.Loan.{Lending}
-use Rattle.server_history.specs.Kept.{TakesBack}
-use Rattle.server_history.specs.Server.{DifferInRequest, IsLentOut, quarantined_at}
+use Rattle.server_history.specs.KeptLoans.{TakesBack}
+use Rattle.server_history.specs.ServerState.{DifferInRequest, IsLentOut, quarantined_at}
 use Rattle.block_server.specs.FourPorts.{by_port, without_loans}
-use Rattle.port_driver.specs.Parts.{no_port}
+use Rattle.port_driver.specs.PortAndShared.{no_port}
 use Rattle.port_driver.specs.declared.served_port.ServedPort.{ServedPort}
 use Rattle.block_server.proofs.Keeping.{BackSoFar, all_taken, next_out, next_so_far, next_two, none_so_far}
 use Rattle.block_server.proofs.resetting.give_all_back.Goals as goal

@@ -6,12 +6,12 @@ use Rattle.refinement.specs.Relation.{port_at}
 use Rattle.host_boot.specs.TakeOver.{probe_result_of}
 use Rattle.host_boot.specs.declared.ProbeResult.{ProbeResult}
 use Rattle.block_server.specs.FourPorts.{by_port}
-use Rattle.block_server.specs.Seen.{with_ports}
+use Rattle.block_server.specs.FieldView.{with_ports}
 use Rattle.port_driver.specs.declared.served_port.ServedPort.{ServedPort}
 use Rattle.port_driver.specs.declared.served_port.Shared.{Shared}
-use Rattle.server_history.specs.Served.{IssuesAll, IssuesTogetherIfAny}
-use Rattle.server_history.specs.Server.{InCallInvariant, ServerState, mode_in}
-use Rattle.request_queue.specs.Entries.{asks_of, due_ids}
+use Rattle.server_history.specs.IssuingAndAnswering.{IssuesAll, IssuesTogetherIfAny}
+use Rattle.server_history.specs.ServerState.{InCallInvariant, ServerState, mode_in}
+use Rattle.request_queue.specs.BookEntries.{unanswered_of, due_ids}
 use Rattle.block_server.proofs.Placing as placing
 use Rattle.block_server.proofs.Reviving as reviving
 use Rattle.block_server.proofs.resetting.issue_ports.Goals as goal
@@ -51,13 +51,13 @@ loop-number-preserved g c =
     let now : ServerState → ServerState = λ s. with_ports s device c.loop-number.shared ports in
     let later : ServerState → ServerState = λ s. with_ports s new shared (set ports number issued.new.self) in
     let all : (s : ServerState) → InCallInvariant (now s) → IssuesAll (port_at number) (now s) (later s) = λ s kept.
-    subst (IssuesAll (port_at number) (now s)) (sym (placing.slots_placed s ports number c.index-ports-number.result new shared issued.new.self issued.ensures.rest))
+    subst (IssuesAll (port_at number) (now s)) (sym (placing.slots_placed s ports number c.index-ports-number.result new shared issued.new.self issued.ensures.only_slots_change))
     (issued.ensures.issues (now s) (reviving.found_one (now s) device c.loop-number.shared (port_at number) p kept (placing.has_parts s device c.loop-number.shared ports number c.index-ports-number.result low))) in
     record {
       four = length-set ports number issued.new.self ∙ four;
-      found = map-set_same (λ (q : ServedPort). q.found) ports number issued.new.self c.index-ports-number.result (ap (λ (q : ServedPort). q.found) issued.ensures.rest) ∙ so_far.found;
+      found = map-set_same (λ (q : ServedPort). q.found) ports number issued.new.self c.index-ports-number.result (ap (λ (q : ServedPort). q.found) issued.ensures.only_slots_change) ∙ so_far.found;
       kept = λ s kept.
-          c.law_requests_preserve_invariant.ensures.issued (now s) (later s) (port_at number) (due_ids (mode_in (now s) (port_at number)) (port_at number) (asks_of (now s).book)) (so_far.kept s kept)
+          c.law_requests_preserve_invariant.ensures.issued (now s) (later s) (port_at number) (due_ids (mode_in (now s) (port_at number)) (port_at number) (unanswered_of (now s).book)) (so_far.kept s kept)
           (all s (so_far.kept s kept));
       rest = λ s kept last issues.
           let holds = so_far.kept s kept in

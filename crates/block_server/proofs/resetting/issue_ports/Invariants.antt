@@ -1,10 +1,10 @@
 use Rattle.std.proofs.Common.{◌≡◌, ◌*◌, drop, length}
-use Rattle.adapter.specs.Counted.{MakesAtMost}
+use Rattle.adapter.specs.AccessBounds.{MakesAtMost}
 use Rattle.port_driver.specs.Costs.{ISSUE_DUE_ACCESSES}
 use Rattle.block_server.specs.FourPorts.{by_port}
-use Rattle.block_server.specs.Seen.{with_ports}
+use Rattle.block_server.specs.FieldView.{with_ports}
 use Rattle.server_history.specs.Resets.{IssuePorts}
-use Rattle.server_history.specs.Server.{InCallInvariant, ServerState}
+use Rattle.server_history.specs.ServerState.{InCallInvariant, ServerState}
 use Rattle.block_server.proofs.resetting.issue_ports.Given as goal
 
 abbrev pub invariant-loop-number : goal.invariant-loop-number

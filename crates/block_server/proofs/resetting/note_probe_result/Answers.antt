@@ -3,8 +3,8 @@ use Rattle.block_machine.specs.declared.due.QueueMode.{QueueMode}
 use Rattle.hba_regs.specs.Bits.{bit}
 use Rattle.host_boot.specs.TakeOver.{probe_result_of}
 use Rattle.host_boot.specs.declared.Host.{Host}
-use Rattle.server_history.specs.Server.{probed_mode}
-use Rattle.port_driver.specs.Parts.{NotesProbeResult}
+use Rattle.server_history.specs.ServerState.{probed_mode}
+use Rattle.port_driver.specs.PortAndShared.{NotesProbeResult}
 use Rattle.block_server.specs.FourPorts.{BeginsAsHostFound}
 use Rattle.port_driver.specs.declared.served_port.ServedPort.{ServedPort}
 use Rattle.block_server.proofs.Becoming.{all_become, none_yet, one_more}
@@ -14,7 +14,7 @@ use Rattle.block_server.proofs.resetting.note_probe_result.Goals as goal
 taken : (host : Host) (number : ℕ) (old new : ServedPort) (mode : QueueMode) → NotesProbeResult (probe_result_of host.ports number) mode old new
     → ((cap : ℕ) → host.slots ≡ cap / 256 % 32 + 1 → host.queued ≡ bit cap 30 → mode ≡ probed_mode cap (probe_result_of host.ports number)) → BeginsAsHostFound host number old new
 taken host number old new mode anew follows =
-    let is = ap (λ (p : ServedPort). p.mode) anew.fields in
+    let is = ap (λ (p : ServedPort). p.mode) anew.only_these_change in
     record {
       anew = subst (λ (m : QueueMode). NotesProbeResult (probe_result_of host.ports number) m old new) (sym is) anew;
       mode = λ cap slots queued. is ∙ follows cap slots queued;

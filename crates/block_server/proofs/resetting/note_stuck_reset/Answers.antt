@@ -1,7 +1,7 @@
 use Rattle.std.proofs.Common.{arith}
-use Rattle.server_history.specs.Server.{plain_mode}
+use Rattle.server_history.specs.ServerState.{plain_mode}
 use Rattle.server_history.specs.StuckServer.{found_after_stuck_reset}
-use Rattle.port_driver.specs.Parts.{NotesProbeResult}
+use Rattle.port_driver.specs.PortAndShared.{NotesProbeResult}
 use Rattle.port_driver.specs.declared.served_port.ServedPort.{ServedPort}
 use Rattle.block_server.proofs.Becoming.{all_become, none_yet, one_more}
 use Rattle.block_server.proofs.resetting.note_stuck_reset.Goals as goal

@@ -1,5 +1,5 @@
-use Rattle.port_driver.specs.Parts.{NotesProbeResult}
-use Rattle.server_history.specs.Server.{plain_mode}
+use Rattle.port_driver.specs.PortAndShared.{NotesProbeResult}
+use Rattle.server_history.specs.ServerState.{plain_mode}
 use Rattle.server_history.specs.StuckServer.{found_after_stuck_reset}
 use Rattle.block_server.proofs.Becoming.{BecomesSoFar}
 use Rattle.block_server.proofs.resetting.note_stuck_reset.Given as goal

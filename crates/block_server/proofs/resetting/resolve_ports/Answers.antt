@@ -4,10 +4,10 @@ use Rattle.std.proofs.Math.Seq.{map-set_same}
 use Rattle.ata_types.specs.declared.request.Reply.{Reply}
 use Rattle.refinement.specs.Relation.{port_at}
 use Rattle.block_server.specs.FourPorts.{by_port}
-use Rattle.block_server.specs.Seen.{with_ports}
+use Rattle.block_server.specs.FieldView.{with_ports}
 use Rattle.port_driver.specs.declared.served_port.ServedPort.{ServedPort}
 use Rattle.server_history.specs.Resets.{MayResolve, ResolvesPort}
-use Rattle.server_history.specs.Server.{ServerState}
+use Rattle.server_history.specs.ServerState.{ServerState}
 use Rattle.block_server.proofs.Placing as placing
 use Rattle.block_server.proofs.Reviving as reviving
 use Rattle.block_server.proofs.resetting.resolve_ports.Goals as goal

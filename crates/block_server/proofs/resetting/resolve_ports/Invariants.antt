@@ -2,9 +2,9 @@ use Rattle.std.proofs.Common.{◌≡◌, ◌≤◌, ◌+◌, ◌++◌, List, dro
 use Rattle.ata_types.specs.declared.request.Reply.{Reply}
 use Rattle.ata_types.specs.declared.limits.TheConstants.{MOST_UNANSWERED}
 use Rattle.block_server.specs.FourPorts.{by_port}
-use Rattle.block_server.specs.Seen.{with_ports}
+use Rattle.block_server.specs.FieldView.{with_ports}
 use Rattle.server_history.specs.Resets.{MayResolve, ResolvePorts}
-use Rattle.server_history.specs.Server.{ServerState}
+use Rattle.server_history.specs.ServerState.{ServerState}
 use Rattle.block_server.proofs.resetting.resolve_ports.Given as goal
 
 abbrev pub invariant-loop-number : goal.invariant-loop-number

@@ -1,7 +1,7 @@
 use Rattle.std.proofs.Common.{◌≡◌, ◌∙◌, rules, ap₂}
 use Rattle.std.proofs.lemmas.Result.{IfOk-weaker}
 use Rattle.clap.specs.Words.{rule_of, with_rule}
-use Rattle.blockd.specs.Words.{trace_flag}
+use Rattle.blockd.specs.CommandLine.{trace_flag}
 use Rattle.blockd.proofs.command_line.command.Goals as goal
 
 pub returns : goal.returns

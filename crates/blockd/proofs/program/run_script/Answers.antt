@@ -6,6 +6,6 @@ returns g c = record {
   model = c.play-finished.result.model;
   printed = g.W.Write.contents c.play-finished.new.out;
   ends = c.play-finished.ensures;
-  keeps = c.hand_on.ensures.keeps;
-  tells = c.hand_on.ensures.tells;
+  keeps = c.flush_output.ensures.keeps;
+  tells = c.flush_output.ensures.tells;
 }

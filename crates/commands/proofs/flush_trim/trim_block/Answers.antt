@@ -5,7 +5,7 @@ use borrow.Rule.Slice.PartMut.{put_mid, same_len_mid}
 use Rattle.ata_types.specs.declared.range.Range.{Range}
 use Rattle.byteorder.specs.Endian.{little_from}
 use Rattle.byteorder.specs.Numbers.{little_from-take}
-use Rattle.commands.specs.Block.{entry_first, entry_length, entry_first_for, entry_length_for}
+use Rattle.commands.specs.TrimBlocks.{entry_first, entry_length, entry_first_for, entry_length_for}
 use Rattle.commands.proofs.Cut.{cut_means, from_drop}
 use Rattle.commands.proofs.flush_trim.trim_block.Goals as goal
 

@@ -1,5 +1,5 @@
 use Rattle.std.proofs.Common.{ℕ, ◌≡◌, ◌<◌, length}
-use Rattle.commands.specs.Block.{entry_first, entry_length, entry_first_for, entry_length_for}
+use Rattle.commands.specs.TrimBlocks.{entry_first, entry_length, entry_first_for, entry_length_for}
 use Rattle.commands.proofs.flush_trim.trim_block.Given as goal
 
 abbrev pub invariant-loop-place : goal.invariant-loop-place

@@ -1,24 +1,24 @@
 use Rattle.commands.proofs.Growing.{Laws, grows, may_prepare, none_stored}
 use Rattle.commands.proofs.laws.law_batches_grow.Goals as goal
 
-pub returns-clause-none : goal.returns-clause-none
-returns-clause-none c = none_stored
+pub returns-clause-empty_batch : goal.returns-clause-empty_batch
+returns-clause-empty_batch c = none_stored
 
-pub returns-clause-more : goal.returns-clause-more
-returns-clause-more c =
+pub returns-clause-one_more_task : goal.returns-clause-one_more_task
+returns-clause-one_more_task c =
     let laws : Laws = record {
       leaving = record {
         left = c.law_other_ports_are_left.ensures.left;
-        on = c.law_other_ports_are_left.ensures.on;
+        on = c.law_other_ports_are_left.ensures.adapter_stays_on;
         adapter = c.law_other_ports_are_left.ensures.adapter;
       };
       acts = record {
         goes = c.law_acts_advance_driver.ensures.goes;
         reached = c.law_advances_compose.ensures.reached;
-        more = c.law_acts_compose.ensures.more;
+        more = c.law_acts_compose.ensures.acts_join;
         accesses = c.law_acts_compose.ensures.accesses;
         steps = c.law_acts_compose.ensures.steps;
-        device = c.law_histories_compose.ensures.device;
+        device = c.law_histories_compose.ensures.device_steps_join;
       };
       stays = c.law_stored_stays_over_acts.ensures;
       misses = c.law_stored_commands_stay.ensures.misses;

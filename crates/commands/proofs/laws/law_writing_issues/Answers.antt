@@ -5,27 +5,27 @@ pub returns : goal.returns
 returns c = leads (record {
   leaving = record {
     left = c.law_other_ports_are_left.ensures.left;
-    on = c.law_other_ports_are_left.ensures.on;
+    on = c.law_other_ports_are_left.ensures.adapter_stays_on;
     adapter = c.law_other_ports_are_left.ensures.adapter;
   };
   acts = record {
     goes = c.law_acts_advance_driver.ensures.goes;
     reached = c.law_advances_compose.ensures.reached;
-    more = c.law_acts_compose.ensures.more;
+    more = c.law_acts_compose.ensures.acts_join;
     accesses = c.law_acts_compose.ensures.accesses;
     steps = c.law_acts_compose.ensures.steps;
-    device = c.law_histories_compose.ensures.device;
+    device = c.law_histories_compose.ensures.device_steps_join;
   };
   same = c.law_adapter_stays.ensures.same;
-  on = c.law_adapter_stays.ensures.on;
+  on = c.law_adapter_stays.ensures.stays_on;
   controls = c.law_controls_stay.ensures;
   ends = c.law_accesses_and_decisions_are_acts.ensures.ends;
   part = c.law_device_steps_are_parts.ensures;
   access = c.law_advances_compose.ensures.access;
-  none = c.law_advances_compose.ensures.none;
-  compose = c.law_advances_compose.ensures.more;
+  none = c.law_advances_compose.ensures.reflexive;
+  compose = c.law_advances_compose.ensures.transitive;
   due = c.law_due_stays.ensures;
-  after = c.law_histories_compose.ensures.after;
+  after = c.law_histories_compose.ensures.machine_after_joins;
   arms = c.law_bits_are_followed_in_turn.ensures.arms;
   issues = c.law_bits_are_followed_in_turn.ensures.issues;
   stays = c.law_stored_stays.ensures.access;

@@ -2,12 +2,12 @@ use Rattle.std.proofs.Common.{ℕ, ◌≡◌, ◌≢◌, ◌^◌, ◌<◌, ◌==
 use Rattle.std.proofs.lemmas.Bool.{cases_lt}
 use Rattle.std.proofs.lemmas.Nat.Bits.{bit_at-zero, bit_at_above}
 use Rattle.hba_regs.specs.Bits.{bit}
-use Rattle.refinement.specs.Driven.{IsSoleBit}
+use Rattle.refinement.specs.Fragments.{IsSoleBit}
 use Rattle.commands.proofs.ncq.bit_of.Goals as goal
 
 -- a bit that was set in no other bits
 alone : (slot place v : ℕ) → place ≡ slot → v < 2 ^ 32 → bit v place ≡ true → ((k : ℕ) → k < 32 → k ≢ place → bit v k ≡ bit 0 k) → IsSoleBit slot v
-alone slot place v same fits set others = subst (λ (p : ℕ). IsSoleBit p v) same (record { here = set; alone = zeros })
+alone slot place v same fits set others = subst (λ (p : ℕ). IsSoleBit p v) same (record { bit_is_set = set; no_other_bit_is_set = zeros })
   where
     zeros : (k : ℕ) → k ≢ place → bit v k ≡ false
     zeros k other = elim (cases_lt k 32) [

@@ -13,14 +13,14 @@ write-requires g c =
     let b = q.2 in
     let laws : Leaving = record {
       left = c.law_other_ports_are_left.ensures.left;
-      on = c.law_other_ports_are_left.ensures.on;
+      on = c.law_other_ports_are_left.ensures.adapter_stays_on;
       adapter = c.law_other_ports_are_left.ensures.adapter;
     } in
     let kind = IsStoreForBatch c.args.port.0 q.1 in
     c.law_writing_is_permitted.ensures.rules (Px c.args.port Sact) c.args.mask _ (λ (at : Port) (e : Px c.args.port Sact ≡ Px at Ci). absurd cc) (
-      stores_on laws c.args.port kind (batch_stores c.args.port.0 q.1) _ _ b.stores.driven b.on,
-      stores_there laws c.args.port kind (batch_stores c.args.port.0 q.1) _ _ b.stores.driven b.there,
-      (stores_may laws c.args.port kind (batch_stores c.args.port.0 q.1) _ _ b.stores.driven b.on b.may).started,
+      stores_on laws c.args.port kind (batch_stores c.args.port.0 q.1) _ _ b.stores.is_driven b.adapter_is_on,
+      stores_there laws c.args.port kind (batch_stores c.args.port.0 q.1) _ _ b.stores.is_driven b.has_port,
+      (stores_may laws c.args.port kind (batch_stores c.args.port.0 q.1) _ _ b.stores.is_driven b.adapter_is_on b.list_runs).st_is_set,
     )
 
 pub write-requires-2 : goal.write-requires-2

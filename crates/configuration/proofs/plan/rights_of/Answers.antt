@@ -1,5 +1,5 @@
 use Rattle.std.proofs.Common.{◌≡◌, ◌∙◌, ap}
-use Rattle.configuration.specs.Parts.{has_letter}
+use Rattle.configuration.specs.PlanParts.{has_letter}
 use Rattle.configuration.proofs.plan.rights_of.Goals as goal
 
 pub returns : goal.returns

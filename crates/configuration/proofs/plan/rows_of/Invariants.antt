@@ -1,5 +1,5 @@
 use Rattle.std.proofs.Common.{◌≡◌, map, take}
-use Rattle.configuration.specs.Parts.{row_of}
+use Rattle.configuration.specs.PlanParts.{row_of}
 use Rattle.configuration.proofs.plan.rows_of.Given as goal
 
 abbrev pub invariant-loop-grant : goal.invariant-loop-grant

@@ -1,5 +1,5 @@
 use Rattle.std.proofs.Common.{◌≡◌, map, take}
-use Rattle.configuration.specs.Parts.{owner_extent}
+use Rattle.configuration.specs.PlanParts.{owner_extent}
 use Rattle.configuration.proofs.plan.runs_of.Given as goal
 
 abbrev pub invariant-loop-client : goal.invariant-loop-client

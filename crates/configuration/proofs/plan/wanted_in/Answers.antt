@@ -1,6 +1,6 @@
 use Rattle.std.proofs.Common.{rules, ◌≡◌, ◌<◌, ℕ, get_or, length, subst, sym}
 use Rattle.configuration.proofs.Wants.{wanted_at}
-use Rattle.configuration.specs.Parts.{IsWantedIn}
+use Rattle.configuration.specs.PlanParts.{IsWantedIn}
 use Rattle.configuration.proofs.plan.wanted_in.Goals as goal
 
 pub returns-in-Some : goal.returns-in-Some

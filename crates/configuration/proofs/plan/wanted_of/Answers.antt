@@ -1,5 +1,5 @@
 use Rattle.configuration.proofs.Wants.{four}
-use Rattle.configuration.specs.Parts.{IsWantedIn}
+use Rattle.configuration.specs.PlanParts.{IsWantedIn}
 use Rattle.configuration.proofs.plan.wanted_of.Goals as goal
 
 pub returns : goal.returns

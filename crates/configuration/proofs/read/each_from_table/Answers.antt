@@ -3,7 +3,7 @@ use Rattle.std.specs.List.{AllZip, cons_option}
 use Rattle.toml.specs.Data.{as_table}
 use Rattle.toml.specs.View.{items_view, table_view, view}
 use Rattle.configuration.specs.declared.read.ReadFault.TheVariants.{NoValue}
-use Rattle.configuration.specs.Tables.{tables_of}
+use Rattle.configuration.specs.TomlTables.{tables_of}
 use Rattle.configuration.proofs.Lists.{AllZip-push}
 use Rattle.configuration.proofs.Tables.{table-spells, tables-more}
 use Rattle.configuration.proofs.read.each_from_table.Goals as goal

@@ -1,7 +1,7 @@
 use Rattle.std.proofs.Common.{take}
 use Rattle.std.specs.List.{AllZip}
 use Rattle.toml.specs.View.{items_view}
-use Rattle.configuration.specs.Tables.{tables_of}
+use Rattle.configuration.specs.TomlTables.{tables_of}
 use Rattle.configuration.proofs.read.each_from_table.Given as goal
 
 abbrev pub invariant-loop-item : goal.invariant-loop-item

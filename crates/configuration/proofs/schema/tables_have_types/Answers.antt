@@ -1,6 +1,6 @@
 use Rattle.std.proofs.Common.{All, ap, map, subst, sym}
 use Rattle.configuration.specs.Schema.{HasTypes, key_rule_of}
-use Rattle.configuration.specs.Tables.{tables_of}
+use Rattle.configuration.specs.TomlTables.{tables_of}
 use Rattle.configuration.proofs.TableLemmas.{All-tables, tables-All}
 use Rattle.configuration.proofs.schema.tables_have_types.Goals as goal
 

@@ -1,6 +1,6 @@
 use Rattle.std.proofs.Common.{ℕ, ◌≡◌, ◌+◌, List, Option}
 use Rattle.adapter.specs.Steps.{disk_cleared}
-use Rattle.device_model.specs.Cached.{HasRoomForOld, lasting_in}
+use Rattle.device_model.specs.WriteCaches.{HasRoomForOld, lasting_in}
 use Rattle.device_model.specs.Disks.{disk_over}
 use Rattle.device_model.proofs.bay.clear_sectors.Given as goal
 

@@ -1,6 +1,6 @@
 use Rattle.std.proofs.Common.{length, arith}
 use Rattle.device_model.proofs.Bytes.{bytes_copied}
-use Rattle.device_model.specs.Fetched.{bytes_of}
+use Rattle.device_model.specs.FetchedBytes.{bytes_of}
 use Rattle.device_model.proofs.fetch.copy_end.Goals as goal
 
 pub returns : goal.returns

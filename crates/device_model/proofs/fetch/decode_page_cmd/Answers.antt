@@ -4,7 +4,7 @@ use Rattle.adapter.specs.Commands.{command_of}
 use Rattle.adapter.specs.declared.command.Operation.{Operation}
 use Rattle.device_model.proofs.Absurd.{some-none, true-false}
 use Rattle.device_model.specs.Finishing.{sends_page}
-use Rattle.device_model.specs.View.{operation_of_kind}
+use Rattle.device_model.specs.PortView.{operation_of_kind}
 use Rattle.device_model.specs.declared.port.CommandKind.{CommandKind}
 use Rattle.device_model.proofs.Transfers.{kind_of_operation}
 use Rattle.device_model.proofs.fetch.decode_page_cmd.Goals as goal
@@ -13,7 +13,7 @@ pub returns-in_err-command_kind-clause-only : goal.returns-in_err-command_kind-c
 returns-in_err-command_kind-clause-only c = λ none m places sends s.
     let t = kind_of_operation m.operation in
     let header = rw c.header_place.ensures at c.header_bytes-header.ensures in
-    let points : little_from 8 4 c.header_bytes-header.result ≡ s.table = rw (← header) at s.header.points in
+    let points : little_from 8 4 c.header_bytes-header.result ≡ s.table = rw (← header) at s.header.table_address_is in
     let fis = rw points at c.command_fis_bytes-fis.ensures in
     let code = rw (← fis) at s.fis.code in
     let its = c.kind_of_code.ensures t.0 c.args.slot m.first m.count (ap (λ (o : Operation). (command_of o c.args.slot m.first m.count).code) (sym t.1) ∙ sym code) in
@@ -23,7 +23,7 @@ pub returns-then-not-sends_page-clause-only : goal.returns-then-not-sends_page-c
 returns-then-not-sends_page-clause-only c = λ none m places sends s.
     let t = kind_of_operation m.operation in
     let header = rw c.header_place.ensures at c.header_bytes-header.ensures in
-    let points : little_from 8 4 c.header_bytes-header.result ≡ s.table = rw (← header) at s.header.points in
+    let points : little_from 8 4 c.header_bytes-header.result ≡ s.table = rw (← header) at s.header.table_address_is in
     let fis = rw points at c.command_fis_bytes-fis.ensures in
     let code = rw (← fis) at s.fis.code in
     let its = c.kind_of_code.ensures t.0 c.args.slot m.first m.count (ap (λ (o : Operation). (command_of o c.args.slot m.first m.count).code) (sym t.1) ∙ sym code) in
@@ -34,7 +34,7 @@ pub returns-else-decode_command-clause-only : goal.returns-else-decode_command-c
 returns-else-decode_command-clause-only c = λ none m places sends s.
     let t = kind_of_operation m.operation in
     let header = rw c.header_place.ensures at c.header_bytes-header.ensures in
-    let points : little_from 8 4 c.header_bytes-header.result ≡ s.table = rw (← header) at s.header.points in
+    let points : little_from 8 4 c.header_bytes-header.result ≡ s.table = rw (← header) at s.header.table_address_is in
     let fis = rw points at c.command_fis_bytes-fis.ensures in
     let code = rw (← fis) at s.fis.code in
     let its = c.kind_of_code.ensures t.0 c.args.slot m.first m.count (ap (λ (o : Operation). (command_of o c.args.slot m.first m.count).code) (sym t.1) ∙ sym code) in

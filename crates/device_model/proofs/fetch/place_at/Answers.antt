@@ -1,5 +1,5 @@
 use Rattle.std.proofs.Common.{rules, ◌<◌, ◌≤◌, length, ◌≡◌, ◌+◌, ◌*◌, ◌/◌, ◌∙◌, refl, sym, arith, slice_index_or}
-use Rattle.device_model.specs.Fetched.{no_prd}
+use Rattle.device_model.specs.FetchedBytes.{no_prd}
 use Rattle.device_model.proofs.Fetches.{before_none, before_more, before_here, before_on, before_all}
 use Rattle.device_model.proofs.fetch.place_at.Goals as goal
 

@@ -1,7 +1,7 @@
 use Rattle.std.proofs.Common.{◌<◌, [], ◌∷◌, length, length-append, arith, refl, slice_index_or}
 use Rattle.std.proofs.lemmas.List.Elements.{All-append}
 use Rattle.adapter.specs.Decoding.{IsWholePieces}
-use Rattle.device_model.specs.Fetched.{bytes_of, no_prd}
+use Rattle.device_model.specs.FetchedBytes.{bytes_of, no_prd}
 use Rattle.device_model.proofs.Fetches.{has_at, has_more, only_one}
 use Rattle.device_model.proofs.fetch.read_prds.Goals as goal
 
@@ -25,8 +25,8 @@ pub returns-clause-found : goal.returns-clause-found
 returns-clause-found c = λ _.
     record {
       standing = c.loop-i.prds;
-      number_is = omega (arith, c.loop-i.invariant.size, c.loop-i-test.false, c.loop-i.auto);
-      stand = c.loop-i.invariant.stand;
-      whole = c.loop-i.invariant.whole;
-      same = refl;
+      prd_count_is = omega (arith, c.loop-i.invariant.size, c.loop-i-test.false, c.loop-i.auto);
+      prds_stand = c.loop-i.invariant.stand;
+      prds_are_whole_pieces = c.loop-i.invariant.whole;
+      pieces_are = refl;
     }

@@ -1,6 +1,6 @@
 use Rattle.std.proofs.Common.{◌≡◌, length, All}
 use Rattle.adapter.specs.Decoding.{HasPrds, IsWholePieces}
-use Rattle.device_model.specs.Fetched.{bytes_of}
+use Rattle.device_model.specs.FetchedBytes.{bytes_of}
 use Rattle.device_model.proofs.fetch.read_prds.Given as goal
 
 abbrev pub invariant-loop-i : goal.invariant-loop-i

@@ -5,7 +5,7 @@ use Rattle.std.proofs.lemmas.List.{get_or_past}
 use Rattle.std.proofs.lemmas.Nat.Bits.{bit_at-pow_same, bit_at-pow_other, bit_at-zero}
 use Rattle.hba_regs.specs.Bits.{bit}
 use Rattle.adapter.specs.Access.{is_pending}
-use Rattle.device_model.specs.View.{port_of, blank_port}
+use Rattle.device_model.specs.PortView.{port_of, blank_port}
 use Rattle.device_model.proofs.BitLemmas.{bit-or}
 use Rattle.device_model.proofs.SlotLemmas.{at_port}
 use Rattle.device_model.proofs.hardware.pending.Goals as goal

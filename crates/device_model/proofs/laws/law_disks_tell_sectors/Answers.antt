@@ -1,5 +1,5 @@
 use Rattle.device_model.proofs.NewModel.{all_told}
-use Rattle.device_model.specs.Tells.{disks_told}
+use Rattle.device_model.specs.ToldDisks.{disks_told}
 use Rattle.device_model.proofs.laws.law_disks_tell_sectors.Goals as goal
 
 pub returns-clause-tells : goal.returns-clause-tells

@@ -1,7 +1,7 @@
 use Rattle.std.proofs.Common.{Option, All, subst}
 use Rattle.adapter.specs.declared.access.DeviceStep.{DeviceStep}
 use Rattle.device_model.specs.Disks.{disk_index_of}
-use Rattle.device_model.specs.Does.{PutsIn}
+use Rattle.device_model.specs.StepEffects.{PutsIn}
 use Rattle.device_model.specs.declared.disks.DiskIndex.{DiskIndex}
 use Rattle.device_model.proofs.Waiting.{last_waits, out_stays}
 use Rattle.device_model.proofs.laws.law_disks_that_are_out_stay.Goals as goal

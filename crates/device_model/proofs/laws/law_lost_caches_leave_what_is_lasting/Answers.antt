@@ -2,12 +2,12 @@ use Rattle.device_model.proofs.Losing.{all_back, each_back_or, lost_of}
 use Rattle.device_model.specs.Disks.{lasting_of}
 use Rattle.device_model.proofs.laws.law_lost_caches_leave_what_is_lasting.Goals as goal
 
-pub returns-clause-each : goal.returns-clause-each
-returns-clause-each g c = λ old new p a b was is on did.
+pub returns-clause-each_sector : goal.returns-clause-each_sector
+returns-clause-each_sector g c = λ old new p a b was is on did.
     each_back_or g.S.SectorStore.size g.S.SectorStore.told g.S.SectorStore.failures (lasting_of g.S.SectorStore.told a) a.disk.store b.disk.store
-    ((lost_of g.S.SectorStore.size g.S.SectorStore.told g.S.SectorStore.failures old new p a b was is did).back on) (g.met.S.SectorStore.fits a.disk.store)
+    ((lost_of g.S.SectorStore.size g.S.SectorStore.told g.S.SectorStore.failures old new p a b was is did).is_rolled_back on) (g.met.S.SectorStore.fits a.disk.store)
 
 pub returns-clause-whole : goal.returns-clause-whole
 returns-clause-whole g c = λ old new p a b was is on did.
     all_back g.S.SectorStore.size g.S.SectorStore.told g.S.SectorStore.failures (lasting_of g.S.SectorStore.told a) a.disk.store b.disk.store
-    ((lost_of g.S.SectorStore.size g.S.SectorStore.told g.S.SectorStore.failures old new p a b was is did).back on) (g.met.S.SectorStore.fits a.disk.store)
+    ((lost_of g.S.SectorStore.size g.S.SectorStore.told g.S.SectorStore.failures old new p a b was is did).is_rolled_back on) (g.met.S.SectorStore.fits a.disk.store)

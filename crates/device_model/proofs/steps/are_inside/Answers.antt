@@ -1,7 +1,7 @@
 use Rattle.std.proofs.Common.{rules, ℕ, ◌<◌, ◌≤◌, length, slice_index_or, below_more, subst, arith}
 use Rattle.std.proofs.lemmas.List.{get_or_default}
 use Rattle.adapter.specs.declared.command.Prd.{Prd}
-use Rattle.device_model.specs.Fetched.{no_prd}
+use Rattle.device_model.specs.FetchedBytes.{no_prd}
 use Rattle.device_model.specs.Finishing.{IsInside}
 use Rattle.device_model.proofs.Ready.{all_inside, inside_all}
 use Rattle.device_model.proofs.steps.are_inside.Goals as goal

@@ -3,11 +3,11 @@ use Rattle.std.specs.Prelude.{slice_index_or}
 use Rattle.hba_regs.specs.Bits.{bit}
 use Rattle.device_model.proofs.Absurd.{some-none, some_one, true-false}
 use Rattle.device_model.proofs.SlotLemmas.{held_none, held_room, held_within}
-use Rattle.device_model.specs.Block.{taken_in_slot}
+use Rattle.device_model.specs.TakenBlocks.{taken_in_slot}
 use Rattle.device_model.specs.declared.port.TakenCommand.{TakenCommand}
 use Rattle.std.proofs.lemmas.Bool.{cases_lt}
 use Rattle.adapter.specs.Commands.{is_queued}
-use Rattle.device_model.specs.View.{operation_of_kind}
+use Rattle.device_model.specs.PortView.{operation_of_kind}
 use Rattle.std.proofs.Common.{inl, inr}
 use Rattle.device_model.proofs.taken.hold_queued.Goals as goal
 use Rattle.device_model.proofs.taken.hold_queued.Goals.{else-is_set-via-then-is_set+else-not-is_queued, else-is_set-via-else-is_set}

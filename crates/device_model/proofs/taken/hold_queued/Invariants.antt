@@ -1,7 +1,7 @@
 use Rattle.std.proofs.Common.{ℕ, ◌≡◌, ◌<◌, Some, true}
 use Rattle.adapter.specs.Commands.{is_queued}
-use Rattle.device_model.specs.Block.{taken_in_slot}
-use Rattle.device_model.specs.View.{operation_of_kind}
+use Rattle.device_model.specs.TakenBlocks.{taken_in_slot}
+use Rattle.device_model.specs.PortView.{operation_of_kind}
 use Rattle.device_model.specs.declared.port.TakenCommand.{TakenCommand}
 use Rattle.device_model.proofs.taken.hold_queued.Given as goal
 

@@ -1,6 +1,6 @@
 use Rattle.std.proofs.Common.{ℕ, ◌≡◌, ◌≤◌, ◌∙◌, List, take, arith, length-take}
-use Rattle.device_model.specs.Trims.{trim_extent, uncleared}
-use Rattle.device_model.specs.View.{taken_of}
+use Rattle.device_model.specs.Trims.{first_run_length, uncleared}
+use Rattle.device_model.specs.PortView.{taken_of}
 use Rattle.device_model.proofs.Runs.{run_long}
 use Rattle.device_model.proofs.Trimming.{run_one}
 use Rattle.device_model.proofs.trims.run_of_trim.Goals as goal
@@ -9,8 +9,8 @@ use Rattle.device_model.proofs.trims.run_of_trim.Goals.{else-run-most-via-then-r
 pub returns-then-run-eq0-clause-none : goal.returns-then-run-eq0-clause-none
 returns-then-run-eq0-clause-none c = λ _ can.
     let run = c.next_run-run.result in
-    let count : run.count ≡ trim_extent (take c.args.most (uncleared (taken_of c.args.command.now))) = rw c.requires.block at c.next_run-run.ensures.count in
-    let some = run_one c.args.most (uncleared (taken_of c.args.command.now)) can.some can.enough in
+    let count : run.count ≡ first_run_length (take c.args.most (uncleared (taken_of c.args.command.now))) = rw c.requires.block at c.next_run-run.ensures.count in
+    let some = run_one c.args.most (uncleared (taken_of c.args.command.now)) can.count_is_positive can.enough_are_left in
     let none = c.if-run-eq0.true in
     absurd (omega (arith, count, some, none))
 
@@ -20,13 +20,13 @@ returns-clause-can c =
     let left : List ℕ = uncleared (taken_of c.args.command.now) in
     let ne = c.if-run-eq0.false in
     let some : 1 ≤ run.count = omega (arith, ne) in
-    let count : run.count ≡ trim_extent (take c.args.most left) = rw c.requires.block at c.next_run-run.ensures.count in
+    let count : run.count ≡ first_run_length (take c.args.most left) = rw c.requires.block at c.next_run-run.ensures.count in
     let few = c.next_run-run.ensures.few in
     record {
       trim = c.is_trim.ensures.0 c.if-not-is_trim.false;
-      moved = c.if-command-count_pieces.false ∙ (rw c.as_slice.ensures.same at c.count_pieces.ensures);
-      some = omega (arith, some, few);
-      enough = elim c.else-run-most.branch [
+      block_is_moved = c.if-command-count_pieces.false ∙ (rw c.as_slice.ensures.same at c.count_pieces.ensures);
+      count_is_positive = omega (arith, some, few);
+      enough_are_left = elim c.else-run-most.branch [
         | else-run-most-via-then-run-most+else-uncleared_of-most w ↦
             let least = w.if-uncleared_of-most.false in
             let is = w.uncleared_of.ensures in

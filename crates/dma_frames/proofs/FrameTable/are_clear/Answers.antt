@@ -4,7 +4,7 @@ use Rattle.std.proofs.lemmas.List.{length-replicate}
 use Rattle.std.proofs.lemmas.Option.{same_Some, slice_get_within, slice_get-get_or}
 use Rattle.std.specs.Prelude.{IsSome}
 use Rattle.ata_types.specs.declared.request.Frame.{Frame}
-use Rattle.dma_frames.specs.Table.{owner_of, lent_to}
+use Rattle.dma_frames.specs.FrameTables.{owner_of, lent_to}
 use Rattle.dma_frames.proofs.FaultLemmas.{no_fault}
 use Rattle.dma_frames.proofs.OwnerLemmas.{get_or-copies}
 use Rattle.dma_frames.proofs.Seen.{none_seen, seen_more, once_here}

@@ -1,6 +1,6 @@
 use Rattle.std.proofs.Common.{◌≡◌, ℕ, ◌<◌, length}
 use Rattle.block_machine.specs.Rules.{IsForeignAt, IsTwiceAt, IsLentAt}
-use Rattle.dma_frames.specs.Table.{owner_of, lent_to}
+use Rattle.dma_frames.specs.FrameTables.{owner_of, lent_to}
 use Rattle.dma_frames.proofs.Seen.{AreSeen}
 use Rattle.dma_frames.proofs.FrameTable.are_clear.Given as goal
 

@@ -1,6 +1,6 @@
 use Rattle.std.proofs.Common.{ℕ, ◌<◌}
 use Rattle.block_machine.specs.Rules.{IsForeignAt}
-use Rattle.dma_frames.specs.Table.{owner_of}
+use Rattle.dma_frames.specs.FrameTables.{owner_of}
 use Rattle.dma_frames.proofs.FrameTable.first_foreign.Given as goal
 
 abbrev pub invariant-loop-place : goal.invariant-loop-place

@@ -1,6 +1,6 @@
 use Rattle.std.proofs.Common.{ℕ, ◌<◌}
 use Rattle.block_machine.specs.Rules.{IsLentAt}
-use Rattle.dma_frames.specs.Table.{lent_to}
+use Rattle.dma_frames.specs.FrameTables.{lent_to}
 use Rattle.dma_frames.proofs.FrameTable.first_lent.Given as goal
 
 abbrev pub invariant-loop-place : goal.invariant-loop-place

@@ -1,5 +1,5 @@
 use Rattle.std.proofs.Common.{◌≡◌}
-use Rattle.dma_frames.specs.Stored.{HasAllFrames, borrowers_of, owners_of}
+use Rattle.dma_frames.specs.TableLists.{HasAllFrames, borrowers_of, owners_of}
 use Rattle.dma_frames.proofs.OwnerLemmas.{Owned, Only}
 use Rattle.dma_frames.proofs.FrameTable.mark_all.Given as goal
 

@@ -2,7 +2,7 @@ use Rattle.std.proofs.Common.{ℕ, Bool, false, replicate, ap, ◌∙◌}
 use Rattle.std.proofs.lemmas.List.{length-replicate}
 use Rattle.ata_types.specs.declared.request.RequestId.{RequestId}
 use Rattle.ata_types.specs.declared.memory.TheConstants.{MOST_FRAMES}
-use Rattle.dma_frames.specs.Stored.{client_of}
+use Rattle.dma_frames.specs.TableLists.{client_of}
 use Rattle.dma_frames.proofs.OwnerLemmas.{get_or-copies}
 use Rattle.dma_frames.proofs.StoredLemmas.{none_lent, owner_is}
 use Rattle.dma_frames.proofs.FrameTable.of_nobody.Goals as goal

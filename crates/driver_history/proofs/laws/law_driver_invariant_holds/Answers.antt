@@ -4,5 +4,5 @@ use Rattle.driver_history.proofs.laws.law_driver_invariant_holds.Goals as goal
 pub returns-clause-holds : goal.returns-clause-holds
 returns-clause-holds c = holds_at
 
-pub returns-clause-fit : goal.returns-clause-fit
-returns-clause-fit c = fit_at
+pub returns-clause-ports_are_well_formed : goal.returns-clause-ports_are_well_formed
+returns-clause-ports_are_well_formed c = fit_at

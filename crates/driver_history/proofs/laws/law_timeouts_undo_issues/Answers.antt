@@ -1,8 +1,8 @@
 use Rattle.block_machine.specs.Events.{abstract_after}
-use Rattle.block_machine.specs.Histories.{now}
+use Rattle.block_machine.specs.Histories.{joint_state_after}
 use Rattle.driver_history.proofs.Calm.{restarts_of}
 use Rattle.driver_history.proofs.laws.law_timeouts_undo_issues.Goals as goal
 
 pub returns : goal.returns
 returns c = λ wanted first past h port history asks hung.
-    (restarts_of h.event.ask h.event.said (now first past).abstract h.event.evidence h.event.steps (abstract_after (now first past).abstract h.event) history.1.answered asks).anew port hung
+    (restarts_of h.event.ask h.event.said (joint_state_after first past).abstract h.event.evidence h.event.steps (abstract_after (joint_state_after first past).abstract h.event) history.1.is_answered asks).none_stays_issued port hung

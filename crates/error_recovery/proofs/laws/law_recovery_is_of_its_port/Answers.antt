@@ -1,20 +1,20 @@
 use Rattle.error_recovery.proofs.Going.{loads_inside, recovering_is_of, recovering_spares_host, spares_active, spares_interrupts, spares_link, stores_inside}
 use Rattle.error_recovery.proofs.laws.law_recovery_is_of_its_port.Goals as goal
 
-pub returns-clause-of : goal.returns-clause-of
-returns-clause-of c = recovering_is_of c.law_prerequisites.ensures
+pub returns-clause-of_its_port : goal.returns-clause-of_its_port
+returns-clause-of_its_port c = recovering_is_of c.law_prerequisites.ensures
 
-pub returns-clause-host : goal.returns-clause-host
-returns-clause-host c = recovering_spares_host c.law_prerequisites.ensures
+pub returns-clause-ghc_is_unwritten : goal.returns-clause-ghc_is_unwritten
+returns-clause-ghc_is_unwritten c = recovering_spares_host c.law_prerequisites.ensures
 
-pub returns-clause-link : goal.returns-clause-link
-returns-clause-link c = spares_link c.law_prerequisites.ensures
+pub returns-clause-sctl_is_unwritten : goal.returns-clause-sctl_is_unwritten
+returns-clause-sctl_is_unwritten c = spares_link c.law_prerequisites.ensures
 
-pub returns-clause-interrupts : goal.returns-clause-interrupts
-returns-clause-interrupts c = spares_interrupts c.law_prerequisites.ensures
+pub returns-clause-ie_is_unwritten : goal.returns-clause-ie_is_unwritten
+returns-clause-ie_is_unwritten c = spares_interrupts c.law_prerequisites.ensures
 
-pub returns-clause-active : goal.returns-clause-active
-returns-clause-active c = spares_active c.law_prerequisites.ensures
+pub returns-clause-sact_is_unwritten : goal.returns-clause-sact_is_unwritten
+returns-clause-sact_is_unwritten c = spares_active c.law_prerequisites.ensures
 
 pub returns-clause-loads : goal.returns-clause-loads
 returns-clause-loads c = loads_inside

@@ -1,6 +1,6 @@
 use Rattle.std.proofs.Common.{List, subst, ◌∙◌}
 use Rattle.ata_types.specs.declared.grant.GrantRow.{GrantRow}
-use Rattle.grants.specs.Names.{IsRowAt}
+use Rattle.grants.specs.NamedRows.{IsRowAt}
 use Rattle.grants.proofs.RowLemmas.{row_at}
 use Rattle.grants.proofs.Grants.find.Goals as goal
 

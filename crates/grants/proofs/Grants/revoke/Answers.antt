@@ -3,8 +3,8 @@ use Rattle.std.specs.List.{slice_get}
 use Rattle.std.proofs.lemmas.List.{length-map}
 use Rattle.std.proofs.lemmas.Option.{slice_get_within, get_or_from_slice_get}
 use Rattle.ata_types.specs.declared.grant.GrantRow.{GrantRow}
-use Rattle.block_machine.specs.Rules.{Names, without_row}
-use Rattle.grants.specs.Names.{name_of}
+use Rattle.block_machine.specs.Rules.{HasGrantName, without_row}
+use Rattle.grants.specs.NamedRows.{row_name_of}
 use Rattle.grants.proofs.Revoking.{dropped_row, still_indexed}
 use Rattle.grants.proofs.Grants.revoke.Goals as goal
 
@@ -16,7 +16,7 @@ remove-requires c =
     let at = c.in_ok-place.ensures.place in
     let within = slice_get_within c.args.self.now c.in_ok-place.place at.0 at.1 in
     let rows = ap length c.self.view_is in
-    let keys = ap length c.self.invariant.keys ∙ length-map c.self.inside.rows.items name_of in
+    let keys = ap length c.self.invariant.keys ∙ length-map c.self.inside.rows.items row_name_of in
     omega (arith, within, rows, keys)
 
 pub remove-row-requires : goal.remove-row-requires
@@ -41,7 +41,7 @@ returns-clause-found c =
     let inner : slice_get c.self.inside.rows.items place ≡ Some at.0 = subst (λ (rs : List GrantRow). slice_get rs place ≡ Some at.0) (sym c.self.view_is) at.1 in
     let is : c.remove-row.result ≡ at.0 = c.remove-row.ensures.value ∙ get_or_from_slice_get c.self.inside.rows.items place at.0 c.remove-row.result inner in (
       (place, slice_get_within rows place at.0 at.1, get_or_from_slice_get rows place at.0 c.remove-row.result at.1 ∙ sym is),
-      subst (Names c.args.client c.args.number) (sym is) at.2,
+      subst (HasGrantName c.args.client c.args.number) (sym is) at.2,
       c.remove-row.ensures.items ∙ dropped_row c.args.client c.args.number c.self.inside.rows.items place at.0 c.self.invariant.differ inner at.2
           ∙ ap (λ (rs : List GrantRow). without_row c.args.client c.args.number rs) c.self.view_is,
     )

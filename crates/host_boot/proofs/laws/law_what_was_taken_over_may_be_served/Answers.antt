@@ -10,14 +10,14 @@ returns-clause-there c = taken_there
 pub returns-clause-ready : goal.returns-clause-ready
 returns-clause-ready c = λ wanted host port info old new taken. taken_ready wanted host port old new taken info
 
-pub returns-clause-well : goal.returns-clause-well
-returns-clause-well c = λ wanted host port info old new idle taken. taken_runs c.law_prerequisites.ensures wanted host port old new taken info idle
+pub returns-clause-healthy_port_runs_well : goal.returns-clause-healthy_port_runs_well
+returns-clause-healthy_port_runs_well c = λ wanted host port info old new idle taken. taken_runs c.law_prerequisites.ensures wanted host port old new taken info idle
 
 pub returns-clause-recorded : goal.returns-clause-recorded
 returns-clause-recorded c = λ wanted host port info old new idle taken. taken_faults c.law_prerequisites.ensures wanted host port old new taken info idle
 
 pub returns-clause-shown : goal.returns-clause-shown
-returns-clause-shown c = λ wanted host port state old new idle taken bad is. taken_shown c.law_prerequisites.ensures (port_at port) state host.ports old new idle bad is taken.way
+returns-clause-shown c = λ wanted host port state old new idle taken bad is. taken_shown c.law_prerequisites.ensures (port_at port) state host.ports old new idle bad is taken.switches_on_and_boots
 
-pub returns-clause-own : goal.returns-clause-own
-returns-clause-own c = λ wanted host port info old new idle taken is. taken_own c.law_prerequisites.ensures (port_at port) info host.ports old new idle is taken.way
+pub returns-clause-disk_is_in_if_shown : goal.returns-clause-disk_is_in_if_shown
+returns-clause-disk_is_in_if_shown c = λ wanted host port info old new idle taken is. taken_own c.law_prerequisites.ensures (port_at port) info host.ports old new idle is taken.switches_on_and_boots

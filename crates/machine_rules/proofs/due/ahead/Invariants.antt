@@ -1,6 +1,6 @@
 use Rattle.std.proofs.Common.{◌≡◌, ◌&&◌, take}
 use Rattle.std.specs.List.{count_by}
-use Rattle.block_machine.specs.Due.{is_earlier_on_port, is_unblocked}
+use Rattle.block_machine.specs.DueRequests.{is_earlier_on_port, is_unblocked}
 use Rattle.machine_rules.proofs.due.ahead.Given as goal
 
 abbrev pub invariant-loop-other : goal.invariant-loop-other

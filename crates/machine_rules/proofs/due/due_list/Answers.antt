@@ -1,7 +1,7 @@
 use Rattle.std.proofs.Common.{ap, arith, length, take}
 use Rattle.std.proofs.lemmas.List.{length-take}
 use Rattle.std.proofs.lemmas.List.Sums.{length-filter, count_by-le-length}
-use Rattle.block_machine.specs.Due as due
+use Rattle.block_machine.specs.DueRequests as due
 use Rattle.machine_rules.proofs.due.due_list.Goals as goal
 
 pub push-requires : goal.push-requires

@@ -1,6 +1,6 @@
 use Rattle.std.proofs.Common.{◌≡◌, take}
 use Rattle.std.specs.List.{filter}
-use Rattle.block_machine.specs.Due.{is_due}
+use Rattle.block_machine.specs.DueRequests.{is_due}
 use Rattle.machine_rules.proofs.due.due_list.Given as goal
 
 abbrev pub invariant-loop-r : goal.invariant-loop-r

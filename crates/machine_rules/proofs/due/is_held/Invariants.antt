@@ -1,6 +1,6 @@
 use Rattle.std.proofs.Common.{◌≡◌, false, take}
 use Rattle.std.specs.List.{list_any}
-use Rattle.block_machine.specs.Due.{waits_for}
+use Rattle.block_machine.specs.DueRequests.{waits_for}
 use Rattle.machine_rules.proofs.due.is_held.Given as goal
 
 abbrev pub invariant-loop-other : goal.invariant-loop-other

@@ -33,12 +33,12 @@ returns-clause-keeps g c =
     let last = some_of new.last (on_ok c.run-done.result _ c.run-done.ensures.last ok (omega (arith, c.from_ref.ensures.len))) in
     let one = with_replies last.0 new.replies.items in
     let shown : new.earlier.items ++ one ∷ [] ≡ ran.said =
-    ap (λ (o : Option (CallResult (Unit {0}))). new.earlier.items ++ last_of o new.replies.items) (sym last.1) ∙ ran.told ∙ ap (λ (before : List (CallResult (ArrayVec Reply))). before ++ ran.said) c.clear.ensures.said in
+    ap (λ (o : Option (CallResult (Unit {0}))). new.earlier.items ++ last_of o new.replies.items) (sym last.1) ∙ ran.results_are ∙ ap (λ (before : List (CallResult (ArrayVec Reply))). before ++ ran.said) c.clear.ensures.said in
     let Q : List (Call DeviceStep) → List (CallResult (ArrayVec Reply)) → Type 0 = λ calls said. Simulates device c.args.server.now c.run-done.new.self calls said in (
       last.0,
       last.1,
       subst (λ (calls : List (Call DeviceStep)). Q calls (one ∷ [])) c.from_ref.ensures.value
-          (subst (Q calls) (alone new.earlier.items one ran.said shown (ran.each ∙ c.from_ref.ensures.len)) ran.keeps),
+          (subst (Q calls) (alone new.earlier.items one ran.said shown (ran.one_result_a_call ∙ c.from_ref.ensures.len)) ran.simulates_calls),
     )
 
 pub returns-clause-room : goal.returns-clause-room

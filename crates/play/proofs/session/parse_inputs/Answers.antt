@@ -1,6 +1,6 @@
 use Rattle.std.proofs.Common.{sym, subst, IfErr}
 use Rattle.std.proofs.lemmas.Result.{err_from_is_err_and}
-use Rattle.play.specs.Played.{IsRefused}
+use Rattle.play.specs.PlayedScript.{IsRefused}
 use Rattle.play.proofs.session.parse_inputs.Goals as goal
 
 -- a bad line, where the configuration was read

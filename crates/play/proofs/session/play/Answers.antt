@@ -1,8 +1,8 @@
 use Rattle.std.proofs.Common.{ℕ, ◌≡◌, List, Bool, Option, Some, sym, subst}
-use Rattle.block_server.specs.View.{ServerView}
+use Rattle.block_server.specs.ServerView.{ServerView}
 use Rattle.device_model.specs.declared.model.Model.{Model}
-use Rattle.device_model.specs.Modelled.{is_starved}
-use Rattle.play.specs.Played.{Played, Ends, IsServerOfModel, IsWhyItStopped, ended_by_stop}
+use Rattle.device_model.specs.ModelState.{is_starved}
+use Rattle.play.specs.PlayedScript.{Played, Ends, IsServerOfModel, IsWhyItStopped, ended_by_stop}
 use Rattle.play.specs.declared.session.Ended.{Ended}
 use Rattle.play.specs.declared.session.PlayError.{PlayError}
 use Rattle.play.specs.declared.session.PlayError.TheVariants.{NoMemory, Unwritten}
@@ -21,8 +21,8 @@ returns-in-Ok-performed g c =
     let ran = c.in-Ok-performed.ensures in
     let Started : ServerView (Model g.row.S.Denot) → Type 0 = λ server. IsServerOfModel g.S.SectorStore.size g.S.SectorStore.told c.in-Ok.values c.args.image c.args.blank server in (
       played_of g.S.SectorStore.size g.S.SectorStore.told c.args.config.now c.args.script.now c.args.image c.args.blank c.args.trace _ _ c.in-Ok.values
-          c.in-Ok.ensures.read c.deref_mut.result.now c.perform-performed.new.server (subst Started (sym c.deref_mut.ensures.value) c.in-Ok-start.ensures) ran.0
-          (record { none = c.law_runs_keep_their_promise.ensures.none; more = c.law_runs_keep_their_promise.ensures.more }) c.closed.result c.closed.ensures,
+          c.in-Ok.ensures.read c.deref_mut.result.now c.play_lines-performed.new.server (subst Started (sym c.deref_mut.ensures.value) c.in-Ok-start.ensures) ran.0
+          (record { none = c.law_runs_keep_their_promise.ensures.no_calls; more = c.law_runs_keep_their_promise.ensures.calls_join }) c.close_server.result c.close_server.ensures,
       ran.1,
     )
 
@@ -30,11 +30,11 @@ pub returns : goal.returns
 returns g c =
     let ran = c.in-Err-performed.ensures in
     let Started : ServerView (Model g.row.S.Denot) → Type 0 = λ server. IsServerOfModel g.S.SectorStore.size g.S.SectorStore.told c.in-Ok.values c.args.image c.args.blank server in
-    let left : c.closed.result ≡ c.perform-performed.new.server.adapter = c.closed.ensures in
+    let left : c.close_server.result ≡ c.play_lines-performed.new.server.adapter = c.close_server.ensures in
     subst (λ (ended : Ended). Ends g.S.SectorStore.size g.S.SectorStore.told c.args.config.now c.args.script.now c.args.image c.args.blank c.args.trace
-    (g.W.Write.contents c.args.out.now) (g.W.Write.contents c.perform-performed.new.out) ended (Some c.closed.result)) (sym c.from.ensures)
-    (stopped _ _ c.args.config.now c.args.script.now c.args.image c.args.blank c.args.trace _ _ c.closed.result c.in-Err-performed.stop
+    (g.W.Write.contents c.args.out.now) (g.W.Write.contents c.play_lines-performed.new.out) ended (Some c.close_server.result)) (sym c.from.ensures)
+    (stopped _ _ c.args.config.now c.args.script.now c.args.image c.args.blank c.args.trace _ _ c.close_server.result c.in-Err-performed.stop
     (played_of g.S.SectorStore.size g.S.SectorStore.told c.args.config.now c.args.script.now c.args.image c.args.blank c.args.trace _ _ c.in-Ok.values
-    c.in-Ok.ensures.read c.deref_mut.result.now c.perform-performed.new.server (subst Started (sym c.deref_mut.ensures.value) c.in-Ok-start.ensures) ran.0
-    (record { none = c.law_runs_keep_their_promise.ensures.none; more = c.law_runs_keep_their_promise.ensures.more }) c.closed.result left)
+    c.in-Ok.ensures.read c.deref_mut.result.now c.play_lines-performed.new.server (subst Started (sym c.deref_mut.ensures.value) c.in-Ok-start.ensures) ran.0
+    (record { none = c.law_runs_keep_their_promise.ensures.no_calls; more = c.law_runs_keep_their_promise.ensures.calls_join }) c.close_server.result left)
     (subst (λ (m : Model g.row.S.Denot). IsWhyItStopped (is_starved m) ran.0.part c.in-Err-performed.stop) (sym left) ran.2))

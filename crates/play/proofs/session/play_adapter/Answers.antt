@@ -1,18 +1,18 @@
 use Rattle.std.proofs.Common.{sym, subst, inr}
-use Rattle.block_server.specs.Made.{IsInitialServer}
-use Rattle.block_server.specs.View.{ServerView}
+use Rattle.block_server.specs.InitialServer.{IsInitialServer}
+use Rattle.block_server.specs.ServerView.{ServerView}
 use Rattle.play.proofs.session.play_adapter.Goals as goal
 
 pub returns-clause-left : goal.returns-clause-left
 returns-clause-left g c =
     let New : ServerView g.row.A.Denot → Type 0 = λ server. IsInitialServer g.A.Adapter.device c.args.config.now c.args.adapter server in
     let there = subst New (sym c.in-Ok-on_heap.ensures) c.in-Ok.ensures.made in
-    let performed = c.perform-performed.ensures in
+    let performed = c.play_lines-performed.ensures in
     inr (
       c.deref_mut.result.now,
-      c.perform-performed.new.server,
+      c.play_lines-performed.new.server,
       subst New (sym c.deref_mut.ensures.value) there,
-      c.closed.ensures,
+      c.close_server.ensures,
       performed.0,
       performed.1,
       performed.2,

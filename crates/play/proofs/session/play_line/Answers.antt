@@ -4,7 +4,7 @@ use Rattle.std.specs.Prelude.{MatchOption}
 use Rattle.std.proofs.lemmas.Bool.{false≢true}
 use Rattle.block_server.specs.CallResults.{with_replies}
 use Rattle.ata_types.specs.declared.call.CallResult.{CallResult}
-use Rattle.play.specs.Lines.{call_text}
+use Rattle.play.specs.PrintedText.{call_text}
 use Rattle.play.proofs.Printing.{appends_none, part_of}
 use Rattle.play.proofs.session.play_line.Goals as goal
 

@@ -1,9 +1,9 @@
 use Rattle.std.proofs.Common.{◌≡◌, Ok, Err, sym, subst}
 use Rattle.std.specs.Prelude.{Box, IfOk}
 use Rattle.std.specs.declared.result.Result.{Result}
-use Rattle.block_server.specs.View.{ServerView}
+use Rattle.block_server.specs.ServerView.{ServerView}
 use Rattle.device_model.specs.declared.model.Model.{Model}
-use Rattle.play.specs.Played.{IsServerOfModel}
+use Rattle.play.specs.PlayedScript.{IsServerOfModel}
 use Rattle.play.proofs.session.start.Goals as goal
 
 -- what holds of a value holds of it in a box

@@ -14,8 +14,8 @@ returns-clause-finds g c = record {
   seen = _;
   reads = c.read.ensures.does;
   status = c.read-2.result;
-  shows = c.read-2.ensures.does;
-  tells = c.tells_change.ensures;
+  reads_status = c.read-2.ensures.does;
+  result_is = c.tells_change.ensures;
 }
 
 pub returns-clause-followed : goal.returns-clause-followed

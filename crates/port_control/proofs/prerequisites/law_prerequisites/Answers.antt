@@ -2,11 +2,11 @@ use Rattle.port_control.proofs.prerequisites.law_prerequisites.Goals as goal
 
 pub returns : goal.returns
 returns c = record {
-  seen = c.law_port_register_accesses.ensures.seen;
-  put = c.law_port_register_accesses.ensures.put;
-  does_append = c.law_accesses_compose.ensures.all;
+  seen = c.law_port_register_accesses.ensures.register_read;
+  put = c.law_port_register_accesses.ensures.register_written;
+  does_append = c.law_accesses_compose.ensures.lists_append;
   law_step_lists_keep_what_steps_keep = c.law_step_lists_keep_what_steps_keep.ensures;
-  access_on = c.law_adapter_stays.ensures.on;
+  access_on = c.law_adapter_stays.ensures.stays_on;
   write_stays = c.law_writing_is_permitted.ensures.rules;
   list_may = c.law_placing_areas_is_permitted.ensures.list;
   list_upper_may = c.law_placing_areas_is_permitted.ensures.list_upper;
@@ -55,12 +55,12 @@ returns c = record {
   tape = c.law_tape_prerequisites.ensures;
   stopped_recorded = c.law_faults_are_recorded.ensures.idle;
   writes_recorded = c.law_faults_are_recorded.ensures.writes;
-  of_on = c.law_other_ports_are_left.ensures.on;
+  of_on = c.law_other_ports_are_left.ensures.adapter_stays_on;
   same_over = c.law_other_ports_are_left.ensures.adapter;
   tape_over = c.law_other_ports_are_left.ensures.tape;
   of_spares_ghc = c.law_other_ports_are_left.ensures.spares_host;
-  control_either = c.law_controls_are_of_a_port.ensures.either;
-  control_of = c.law_controls_are_of_a_port.ensures.of;
+  control_either = c.law_controls_are_of_a_port.ensures.is_reading_or_writing;
+  control_of = c.law_controls_are_of_a_port.ensures.is_of_port;
   control_spares = c.law_controls_are_of_a_port.ensures.spares;
   control_wider = c.law_controls_are_of_a_port.ensures.wider;
   fragments = c.law_fragment_prerequisites.ensures;

@@ -1,8 +1,8 @@
 use Rattle.std.proofs.Common.{◌++◌, List, [], ◌∷◌, sym, subst, arith, eq-eqb}
 use Rattle.std.specs.Int.{bit_at}
 use Rattle.ata_types.specs.declared.request.Reply.{Reply}
-use Rattle.port_driver.specs.Ports.{with_answers}
-use Rattle.server_history.specs.Server.{ServerState}
+use Rattle.port_driver.specs.LentSlots.{with_answers}
+use Rattle.server_history.specs.ServerState.{ServerState}
 use Rattle.port_driver.proofs.Finishing as finishing
 use Rattle.port_driver.proofs.Finishing.{AnswersSome}
 use Rattle.port_driver.proofs.answering.answer_done.Goals as goal
@@ -17,7 +17,7 @@ pub answer_one-requires-clause-lends : goal.answer_one-requires-clause-lends
 answer_one-requires-clause-lends c =
     let l = c.requires.lends in
     let now = with_answers l.0 c.loop-slot.table c.loop-slot.book c.loop-slot.slots l.1 in
-    (now, l.1, c.args.done, (c.loop-slot.invariant.answers l.0 l.1 l.2).lends, eq-eqb (bit_at c.args.done c.in-Some.slot.0) 1 c.in-Some.ensures.found.marked)
+    (now, l.1, c.args.done, (c.loop-slot.invariant.answers l.0 l.1 l.2).lends, eq-eqb (bit_at c.args.done c.in-Some.slot.0) 1 c.in-Some.ensures.found.mask_has_slot)
 
 pub loop-slot-preserved : goal.loop-slot-preserved
 loop-slot-preserved c = record {

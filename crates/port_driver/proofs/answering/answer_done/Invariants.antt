@@ -1,8 +1,8 @@
 use Rattle.std.proofs.Common.{◌+◌, ◌≤◌, length}
 use Rattle.ata_types.specs.declared.Port.{Port}
 use Rattle.ata_types.specs.declared.limits.TheConstants.{MOST_UNANSWERED}
-use Rattle.port_driver.specs.Ports.{HasDonePort, with_answers}
-use Rattle.server_history.specs.Server.{ServerState}
+use Rattle.port_driver.specs.LentSlots.{HasDonePort, with_answers}
+use Rattle.server_history.specs.ServerState.{ServerState}
 use Rattle.port_driver.proofs.Finishing.{AnswersSome}
 use Rattle.port_driver.proofs.answering.answer_done.Given as goal
 

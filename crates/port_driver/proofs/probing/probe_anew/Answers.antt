@@ -1,7 +1,7 @@
 use Rattle.std.proofs.Common.{true, arith, refl, sym, subst}
 use Rattle.ata_types.specs.declared.Port.{Port}
 use Rattle.error_recovery.specs.declared.Next.{Next}
-use Rattle.host_boot.specs.Again.{RebootsPort}
+use Rattle.host_boot.specs.Reboots.{RebootsPort}
 use Rattle.port_boot.specs.States.{IsBootable}
 use Rattle.port_control.specs.Ports.{IsStopped}
 use Rattle.server_history.specs.Probing.{IsProbedAnew}
@@ -32,7 +32,7 @@ returns-in-Restart-clause-finds g c =
       result = c.stop_for_reset-recovered.result;
       stopped = stopped;
       gives_up = c.stop_for_reset-recovered.ensures.gives_up true;
-      is = subst F (sym c.in-Restart.is) (c.reboot_port-booted.result, refl, subst B its.0 boots);
+      is_probed_anew = subst F (sym c.in-Restart.is) (c.reboot_port-booted.result, refl, subst B its.0 boots);
       mode_is = c.probed_mode-mode.ensures.found _ boots.slots boots.queued;
     }
 
@@ -46,7 +46,7 @@ returns-in_default g c =
         result = c.stop_for_reset-recovered.result;
         stopped = stopped;
         gives_up = gives;
-        is = found_dead c.args.wanted.now c.args.port c.stop_for_reset-recovered.result.next stopped gives.halts c.in_default.not-Restart;
+        is_probed_anew = found_dead c.args.wanted.now c.args.port c.stop_for_reset-recovered.result.next stopped gives.is_not_running c.in_default.not-Restart;
         mode_is = refl;
       };
       cost = omega (arith, c.stop_for_reset-recovered.ensures.cost);

@@ -31,7 +31,7 @@ returns-in_default g c =
       handling = (
         u.handling,
         tells c.args.port_error c.args.port c.args.outstanding c.args.queued c.stop_for_reset.result u.handling.accesses (g.A.Adapter.device c.args.adapter.now) (g.A.Adapter.device c.stop_for_reset.new.adapter)
-            c.in_default.not-TaskFileError (u.nobody, u.halts),
+            c.in_default.not-TaskFileError (u.none_is_named, u.is_not_running),
       );
       cost = let least = mending_stops c.args.port_error in omega (arith, least, c.stop_for_reset.ensures.cost);
     }

@@ -1,5 +1,5 @@
 use Rattle.std.proofs.Common.{sym, ap, ◌∙◌, ⊎_elim}
-use Rattle.server_history.specs.Server.{probed_mode}
+use Rattle.server_history.specs.ServerState.{probed_mode}
 use Rattle.port_driver.specs.Modes.{mode_from_slots}
 use Rattle.port_driver.proofs.Restoring.{boots_or_absent}
 use Rattle.port_driver.proofs.recovery.resume_or_reboot.Goals as goal

@@ -4,13 +4,13 @@ use Rattle.refinement.proofs.acts.law_accesses_and_decisions_are_acts.Goals as g
 
 pub returns-clause-access : goal.returns-clause-access
 returns-clause-access c = λ k later m access adds reached x does.
-    let y = goes_access k later m adds reached x in (y.0, y.1, record { leads = does; one = inl y.1; goes = y.2 })
+    let y = goes_access k later m adds reached x in (y.0, y.1, record { access_leads = does; is_one_act = inl y.1; driver_advances = y.2 })
 
 pub returns-clause-ends : goal.returns-clause-ends
-returns-clause-ends c = λ k later m access own e decides does. record { leads = does; one = inr (own, e.steps, refl, decides, e.only); goes = goes_ending k later m own e }
+returns-clause-ends c = λ k later m access own e decides does. record { access_leads = does; is_one_act = inr (own, e.steps, refl, decides, e.only); driver_advances = goes_ending k later m own e }
 
 pub returns-clause-own : goal.returns-clause-own
-returns-clause-own c = λ k later m step own may same x. record { leads = same; one = inr (step, own, refl); goes = goes_own k later m step own may same x }
+returns-clause-own c = λ k later m step own may same x. record { access_leads = same; is_one_act = inr (step, own, refl); driver_advances = goes_own k later m step own may same x }
 
 pub returns-clause-still : goal.returns-clause-still
-returns-clause-still c = λ k later m same x. record { leads = same; one = inl refl; goes = goes_still k later m same x }
+returns-clause-still c = λ k later m same x. record { access_leads = same; is_one_act = inl refl; driver_advances = goes_still k later m same x }

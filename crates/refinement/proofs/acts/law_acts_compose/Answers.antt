@@ -2,11 +2,11 @@ use Rattle.std.proofs.Common.{refl}
 use Rattle.refinement.proofs.driver.ActParts.{accesses_append, steps_append, done_more}
 use Rattle.refinement.proofs.acts.law_acts_compose.Goals as goal
 
-pub returns-clause-none : goal.returns-clause-none
-returns-clause-none c = λ k m. refl
+pub returns-clause-no_act : goal.returns-clause-no_act
+returns-clause-no_act c = λ k m. refl
 
-pub returns-clause-more : goal.returns-clause-more
-returns-clause-more c = done_more
+pub returns-clause-acts_join : goal.returns-clause-acts_join
+returns-clause-acts_join c = done_more
 
 pub returns-clause-accesses : goal.returns-clause-accesses
 returns-clause-accesses c = accesses_append

@@ -1,5 +1,5 @@
 use Rattle.std.proofs.Common.{refl}
-use Rattle.refinement.specs.Driven.{AnyAccess, SameUses}
+use Rattle.refinement.specs.Fragments.{AnyAccess, SameUses}
 use Rattle.refinement.proofs.driver.PortAccesses.{agreed_on}
 use Rattle.refinement.proofs.relation.IdleAgreement.{idle_agrees}
 use Rattle.refinement.proofs.driver.ReleasedSlot.{agrees_released}

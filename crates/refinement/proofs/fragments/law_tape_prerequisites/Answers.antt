@@ -2,8 +2,8 @@ use Rattle.refinement.proofs.fragments.law_tape_prerequisites.Goals as goal
 
 pub returns : goal.returns
 returns c = record {
-  grows_none = c.law_tapes_grow.ensures.none;
-  grows_more = c.law_tapes_grow.ensures.more;
+  grows_none = c.law_tapes_grow.ensures.reflexive;
+  grows_more = c.law_tapes_grow.ensures.transitive;
   access_grows = c.law_tapes_grow.ensures.access;
   comes_parts = c.law_tape_absence_composes.ensures.comes.parts;
   plugs_come = c.law_undisturbed_ports_tell_nothing.ensures.comes;
@@ -17,8 +17,8 @@ returns c = record {
   fails_more = c.law_tape_absence_composes.ensures.fails.more;
   fails_parts = c.law_tape_absence_composes.ensures.fails.parts;
   calm_parts = c.law_tape_absence_composes.ensures.calm.parts;
-  change_none = c.law_errors_rise_by_disks.ensures.none;
-  change_more = c.law_errors_rise_by_disks.ensures.more;
+  change_none = c.law_errors_rise_by_disks.ensures.reflexive;
+  change_more = c.law_errors_rise_by_disks.ensures.transitive;
   access_change = c.law_errors_rise_by_disks.ensures.access;
   access_undue = c.law_errors_rise_by_disks.ensures.due_access;
 }

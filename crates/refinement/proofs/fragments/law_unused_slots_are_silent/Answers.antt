@@ -14,5 +14,5 @@ returns-clause-access c = access_unmoving c.law_prerequisites.ensures
 pub returns-clause-controls : goal.returns-clause-controls
 returns-clause-controls c = controls_unmoving c.law_prerequisites.ensures (λ r. r ≢ Ci) (λ same. same refl)
 
-pub returns-clause-more : goal.returns-clause-more
-returns-clause-more c = λ port o. gains_more (IsMove port o)
+pub returns-clause-transitive : goal.returns-clause-transitive
+returns-clause-transitive c = λ port o. gains_more (IsMove port o)

@@ -5,14 +5,14 @@ use Rattle.refinement.proofs.laws.law_histories_compose.Goals as goal
 pub returns-clause-reached : goal.returns-clause-reached
 returns-clause-reached c = c.law_step_lists_compose.ensures.reached
 
-pub returns-clause-may : goal.returns-clause-may
-returns-clause-may c = c.law_step_lists_compose.ensures.may
+pub returns-clause-enabled_steps_join : goal.returns-clause-enabled_steps_join
+returns-clause-enabled_steps_join c = c.law_step_lists_compose.ensures.enabled_steps_join
 
-pub returns-clause-after : goal.returns-clause-after
-returns-clause-after c = c.law_step_lists_compose.ensures.joined
+pub returns-clause-machine_after_joins : goal.returns-clause-machine_after_joins
+returns-clause-machine_after_joins c = c.law_step_lists_compose.ensures.after_joins
 
-pub returns-clause-device : goal.returns-clause-device
-returns-clause-device c = device_append
+pub returns-clause-device_steps_join : goal.returns-clause-device_steps_join
+returns-clause-device_steps_join c = device_append
 
-pub returns-clause-told : goal.returns-clause-told
-returns-clause-told c = told_append
+pub returns-clause-faithful_steps_join : goal.returns-clause-faithful_steps_join
+returns-clause-faithful_steps_join c = told_append

@@ -7,8 +7,8 @@ returns-clause-steps c = pages_asked c.law_prerequisites.ensures
 pub returns-clause-access : goal.returns-clause-access
 returns-clause-access c = access_pages_asked c.law_prerequisites.ensures
 
-pub returns-clause-once : goal.returns-clause-once
-returns-clause-once c = pages_once c.law_prerequisites.ensures
+pub returns-clause-one_at_most : goal.returns-clause-one_at_most
+returns-clause-one_at_most c = pages_once c.law_prerequisites.ensures
 
-pub returns-clause-access_once : goal.returns-clause-access_once
-returns-clause-access_once c = access_pages_once c.law_prerequisites.ensures
+pub returns-clause-one_at_most_by_access : goal.returns-clause-one_at_most_by_access
+returns-clause-one_at_most_by_access c = access_pages_once c.law_prerequisites.ensures

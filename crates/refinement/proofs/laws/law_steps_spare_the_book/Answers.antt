@@ -4,23 +4,23 @@ use Rattle.refinement.proofs.laws.law_steps_spare_the_book.Goals as goal
 pub returns-clause-spares : goal.returns-clause-spares
 returns-clause-spares c = steps_spare
 
-pub returns-clause-none : goal.returns-clause-none
-returns-clause-none c = spares_refl
+pub returns-clause-reflexive : goal.returns-clause-reflexive
+returns-clause-reflexive c = spares_refl
 
-pub returns-clause-more : goal.returns-clause-more
-returns-clause-more c = spares_more
+pub returns-clause-transitive : goal.returns-clause-transitive
+returns-clause-transitive c = spares_more
 
-pub returns-clause-due : goal.returns-clause-due
-returns-clause-due c = same_due
+pub returns-clause-due_is_the_same : goal.returns-clause-due_is_the_same
+returns-clause-due_is_the_same c = same_due
 
-pub returns-clause-later : goal.returns-clause-later
-returns-clause-later c = found_later
+pub returns-clause-is_found_later : goal.returns-clause-is_found_later
+returns-clause-is_found_later c = found_later
 
-pub returns-clause-before : goal.returns-clause-before
-returns-clause-before c = found_before
+pub returns-clause-was_found_before : goal.returns-clause-was_found_before
+returns-clause-was_found_before c = found_before
 
-pub returns-clause-frames : goal.returns-clause-frames
-returns-clause-frames c = frames_stay
+pub returns-clause-unlent_frames_keep_bytes : goal.returns-clause-unlent_frames_keep_bytes
+returns-clause-unlent_frames_keep_bytes c = frames_stay
 
-pub returns-clause-kept : goal.returns-clause-kept
-returns-clause-kept c = none_kept_after
+pub returns-clause-none_quarantined_stays : goal.returns-clause-none_quarantined_stays
+returns-clause-none_quarantined_stays c = none_kept_after

@@ -5,14 +5,14 @@ use Rattle.refinement.proofs.port_facts.law_adapter_stays.Goals as goal
 pub returns-clause-same : goal.returns-clause-same
 returns-clause-same c = access_same
 
-pub returns-clause-on : goal.returns-clause-on
-returns-clause-on c = access_on
+pub returns-clause-stays_on : goal.returns-clause-stays_on
+returns-clause-stays_on c = access_on
 
-pub returns-clause-on_all : goal.returns-clause-on_all
-returns-clause-on_all c = on_all
+pub returns-clause-stays_on_over_all : goal.returns-clause-stays_on_over_all
+returns-clause-stays_on_over_all c = on_all
 
-pub returns-clause-same_none : goal.returns-clause-same_none
-returns-clause-same_none c = same_refl
+pub returns-clause-adapter_reflexive : goal.returns-clause-adapter_reflexive
+returns-clause-adapter_reflexive c = same_refl
 
-pub returns-clause-same_more : goal.returns-clause-same_more
-returns-clause-same_more c = same_more
+pub returns-clause-adapter_transitive : goal.returns-clause-adapter_transitive
+returns-clause-adapter_transitive c = same_more

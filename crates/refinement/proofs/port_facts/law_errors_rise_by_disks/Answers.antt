@@ -14,8 +14,8 @@ returns-clause-due c = steps_undue c.law_prerequisites.ensures
 pub returns-clause-due_access : goal.returns-clause-due_access
 returns-clause-due_access c = access_undue c.law_prerequisites.ensures
 
-pub returns-clause-none : goal.returns-clause-none
-returns-clause-none c = change_none
+pub returns-clause-reflexive : goal.returns-clause-reflexive
+returns-clause-reflexive c = change_none
 
-pub returns-clause-more : goal.returns-clause-more
-returns-clause-more c = change_more
+pub returns-clause-transitive : goal.returns-clause-transitive
+returns-clause-transitive c = change_more

@@ -13,11 +13,11 @@ returns-clause-stores c = stores_show c.law_prerequisites.ensures
 pub returns-clause-writes : goal.returns-clause-writes
 returns-clause-writes c = writes_show c.law_prerequisites.ensures
 
-pub returns-clause-told : goal.returns-clause-told
-returns-clause-told c = told_calm c.law_prerequisites.ensures
+pub returns-clause-none_told_none_shown : goal.returns-clause-none_told_none_shown
+returns-clause-none_told_none_shown c = told_calm c.law_prerequisites.ensures
 
-pub returns-clause-tells : goal.returns-clause-tells
-returns-clause-tells c = calm_told c.law_prerequisites.ensures
+pub returns-clause-tells_what_is_shown : goal.returns-clause-tells_what_is_shown
+returns-clause-tells_what_is_shown c = calm_told c.law_prerequisites.ensures
 
 pub returns-clause-healthy : goal.returns-clause-healthy
 returns-clause-healthy c = healthy_shows
@@ -25,8 +25,8 @@ returns-clause-healthy c = healthy_shows
 pub returns-clause-found : goal.returns-clause-found
 returns-clause-found c = calm_is_found c.law_prerequisites.ensures
 
-pub returns-clause-both : goal.returns-clause-both
-returns-clause-both c = pair_is_found c.law_prerequisites.ensures
+pub returns-clause-found_by_two_reads : goal.returns-clause-found_by_two_reads
+returns-clause-found_by_two_reads c = pair_is_found c.law_prerequisites.ensures
 
-pub returns-clause-back : goal.returns-clause-back
-returns-clause-back c = back_clears
+pub returns-clause-clears_no_trouble : goal.returns-clause-clears_no_trouble
+returns-clause-clears_no_trouble c = back_clears

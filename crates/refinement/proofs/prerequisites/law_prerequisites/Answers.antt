@@ -6,6 +6,6 @@ pub returns : goal.returns
 returns c = record {
   keeps = c.law_step_lists_keep_what_steps_keep.ensures;
   step = λ step d can. c.law_step_lists_keep_what_steps_keep.ensures d (device_after step d) (record { steps = step ∷ []; lead = (can, refl) });
-  seen = c.law_port_register_accesses.ensures.seen;
+  seen = c.law_port_register_accesses.ensures.register_read;
   reached = c.law_step_lists_compose.ensures.reached;
 }

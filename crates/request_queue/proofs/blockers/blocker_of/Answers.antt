@@ -3,7 +3,7 @@ use Rattle.std.specs.List.{Contains, list_any}
 use Rattle.ata_types.specs.declared.request.RequestId.{RequestId}
 use Rattle.request_queue.specs.declared.ranges.BookRange.{BookRange}
 use Rattle.request_queue.specs.Blockers.{IsBlockerOf}
-use Rattle.request_queue.specs.Items.{is_earlier_conflict}
+use Rattle.request_queue.specs.BookRanges.{is_earlier_conflict}
 use Rattle.request_queue.specs.Sectors.{index_of_port, item_of}
 use Rattle.request_queue.proofs.Indexing.{by_default, in_four}
 use Rattle.request_queue.proofs.Holding.{by_flushes, one_holds}
@@ -13,7 +13,7 @@ pub returns-in-Some : goal.returns-in-Some
 returns-in-Some c = λ book is flushes.
     let r = c.args.request.now in
     let lists = c.args.sectors.now in
-    let four = is.four in
+    let four = is.four_lists in
     let e = by_default lists c.index_of_port.result (index_of_port r.port) c.index-sectors-index_of_port.result c.index_of_port.ensures (omega (arith, four, in_four r.port)) in
     subst (λ (h : Option RequestId). IsBlockerOf book r h) (sym c.of.ensures)
     (one_holds book lists is c.args.flushes.now flushes r (sym c.may_be_blocked.ensures ∙ c.if-not-may_be_blocked.false) c.in-Some.blocker
@@ -24,9 +24,9 @@ pub returns-in-None : goal.returns-in-None
 returns-in-None c = λ book is flushes.
     let r = c.args.request.now in
     let lists = c.args.sectors.now in
-    let four = is.four in
+    let four = is.four_lists in
     let e = by_default lists c.index_of_port.result (index_of_port r.port) c.index-sectors-index_of_port.result c.index_of_port.ensures (omega (arith, four, in_four r.port)) in
     by_flushes book lists is c.args.flushes.now flushes r (sym c.may_be_blocked.ensures ∙ c.if-not-may_be_blocked.false)
     (subst (λ (xs : List BookRange). list_any (is_earlier_conflict (item_of r)) xs ≡ false) e
     (subst (λ (i : BookRange). list_any (is_earlier_conflict i) (get_or lists c.index_of_port.result c.index-sectors-index_of_port.result) ≡ false) c.item_of.ensures c.in-None.ensures.none))
-    c.held_by_flush.result c.held_by_flush.ensures.none c.held_by_flush.ensures.found
+    c.blocking_flush.result c.blocking_flush.ensures.none c.blocking_flush.ensures.found

@@ -2,8 +2,8 @@ use Rattle.std.proofs.Common.{◌≡◌, ◌∷◌, [], Some, refl, sym, subst, 
 use Rattle.std.specs.List.{All, AllPairs}
 use Rattle.std.proofs.lemmas.List.Elements.{All-head}
 use Rattle.ata_types.specs.declared.request.RequestId.{RequestId}
-use Rattle.dma_frames.specs.Table.{lent_to}
-use Rattle.request_queue.specs.Entries.{BookEntry, HasItsFrames, IsEarlier, GivesBack}
+use Rattle.dma_frames.specs.FrameTables.{lent_to}
+use Rattle.request_queue.specs.BookEntries.{BookEntry, HasItsFrames, IsEarlier, GivesBack}
 use Rattle.request_queue.proofs.Ending.{first_and_rest, stand_still, ordered_rest, more_given, none_given}
 use Rattle.request_queue.proofs.book.give_back.Goals as goal
 

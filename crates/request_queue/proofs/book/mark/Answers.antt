@@ -1,5 +1,5 @@
 use Rattle.std.proofs.Common.{arith}
-use Rattle.request_queue.specs.Entries.{marked_under}
+use Rattle.request_queue.specs.BookEntries.{marked_under}
 use Rattle.request_queue.proofs.Changing.{all_are_changed, keeps_its_id, next_changed, revoked_spares}
 use Rattle.request_queue.proofs.book.mark.Goals as goal
 

@@ -1,4 +1,4 @@
-use Rattle.request_queue.specs.Entries.{marked_under}
+use Rattle.request_queue.specs.BookEntries.{marked_under}
 use Rattle.request_queue.proofs.Changing.{ChangedSoFar}
 use Rattle.request_queue.proofs.book.mark.Given as goal
 

@@ -4,7 +4,7 @@ use Rattle.std.proofs.lemmas.List.{get_or_default}
 use Rattle.std.proofs.lemmas.Option.{slice_get-get_or}
 use Rattle.std.specs.List.{AllPairs, slice_get}
 use Rattle.ata_types.specs.declared.request.RequestId.{RequestId}
-use Rattle.request_queue.specs.Entries.{BookEntry, IsEarlier}
+use Rattle.request_queue.specs.BookEntries.{BookEntry, IsEarlier}
 use Rattle.request_queue.specs.declared.PendingRequest.{PendingRequest}
 use Rattle.request_queue.proofs.Changing.{request_is}
 use Rattle.request_queue.proofs.book.place_of.Goals as goal

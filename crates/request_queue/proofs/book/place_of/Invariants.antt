@@ -1,5 +1,5 @@
 use Rattle.std.proofs.Common.{ℕ, ◌≡◌, ◌≤◌, ◌<◌, ◌-◌, get_or, length}
-use Rattle.request_queue.specs.Entries.{BookEntry}
+use Rattle.request_queue.specs.BookEntries.{BookEntry}
 use Rattle.request_queue.proofs.book.place_of.Given as goal
 
 abbrev pub invariant-loop-past : goal.invariant-loop-past

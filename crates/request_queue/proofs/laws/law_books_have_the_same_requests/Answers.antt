@@ -1,4 +1,4 @@
-use Rattle.request_queue.specs.Machine.{EntryRelation}
+use Rattle.request_queue.specs.BookRelation.{EntryRelation}
 use Rattle.request_queue.proofs.Stepping.{like_right, like_left}
 use Rattle.request_queue.proofs.laws.law_books_have_the_same_requests.Goals as goal
 

@@ -1,4 +1,4 @@
-use Rattle.request_queue.specs.Entries.{update_if_id}
+use Rattle.request_queue.specs.BookEntries.{update_if_id}
 use Rattle.request_queue.proofs.Finding.{changed_there, other_there, without_is}
 use Rattle.request_queue.proofs.Members.{map_in}
 use Rattle.request_queue.proofs.laws.law_operations_change_one_request.Goals as goal

@@ -1,4 +1,4 @@
-use Rattle.request_queue.specs.Entries.{older_entry, marked_under}
+use Rattle.request_queue.specs.BookEntries.{aged_entry, marked_under}
 use Rattle.request_queue.proofs.Changing.{longer_in_order, issued_in_order, waiting_in_order, all_in_order, older_spares, revoked_spares, fewer_in_order, asks_in_order}
 use Rattle.request_queue.proofs.ClientCounts.{all_fit}
 use Rattle.request_queue.proofs.laws.law_the_book_stays_in_order.Goals as goal
@@ -12,8 +12,8 @@ returns-clause-issued c entries id order waits = issued_in_order entries id wait
 pub returns-clause-requeued : goal.returns-clause-requeued
 returns-clause-requeued c entries id order goes = waiting_in_order entries id goes.0 order goes.1 goes.2 goes.4
 
-pub returns-clause-older_entry : goal.returns-clause-older_entry
-returns-clause-older_entry c entries ports order = all_in_order (older_entry ports) (older_spares ports) entries order
+pub returns-clause-aged_entry : goal.returns-clause-aged_entry
+returns-clause-aged_entry c entries ports order = all_in_order (aged_entry ports) (older_spares ports) entries order
 
 pub returns-clause-revoked : goal.returns-clause-revoked
 returns-clause-revoked c entries client grant order = all_in_order (marked_under client grant) (revoked_spares client grant) entries order
@@ -21,8 +21,8 @@ returns-clause-revoked c entries client grant order = all_in_order (marked_under
 pub returns-clause-answered : goal.returns-clause-answered
 returns-clause-answered c entries id order = fewer_in_order id entries order
 
-pub returns-clause-all : goal.returns-clause-all
-returns-clause-all c entries order = all_fit entries (λ k d lt. (order.clients k d lt).0) order.few (λ k d lt. (order.clients k d lt).1)
+pub returns-clause-has_128_at_most : goal.returns-clause-has_128_at_most
+returns-clause-has_128_at_most c entries order = all_fit entries (λ k d lt. (order.clients_are_valid k d lt).0) order.clients_have_few (λ k d lt. (order.clients_are_valid k d lt).1)
 
-pub returns-clause-asks : goal.returns-clause-asks
-returns-clause-asks c entries order = asks_in_order entries order.ordered
+pub returns-clause-unanswered_are_in_order : goal.returns-clause-unanswered_are_in_order
+returns-clause-unanswered_are_in_order c entries order = asks_in_order entries order.ids_rise

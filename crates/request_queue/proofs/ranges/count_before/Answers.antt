@@ -1,8 +1,8 @@
 use Rattle.std.proofs.Common.{ℕ, ◌<◌, ◌+◌, ◌-◌, ◌/◌, length, subst, sym, arith}
 use Rattle.std.proofs.lemmas.Bool.{iff_false}
 use Rattle.request_queue.specs.declared.ranges.BookRange.{BookRange}
-use Rattle.request_queue.specs.Items.{StandsBefore}
-use Rattle.request_queue.specs.Index.{items_of}
+use Rattle.request_queue.specs.BookRanges.{StandsBefore}
+use Rattle.request_queue.specs.RangeIndex.{items_of}
 use Rattle.request_queue.proofs.Sorting.{item_at, as_many, low_more, high_more}
 use Rattle.request_queue.proofs.ranges.count_before.Goals as goal
 

@@ -1,7 +1,7 @@
 use Rattle.std.proofs.Common.{ℕ, ◌≤◌, ◌<◌, ◌-◌, get_or, length}
 use Rattle.request_queue.specs.declared.ranges.BookRange.{BookRange}
-use Rattle.request_queue.specs.Items.{StandsBefore}
-use Rattle.request_queue.specs.Index.{items_of}
+use Rattle.request_queue.specs.BookRanges.{StandsBefore}
+use Rattle.request_queue.specs.RangeIndex.{items_of}
 use Rattle.request_queue.proofs.ranges.count_before.Given as goal
 
 abbrev pub invariant-loop-low : goal.invariant-loop-low

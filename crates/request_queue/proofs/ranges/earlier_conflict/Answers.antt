@@ -1,7 +1,7 @@
 use Rattle.std.proofs.Common.{ℕ, ◌<◌, ◌-◌, length, get_or, subst, sym, ap, ◌∙◌, arith, inl, inr}
 use Rattle.std.proofs.lemmas.Bool.{cases_eq}
-use Rattle.request_queue.specs.Items.{StandsBefore, is_earlier_conflict}
-use Rattle.request_queue.specs.Index.{items_of}
+use Rattle.request_queue.specs.BookRanges.{StandsBefore, is_earlier_conflict}
+use Rattle.request_queue.specs.RangeIndex.{items_of}
 use Rattle.request_queue.proofs.Sorting.{item_at, as_many, blank}
 use Rattle.request_queue.proofs.Ends.{begins_late, none_conflicts, none_left}
 use Rattle.request_queue.proofs.ranges.earlier_conflict.Goals as goal

@@ -1,7 +1,7 @@
 use Rattle.std.proofs.Common.{ℕ, ◌≡◌, ◌<◌, ◌≤◌, false, get_or, length}
 use Rattle.request_queue.specs.declared.ranges.BookRange.{BookRange}
-use Rattle.request_queue.specs.Items.{is_earlier_conflict}
-use Rattle.request_queue.specs.Index.{items_of}
+use Rattle.request_queue.specs.BookRanges.{is_earlier_conflict}
+use Rattle.request_queue.specs.RangeIndex.{items_of}
 use Rattle.request_queue.proofs.ranges.earlier_conflict.Given as goal
 
 abbrev pub invariant-loop-past : goal.invariant-loop-past

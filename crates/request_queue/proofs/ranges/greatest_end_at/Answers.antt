@@ -1,7 +1,7 @@
 use Rattle.std.proofs.Common.{ℕ, ◌≡◌, ◌+◌, ◌-◌, get_or, subst, sym, ap, ◌∙◌, arith}
 use Rattle.request_queue.specs.declared.ranges.BookRange.{BookRange}
-use Rattle.request_queue.specs.Items.{IsGreatestEnd, item_end}
-use Rattle.request_queue.specs.Index.{items_of}
+use Rattle.request_queue.specs.BookRanges.{IsGreatestEnd, item_end}
+use Rattle.request_queue.specs.RangeIndex.{items_of}
 use Rattle.request_queue.proofs.Sorting.{item_at, blank}
 use Rattle.request_queue.proofs.Ends.{end_grows, end_stays}
 use Rattle.request_queue.proofs.ranges.greatest_end_at.Goals as goal

@@ -1,8 +1,8 @@
 use Rattle.std.proofs.Common.{ℕ, ◌≡◌, ◌<◌, ◌≤◌, get_or, length}
 use Rattle.std.specs.Prelude.{vec_capacity, vec_len}
 use Rattle.request_queue.specs.declared.ranges.IndexEntry.{IndexEntry}
-use Rattle.request_queue.specs.Items.{IsGreatestEnd}
-use Rattle.request_queue.specs.Index.{items_of}
+use Rattle.request_queue.specs.BookRanges.{IsGreatestEnd}
+use Rattle.request_queue.specs.RangeIndex.{items_of}
 use Rattle.request_queue.proofs.ranges.note_ends.Given as goal
 
 abbrev pub invariant-loop-place : goal.invariant-loop-place

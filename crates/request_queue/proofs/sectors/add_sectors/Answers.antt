@@ -18,7 +18,7 @@ pub insert-requires-clause-room : goal.insert-requires-clause-room
 insert-requires-clause-room c =
     let r = c.args.request.now in
     let lists = c.args.sectors.now in
-    let four = c.requires.1.four in
+    let four = c.requires.1.four_lists in
     let e = by_default lists c.index_of_port.result (index_of_port r.port) c.index-sectors-index_of_port.result c.index_of_port.ensures (omega (arith, four, in_four r.port)) in
     subst (λ (xs : List BookRange). length xs < MOST_UNANSWERED) (sym e) (room_left c.requires.0 lists c.requires.1 r c.requires.2)
 
@@ -26,7 +26,7 @@ pub insert-requires-clause-fresh : goal.insert-requires-clause-fresh
 insert-requires-clause-fresh c =
     let r = c.args.request.now in
     let lists = c.args.sectors.now in
-    let four = c.requires.1.four in
+    let four = c.requires.1.four_lists in
     let e = by_default lists c.index_of_port.result (index_of_port r.port) c.index-sectors-index_of_port.result c.index_of_port.ensures (omega (arith, four, in_four r.port)) in
     subst (λ (xs : List BookRange). All (λ (x : BookRange). x.id ≢ c.item_of.result.id) xs) (sym e)
     (subst (λ (i : BookRange). All (λ (x : BookRange). x.id ≢ i.id) (get_or lists (index_of_port r.port) [])) (sym c.item_of.ensures) (items_fresh c.requires.0 lists c.requires.1 r c.requires.3))
@@ -35,7 +35,7 @@ pub returns : goal.returns
 returns c = λ book is newest.
     let r = c.args.request.now in
     let lists = c.args.sectors.now in
-    let four = c.requires.1.four in
+    let four = c.requires.1.four_lists in
     let within = c.insert.ensures.1 in
     let e = by_default lists c.index_of_port.result (index_of_port r.port) c.index-sectors-index_of_port.result c.index_of_port.ensures (omega (arith, four, in_four r.port)) in
     let len = ap length e in

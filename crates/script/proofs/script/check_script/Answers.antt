@@ -1,6 +1,6 @@
 use Rattle.std.proofs.Common.{◌++◌, [], Option, List, ℕ, subst, refl, append-nil, ap, ◌∙◌, sym, arith}
 use Rattle.std.specs.Borrow.{Bor}
-use Rattle.script.specs.Script.{AskInTurn, done, lines_after}
+use Rattle.script.specs.Script.{AskForCalls, done, lines_after}
 use Rattle.script.proofs.ScriptLemmas.{LookedAt, looked_further}
 use Rattle.script.proofs.script.check_script.Goals as goal
 
@@ -21,13 +21,13 @@ returns-in-Err-clause-bad c =
       bad = c.first_line.result.0.now;
       after = lines_after c.first_line.result.1;
       lines = so_far.lines;
-      cut = so_far.cut ∙ ap (λ (ts : List (List ℕ)). so_far.before ++ ts) c.first_line.ensures.first;
+      lines_are = so_far.cut ∙ ap (λ (ts : List (List ℕ)). so_far.before ++ ts) c.first_line.ensures.first;
       is_bad = c.in-Err.ensures.bad;
-      good = so_far.good;
-      counted = omega (arith, so_far.counted);
+      earlier_lines_ask = so_far.good;
+      number_is = omega (arith, so_far.counted);
     }
 
 pub returns-clause-ok : goal.returns-clause-ok
 returns-clause-ok c =
     let so_far = subst (λ (rest : Option (Bor (List ℕ))). LookedAt c.args.text.now c.loop-rest.number rest) c.in_default.is c.loop-rest.invariant in
-    (so_far.lines, subst (λ ts. AskInTurn ts so_far.lines) (sym (so_far.cut ∙ append-nil so_far.before)) so_far.good)
+    (so_far.lines, subst (λ ts. AskForCalls ts so_far.lines) (sym (so_far.cut ∙ append-nil so_far.before)) so_far.good)

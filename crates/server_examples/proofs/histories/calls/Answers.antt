@@ -4,11 +4,9 @@ use Rattle.std.specs.Result.{result_ok}
 use Rattle.std.specs.declared.result.Result.{Result}
 use Rattle.block_server.specs.CallResults.{results_in}
 use Rattle.arrayvec.specs.ArrayVec.{ArrayVec}
-use Rattle.ata_types.specs.declared.call.Call.{Call}
 use Rattle.ata_types.specs.declared.call.CallResult.{CallResult}
 use Rattle.ata_types.specs.declared.request.Reply.{Reply}
-use Rattle.adapter.specs.declared.access.DeviceStep.{DeviceStep}
-use Rattle.server_examples.specs.Shown.{HasRun}
+use Rattle.server_examples.specs.ShownHistories.{HasRun}
 use Rattle.server_examples.proofs.Showing.{has_run}
 use Rattle.server_examples.proofs.histories.calls.Goals as goal
 

@@ -6,4 +6,4 @@ pub returns : goal.returns
 returns g c = λ yes.
     let told = c.is_released.ensures yes in
     let ran = has_said c.in-Some.ensures (sym c.deref.ensures.value ∙ told.3) in
-    shows_a_release g.A.Adapter.device c.args.server.now c.calls.new.server c.args.request c.args.client c.args.frame c.new.result.items c.new-2.result.items told.0 (told.1 ∷ []) told.1 [] c.law_laws_of_runs.ensures ran refl refl told.2
+    shows_a_release g.A.Adapter.device c.args.server.now c.calls.new.server c.args.request c.args.client c.args.frame c.new.result.items c.new-2.result.items told.0 (told.1 ∷ []) told.1 [] c.law_shown_run_prerequisites.ensures ran refl refl told.2

@@ -8,11 +8,11 @@ returns-clause-lowest c s mid port ids tasks request k puts here port_is due slo
 pub returns-clause-full : goal.returns-clause-full
 returns-clause-full c s mid port ids tasks request k puts here port_is due = next_free c.law_history_prerequisites.ensures s mid port ids tasks k puts request here port_is due
 
-pub returns-clause-goes_on : goal.returns-clause-goes_on
-returns-clause-goes_on c s mid port ids tasks k puts = leaves_in_order c.law_history_prerequisites.ensures s mid port ids tasks k puts
+pub returns-clause-invariant_goes_on : goal.returns-clause-invariant_goes_on
+returns-clause-invariant_goes_on c s mid port ids tasks k puts = leaves_in_order c.law_history_prerequisites.ensures s mid port ids tasks k puts
 
-pub returns-clause-more : goal.returns-clause-more
-returns-clause-more c s mid new port ids tasks id t puts one = puts_more c.law_history_prerequisites.ensures port ids tasks s mid new id t puts one
+pub returns-clause-one_more_gets_a_slot : goal.returns-clause-one_more_gets_a_slot
+returns-clause-one_more_gets_a_slot c s mid new port ids tasks id t puts one = puts_more c.law_history_prerequisites.ensures port ids tasks s mid new id t puts one
 
 pub returns-clause-together : goal.returns-clause-together
 returns-clause-together c s mid port ids tasks request k puts here port_is due some = all_queued c.law_history_prerequisites.ensures s mid port ids tasks k puts request here port_is due some

@@ -5,7 +5,7 @@ use Rattle.server_history.proofs.healthy_turn.OneAnswer.{answer_kept}
 use Rattle.server_history.proofs.plain_calls.IssueRounds.{each_kept}
 use Rattle.server_history.proofs.revoke_call.RevokedEach.{revokes_each}
 use Rattle.server_history.proofs.revoke_call.RevokedServer.{revoked_kept}
-use Rattle.server_history.specs.Server.{InCallInvariant}
+use Rattle.server_history.specs.ServerState.{InCallInvariant}
 use Rattle.server_history.proofs.laws.law_requests_preserve_invariant.Goals as goal
 
 pub returns-clause-accepted : goal.returns-clause-accepted
@@ -19,7 +19,7 @@ returns-clause-issued c s new port ids k issues = each_kept c.law_history_prereq
 
 pub returns-clause-revoked : goal.returns-clause-revoked
 returns-clause-revoked c s new client number replies k r =
-    let each = revokes_each c.law_history_prerequisites.ensures s new client number replies k.ordered k.accepted r in
+    let each = revokes_each c.law_history_prerequisites.ensures s new client number replies k.book_is_in_order k.requests_are_accepted r in
     subst InCallInvariant (sym each.server) (revoked_kept c.law_history_prerequisites.ensures s client number replies new each k)
 
 pub returns-clause-ready : goal.returns-clause-ready

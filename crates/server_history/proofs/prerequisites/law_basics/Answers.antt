@@ -4,17 +4,17 @@ pub returns : goal.returns
 returns c = record {
   keeps = c.law_step_lists_keep_what_steps_keep.ensures;
   device_adds = c.law_device_steps_are_parts.ensures;
-  fit = c.law_driver_invariant_holds.ensures.fit;
+  fit = c.law_driver_invariant_holds.ensures.ports_are_well_formed;
   ready_served = c.law_ready_ports_are_served.ensures;
   was_on = c.law_steps_never_switch_on.ensures;
-  joined = c.law_step_lists_compose.ensures.joined;
-  may = c.law_step_lists_compose.ensures.may;
+  joined = c.law_step_lists_compose.ensures.after_joins;
+  may = c.law_step_lists_compose.ensures.enabled_steps_join;
   reached = c.law_step_lists_compose.ensures.reached;
   history_reached = c.law_histories_reach_their_machines.ensures;
   one = λ m reached a b. c.law_one_id_is_in_the_book_once.ensures m a b reached;
   ended_issued = c.law_ended_is_issued.ensures;
   spares = c.law_steps_spare_the_book.ensures.spares;
-  found_later = c.law_steps_spare_the_book.ensures.later;
-  found_before = c.law_steps_spare_the_book.ensures.before;
-  does_append = c.law_accesses_compose.ensures.all;
+  found_later = c.law_steps_spare_the_book.ensures.is_found_later;
+  found_before = c.law_steps_spare_the_book.ensures.was_found_before;
+  does_append = c.law_accesses_compose.ensures.lists_append;
 }

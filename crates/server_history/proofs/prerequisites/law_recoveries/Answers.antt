@@ -2,7 +2,7 @@ use Rattle.server_history.proofs.prerequisites.law_recoveries.Goals as goal
 
 pub returns : goal.returns
 returns c = record {
-  counted = c.law_slots_are_counted.ensures.all;
+  counted = c.law_slots_are_counted.ensures.as_many_serve;
   gone_reached = c.law_advances_compose.ensures.reached;
   put_other = c.law_putting_is_of_one_slot.ensures.others;
   own_on = c.law_a_disk_is_in_where_one_shows.ensures.accesses;

@@ -4,8 +4,8 @@ use Rattle.adapter.specs.FirstRead.{first_disk, first_disk_sector}
 use Rattle.adapter.specs.Guarded.{IsGuarded, PassesTest}
 use Rattle.adapter.specs.Steps.{DeviceTransition, Steps, Can}
 use Rattle.adapter.specs.Steps.DeviceTransition.{Fetch as Fetching, FetchFault as SenselessFetching, Move as Moving, Clear as Clearing, Done as Ending, Fault as Failing, Fatal as FailingFatally, Fall as Falling, FrFall as FallingSilent, LinkUp as Linking, Unplug as Unplugging, Plug as Plugging, ResetEnds as EndingReset, Scribble as Scribbling}
-use Rattle.witnesses.specs.Runs.{ComesSafely, IsReachableByRun, CommandsAreSafe, TransitionKind, kind_of}
-use Rattle.witnesses.specs.Runs.TransitionKind.{Fetch, FetchFault, Move, Clear, Done, Fault, Fatal, Fall, FrFall, LinkUp, Unplug, Plug, ResetEnds, Scribble}
+use Rattle.witnesses.specs.AdapterRuns.{ComesSafely, IsReachableByRun, CommandsAreSafe, TransitionKind, kind_of}
+use Rattle.witnesses.specs.AdapterRuns.TransitionKind.{Fetch, FetchFault, Move, Clear, Done, Fault, Fatal, Fall, FrFall, LinkUp, Unplug, Plug, ResetEnds, Scribble}
 use Rattle.witnesses.proofs.adapter.Queued as queued
 use Rattle.witnesses.proofs.adapter.Resetting as resetting
 use Rattle.witnesses.proofs.adapter.RunningAdapter.{memory, queued_read, a_trim, trim_says}

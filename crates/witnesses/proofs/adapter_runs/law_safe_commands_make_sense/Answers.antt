@@ -4,5 +4,5 @@ use Rattle.witnesses.proofs.adapter_runs.law_safe_commands_make_sense.Goals as g
 
 pub returns : goal.returns
 returns c = λ d port slot kept_bits queued safe can.
-    let command = (safe.guarded.port port).slot slot (inl can.fetchable.issued) in
+    let command = (safe.guarded.ports_are_guarded port).slots_are_guarded slot (inl can.fetchable.issued) in
     can.says_nothing command.meaning command.places command.says

@@ -3,27 +3,27 @@ use Rattle.ata_types.specs.declared.Port.{Port}
 use Rattle.host_boot.specs.TakeOver.{probe_result_of}
 use Rattle.ata_types.specs.declared.request.Frame.{Frame}
 use Rattle.block_machine.specs.Events.{Submit, Submitted}
-use Rattle.block_machine.specs.Due.{due_of}
+use Rattle.block_machine.specs.DueRequests.{due_of}
 use Rattle.block_machine.specs.declared.due.QueueMode.{QueueMode}
 use Rattle.block_machine.specs.declared.due.Unanswered.{Unanswered}
 use Rattle.ata_types.specs.declared.request.RequestId.{RequestId}
 use Rattle.block_machine.specs.Refusals.{IsAcceptable}
 use Rattle.block_machine.specs.Rules.{HasNoFault}
-use Rattle.dma_frames.specs.Table.{owner_of, lent_to}
+use Rattle.dma_frames.specs.FrameTables.{owner_of, lent_to}
 use Rattle.block_server.specs.Calls.{AcceptsRequest, IsRequestForPort}
 use Rattle.std.specs.Box.{with_value}
-use Rattle.port_driver.specs.Parts.{HasPortAt}
+use Rattle.port_driver.specs.PortAndShared.{HasPortAt}
 use Rattle.block_server.specs.FourPorts.{by_port}
-use Rattle.port_driver.specs.Ports.{HasFoundPort, with_port_slots}
+use Rattle.port_driver.specs.LentSlots.{HasFoundPort, with_port_slots}
 use Rattle.port_driver.specs.declared.served_port.ServedPort.{ServedPort}
 use Rattle.port_driver.specs.declared.served_port.Shared.{Shared}
 use Rattle.block_server.proofs.Placing as placing
-use Rattle.block_server.specs.Seen.{server_view_of}
-use Rattle.block_server.specs.View.{ServerView, server_of}
-use Rattle.request_queue.specs.Entries.{BookEntry, asks, asks_of}
+use Rattle.block_server.specs.FieldView.{server_view_of}
+use Rattle.block_server.specs.ServerView.{ServerView, server_of}
+use Rattle.request_queue.specs.BookEntries.{BookEntry, as_unanswered, unanswered_of}
 use Rattle.server_history.specs.Histories.{ExtendsHistory}
-use Rattle.server_history.specs.Served.{Accepts, accepted_as, with_accepted}
-use Rattle.server_history.specs.Server.{ServerState, mode_in, admission_context, state_of}
+use Rattle.server_history.specs.IssuingAndAnswering.{Accepts, accepted_as, with_accepted}
+use Rattle.server_history.specs.ServerState.{ServerState, mode_in, admission_context, state_of}
 use Rattle.block_server.proofs.Standing.{is_on, of_on}
 use Rattle.block_server.proofs.Accepting as accepted
 use Rattle.block_server.proofs.Newest as newest
@@ -42,7 +42,7 @@ accept-requires-clause-frames g c = (
 )
 
 pub accept-requires-clause-few : goal.accept-requires-clause-few
-accept-requires-clause-few g c = accepted.has_place (server_of g.A.Adapter.device (server_view_of c.self.inside)) c.args.r.now (subst (λ (v : ServerView g.row.A.Denot). IsAcceptable (admission_context (server_of g.A.Adapter.device v)) c.args.r.now) (sym c.self.view_is) c.requires.acceptable) (is_on g.A.Adapter.device (server_view_of c.self.inside) c.args.self.now c.self.view_is c.requires.on c.self.invariant).kept c.args.port (subst (λ (v : ServerView g.row.A.Denot). IsRequestForPort v.grants c.args.r.now c.args.port) (sym c.self.view_is) c.requires.port)
+accept-requires-clause-few g c = accepted.has_place (server_of g.A.Adapter.device (server_view_of c.self.inside)) c.args.r.now (subst (λ (v : ServerView g.row.A.Denot). IsAcceptable (admission_context (server_of g.A.Adapter.device v)) c.args.r.now) (sym c.self.view_is) c.requires.acceptable) (is_on g.A.Adapter.device (server_view_of c.self.inside) c.args.self.now c.self.view_is c.requires.on c.self.invariant).in_call_invariant c.args.port (subst (λ (v : ServerView g.row.A.Denot). IsRequestForPort v.grants c.args.r.now c.args.port) (sym c.self.view_is) c.requires.port)
 
 -- the port that it is for
 abbrev its_port : (g : Over) (c : After-index-self-from g) → ServedPort
@@ -51,10 +51,10 @@ its_port g c = get_or c.self.inside.ports c.from.result c.index-self-from.result
 has_port : (g : Over) (c : After-index-self-from g) → HasPortAt (server_of g.A.Adapter.device (server_view_of c.self.inside)) c.args.port.0 (its_port g c)
 has_port g c =
     let v = c.self.inside in
-    let four = placing.four_ports v.ports (is_on g.A.Adapter.device (server_view_of v) c.args.self.now c.self.view_is c.requires.on c.self.invariant).kept.four in
+    let four = placing.four_ports v.ports (is_on g.A.Adapter.device (server_view_of v) c.args.self.now c.self.view_is c.requires.on c.self.invariant).in_call_invariant.four_slots in
     let acc = (subst (λ (v : ServerView g.row.A.Denot). IsAcceptable (admission_context (server_of g.A.Adapter.device v)) c.args.r.now) (sym c.self.view_is) c.requires.acceptable) in
     let is_for = subst (λ (x : ServerView g.row.A.Denot). IsRequestForPort x.grants c.args.r.now c.args.port) (sym c.self.view_is) c.requires.port in
-    let small = accepted.low (server_of g.A.Adapter.device (server_view_of v)) c.args.r.now acc (is_on g.A.Adapter.device (server_view_of v) c.args.self.now c.self.view_is c.requires.on c.self.invariant).kept c.args.port is_for in
+    let small = accepted.low (server_of g.A.Adapter.device (server_view_of v)) c.args.r.now acc (is_on g.A.Adapter.device (server_view_of v) c.args.self.now c.self.view_is c.requires.on c.self.invariant).in_call_invariant c.args.port is_for in
     let from = c.from.ensures in
     placing.has_at_place (server_of g.A.Adapter.device (server_view_of v)) (g.A.Adapter.device v.adapter) v.shared v.ports c.args.port.0 c.from.result from c.index-self-from.result (omega (arith, four, small, from))
 
@@ -64,7 +64,7 @@ lends : (g : Over) (c : After-index-self-from g)
 lends g c =
     let acc = (subst (λ (v : ServerView g.row.A.Denot). IsAcceptable (admission_context (server_of g.A.Adapter.device v)) c.args.r.now) (sym c.self.view_is) c.requires.acceptable) in
     let is_for = subst (λ (x : ServerView g.row.A.Denot). IsRequestForPort x.grants c.args.r.now c.args.port) (sym c.self.view_is) c.requires.port in
-    accepted.lends (server_of g.A.Adapter.device (server_view_of c.self.inside)) c.args.r.now acc (is_on g.A.Adapter.device (server_view_of c.self.inside) c.args.self.now c.self.view_is c.requires.on c.self.invariant).kept c.args.port is_for
+    accepted.lends (server_of g.A.Adapter.device (server_view_of c.self.inside)) c.args.r.now acc (is_on g.A.Adapter.device (server_view_of c.self.inside) c.args.self.now c.self.view_is c.requires.on c.self.invariant).in_call_invariant c.args.port is_for
     c.law_requests_preserve_invariant.ensures.accepted (record { 0 = c.self.inside.last + 1 }) refl c.as_slice.result.now c.as_slice.ensures.value
     c.accept.new.table (rw c.deref_mut.ensures.value at c.accept.ensures.lent) c.accept.new.self c.accept.ensures.last
     (its_port g c).slots (has_port g c).slots_are (its_port g c).mode (has_port g c).mode_is (its_port g c).found (has_port g c).found_is
@@ -75,8 +75,8 @@ issue_due-requires g c =
     let s = server_of g.A.Adapter.device (server_view_of c.self.inside) in
     let acc = subst (λ (v : ServerView g.row.A.Denot). IsAcceptable (admission_context (server_of g.A.Adapter.device v)) c.args.r.now) (sym c.self.view_is) c.requires.acceptable in
     let is_for = subst (λ (v : ServerView g.row.A.Denot). IsRequestForPort v.grants c.args.r.now c.args.port) (sym c.self.view_is) c.requires.port in
-    let kept = (is_on g.A.Adapter.device (server_view_of c.self.inside) c.args.self.now c.self.view_is c.requires.on c.self.invariant).kept in
-    record { ready = ap state_of (sym (has_port g at).found_is) ∙ (ap (λ (p : Port). state_of (probe_result_of s.ports p.0)) (sym is_for.2) ∙ c.law_requests_preserve_invariant.ensures.ready s c.args.r.now is_for.0 acc is_for.1); lends = (with_accepted c.args.port c.args.r.now (record { 0 = c.self.inside.last + 1 }) c.accept.new.table (server_of g.A.Adapter.device (server_view_of c.self.inside)), lends g at) }
+    let kept = (is_on g.A.Adapter.device (server_view_of c.self.inside) c.args.self.now c.self.view_is c.requires.on c.self.invariant).in_call_invariant in
+    record { ready = ap state_of (sym (has_port g at).found_is) ∙ (ap (λ (p : Port). state_of (probe_result_of s.ports p.0)) (sym is_for.2) ∙ c.law_requests_preserve_invariant.ensures.ready s c.args.r.now is_for.0 acc is_for.1); has_found_port = (with_accepted c.args.port c.args.r.now (record { 0 = c.self.inside.last + 1 }) c.accept.new.table (server_of g.A.Adapter.device (server_view_of c.self.inside)), lends g at) }
 
 abbrev at_issuing : (g : Over) (c : After-issue_due g) → After-index-self-from g
 at_issuing g c = (goal.at.returns-clause-cost g c).After-index-self-from
@@ -98,20 +98,20 @@ sent g c =
     let id : RequestId = record { 0 = v.last + 1 } in
     let acc = (subst (λ (v : ServerView g.row.A.Denot). IsAcceptable (admission_context (server_of g.A.Adapter.device v)) c.args.r.now) (sym c.self.view_is) c.requires.acceptable) in
     let is_for = subst (λ (x : ServerView g.row.A.Denot). IsRequestForPort x.grants c.args.r.now c.args.port) (sym c.self.view_is) c.requires.port in
-    let accepts = accepted.accepts s c.args.r.now acc (is_on g.A.Adapter.device (server_view_of v) c.args.self.now c.self.view_is c.requires.on c.self.invariant).kept c.args.port is_for
+    let accepts = accepted.accepts s c.args.r.now acc (is_on g.A.Adapter.device (server_view_of v) c.args.self.now c.self.view_is c.requires.on c.self.invariant).in_call_invariant c.args.port is_for
     c.law_requests_preserve_invariant.ensures.accepted id refl c.as_slice.result.now c.as_slice.ensures.value
     c.accept.new.table (rw c.deref_mut.ensures.value at c.accept.ensures.lent) c.accept.new.self c.accept.ensures.last in
     let more : ServerState = with_accepted c.args.port c.args.r.now id c.accept.new.table s in
     let new = g.A.Adapter.device c.issue_due.new.adapter in
     let u = c.issue_due.new.self.slots in
     let shared : Shared = record { table = with_value v.shared.table c.accept.new.table; book = c.issue_due.new.book } in
-    subst (Accepts c.args.port c.args.r.now id s) (sym (placing.slots_placed (record s { last = v.last + 1 }) v.ports c.from.result c.index-self-from.result new shared c.issue_due.new.self c.issue_due.ensures.rest))
+    subst (Accepts c.args.port c.args.r.now id s) (sym (placing.slots_placed (record s { last_id = v.last + 1 }) v.ports c.from.result c.index-self-from.result new shared c.issue_due.new.self c.issue_due.ensures.only_slots_change))
     (subst (λ (n : ℕ). Accepts c.args.port c.args.r.now id s (record more { device = new; slots = slice_set (by_port (λ p. p.slots) v.ports) n u; book = c.issue_due.new.book })) (sym c.from.ensures)
     (accepts (with_port_slots more new c.issue_due.new.book u c.args.port) (c.issue_due.ensures.issues more (lends g (at_issuing g c)))))
 
 pub invariant_of-self : goal.invariant_of-self
 invariant_of-self g c = of_on c.self.view_is c.requires.on (
-    (c.law_acceptances_extend_history.ensures (server_of g.A.Adapter.device (server_view_of c.self.inside)) (server_of g.A.Adapter.device (after g c)) c.args.port c.args.r.now (record { 0 = c.self.inside.last + 1 }) (is_on g.A.Adapter.device (server_view_of c.self.inside) c.args.self.now c.self.view_is c.requires.on c.self.invariant) (subst (λ (v : ServerView g.row.A.Denot). IsAcceptable (admission_context (server_of g.A.Adapter.device v)) c.args.r.now) (sym c.self.view_is) c.requires.acceptable) (sent g c)).settled)
+    (c.law_acceptances_extend_history.ensures (server_of g.A.Adapter.device (server_view_of c.self.inside)) (server_of g.A.Adapter.device (after g c)) c.args.port c.args.r.now (record { 0 = c.self.inside.last + 1 }) (is_on g.A.Adapter.device (server_view_of c.self.inside) c.args.self.now c.self.view_is c.requires.on c.self.invariant) (subst (λ (v : ServerView g.row.A.Denot). IsAcceptable (admission_context (server_of g.A.Adapter.device v)) c.args.r.now) (sym c.self.view_is) c.requires.acceptable) (sent g c)).settled_invariant)
 
 pub returns-clause-accepts : goal.returns-clause-accepts
 returns-clause-accepts g c =
@@ -120,18 +120,18 @@ returns-clause-accepts g c =
       port = c.args.port;
       accepts = sent g c;
       stuck = refl;
-      same = λ none.
-          let book = accepted.its_book (server_of g.A.Adapter.device (server_view_of c.self.inside)) c.args.r.now (subst (λ (v : ServerView g.row.A.Denot). IsAcceptable (admission_context (server_of g.A.Adapter.device v)) c.args.r.now) (sym c.self.view_is) c.requires.acceptable) (is_on g.A.Adapter.device (server_view_of c.self.inside) c.args.self.now c.self.view_is c.requires.on c.self.invariant).kept c.args.port (subst (λ (v : ServerView g.row.A.Denot). IsRequestForPort v.grants c.args.r.now c.args.port) (sym c.self.view_is) c.requires.port)
+      quiet_if_none_due = λ none.
+          let book = accepted.its_book (server_of g.A.Adapter.device (server_view_of c.self.inside)) c.args.r.now (subst (λ (v : ServerView g.row.A.Denot). IsAcceptable (admission_context (server_of g.A.Adapter.device v)) c.args.r.now) (sym c.self.view_is) c.requires.acceptable) (is_on g.A.Adapter.device (server_view_of c.self.inside) c.args.self.now c.self.view_is c.requires.on c.self.invariant).in_call_invariant c.args.port (subst (λ (v : ServerView g.row.A.Denot). IsRequestForPort v.grants c.args.r.now c.args.port) (sym c.self.view_is) c.requires.port)
           c.law_requests_preserve_invariant.ensures.accepted (record { 0 = c.self.inside.last + 1 }) refl c.as_slice.result.now c.as_slice.ensures.value
           c.accept.new.table (rw c.deref_mut.ensures.value at c.accept.ensures.lent) c.accept.new.self c.accept.ensures.last in
-          c.issue_due.ensures.none (subst (λ (b : List BookEntry). due_of (its_port g (at_issuing g c)).mode c.args.port (asks_of b) ≡ []) book
-          (subst (λ (m : QueueMode). due_of m c.args.port (asks_of (with_accepted c.args.port c.args.r.now (record { 0 = c.self.inside.last + 1 }) (sent g c).table (server_of g.A.Adapter.device (server_view_of c.self.inside))).book) ≡ []) (has_port g (at_issuing g c)).mode_is none));
+          c.issue_due.ensures.none_due_no_access (subst (λ (b : List BookEntry). due_of (its_port g (at_issuing g c)).mode c.args.port (unanswered_of b) ≡ []) book
+          (subst (λ (m : QueueMode). due_of m c.args.port (unanswered_of (with_accepted c.args.port c.args.r.now (record { 0 = c.self.inside.last + 1 }) (sent g c).table (server_of g.A.Adapter.device (server_view_of c.self.inside))).book) ≡ []) (has_port g (at_issuing g c)).mode_is none));
     })
 
 pub returns-clause-adds : goal.returns-clause-adds
 returns-clause-adds g c =
     subst (λ (v : ServerView g.row.A.Denot). ExtendsHistory (server_of g.A.Adapter.device v) (server_of g.A.Adapter.device (after g c)) (Submit c.args.r.now) (Submitted (Ok (record { 0 = c.self.inside.last + 1 })))) c.self.view_is
-    (c.law_acceptances_extend_history.ensures (server_of g.A.Adapter.device (server_view_of c.self.inside)) (server_of g.A.Adapter.device (after g c)) c.args.port c.args.r.now (record { 0 = c.self.inside.last + 1 }) (is_on g.A.Adapter.device (server_view_of c.self.inside) c.args.self.now c.self.view_is c.requires.on c.self.invariant) (subst (λ (v : ServerView g.row.A.Denot). IsAcceptable (admission_context (server_of g.A.Adapter.device v)) c.args.r.now) (sym c.self.view_is) c.requires.acceptable) (sent g c)).adds
+    (c.law_acceptances_extend_history.ensures (server_of g.A.Adapter.device (server_view_of c.self.inside)) (server_of g.A.Adapter.device (after g c)) c.args.port c.args.r.now (record { 0 = c.self.inside.last + 1 }) (is_on g.A.Adapter.device (server_view_of c.self.inside) c.args.self.now c.self.view_is c.requires.on c.self.invariant) (subst (λ (v : ServerView g.row.A.Denot). IsAcceptable (admission_context (server_of g.A.Adapter.device v)) c.args.r.now) (sym c.self.view_is) c.requires.acceptable) (sent g c)).extends_history
 
 pub accept-requires-clause-fresh : goal.accept-requires-clause-fresh
 accept-requires-clause-fresh g c = search rules
@@ -144,13 +144,13 @@ returns-clause-cost g c =
     let id : RequestId = record { 0 = c.self.inside.last + 1 } in
     let exact = c.law_due_is_exact.ensures in
     let m = mode_in s c.args.port in
-    let book = asks_of s.book in
-    let its = asks (accepted_as c.args.port c.args.r.now id).entry in
+    let book = unanswered_of s.book in
+    let its = as_unanswered (accepted_as c.args.port c.args.r.now id).entry in
     let none : due_of m c.args.port book ≡ [] =
-    newest.none_of_them m c.args.port book (λ x has. (exact.own m c.args.port book x has, (exact.exact m c.args.port book x (exact.own m c.args.port book x has)).0 has)) (settled.issued c.args.port) in
-    let alone = newest.due_alone m book its refl c.args.port (newest.all_earlier s.book s.last its refl settled.kept.handed_out) none in
-    let there : asks_of c.accept.new.self ≡ book ++ its ∷ [] = ap asks_of c.accept.ensures.last ∙ newest.asks_more s.book (record { entry = (accepted_as c.args.port c.args.r.now id).entry; frames = c.as_slice.result.now }) in
-    let few : length (due_of m c.args.port (asks_of c.accept.new.self)) ≤ 1 = subst (λ (xs : List Unanswered). length (due_of m c.args.port xs) ≤ 1) (sym there) alone in
-    let one : length (due_of (its_port g (at_issuing g c)).mode c.args.port (asks_of c.accept.new.self)) ≤ 1 = subst (λ (m : QueueMode). length (due_of m c.args.port (asks_of c.accept.new.self)) ≤ 1) (has_port g (at_issuing g c)).mode_is few in
+    newest.none_of_them m c.args.port book (λ x has. (exact.due_are_of_port m c.args.port book x has, (exact.exact m c.args.port book x (exact.due_are_of_port m c.args.port book x has)).0 has)) (settled.nothing_is_due c.args.port) in
+    let alone = newest.due_alone m book its refl c.args.port (newest.all_earlier s.book s.last_id its refl settled.in_call_invariant.ids_were_handed_out) none in
+    let there : unanswered_of c.accept.new.self ≡ book ++ its ∷ [] = ap unanswered_of c.accept.ensures.last ∙ newest.asks_more s.book (record { entry = (accepted_as c.args.port c.args.r.now id).entry; frames = c.as_slice.result.now }) in
+    let few : length (due_of m c.args.port (unanswered_of c.accept.new.self)) ≤ 1 = subst (λ (xs : List Unanswered). length (due_of m c.args.port xs) ≤ 1) (sym there) alone in
+    let one : length (due_of (its_port g (at_issuing g c)).mode c.args.port (unanswered_of c.accept.new.self)) ≤ 1 = subst (λ (m : QueueMode). length (due_of m c.args.port (unanswered_of c.accept.new.self)) ≤ 1) (has_port g (at_issuing g c)).mode_is few in
     let same = ap (λ (v : ServerView g.row.A.Denot). g.A.Adapter.access_count v.adapter) c.self.view_is in
-    omega (arith, one, same, c.issue_due.ensures.each)
+    omega (arith, one, same, c.issue_due.ensures.cost_is_by_due)

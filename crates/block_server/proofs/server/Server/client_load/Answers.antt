@@ -4,9 +4,9 @@ use Rattle.adapter.specs.Access.{Loads}
 use Rattle.adapter.specs.Rules.{IsUnowned, IsStable}
 use Rattle.block_machine.specs.Events.{LoadAt}
 use Rattle.block_machine.specs.Refusals.{IsFirstMemFault, MayAccessFrame}
-use Rattle.dma_frames.specs.Table.{owner_of, lent_to}
-use Rattle.block_server.specs.Seen.{server_view_of}
-use Rattle.block_server.specs.View.{ServerView, server_of}
+use Rattle.dma_frames.specs.FrameTables.{owner_of, lent_to}
+use Rattle.block_server.specs.FieldView.{server_view_of}
+use Rattle.block_server.specs.ServerView.{ServerView, server_of}
 use Rattle.server_history.specs.Histories.{ExtendsHistory, InvariantByStuck, load_said}
 use Rattle.block_server.proofs.Standing.{holds_either}
 use Rattle.block_server.proofs.server.Server.client_load.Given.{Over}
@@ -31,7 +31,7 @@ load-requires g c =
     subst (λ (at : ℕ). IsStable (IsUnowned at (length c.args.out.now)) (g.A.Adapter.device c.self.inside.adapter)) (sym c.in_ok-address.ensures.ok.1)
     (let s = server_of g.A.Adapter.device (server_view_of c.self.inside) in
     let opened = subst P (sym c.self.view_is) c.in_ok-address.ensures.ok.0 in
-    let booked = holds_either c.self.inside.stuck c.self.invariant (λ _ settled. c.law_server_invariant_holds.ensures.kept s settled.kept) (λ _ stalled. stalled.booked) in
+    let booked = holds_either c.self.inside.stuck c.self.invariant (λ _ settled. c.law_server_invariant_holds.ensures.kept s settled.in_call_invariant) (λ _ stalled. stalled.server_invariant) in
     c.law_open_frames_are_accessible.ensures s c.args.client c.args.frame c.args.offset (length c.args.out.now) booked opened)
 
 -- what it leaves, and that it adds an event

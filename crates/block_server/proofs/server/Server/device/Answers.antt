@@ -1,7 +1,7 @@
 use Rattle.std.proofs.Common.{subst, rules}
 use Rattle.block_machine.specs.Events.{Device as Told, Stepped}
-use Rattle.block_server.specs.Seen.{server_view_of}
-use Rattle.block_server.specs.View.{ServerView, server_of}
+use Rattle.block_server.specs.FieldView.{server_view_of}
+use Rattle.block_server.specs.ServerView.{ServerView, server_of}
 use Rattle.server_history.specs.Histories.{ExtendsHistory}
 use Rattle.block_server.proofs.Stepping.{step_adds}
 use Rattle.block_server.proofs.server.Server.device.Goals as goal

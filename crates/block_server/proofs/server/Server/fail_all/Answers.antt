@@ -3,11 +3,11 @@ use Rattle.ata_types.specs.declared.request.Reply.{Reply}
 use Rattle.block_machine.specs.Events.{Service, Served}
 use Rattle.server_history.specs.Histories.{ExtendsHistory, ExtendsStuck, InvariantByStuck}
 use Rattle.server_history.specs.Resets.{ResolvePorts}
-use Rattle.server_history.specs.Server.{ServerState}
+use Rattle.server_history.specs.ServerState.{ServerState}
 use Rattle.server_history.specs.StuckServer.{StuckInvariant}
 use Rattle.block_server.specs.Calls.{ServicesBy}
-use Rattle.block_server.specs.Seen.{server_view_of, with_ports}
-use Rattle.block_server.specs.View.{ServerView, server_of}
+use Rattle.block_server.specs.FieldView.{server_view_of, with_ports}
+use Rattle.block_server.specs.ServerView.{ServerView, server_of}
 use Rattle.block_server.proofs.Standing.{now_off, still}
 use Rattle.block_server.proofs.server.Server.fail_all.Given.{Over}
 use Rattle.block_server.proofs.server.Server.fail_all.Goals as goal
@@ -18,7 +18,7 @@ resolve_ports-requires-clause-settle g c =
     let device = g.A.Adapter.device in
     let s = server_of device (server_view_of c.self.inside) in
     let off : StuckInvariant s = now_off device refl (still true c.self.view_is c.requires.stuck) c.self.invariant in
-    (s, c.law_server_invariant_holds.ensures.settle s off.booked)
+    (s, c.law_server_invariant_holds.ensures.settle s off.server_invariant)
 
 -- the server then
 abbrev after : (g : Over) (c : After-resolve_ports g) → ServerState
@@ -33,12 +33,12 @@ told g c =
     let device = g.A.Adapter.device in
     let s = server_of device (server_view_of c.self.inside) in
     let off : StuckInvariant s = now_off device refl (still true c.self.view_is c.requires.stuck) c.self.invariant in
-    let all = c.resolve_ports.ensures.settles s (c.law_server_invariant_holds.ensures.settle s off.booked) in
+    let all = c.resolve_ports.ensures.settles s (c.law_server_invariant_holds.ensures.settle s off.server_invariant) in
     let settles = subst (λ (replies : List Reply). ResolvePorts 0 s.ports replies s (after g c)) (sym (all.1 ∙ ap (λ (told : List Reply). told ++ all.0) c.requires.none)) all.2 in
     (settles, c.law_stuck_services_extend_history.ensures s (after g c) c.resolve_ports.new.replies.items off settles)
 
 pub invariant_of-self : goal.invariant_of-self
-invariant_of-self g c = subst (λ (b : Bool). InvariantByStuck b (after g c)) (sym (still true c.self.view_is c.requires.stuck)) (told g c).1.stalled
+invariant_of-self g c = subst (λ (b : Bool). InvariantByStuck b (after g c)) (sym (still true c.self.view_is c.requires.stuck)) (told g c).1.stuck_invariant
 
 pub returns-clause-services : goal.returns-clause-services
 returns-clause-services g c =
@@ -53,4 +53,4 @@ pub returns-clause-adds : goal.returns-clause-adds
 returns-clause-adds g c =
     let device = g.A.Adapter.device in
     let P : ServerView g.row.A.Denot → Type 0 = λ v. ExtendsHistory (server_of device v) (after g c) Service (Served c.resolve_ports.new.replies.items) in
-    subst P c.self.view_is (told g c).1.adds
+    subst P c.self.view_is (told g c).1.extends_history

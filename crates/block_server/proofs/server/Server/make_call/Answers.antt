@@ -1,8 +1,8 @@
 use Rattle.std.proofs.Common.{sym, subst}
 use Rattle.block_machine.specs.Events.{Shown}
 use Rattle.server_history.specs.Histories.{ExtendsHistory}
-use Rattle.block_server.specs.Running.{ask_of}
-use Rattle.block_server.specs.View.{server_of}
+use Rattle.block_server.specs.AbstractCalls.{abstract_call_of}
+use Rattle.block_server.specs.ServerView.{server_of}
 use Rattle.ata_types.specs.declared.call.Call.{Call}
 use Rattle.adapter.specs.declared.access.DeviceStep.{DeviceStep}
 use Rattle.block_server.proofs.Wanted.{reset_wants, revoke_wants, service_wants, submit_wants, tick_wants}
@@ -11,7 +11,7 @@ use Rattle.block_server.proofs.server.Server.make_call.Goals as goal
 pub returns-in-State-clause-adds : goal.returns-in-State-clause-adds
 returns-in-State-clause-adds g c =
     let s = server_of g.A.Adapter.device c.args.self.now in
-    let P : Call DeviceStep → Type 0 = λ call. ExtendsHistory s s (ask_of call) (Shown c.state.result) in
+    let P : Call DeviceStep → Type 0 = λ call. ExtendsHistory s s (abstract_call_of call) (Shown c.state.result) in
     subst P (sym c.in-State.is) c.state.ensures.adds
 
 pub returns-in-Submit-clause-wanted : goal.returns-in-Submit-clause-wanted

@@ -2,15 +2,15 @@ use Rattle.std.proofs.Common.{rules, false, ◌∙◌, ◌*◌, ◌≤◌, List,
 use Rattle.std.specs.List.{AllPairs}
 use Rattle.ata_types.specs.declared.grant.GrantRow.{GrantRow}
 use Rattle.block_machine.specs.Rules.{DifferInName}
-use Rattle.dma_frames.specs.Table.{ExtentsApart}
+use Rattle.dma_frames.specs.FrameTables.{ExtentsApart}
 use Rattle.grants.specs.Rows.{SameRows}
 use Rattle.host_boot.specs.TakeOver.{TakesOver, probe_result_of}
 use Rattle.host_boot.specs.declared.ProbeResult.{ProbeResult}
 use Rattle.identify.specs.declared.wanted.Wanted.{Wanted}
 use Rattle.server_history.specs.Histories.{StartsHistory}
-use Rattle.server_history.specs.Server.{ServerState, SettledInvariant, probed_mode}
-use Rattle.block_server.specs.Seen.{server_view_of}
-use Rattle.block_server.specs.View.{server_of}
+use Rattle.server_history.specs.ServerState.{ServerState, SettledInvariant, probed_mode}
+use Rattle.block_server.specs.FieldView.{server_view_of}
+use Rattle.block_server.specs.ServerView.{server_of}
 use Rattle.block_server.proofs.Making.{NewPorts, new_fits, new_ports}
 use Rattle.block_server.proofs.server.Server.new.Given.{Over}
 use Rattle.block_server.proofs.server.Server.new.Goals as goal
@@ -56,10 +56,10 @@ begun g c =
     let s = new_server g c in
     let host = c.take_over-host.result in
     let has = has_ports g c in
-    let room : 4096 * plan.frames ≤ s.device.size = let f = c.in-Ok.ensures.made.frames in let r = c.requires.ready.room c.in-Ok.ensures.sound in let z = c.take_over-host.ensures.taken.same.size in omega (arith, f, r, z) in
+    let room : 4096 * plan.frames ≤ s.device.size = let f = c.in-Ok.ensures.made.frames in let r = c.requires.ready.room c.in-Ok.ensures.sound in let z = c.take_over-host.ensures.taken.adapter_is_kept.size in omega (arith, f, r, z) in
     c.law_a_new_server_has_begun.ensures s host (device c.args.adapter) c.requires.ready.idle (g.met.A.Adapter.tells c.args.adapter) (its_taken g c)
     (new_fits s host plan c.in-Ok.ensures.fits (its_rows g c)
-    (rw c.owners.ensures.owners at c.in-Ok-boxed.ensures.only) room c.in-Ok-from_rows.ensures.names c.in-Ok-from_rows.ensures.few c.in-Ok-boxed.ensures.free has.found c.take_over-host.ensures.four has.four_remembered has.forgotten has.four_kept has.unkept has.four_slots has.four_modes has.places
+    (rw c.owners.ensures.owners at c.in-Ok-boxed.ensures.no_other_is_owned) room c.in-Ok-from_rows.ensures.names c.in-Ok-from_rows.ensures.few c.in-Ok-boxed.ensures.nothing_is_lent has.found c.take_over-host.ensures.four has.four_remembered has.forgotten has.four_kept has.unkept has.four_slots has.four_modes has.places
     (λ port low. has.modes s.device.cap c.take_over-host.ensures.taken.slots c.take_over-host.ensures.taken.queued port low ∙ ap (λ (found : List ProbeResult). probed_mode s.device.cap (probe_result_of found port)) (sym has.found)) has.usable has.unused c.in-Ok-new.ensures refl)
 
 pub invariant_of-result : goal.invariant_of-result
@@ -74,21 +74,21 @@ returns-clause-made g c =
       is_plan = c.in-Ok.ensures.fits;
       planned = c.in-Ok.ensures.made;
       rows = its_rows g a;
-      owned = rw c.owners.ensures.owners at c.in-Ok-boxed.ensures.owned;
-      only = rw c.owners.ensures.owners at c.in-Ok-boxed.ensures.only;
-      free = c.in-Ok-boxed.ensures.free;
+      owned = rw c.owners.ensures.owners at c.in-Ok-boxed.ensures.runs_are_owned;
+      only = rw c.owners.ensures.owners at c.in-Ok-boxed.ensures.no_other_is_owned;
+      free = c.in-Ok-boxed.ensures.nothing_is_lent;
       wanted = has.wanted ∙ c.wanted.ensures.wanted;
       host = c.take_over-host.result;
       ports = has.found;
       forgotten = has.forgotten;
-      taken = subst (λ (wanted : List Wanted). TakesOver wanted c.take_over-host.result (g.A.Adapter.device c.args.adapter) (g.A.Adapter.device c.take_over-host.new.adapter)) c.wanted-2.ensures.wanted c.take_over-host.ensures.taken;
+      takes_over = subst (λ (wanted : List Wanted). TakesOver wanted c.take_over-host.result (g.A.Adapter.device c.args.adapter) (g.A.Adapter.device c.take_over-host.new.adapter)) c.wanted-2.ensures.wanted c.take_over-host.ensures.taken;
       unkept = has.unkept;
       book = c.in-Ok-new.ensures;
-      last = refl;
+      last_id = refl;
       stuck = refl;
       unused = has.unused;
       settled = (begun g a).0;
-      begun = (begun g a).1;
+      starts_history = (begun g a).1;
     }
 
 pub returns-in-Err-clause-refused : goal.returns-in-Err-clause-refused

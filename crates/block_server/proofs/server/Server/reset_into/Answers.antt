@@ -2,18 +2,18 @@ use Rattle.std.proofs.Common.{◌∙◌, ◌++◌, List, None, Some, ap, refl, s
 use Rattle.std.specs.Box.{with_value}
 use Rattle.ata_types.specs.declared.request.Reply.{Reply}
 use Rattle.block_machine.specs.Events.{Reset, WasReset}
-use Rattle.dma_frames.specs.Table.{Table}
+use Rattle.dma_frames.specs.FrameTables.{FrameOwnership}
 use Rattle.host_boot.specs.TakeOver.{TakesOver}
 use Rattle.host_boot.specs.declared.ProbeResult.{ProbeResult}
 use Rattle.identify.specs.declared.wanted.Wanted.{Wanted}
 use Rattle.server_history.specs.Histories.{ExtendsSettled, ExtendsHistory, ExtendsStuck}
-use Rattle.server_history.specs.Kept.{IsKeptIn, MayGiveBack, TakesBack}
+use Rattle.server_history.specs.KeptLoans.{IsKeptIn, MayGiveBack, TakesBack}
 use Rattle.server_history.specs.Resets.{IsReinitialized, IssuePorts, ResetsServer, ResolvePorts}
-use Rattle.server_history.specs.Server.{InCallInvariant, ServerState}
+use Rattle.server_history.specs.ServerState.{InCallInvariant, ServerState}
 use Rattle.server_history.specs.StuckServer.{ResetGetsStuck, ServerInvariant}
 use Rattle.block_server.specs.FourPorts.{EachBecomes, BeginsAsHostFound, by_port}
-use Rattle.block_server.specs.Seen.{server_view_of, with_ports}
-use Rattle.block_server.specs.View.{ServerView, server_of}
+use Rattle.block_server.specs.FieldView.{server_view_of, with_ports}
+use Rattle.block_server.specs.ServerView.{ServerView, server_of}
 use Rattle.port_driver.specs.declared.served_port.ServedPort.{ServedPort}
 use Rattle.port_driver.specs.declared.served_port.Shared.{Shared}
 use Rattle.block_server.proofs.Becoming as becoming
@@ -32,26 +32,26 @@ stuck_server g c = with_ports (server_of g.A.Adapter.device (server_view_of c.se
 
 stuck_books : (g : Over) (c : After-note_stuck_reset g) → ServerInvariant (server_of g.A.Adapter.device (server_view_of c.self.inside))
 stuck_books g c =
-    holds_either c.self.inside.stuck c.self.invariant (λ _ settled. c.law_server_invariant_holds.ensures.kept (server_of g.A.Adapter.device (server_view_of c.self.inside)) settled.kept) (λ _ stalled. stalled.booked)
+    holds_either c.self.inside.stuck c.self.invariant (λ _ settled. c.law_server_invariant_holds.ensures.kept (server_of g.A.Adapter.device (server_view_of c.self.inside)) settled.in_call_invariant) (λ _ stalled. stalled.server_invariant)
 
 got_stuck : (g : Over) (c : After-note_stuck_reset g) → ResetGetsStuck (server_of g.A.Adapter.device (server_view_of c.self.inside)) (stuck_server g c)
 got_stuck g c =
     let device = g.A.Adapter.device in
     let v = c.self.inside in
-    becoming.gets_stuck (server_of device (server_view_of v)) (device v.adapter) (device c.reset.new.adapter) v.shared v.ports c.note_stuck_reset.new.ports (placing.four_ports v.ports (stuck_books g c).four) c.note_stuck_reset.ensures c.in-Err.ensures.stuck
+    becoming.gets_stuck (server_of device (server_view_of v)) (device v.adapter) (device c.reset.new.adapter) v.shared v.ports c.note_stuck_reset.new.ports (placing.four_ports v.ports (stuck_books g c).four_slots) c.note_stuck_reset.ensures c.in-Err.ensures.stuck
 
 stuck_then : (g : Over) (c : After-note_stuck_reset g) → ExtendsStuck (server_of g.A.Adapter.device (server_view_of c.self.inside)) (stuck_server g c) Reset (WasReset None)
 stuck_then g c = c.law_stuck_resets_extend_history.ensures (server_of g.A.Adapter.device (server_view_of c.self.inside)) (stuck_server g c) (stuck_books g c) (got_stuck g c)
 
 pub invariant_of-self : goal.invariant_of-self
-invariant_of-self g c = (stuck_then g (goal.at.invariant_of-self g c).After-note_stuck_reset).stalled
+invariant_of-self g c = (stuck_then g (goal.at.invariant_of-self g c).After-note_stuck_reset).stuck_invariant
 
 pub returns-in-Err-clause-adds : goal.returns-in-Err-clause-adds
 returns-in-Err-clause-adds g c =
     let device = g.A.Adapter.device in
     let at = (goal.at.returns-in-Err-clause-adds g c).After-note_stuck_reset in
     let P : ServerView g.row.A.Denot → Type 0 = λ v. ExtendsHistory (server_of device v) (stuck_server g at) Reset (WasReset None) in
-    subst P c.self.view_is (stuck_then g at).adds
+    subst P c.self.view_is (stuck_then g at).extends_history
 
 pub returns-in-Err-clause-resets : goal.returns-in-Err-clause-resets
 returns-in-Err-clause-resets g c =
@@ -65,15 +65,15 @@ returns-in-Err-clause-resets g c =
 pub give_all_back-requires : goal.give_all_back-requires
 give_all_back-requires g c =
     let s = server_of g.A.Adapter.device (server_view_of c.self.inside) in
-    let booked : ServerInvariant s = holds_either c.self.inside.stuck c.self.invariant (λ _ settled. c.law_server_invariant_holds.ensures.kept s settled.kept) (λ _ stalled. stalled.booked) in
+    let booked : ServerInvariant s = holds_either c.self.inside.stuck c.self.invariant (λ _ settled. c.law_server_invariant_holds.ensures.kept s settled.in_call_invariant) (λ _ stalled. stalled.server_invariant) in
     let laws = c.law_quarantined_loans_are_lent.ensures in
-    subst (λ (table : Table). MayGiveBack table s.kept) (sym c.deref_mut.ensures.value)
-    (reviving.may_go s booked (λ port. laws.lent s port booked) (λ port. laws.two s port booked) (λ port other a b. laws.one s port other a b booked))
+    subst (λ (table : FrameOwnership). MayGiveBack table s.kept) (sym c.deref_mut.ensures.value)
+    (reviving.may_go s booked (λ port. laws.lent s port booked) (λ port. laws.differ_in_one_port s port booked) (λ port other a b. laws.differ_between_ports s port other a b booked))
 
 -- the server as its adapter was taken over again, with no loan kept
 its_books : (g : Over) (c : After-resolve_ports-arg-3-1 g) → ServerInvariant (server_of g.A.Adapter.device (server_view_of c.self.inside))
 its_books g c =
-    holds_either c.self.inside.stuck c.self.invariant (λ _ settled. c.law_server_invariant_holds.ensures.kept (server_of g.A.Adapter.device (server_view_of c.self.inside)) settled.kept) (λ _ stalled. stalled.booked)
+    holds_either c.self.inside.stuck c.self.invariant (λ _ settled. c.law_server_invariant_holds.ensures.kept (server_of g.A.Adapter.device (server_view_of c.self.inside)) settled.in_call_invariant) (λ _ stalled. stalled.server_invariant)
 
 abbrev shared_then : (g : Over) (c : After-resolve_ports-arg-3-1 g) → Shared
 shared_then g c = record { table = with_value c.self.inside.shared.table c.give_all_back.new.table; book = c.self.inside.shared.book }
@@ -89,9 +89,9 @@ takes g c =
     let back = c.give_all_back.ensures in
     let new = device c.take_over-host.new.adapter in
     let idle = device c.reset.new.adapter in
-    becoming.takes_again (server_of device (server_view_of v)) (device v.adapter) idle new v.shared (shared_then g c) v.ports c.note_probe_result.new.ports (placing.four_ports v.ports (its_books g c).four) host c.take_over-host.ensures.four
+    becoming.takes_again (server_of device (server_view_of v)) (device v.adapter) idle new v.shared (shared_then g c) v.ports c.note_probe_result.new.ports (placing.four_ports v.ports (its_books g c).four_slots) host c.take_over-host.ensures.four
     (subst (λ (ports : List ServedPort). EachBecomes (BeginsAsHostFound host) ports c.note_probe_result.new.ports) back.ports c.note_probe_result.ensures) c.in_default.ensures.reset
-    (subst (λ (table : Table). TakesBack table c.give_all_back.new.table (IsKeptIn (by_port (λ p. p.kept) v.ports))) c.deref_mut.ensures.value back.back)
+    (subst (λ (table : FrameOwnership). TakesBack table c.give_all_back.new.table (IsKeptIn (by_port (λ p. p.kept) v.ports))) c.deref_mut.ensures.value back.back)
     (subst (λ (wanted : List Wanted). TakesOver wanted host idle new) (c.wanted_disks.ensures ∙ ap (by_port (λ p. p.wanted)) back.ports) c.take_over-host.ensures.taken) refl
 
 pub resolve_ports-requires-clause-settle : goal.resolve_ports-requires-clause-settle
@@ -136,7 +136,7 @@ was_reset g c =
     (resets, c.law_resets_extend_history.ensures s (after g c) c.resolve_ports.new.replies.items (its_books g a) resets)
 
 pub invariant_of-self-2 : goal.invariant_of-self-2
-invariant_of-self-2 g c = (was_reset g c).1.settled
+invariant_of-self-2 g c = (was_reset g c).1.settled_invariant
 
 pub returns-clause-resets : goal.returns-clause-resets
 returns-clause-resets g c =
@@ -148,4 +148,4 @@ pub returns-clause-adds : goal.returns-clause-adds
 returns-clause-adds g c =
     let device = g.A.Adapter.device in
     let P : ServerView g.row.A.Denot → Type 0 = λ v. ExtendsHistory (server_of device v) (after g c) Reset (WasReset (Some c.resolve_ports.new.replies.items)) in
-    subst P c.self.view_is (was_reset g c).1.adds
+    subst P c.self.view_is (was_reset g c).1.extends_history

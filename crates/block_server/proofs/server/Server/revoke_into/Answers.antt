@@ -1,22 +1,22 @@
 use Rattle.std.proofs.Common.{Bool, true, false, ◌≡◌, List, None, Some, refl, sym, ap, ◌∙◌, subst, arith, get_or, length, set, [], ⊎_elim}
 use Rattle.ata_types.specs.declared.grant.GrantRow.{GrantRow}
 use Rattle.block_machine.specs.Events.{RevokeOf, WasRevoked}
-use Rattle.block_machine.specs.Due.{due_of}
+use Rattle.block_machine.specs.DueRequests.{due_of}
 use Rattle.block_machine.specs.declared.due.QueueMode.{QueueMode}
-use Rattle.request_queue.specs.Entries.{all_marked_under, asks_of}
+use Rattle.request_queue.specs.BookEntries.{all_marked_under, unanswered_of}
 use Rattle.server_history.specs.Histories.{ExtendsSettled, ExtendsHistory, ExtendsStuck, InvariantByStuck}
-use Rattle.server_history.specs.Revoked.{RevokesGrant}
-use Rattle.server_history.specs.Served.{IssuesAll}
-use Rattle.server_history.specs.Server.{InCallInvariant, SettledInvariant, ServerState}
-use Rattle.port_driver.specs.Ports.{HasFoundPort}
+use Rattle.server_history.specs.Revoking.{RevokesGrant}
+use Rattle.server_history.specs.IssuingAndAnswering.{IssuesAll}
+use Rattle.server_history.specs.ServerState.{InCallInvariant, SettledInvariant, ServerState}
+use Rattle.port_driver.specs.LentSlots.{HasFoundPort}
 use Rattle.port_driver.specs.declared.served_port.ServedPort.{ServedPort}
 use Rattle.port_driver.specs.declared.served_port.Shared.{Shared}
 use Rattle.block_server.proofs.Placing as placing
 use Rattle.server_history.specs.StuckServer.{StuckInvariant, ServerInvariant}
-use Rattle.port_driver.specs.Dispositions.{BookIsSound}
+use Rattle.port_driver.specs.LoanRoom.{BookIsSound}
 use Rattle.block_server.specs.Revoking.{RevokesAndIssues}
-use Rattle.block_server.specs.Seen.{server_view_of}
-use Rattle.block_server.specs.View.{ServerView, server_of}
+use Rattle.block_server.specs.FieldView.{server_view_of}
+use Rattle.block_server.specs.ServerView.{ServerView, server_of}
 use Rattle.block_server.proofs.Revoking as revoking
 use Rattle.block_server.proofs.Standing.{holds_either}
 use Rattle.block_server.proofs.server.Server.revoke_into.Given.{Over}
@@ -35,13 +35,13 @@ returns-in_default-clause-adds g c =
 pub cancel_under_grant-requires : goal.cancel_under_grant-requires
 cancel_under_grant-requires g c =
     let s = server_of g.A.Adapter.device (server_view_of c.self.inside) in
-    let b : ServerInvariant s = holds_either c.self.inside.stuck c.self.invariant (λ _ settled. c.law_server_invariant_holds.ensures.kept s settled.kept) (λ _ stalled. stalled.booked) in
+    let b : ServerInvariant s = holds_either c.self.inside.stuck c.self.invariant (λ _ settled. c.law_server_invariant_holds.ensures.kept s settled.in_call_invariant) (λ _ stalled. stalled.server_invariant) in
     let marked : BookIsSound s.table (all_marked_under c.args.client c.args.number s.book) = record {
-      ordered = c.law_the_book_stays_in_order.ensures.revoked s.book c.args.client c.args.number b.ordered;
-      accepted = c.law_accepted_is_preserved.ensures.revoked s.table s.book c.args.client c.args.number b.accepted;
+      book_is_in_order = c.law_the_book_stays_in_order.ensures.revoked s.book c.args.client c.args.number b.book_is_in_order;
+      requests_are_accepted = c.law_accepted_is_preserved.ensures.revoked s.table s.book c.args.client c.args.number b.requests_are_accepted;
     } in
     let sound : BookIsSound s.table c.revoke-2.new.self = subst (BookIsSound s.table) (sym c.revoke-2.ensures) marked in
-    let all = c.law_the_book_stays_in_order.ensures.all c.revoke-2.new.self sound.ordered in
+    let all = c.law_the_book_stays_in_order.ensures.has_128_at_most c.revoke-2.new.self sound.book_is_in_order in
     let none = ap length c.clear.ensures in
     record { sound = sound; room = omega (arith, all, none) }
 
@@ -64,7 +64,7 @@ added_off g c =
     c.law_stuck_revocations_extend_history.ensures s (server_of g.A.Adapter.device (after_off g c)) c.args.client c.args.number c.cancel_under_grant.new.replies.items stalled (revoked_off g c)
 
 pub invariant_of-self-then-self : goal.invariant_of-self-then-self
-invariant_of-self-then-self g c = subst (λ (b : Bool). InvariantByStuck b (server_of g.A.Adapter.device (after_off g c))) (sym c.if-self.true) (added_off g c).stalled
+invariant_of-self-then-self g c = subst (λ (b : Bool). InvariantByStuck b (server_of g.A.Adapter.device (after_off g c))) (sym c.if-self.true) (added_off g c).stuck_invariant
 
 pub returns-then-self-clause-revokes : goal.returns-then-self-clause-revokes
 returns-then-self-clause-revokes g c =
@@ -84,7 +84,7 @@ pub returns-then-self-clause-adds : goal.returns-then-self-clause-adds
 returns-then-self-clause-adds g c =
     let device = g.A.Adapter.device in
     let P : ServerView g.row.A.Denot → Type 0 = λ v. ExtendsHistory (server_of device v) (server_of device (after_off g c)) (RevokeOf c.args.client c.args.number) (WasRevoked (Some c.cancel_under_grant.new.replies.items)) in
-    subst P c.self.view_is (added_off g c).adds
+    subst P c.self.view_is (added_off g c).extends_history
 
 -- ---- while the adapter is on
 
@@ -102,7 +102,7 @@ revoked_on g c =
 
 -- it goes on
 keeps_on : (g : Over) (c : After-index-self-from g) → InCallInvariant (mid_on g c)
-keeps_on g c = c.law_requests_preserve_invariant.ensures.revoked (server_of g.A.Adapter.device (server_view_of c.self.inside)) (mid_on g c) c.args.client c.args.number c.cancel_under_grant.new.replies.items (is_on g c).kept (revoked_on g c)
+keeps_on g c = c.law_requests_preserve_invariant.ensures.revoked (server_of g.A.Adapter.device (server_view_of c.self.inside)) (mid_on g c) c.args.client c.args.number c.cancel_under_grant.new.replies.items (is_on g c).in_call_invariant (revoked_on g c)
 
 -- the grant's port
 abbrev its_port : (g : Over) (c : After-index-self-from g) → ServedPort
@@ -111,14 +111,14 @@ its_port g c = get_or c.self.inside.ports c.from.result c.index-self-from.result
 lends_on : (g : Over) (c : After-index-self-from g) → HasFoundPort (mid_on g c) (g.A.Adapter.device c.self.inside.adapter) c.cancel_under_grant.new.self.book (its_port g c).slots c.in-Some.row.port (its_port g c).mode (its_port g c).found
 lends_on g c =
     let v = c.self.inside in
-    let four = placing.four_ports v.ports (is_on g c).kept.four in
+    let four = placing.four_ports v.ports (is_on g c).in_call_invariant.four_slots in
     let small = revoking.low (server_of g.A.Adapter.device (server_view_of c.self.inside)) c.args.client c.args.number c.in-Some.row c.revoke.new.self c.in-Some.ensures.found c.revoke-2.new.self c.revoke-2.ensures
     c.self.inside.shared.table.value refl c.clear.new.self.items c.clear.ensures c.cancel_under_grant.new.self.book c.cancel_under_grant.new.self.table.value c.cancel_under_grant.new.replies.items c.cancel_under_grant.ensures
-    (is_on g c).kept (keeps_on g c) in
+    (is_on g c).in_call_invariant (keeps_on g c) in
     let from = c.from.ensures in
     revoking.lends (server_of g.A.Adapter.device (server_view_of c.self.inside)) c.args.client c.args.number c.in-Some.row c.revoke.new.self c.in-Some.ensures.found c.revoke-2.new.self c.revoke-2.ensures
     c.self.inside.shared.table.value refl c.clear.new.self.items c.clear.ensures c.cancel_under_grant.new.self.book c.cancel_under_grant.new.self.table.value c.cancel_under_grant.new.replies.items c.cancel_under_grant.ensures
-    (is_on g c).kept (keeps_on g c) (its_port g c)
+    (is_on g c).in_call_invariant (keeps_on g c) (its_port g c)
     (placing.has_at_place (server_of g.A.Adapter.device (server_view_of v)) (g.A.Adapter.device v.adapter) v.shared v.ports c.in-Some.row.port.0 c.from.result from c.index-self-from.result (omega (arith, four, small, from)))
 
 pub issue_where_ready-requires : goal.issue_where_ready-requires
@@ -146,10 +146,10 @@ issued_on g c =
     let new = g.A.Adapter.device c.issue_where_ready.new.adapter in
     let shared : Shared = record c.cancel_under_grant.new.self { book = c.issue_where_ready.new.book } in
     subst (IssuesAll c.in-Some.row.port (mid_on g (before g c)))
-    (sym (placing.slots_placed (record s { grants = c.revoke.new.self }) v.ports c.from.result c.index-self-from.result new shared c.issue_where_ready.new.self c.issue_where_ready.ensures.rest))
+    (sym (placing.slots_placed (record s { grants = c.revoke.new.self }) v.ports c.from.result c.index-self-from.result new shared c.issue_where_ready.new.self c.issue_where_ready.ensures.only_slots_change))
     (revoking.issued (server_of g.A.Adapter.device (server_view_of c.self.inside)) c.args.client c.args.number c.in-Some.row c.revoke.new.self c.in-Some.ensures.found c.revoke-2.new.self c.revoke-2.ensures
     c.self.inside.shared.table.value refl c.clear.new.self.items c.clear.ensures c.cancel_under_grant.new.self.book c.cancel_under_grant.new.self.table.value c.cancel_under_grant.new.replies.items c.cancel_under_grant.ensures
-    (is_on g (before g c)).kept (keeps_on g (before g c)) c.from.result c.from.ensures new c.issue_where_ready.new.book c.issue_where_ready.new.self.slots
+    (is_on g (before g c)).in_call_invariant (keeps_on g (before g c)) c.from.result c.from.ensures new c.issue_where_ready.new.book c.issue_where_ready.new.self.slots
     (c.issue_where_ready.ensures.issues (mid_on g (before g c)) (lends_on g (before g c))))
 
 -- it adds an event
@@ -157,7 +157,7 @@ added_on : (g : Over) (c : After-issue_where_ready g) → ExtendsSettled (server
 added_on g c = c.law_revocations_extend_history.ensures (server_of g.A.Adapter.device (server_view_of c.self.inside)) (mid_on g (before g c)) (server_of g.A.Adapter.device (after_on g c)) c.args.client c.args.number c.cancel_under_grant.new.replies.items (is_on g (before g c)) (revoked_on g (before g c)) (issued_on g c)
 
 pub invariant_of-self-2 : goal.invariant_of-self-2
-invariant_of-self-2 g c = subst (λ (b : Bool). InvariantByStuck b (server_of g.A.Adapter.device (after_on g c))) (sym c.if-self.false) (added_on g c).settled
+invariant_of-self-2 g c = subst (λ (b : Bool). InvariantByStuck b (server_of g.A.Adapter.device (after_on g c))) (sym c.if-self.false) (added_on g c).settled_invariant
 
 -- and no access was made where nothing was due
 revokes_on : (g : Over) (c : After-issue_where_ready g) → RevokesAndIssues g.A.Adapter.device c.args.client c.args.number c.cancel_under_grant.new.replies.items (server_view_of c.self.inside) (after_on g c)
@@ -168,7 +168,7 @@ revokes_on g c = record {
   stalled = λ off. absurd (let z : true ≡ false = sym off ∙ c.if-self.false in cc);
   quiet = λ why. ⊎_elim
       (λ off. absurd (let z : true ≡ false = sym off ∙ c.if-self.false in cc))
-      (λ none. c.issue_where_ready.ensures.none (subst (λ (m : QueueMode). due_of m c.in-Some.row.port (asks_of c.cancel_under_grant.new.self.book) ≡ []) (lends_on g (before g c)).mode_is none))
+      (λ none. c.issue_where_ready.ensures.none_due_no_access (subst (λ (m : QueueMode). due_of m c.in-Some.row.port (unanswered_of c.cancel_under_grant.new.self.book) ≡ []) (lends_on g (before g c)).mode_is none))
       why;
 }
 
@@ -181,4 +181,4 @@ pub returns-clause-adds : goal.returns-clause-adds
 returns-clause-adds g c =
     let device = g.A.Adapter.device in
     let P : ServerView g.row.A.Denot → Type 0 = λ v. ExtendsHistory (server_of device v) (server_of device (after_on g c)) (RevokeOf c.args.client c.args.number) (WasRevoked (Some c.cancel_under_grant.new.replies.items)) in
-    subst P c.self.view_is (added_on g c).adds
+    subst P c.self.view_is (added_on g c).extends_history

@@ -1,6 +1,6 @@
 use Rattle.std.proofs.Common.{◌<◌, ◌≡◌, ◌+◌, ◌++◌, ◌∷◌, List, sym, ◌∙◌, ap, subst, [], append_assoc, length, length-append, take, arith, refl, rules}
 use Rattle.std.proofs.lemmas.List.{append-nil, take_all, take_more}
-use Rattle.adapter.specs.Counted.{MakesAtMost}
+use Rattle.adapter.specs.AccessBounds.{MakesAtMost}
 use Rattle.block_server.specs.Costs.{most_accesses_of_all}
 use Rattle.block_server.proofs.Counting.{most_more, most_taken}
 use Rattle.block_server.specs.Promise.{RunsAsPromised, Simulates}
@@ -14,7 +14,7 @@ use Rattle.block_server.proofs.server.Server.run.Goals as goal
 
 pub loop-at-init : goal.loop-at-init
 loop-at-init g c = record {
-  ran = record { said = []; told = sym (append-nil (results_in c.args.out.now)); each = refl; keeps = c.law_runs_keep_their_promise.ensures.none c.args.self.now };
+  ran = record { said = []; results_are = sym (append-nil (results_in c.args.out.now)); one_result_a_call = refl; simulates_calls = c.law_runs_keep_their_promise.ensures.no_calls c.args.self.now };
   length = omega arith;
   last = λ some. absurd (omega (arith, some));
   room = omega arith;
@@ -30,13 +30,13 @@ loop-at-preserved g c =
     let P : List (Call DeviceStep) → Type 0 = λ calls. Simulates g.A.Adapter.device c.args.self.now c.make_call-said.new.self calls (so_far.said ++ one ∷ []) in
     let Q : List (Call DeviceStep) → Type 0 = λ calls. length (so_far.said ++ one ∷ []) ≡ length calls in
     let calls = ap (λ (e : Call DeviceStep). take c.loop-at.at c.args.calls.now ++ e ∷ []) c.index-calls-at.is ∙ sym (take_more c.args.calls.now c.loop-at.at call below) in
-    let before = c.begin_next_result.ensures.earlier ∙ c.reserve.ensures.said ∙ so_far.told in
+    let before = c.begin_next_result.ensures.earlier ∙ c.reserve.ensures.said ∙ so_far.results_are in
     record {
       ran = record {
         said = so_far.said ++ one ∷ [];
-        told = ap (λ (l : List (CallResult (ArrayVec Reply))). l ++ one ∷ []) before ∙ append_assoc (results_in c.args.out.now) so_far.said (one ∷ []);
-        each = subst Q calls (length-append so_far.said (one ∷ []) ∙ ap (λ n. n + 1) so_far.each ∙ sym (length-append (take c.loop-at.at c.args.calls.now) (call ∷ [])));
-        keeps = subst P calls (c.law_runs_keep_their_promise.ensures.more _ _ _ _ _ _ _ so_far.keeps (c.law_runs_keep_their_promise.ensures.one _ _ call one c.make_call-said.ensures.adds c.make_call-said.ensures.wanted));
+        results_are = ap (λ (l : List (CallResult (ArrayVec Reply))). l ++ one ∷ []) before ∙ append_assoc (results_in c.args.out.now) so_far.said (one ∷ []);
+        one_result_a_call = subst Q calls (length-append so_far.said (one ∷ []) ∙ ap (λ n. n + 1) so_far.one_result_a_call ∙ sym (length-append (take c.loop-at.at c.args.calls.now) (call ∷ [])));
+        simulates_calls = subst P calls (c.law_runs_keep_their_promise.ensures.calls_join _ _ _ _ _ _ _ so_far.simulates_calls (c.law_runs_keep_their_promise.ensures.one_call _ _ call one c.make_call-said.ensures.adds c.make_call-said.ensures.wanted));
       };
       length = omega (arith, c.begin_next_result.ensures.len, c.reserve.ensures.len, c.loop-at.invariant.length);
       last = λ some. refl;
@@ -61,7 +61,7 @@ returns-clause-last g c some = c.loop-at.invariant.last (omega (arith, some))
 pub returns-then-is_err-clause-begun : goal.returns-then-is_err-clause-begun
 returns-then-is_err-clause-begun g c =
     let r = c.loop-at.invariant.ran in
-    record { said = r.said; told = c.reserve.ensures.said ∙ r.told; each = r.each; keeps = r.keeps }
+    record { said = r.said; results_are = c.reserve.ensures.said ∙ r.results_are; one_result_a_call = r.one_result_a_call; simulates_calls = r.simulates_calls }
 
 pub returns-clause-cost : goal.returns-clause-cost
 returns-clause-cost g c = let all = most_taken c.loop-at.at c.args.calls.now in omega (arith, all, c.loop-at.invariant.cost)

@@ -1,6 +1,6 @@
 use Rattle.std.proofs.Common.{◌+◌, ◌≤◌, take, vec_len}
 use Rattle.std.specs.Prelude.{IsSome}
-use Rattle.adapter.specs.Counted.{MakesAtMost}
+use Rattle.adapter.specs.AccessBounds.{MakesAtMost}
 use Rattle.block_server.specs.Costs.{most_accesses_of_all}
 use Rattle.std.specs.Vec.{vec_capacity}
 use Rattle.block_server.specs.Promise.{RunsAsPromised}

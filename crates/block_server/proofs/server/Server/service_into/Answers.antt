@@ -1,11 +1,11 @@
 use Rattle.std.proofs.Common.{◌≡◌, Bool, false, List, arith, length, refl, sym, ap, ◌∙◌, subst}
 use Rattle.std.proofs.lemmas.List.{length-map}
 use Rattle.ata_types.specs.declared.request.Reply.{Reply}
-use Rattle.block_server.specs.Seen.{server_view_of}
-use Rattle.block_server.specs.View.{ServerView, server_of}
+use Rattle.block_server.specs.FieldView.{server_view_of}
+use Rattle.block_server.specs.ServerView.{ServerView, server_of}
 use Rattle.port_driver.specs.declared.served_port.ServedPort.{ServedPort}
 use Rattle.server_history.specs.Histories.{InvariantByStuck}
-use Rattle.server_history.specs.Turns.{ServePorts, ServesPort, ProbesUnready}
+use Rattle.server_history.specs.Turns.{ServicePorts, ServicesPort, ProbesUnready}
 use Rattle.block_server.specs.Calls.{ServicesBy}
 use Rattle.block_server.proofs.Placing as placing
 use Rattle.block_server.proofs.Turns.{TurnsSoFar, all_turns, its_part, none_yet, one_more}
@@ -20,7 +20,7 @@ take_turn-requires-clause-settled g c =
     let v = c.loop-number.self-inside in
     let s = server_of device (server_view_of v) in (
       s,
-      its_part ServesPort ProbesUnready c.args.self.now.ports (server_of device c.args.self.now) s (device v.adapter) v.shared v.ports c.loop-number.replies.items c.loop-number.number
+      its_part ServicesPort ProbesUnready c.args.self.now.ports (server_of device c.args.self.now) s (device v.adapter) v.shared v.ports c.loop-number.replies.items c.loop-number.number
           c.loop-number.invariant.turns c.loop-number-test.true _,
     )
 
@@ -38,25 +38,25 @@ loop-number-preserved g c =
     let new = c.take_turn.new in
     record {
       first = so_far.first;
-      turns = one_more ServesPort ProbesUnready c.args.self.now.ports first s (device v.adapter) v.shared v.ports told number so_far.turns small so_far.first default (device new.adapter) new.shared new.self new.replies.items
-          (c.take_turn.ensures.turn s (its_part ServesPort ProbesUnready c.args.self.now.ports first s (device v.adapter) v.shared v.ports told number so_far.turns small default));
+      turns = one_more ServicesPort ProbesUnready c.args.self.now.ports first s (device v.adapter) v.shared v.ports told number so_far.turns small so_far.first default (device new.adapter) new.shared new.self new.replies.items
+          (c.take_turn.ensures.turn s (its_part ServicesPort ProbesUnready c.args.self.now.ports first s (device v.adapter) v.shared v.ports told number so_far.turns small default));
       room = c.take_turn.ensures.room;
       on = so_far.on;
       cost = omega (arith, so_far.cost, c.take_turn.ensures.cost);
     }
 
 -- the ports had their turns
-served : (g : Over) (c : After-loop-number g) → ServePorts 0 c.args.self.now.ports c.loop-number.replies.items (server_of g.A.Adapter.device c.args.self.now) (server_of g.A.Adapter.device (server_view_of c.loop-number.self-inside))
+served : (g : Over) (c : After-loop-number g) → ServicePorts 0 c.args.self.now.ports c.loop-number.replies.items (server_of g.A.Adapter.device c.args.self.now) (server_of g.A.Adapter.device (server_view_of c.loop-number.self-inside))
 served g c =
     let device = g.A.Adapter.device in
     let first = c.loop-number.invariant.first in
     let past = c.loop-number-test.false in
     let v = c.loop-number.self-inside in
-    all_turns ServesPort ProbesUnready c.args.self.now.ports (server_of device c.args.self.now) (server_of device (server_view_of v)) (device v.adapter) v.shared v.ports c.loop-number.replies.items c.loop-number.number c.loop-number.invariant.turns
+    all_turns ServicesPort ProbesUnready c.args.self.now.ports (server_of device c.args.self.now) (server_of device (server_view_of v)) (device v.adapter) v.shared v.ports c.loop-number.replies.items c.loop-number.number c.loop-number.invariant.turns
     (omega (arith, first, past))
 
 pub invariant_of-self : goal.invariant_of-self
-invariant_of-self g c = subst (λ (b : Bool). InvariantByStuck b (server_of g.A.Adapter.device (server_view_of c.loop-number.self-inside))) (sym c.loop-number.invariant.on) c.loop-number.invariant.turns.settled
+invariant_of-self g c = subst (λ (b : Bool). InvariantByStuck b (server_of g.A.Adapter.device (server_view_of c.loop-number.self-inside))) (sym c.loop-number.invariant.on) c.loop-number.invariant.turns.settled_invariant
 
 pub returns-clause-services : goal.returns-clause-services
 returns-clause-services g c =
@@ -69,7 +69,7 @@ pub returns-clause-adds : goal.returns-clause-adds
 returns-clause-adds g c =
     let device = g.A.Adapter.device in
     (c.law_services_extend_history.ensures (server_of device c.args.self.now) (server_of device (server_view_of c.loop-number.self-inside)) c.loop-number.replies.items
-    (now_on device c.self.view_is c.if-self.false c.self.invariant) (served g c)).adds
+    (now_on device c.self.view_is c.if-self.false c.self.invariant) (served g c)).extends_history
 
 pub loop-number-init : goal.loop-number-init
 loop-number-init g c =
@@ -77,12 +77,12 @@ loop-number-init g c =
     let v = c.self.inside in
     let ports = ap (λ (x : ServerView g.row.A.Denot). x.ports) c.self.view_is in
     let settled = now_on device refl c.if-self.false c.self.invariant in
-    let four = placing.four_ports v.ports settled.kept.four in
+    let four = placing.four_ports v.ports settled.in_call_invariant.four_slots in
     record {
       first = ap length (sym ports) ∙ length-map v.ports (λ (p : ServedPort). p.found) ∙ four;
-      turns = subst (λ (told : List Reply). TurnsSoFar ServesPort ProbesUnready c.args.self.now.ports (server_of device c.args.self.now) v.ports told (server_of device (server_view_of v)) 0) (sym c.clear.ensures)
-          (none_yet ServesPort ProbesUnready c.args.self.now.ports (server_of device c.args.self.now) v.ports (server_of device (server_view_of v)) four ports settled (ap (server_of device) c.self.view_is));
-      room = let all = c.law_the_book_stays_in_order.ensures.all v.shared.book settled.kept.ordered in let none = ap length c.clear.ensures in omega (arith, all, none);
+      turns = subst (λ (told : List Reply). TurnsSoFar ServicesPort ProbesUnready c.args.self.now.ports (server_of device c.args.self.now) v.ports told (server_of device (server_view_of v)) 0) (sym c.clear.ensures)
+          (none_yet ServicesPort ProbesUnready c.args.self.now.ports (server_of device c.args.self.now) v.ports (server_of device (server_view_of v)) four ports settled (ap (server_of device) c.self.view_is));
+      room = let all = c.law_the_book_stays_in_order.ensures.has_128_at_most v.shared.book settled.in_call_invariant.book_is_in_order in let none = ap length c.clear.ensures in omega (arith, all, none);
       on = c.if-self.false;
       cost = let same = ap (λ (x : ServerView g.row.A.Denot). g.A.Adapter.access_count x.adapter) c.self.view_is in omega (arith, same);
     }

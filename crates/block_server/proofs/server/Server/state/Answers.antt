@@ -1,7 +1,7 @@
 use Rattle.std.proofs.Common.{sym, ap, ◌∙◌}
 use Rattle.ata_types.specs.declared.PortState.TheVariants.{Absent, Ready}
-use Rattle.server_history.specs.Server.{state_of}
-use Rattle.block_server.specs.Seen.{server_view_of}
+use Rattle.server_history.specs.ServerState.{state_of}
+use Rattle.block_server.specs.FieldView.{server_view_of}
 use Rattle.block_server.proofs.Running.{shown_adds}
 use Rattle.block_server.proofs.server.Server.state.Goals as goal
 

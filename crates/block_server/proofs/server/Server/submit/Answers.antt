@@ -4,9 +4,9 @@ use Rattle.std.proofs.lemmas.Result.{err_from_is_err_and}
 use Rattle.block_machine.specs.Events.{Submit, Submitted}
 use Rattle.server_history.specs.Histories.{ExtendsHistory}
 use Rattle.block_machine.specs.Refusals.{IsAcceptable, IsFirstRefusal}
-use Rattle.server_history.specs.Server.{admission_context}
-use Rattle.block_server.specs.Seen.{server_view_of}
-use Rattle.block_server.specs.View.{ServerView, server_of}
+use Rattle.server_history.specs.ServerState.{admission_context}
+use Rattle.block_server.specs.FieldView.{server_view_of}
+use Rattle.block_server.specs.ServerView.{ServerView, server_of}
 use Rattle.block_server.proofs.Standing.{holds_either}
 use Rattle.block_server.proofs.server.Server.submit.Goals as goal
 

@@ -5,16 +5,16 @@ use Rattle.std.proofs.lemmas.List.{length-map}
 use Rattle.ata_types.specs.declared.request.Reply.{Reply}
 use Rattle.refinement.specs.Relation.{port_at}
 use Rattle.host_boot.specs.TakeOver.{probe_result_of}
-use Rattle.request_queue.specs.Entries.{BookEntry, IsOverdue, aged}
+use Rattle.request_queue.specs.BookEntries.{BookEntry, IsOverdue, aged_entries}
 use Rattle.block_machine.specs.Events.{Served, Tick}
 use Rattle.block_server.specs.Calls.{TicksBy}
 use Rattle.server_history.specs.Histories.{ExtendsHistory, InvariantByStuck}
-use Rattle.server_history.specs.Server.{SettledInvariant, ServerState}
+use Rattle.server_history.specs.ServerState.{SettledInvariant, ServerState}
 use Rattle.server_history.specs.Turns.{Ticks, TicksPort, a_tick_older, is_ready}
-use Rattle.port_driver.specs.Parts.{IsAtRest, no_port}
+use Rattle.port_driver.specs.PortAndShared.{IsAtRest, no_port}
 use Rattle.block_server.specs.FourPorts.{by_port}
-use Rattle.block_server.specs.Seen.{server_view_of}
-use Rattle.block_server.specs.View.{ServerView, server_of}
+use Rattle.block_server.specs.FieldView.{server_view_of}
+use Rattle.block_server.specs.ServerView.{ServerView, server_of}
 use Rattle.port_driver.specs.declared.served_port.ServedPort.{ServedPort}
 use Rattle.block_server.proofs.Placing as placing
 use Rattle.block_server.proofs.Turns.{TurnsSoFar, all_turns, its_part, none_yet, one_more}
@@ -24,10 +24,10 @@ use Rattle.block_server.proofs.server.Server.tick_into.Goals as goal
 use Rattle.block_server.proofs.server.Server.tick_into.Goals.{After-loop-number, After-overdue_ports-overdue}
 
 -- requests are a tick older
-older : (g : Over) (c : After-overdue_ports-overdue g) → c.tick-any_overdue.new.self ≡ aged (λ port. is_ready (probe_result_of (by_port (λ p. p.found) c.self.inside.ports) port.0)) c.self.inside.shared.book
+older : (g : Over) (c : After-overdue_ports-overdue g) → c.tick-any_overdue.new.self ≡ aged_entries (λ port. is_ready (probe_result_of (by_port (λ p. p.found) c.self.inside.ports) port.0)) c.self.inside.shared.book
 older g c =
-    c.tick-any_overdue.ensures.older_entry
-    ∙ (λ i. aged (λ port. (c.ready_ports.ensures port ∙ ap is_ready (sym (get_or-map (λ (p : ServedPort). p.found) c.self.inside.ports port.0 no_port))) i) c.self.inside.shared.book)
+    c.tick-any_overdue.ensures.aged_entry
+    ∙ (λ i. aged_entries (λ port. (c.ready_ports.ensures port ∙ ap is_ready (sym (get_or-map (λ (p : ServedPort). p.found) c.self.inside.ports port.0 no_port))) i) c.self.inside.shared.book)
 
 older_now : (g : Over) (c : After-overdue_ports-overdue g) → record (server_of g.A.Adapter.device (server_view_of c.self.inside)) { book = c.tick-any_overdue.new.self } ≡ a_tick_older (server_of g.A.Adapter.device c.args.self.now)
 older_now g c =
@@ -79,7 +79,7 @@ ticked g c =
     (omega (arith, first, past))
 
 pub invariant_of-self : goal.invariant_of-self
-invariant_of-self g c = subst (λ (b : Bool). InvariantByStuck b (server_of g.A.Adapter.device (server_view_of c.loop-number.self-inside))) (sym c.loop-number.invariant.on) c.loop-number.invariant.turns.settled
+invariant_of-self g c = subst (λ (b : Bool). InvariantByStuck b (server_of g.A.Adapter.device (server_view_of c.loop-number.self-inside))) (sym c.loop-number.invariant.on) c.loop-number.invariant.turns.settled_invariant
 
 pub returns-clause-ticks : goal.returns-clause-ticks
 returns-clause-ticks g c =
@@ -95,7 +95,7 @@ pub returns-clause-adds : goal.returns-clause-adds
 returns-clause-adds g c =
     let device = g.A.Adapter.device in
     (c.law_ticks_extend_history.ensures (server_of device c.args.self.now) (server_of device (server_view_of c.loop-number.self-inside)) c.loop-number.replies.items
-    (now_on device c.self.view_is c.if-self.false c.self.invariant) (ticked g c)).adds
+    (now_on device c.self.view_is c.if-self.false c.self.invariant) (ticked g c)).extends_history
 
 -- since a reset that got stuck there is no ready port
 pub returns-then-self-clause-ticks : goal.returns-then-self-clause-ticks
@@ -112,7 +112,7 @@ pub returns-then-self-clause-adds : goal.returns-then-self-clause-adds
 returns-then-self-clause-adds g c =
     let s = server_of g.A.Adapter.device c.args.self.now in
     subst (λ (replies : List Reply). ExtendsHistory s s Tick (Served replies)) (sym c.clear.ensures)
-    (c.law_stuck_ticks_extend_history.ensures s (now_off g.A.Adapter.device c.self.view_is c.if-self.true c.self.invariant)).adds
+    (c.law_stuck_ticks_extend_history.ensures s (now_off g.A.Adapter.device c.self.view_is c.if-self.true c.self.invariant)).extends_history
 
 pub loop-number-init : goal.loop-number-init
 loop-number-init g c =
@@ -124,12 +124,12 @@ loop-number-init g c =
     let settled = now_on device refl c.if-self.false c.self.invariant in
     let now : SettledInvariant (record (server_of device (server_view_of v)) { book = c.tick-any_overdue.new.self }) =
     subst (λ (book : List BookEntry). SettledInvariant (record (server_of device (server_view_of v)) { book = book })) (sym (older g at)) (c.law_aging_keeps_invariant.ensures (server_of device (server_view_of v)) settled) in
-    let four = placing.four_ports v.ports settled.kept.four in
+    let four = placing.four_ports v.ports settled.in_call_invariant.four_slots in
     record {
       first = ap length (sym ports) ∙ length-map v.ports (λ (p : ServedPort). p.found) ∙ four;
       turns = subst (λ (told : List Reply). TurnsSoFar (TicksPort old.book) IsAtRest c.args.self.now.ports old v.ports told (record (server_of device (server_view_of v)) { book = c.tick-any_overdue.new.self }) 0) (sym c.clear.ensures)
           (none_yet (TicksPort old.book) IsAtRest c.args.self.now.ports old v.ports (record (server_of device (server_view_of v)) { book = c.tick-any_overdue.new.self }) four ports now (older_now g at));
-      room = let all = c.law_the_book_stays_in_order.ensures.all c.tick-any_overdue.new.self now.kept.ordered in let none = ap length c.clear.ensures in omega (arith, all, none);
+      room = let all = c.law_the_book_stays_in_order.ensures.has_128_at_most c.tick-any_overdue.new.self now.in_call_invariant.book_is_in_order in let none = ap length c.clear.ensures in omega (arith, all, none);
       on = c.if-self.false;
       rests = λ none. ap (λ (x : ServerView g.row.A.Denot). x.adapter) c.self.view_is;
       cost = let same = ap (λ (x : ServerView g.row.A.Denot). g.A.Adapter.access_count x.adapter) c.self.view_is in omega (arith, same);

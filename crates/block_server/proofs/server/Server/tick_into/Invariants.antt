@@ -1,14 +1,14 @@
 use Rattle.std.proofs.Common.{◌≡◌, ◌+◌, ◌*◌, ◌≤◌, false, length}
-use Rattle.adapter.specs.Counted.{MakesAtMost}
+use Rattle.adapter.specs.AccessBounds.{MakesAtMost}
 use Rattle.port_driver.specs.Costs.{port_error_accesses}
 use Rattle.port_control.specs.declared.events.PortError.TheVariants.{TimedOut}
 use Rattle.ata_types.specs.declared.limits.TheConstants.{MOST_UNANSWERED}
-use Rattle.request_queue.specs.Entries.{IsAnyOverdue}
+use Rattle.request_queue.specs.BookEntries.{IsAnyOverdue}
 use Rattle.server_history.specs.Turns.{TicksPort, a_tick_older}
-use Rattle.port_driver.specs.Parts.{IsAtRest}
+use Rattle.port_driver.specs.PortAndShared.{IsAtRest}
 use Rattle.block_server.proofs.Turns.{TurnsSoFar}
-use Rattle.block_server.specs.Seen.{server_view_of}
-use Rattle.block_server.specs.View.{server_of}
+use Rattle.block_server.specs.FieldView.{server_view_of}
+use Rattle.block_server.specs.ServerView.{server_of}
 use Rattle.block_server.proofs.server.Server.tick_into.Given as goal
 
 abbrev pub invariant-loop-number : goal.invariant-loop-number

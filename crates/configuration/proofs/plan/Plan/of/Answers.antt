@@ -1,10 +1,10 @@
 use Rattle.ata_types.specs.declared.memory.TheConstants.{MOST_FRAMES}
 use Rattle.std.proofs.Common.{◌∙◌, All, AllPairs, ap, arith, length, map, refl, subst, sym}
-use Rattle.configuration.specs.Ranges.{IsClientConfig, IsGrant, IsPort}
+use Rattle.configuration.specs.Ranges.{IsClientInRange, IsGrantInRange, IsPortInRange}
 use Rattle.configuration.specs.Rules.{DifferInNumber}
 use Rattle.configuration.specs.declared.FaultKind.TheVariants.{Duplicate}
 use Rattle.configuration.proofs.Fits.{clients_within, few_clients, in_range, plan_fits}
-use Rattle.configuration.specs.Parts.{AreWantedOf, row_of, owner_extent}
+use Rattle.configuration.specs.PlanParts.{AreWantedOf, row_of, owner_extent}
 use Rattle.configuration.proofs.plan.Plan.of.Goals as goal
 
 pub overflow_cast-result : goal.overflow_cast-result
@@ -16,7 +16,7 @@ runs_of-requires-clause-few c =
 
 pub runs_of-requires-clause-clients : goal.runs_of-requires-clause-clients
 runs_of-requires-clause-clients c =
-    subst (All (IsClientConfig MOST_FRAMES)) (sym c.as_slice.ensures.value) (clients_within c.args.config.now c.in_ok-check.ensures.sound)
+    subst (All (IsClientInRange MOST_FRAMES)) (sym c.as_slice.ensures.value) (clients_within c.args.config.now c.in_ok-check.ensures.sound)
 
 pub rows_of-requires-clause-few : goal.rows_of-requires-clause-few
 rows_of-requires-clause-few c =
@@ -24,11 +24,11 @@ rows_of-requires-clause-few c =
 
 pub rows_of-requires-clause-grants : goal.rows_of-requires-clause-grants
 rows_of-requires-clause-grants c =
-    subst (All IsGrant) (sym c.as_slice-2.ensures.value) (in_range c.args.config.now c.in_ok-check.ensures.sound).parts.grants
+    subst (All IsGrantInRange) (sym c.as_slice-2.ensures.value) (in_range c.args.config.now c.in_ok-check.ensures.sound).parts.grants
 
 pub wanted_of-requires-clause-ports : goal.wanted_of-requires-clause-ports
 wanted_of-requires-clause-ports c =
-    subst (All IsPort) (sym c.as_slice-3.ensures.value) (in_range c.args.config.now c.in_ok-check.ensures.sound).parts.ports
+    subst (All IsPortInRange) (sym c.as_slice-3.ensures.value) (in_range c.args.config.now c.in_ok-check.ensures.sound).parts.ports
 
 pub wanted_of-requires-clause-once : goal.wanted_of-requires-clause-once
 wanted_of-requires-clause-once c =

@@ -1,8 +1,8 @@
 use Rattle.std.proofs.Common.{rules, ℕ, ◌≡◌, ◌+◌, ◌∙◌, inl, inr, subst, arith, ap}
-use Rattle.device_model.specs.Cached.{HasRoomForOld}
+use Rattle.device_model.specs.WriteCaches.{HasRoomForOld}
 use Rattle.device_model.specs.Disks.{disk_over}
 use Rattle.device_model.specs.Trims.{written_ahead}
-use Rattle.device_model.specs.View.{operation_of_kind}
+use Rattle.device_model.specs.PortView.{operation_of_kind}
 use Rattle.device_model.specs.declared.port.CommandKind.{CommandKind}
 use Rattle.device_model.proofs.Transfers.{fits_sector, replaced_is}
 use Rattle.device_model.proofs.bay.Bay.transfer_bytes.Goals as goal
@@ -11,55 +11,55 @@ pub returns-in-Write : goal.returns-in-Write
 returns-in-Write g c =
     record {
       inside = search rules;
-      sector = fits_sector c.args.bytes.now c.told-bytes c.fits-bytes;
-      gives = search rules;
-      takes = search rules;
-      left = search rules;
-      page = search rules;
-      log = search rules;
-      same = search rules;
-      disk = λ done.
-          let told = c.put_sector.ensures.writes.puts done ∙ replaced_is (g.S.SectorStore.told c.args.self.now.disk.store) c.args.next.sector c.args.bytes.now in
+      bytes_are_sector = fits_sector c.args.bytes.now c.told-bytes c.fits-bytes;
+      read_gives_told = search rules;
+      write_keeps_bytes = search rules;
+      failure_keeps_bytes = search rules;
+      identify_page_is_sent = search rules;
+      log_page_is_sent = search rules;
+      bay_is_kept = search rules;
+      disk_is = λ done.
+          let told = c.put_sector.ensures.writes.sector_is_replaced done ∙ replaced_is (g.S.SectorStore.told c.args.self.now.disk.store) c.args.next.sector c.args.bytes.now in
           elim c.in-Write.is [
-            | inl plain ↦ rw plain (λ i. disk_over c.args.self.now.which (c.put_sector.ensures.writes.sized i) (told i))
-            | inr queued ↦ rw queued (λ i. disk_over c.args.self.now.which (c.put_sector.ensures.writes.sized i) (told i))
+            | inl plain ↦ rw plain (λ i. disk_over c.args.self.now.which (c.put_sector.ensures.writes.size_is_kept i) (told i))
+            | inr queued ↦ rw queued (λ i. disk_over c.args.self.now.which (c.put_sector.ensures.writes.size_is_kept i) (told i))
           ];
-      kept = search rules;
-      sized = search rules;
-      fine = search rules;
-      ranged = search rules;
-      fails = search rules;
-      lasting = search rules;
-      cached = search rules;
-      old_room = λ n room.
+      told_is_kept = search rules;
+      size_is_kept = search rules;
+      no_call_failed = search rules;
+      only_ranged_fails = search rules;
+      failure_is_noted = search rules;
+      lasting_is_kept = search rules;
+      cache_mode_is_kept = search rules;
+      cache_has_room = λ n room.
           let P : ℕ → Type 0 = λ k. HasRoomForOld c.args.self.now.cache k in
           let one : written_ahead (operation_of_kind c.args.next.command_kind) 1 ≡ 1 =
           let Q : CommandKind → ℕ = λ k. written_ahead (operation_of_kind k) 1 in
           elim c.in-Write.is [ inl plain ↦ ap Q plain | inr queued ↦ ap Q queued ] in
           let more : written_ahead (operation_of_kind c.args.next.command_kind) 1 + n ≡ n + 1 = omega (arith, one) in
           c.put_sector.ensures.left n (subst P more room);
-      rest = search rules;
+      rest_is_kept = search rules;
     }
 
 pub returns-in-Trim : goal.returns-in-Trim
 returns-in-Trim g c =
     record {
       inside = search rules;
-      sector = fits_sector c.args.bytes.now c.told-bytes c.fits-bytes;
-      gives = search rules;
-      takes = search rules;
-      left = search rules;
-      page = search rules;
-      log = search rules;
-      same = search rules;
-      disk = search rules;
-      kept = search rules;
-      sized = search rules;
-      fine = search rules;
-      ranged = search rules;
-      fails = search rules;
-      lasting = search rules;
-      cached = search rules;
-      old_room = search rules;
-      rest = search rules;
+      bytes_are_sector = fits_sector c.args.bytes.now c.told-bytes c.fits-bytes;
+      read_gives_told = search rules;
+      write_keeps_bytes = search rules;
+      failure_keeps_bytes = search rules;
+      identify_page_is_sent = search rules;
+      log_page_is_sent = search rules;
+      bay_is_kept = search rules;
+      disk_is = search rules;
+      told_is_kept = search rules;
+      size_is_kept = search rules;
+      no_call_failed = search rules;
+      only_ranged_fails = search rules;
+      failure_is_noted = search rules;
+      lasting_is_kept = search rules;
+      cache_mode_is_kept = search rules;
+      cache_has_room = search rules;
+      rest_is_kept = search rules;
     }

@@ -1,5 +1,5 @@
 use Rattle.std.proofs.Common.{ℕ, ◌+◌, ◌-◌, List, drop, sym, subst, take, arith}
-use Rattle.device_model.specs.Exchanged.{TransfersPiece, piece_of}
+use Rattle.device_model.specs.PieceTransfers.{TransfersPiece, piece_of}
 use Rattle.device_model.specs.declared.hardware.Hardware.{Hardware}
 use Rattle.device_model.proofs.Exchanging.{exchanged, piece_is, piece_stays, piece_was, with_piece}
 use Rattle.device_model.proofs.bay.Bay.transfer_piece.Goals as goal
@@ -16,7 +16,7 @@ returns-clause-exchanges g c =
     g.S.SectorStore.failures c.args.self.now
     c.transfer_within.new.self next before after c.transfer_within.result in
     let was = piece_was h next k d c.deref_mut.ensures.value (omega arith) c.requires.inside in
-    let is = piece_is h next k d b c.deref_mut.ensures.value (omega arith) c.requires.inside c.transfer_within.ensures.sector.0
+    let is = piece_is h next k d b c.deref_mut.ensures.value (omega arith) c.requires.inside c.transfer_within.ensures.bytes_are_sector.0
     in
     subst (λ before. E before (piece_of there next)) (sym was) (subst (λ after. E (take k (drop next.address d)) after)
     (sym is) c.transfer_within.ensures)
@@ -25,10 +25,10 @@ pub returns-clause-memory : goal.returns-clause-memory
 returns-clause-memory g c =
     exchanged c.args.hardware.now c.args.next (c.args.next.address + 512 - c.args.next.address) c.deref_mut.result.now
     c.transfer_within.new.piece
-    c.deref_mut.ensures.value (omega arith) c.requires.inside c.transfer_within.ensures.sector.0 c.transfer_within.ensures.takes
+    c.deref_mut.ensures.value (omega arith) c.requires.inside c.transfer_within.ensures.bytes_are_sector.0 c.transfer_within.ensures.write_keeps_bytes
 
 pub returns-clause-stays : goal.returns-clause-stays
 returns-clause-stays g c = λ failed o.
     piece_stays c.args.hardware.now o c.args.next (c.args.next.address + 512 - c.args.next.address)
     c.deref_mut.result.now c.transfer_within.new.piece
-    c.deref_mut.ensures.value (omega arith) c.requires.inside (c.transfer_within.ensures.left failed)
+    c.deref_mut.ensures.value (omega arith) c.requires.inside (c.transfer_within.ensures.failure_keeps_bytes failed)

@@ -1,5 +1,5 @@
 use Rattle.std.proofs.Common.{ℕ, List, subst}
-use Rattle.device_model.specs.Exchanged.{TransfersPiece}
+use Rattle.device_model.specs.PieceTransfers.{TransfersPiece}
 use Rattle.device_model.proofs.bay.Bay.transfer_within.Goals as goal
 
 pub returns : goal.returns

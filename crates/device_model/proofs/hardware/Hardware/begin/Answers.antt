@@ -2,12 +2,12 @@ use Rattle.std.proofs.Common.{ℕ, false, ◌≡◌, ◌≤◌, ◌+◌, ◌∙�
 use Rattle.std.specs.Vec.{vec_len, vec_capacity}
 use Rattle.adapter.specs.declared.tape.Entry.{Entry}
 use Rattle.device_model.proofs.Absurd.{none_and, some_and, some_one, true-false}
-use Rattle.device_model.specs.Cached.{HasRoomForOld}
-use Rattle.device_model.specs.Fetched.{bytes_of}
+use Rattle.device_model.specs.WriteCaches.{HasRoomForOld}
+use Rattle.device_model.specs.FetchedBytes.{bytes_of}
 use Rattle.device_model.specs.Finishing.{MayFinish}
 use Rattle.device_model.specs.Slots.{HasUntaken, WorksOnIn}
 use Rattle.device_model.specs.Trims.{changes_ahead}
-use Rattle.device_model.specs.View.{blank_port, taken_of}
+use Rattle.device_model.specs.PortView.{blank_port, taken_of}
 use Rattle.device_model.specs.WholeAdapter.{AllMedia, device_of}
 use Rattle.device_model.specs.declared.cache.Cache.{Cache}
 use Rattle.device_model.specs.declared.hardware.Hardware.{Hardware}
@@ -37,7 +37,7 @@ returns-in_err-rest-clause-left c = λ _.
 pub returns-then-not-reserve_all-clause-left : goal.returns-then-not-reserve_all-clause-left
 returns-then-not-reserve_all-clause-left c = λ _.
     -- the command that is ready is the one that is held, and so much is left of it
-    let ready_one : (o : AllMedia) (n m : ℕ) (may : MayFinish (device_of c.args.self.now o) c.args.port c.args.slot n m) (cache : Cache) → (c.in_ok-rest.rest.left ≡ n) × (c.in_ok-rest.rest.clears ≡ m) × (HasRoomForOld cache (changes_ahead may.t.meaning.operation (bytes_of c.args.self.now.memory.items) may.t n) → HasRoomForOld cache c.reservations_of.result.old_sectors) =
+    let ready_one : (o : AllMedia) (n m : ℕ) (may : MayFinish (device_of c.args.self.now o) c.args.port c.args.slot n m) (cache : Cache) → (c.in_ok-rest.rest.left ≡ n) × (c.in_ok-rest.rest.clears ≡ m) × (HasRoomForOld cache (changes_ahead may.fetched_command.meaning.operation (bytes_of c.args.self.now.memory.items) may.fetched_command n) → HasRoomForOld cache c.reservations_of.result.old_sectors) =
     λ o n m may cache.
     let h = c.args.self.now in
     let rest = c.in_ok-rest.rest in
@@ -47,7 +47,7 @@ returns-then-not-reserve_all-clause-left c = λ _.
     let held = subst P (sym c.from-place.ensures) found.1 in
     let one = some_and _ _ rest (c.remaining_at.ensures.only found.0 n m found.1 (ready_is_held h c.from-place.result c.args.port c.args.slot found.0 c.from-place.ensures held never o n m may)) c.in_ok-rest.was in
     let w = ready_held h o c.from-place.result c.args.port c.args.slot n m c.from-place.ensures may never in
-    let same : may.t ≡ taken_of found.0 = w.2 ∙ ap taken_of (some_one (sym w.1.held ∙ held.held)) in (
+    let same : may.fetched_command ≡ taken_of found.0 = w.2 ∙ ap taken_of (some_one (sym w.1.is_taken ∙ held.is_taken)) in (
       one.0,
       one.1,
       ahead_is h o cache c.args.port c.args.slot rest.left c.reservations_of.result.old_sectors n m found.0 may same one.0
@@ -62,19 +62,19 @@ returns-then-not-reserve_all-clause-left c = λ _.
     inr (record {
       left = rest.left;
       clears = rest.clears;
-      ready = ready_to_go h c.from-place.result c.args.port c.args.slot found.0 c.from-place.ensures rest.left rest.clears found.2 held;
-      lacked = λ o n m may room old.
+      may_finish = ready_to_go h c.from-place.result c.args.port c.args.slot found.0 c.from-place.ensures rest.left rest.clears found.2 held;
+      room_was_lacking = λ o n m may room old.
           let one = ready_one o n m may c.args.cache.now in
           let left = one.0 in
           let clears = one.1 in
           c.reserve_all.ensures.lacked c.if-not-reserve_all.true (omega (arith, room, left, clears, entries)) (one.2 old);
-      lacks = λ o n m may room old.
+      room_is_lacking = λ o n m may room old.
           let one = ready_one o n m may c.reserve_all.new.cache in
           let left = one.0 in
           let clears = one.1 in
           c.reserve_all.ensures.lacks c.if-not-reserve_all.true (omega (arith, room, left, clears, entries)) (one.2 old);
-      same = λ o. ap (λ (items : List Entry). record (device_of h o) { tape = items }) c.reserve_all.ensures.items;
-      told = refl;
+      device_is_kept = λ o. ap (λ (items : List Entry). record (device_of h o) { tape = items }) c.reserve_all.ensures.items;
+      starved_is_set = refl;
     })
 
 pub returns-clause-ahead : goal.returns-clause-ahead
@@ -100,15 +100,15 @@ returns-clause-begun c =
     ready_to_go h c.from-place.result c.args.port c.args.slot found.0 c.from-place.ensures rest.left rest.clears found.2 held in
     let same : (o : AllMedia) → device_of new o ≡ device_of h o = λ o. ap (λ (items : List Entry). record (device_of h o) { tape = items }) c.reserve_all.ensures.items in
     record {
-      ready = ready;
-      going = λ o.
+      may_finish = ready;
+      is_in_progress = λ o.
           fetched_goes c.args.port c.args.slot rest.left rest.clears false (device_of h o) (device_of new o) (ready o) (λ never. true-false never refl) (λ _. same o)
           (λ _ m places can.
           c.has_untaken.ensures.only c.if-has_untaken.false (o.media c.from-place.result) m.operation
           (fetch_takes h o c.from-place.result c.args.port c.args.slot m places c.from-place.ensures can));
-      room = omega (arith, room, entries);
-      did = λ never. true-false never refl;
-      same = λ _ o. same o;
+      tape_has_room = omega (arith, room, entries);
+      fetch_is_done = λ never. true-false never refl;
+      device_is_kept = λ _ o. same o;
       tape = c.reserve_all.ensures.items;
       starved = refl;
     }

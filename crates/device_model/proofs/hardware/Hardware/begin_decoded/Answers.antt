@@ -2,17 +2,17 @@ use Rattle.std.proofs.Common.{rules, ℕ, ◌≡◌, ◌<◌, ◌≤◌, ◌+◌
 use Rattle.std.specs.Vec.{vec_len, vec_capacity}
 use Rattle.std.proofs.lemmas.List.{set-get_or}
 use Rattle.device_model.specs.declared.port.PortModel.{PortModel}
-use Rattle.adapter.specs.Asked.{DoesFetch}
+use Rattle.adapter.specs.ToldSteps.{DoesFetch}
 use Rattle.adapter.specs.Device.{Device}
 use Rattle.adapter.specs.declared.tape.Entry.{Entry}
 use Rattle.device_model.proofs.Absurd.{none_and, some_and, true-false}
 use Rattle.adapter.specs.Decoding.{DecodesTo}
-use Rattle.device_model.specs.Cached.{HasRoomForOld}
-use Rattle.device_model.specs.Fetched.{bytes_of}
+use Rattle.device_model.specs.WriteCaches.{HasRoomForOld}
+use Rattle.device_model.specs.FetchedBytes.{bytes_of}
 use Rattle.device_model.specs.Finishing.{MayFinish}
 use Rattle.device_model.specs.Slots.{HasUntaken}
 use Rattle.device_model.specs.Trims.{changes_ahead}
-use Rattle.device_model.specs.View.{blank_port, taken_of}
+use Rattle.device_model.specs.PortView.{blank_port, taken_of}
 use Rattle.device_model.specs.WholeAdapter.{AllMedia, device_of}
 use Rattle.device_model.specs.declared.hardware.Hardware.{Hardware}
 use Rattle.device_model.specs.declared.cache.Cache.{Cache}
@@ -42,7 +42,7 @@ returns-in_default-clause-left c = λ _.
           let may = subst P (sym c.from.ensures) c.requires.may in
           let says = ready_said c.args.self.now o c.from.result c.args.port c.args.slot left clears c.from.ensures ready may in
           let small : c.from.result < length c.args.self.now.ports = search rules in
-          (rw (at_port c.args.self.now.ports c.from.result c.index-self-from.result small) at (c.read.ensures.only c.in_default.is ready.t.meaning ready.t.places))
+          (rw (at_port c.args.self.now.ports c.from.result c.index-self-from.result small) at (c.read.ensures.only c.in_default.is ready.fetched_command.meaning ready.fetched_command.places))
           (rw (← c.deref.ensures.value) at says),
       ports_same c.args.self.now c.from.result c.index-self-from.result,
     )
@@ -57,14 +57,14 @@ returns-in_err-rest-clause-left c = λ _.
           let said = c.in-Some.ensures.found in
           let rest = ready_is_said c.args.self.now c.from.result c.args.port c.args.slot c.in-Some.command.now
           c.from.ensures may said.0 (rw (at_port c.args.self.now.ports c.from.result c.index-self-from.result small) at (rw c.deref.ensures.value at said.1)) o left clears ready in
-          none_and _ _ ((rw c.deref-2.ensures.value at (c.rest_of.ensures.only left clears)) rest) c.in_err-rest.was,
+          none_and _ _ ((rw c.deref-2.ensures.value at (c.remaining_of.ensures.only left clears)) rest) c.in_err-rest.was,
       ports_same c.args.self.now c.from.result c.index-self-from.result,
     )
 
 pub returns-then-not-reserve_all-clause-left : goal.returns-then-not-reserve_all-clause-left
 returns-then-not-reserve_all-clause-left c = λ _.
     -- the command that is ready is the one that its slot's bytes say, and so much is left of it
-    let ready_one : (o : AllMedia) (n m : ℕ) (may : MayFinish (device_of c.args.self.now o) c.args.port c.args.slot n m) (cache : Cache) → (c.in_ok-rest.rest.left ≡ n) × (c.in_ok-rest.rest.clears ≡ m) × (HasRoomForOld cache (changes_ahead may.t.meaning.operation (bytes_of c.args.self.now.memory.items) may.t n) → HasRoomForOld cache c.reservations_of.result.old_sectors) =
+    let ready_one : (o : AllMedia) (n m : ℕ) (may : MayFinish (device_of c.args.self.now o) c.args.port c.args.slot n m) (cache : Cache) → (c.in_ok-rest.rest.left ≡ n) × (c.in_ok-rest.rest.clears ≡ m) × (HasRoomForOld cache (changes_ahead may.fetched_command.meaning.operation (bytes_of c.args.self.now.memory.items) may.fetched_command n) → HasRoomForOld cache c.reservations_of.result.old_sectors) =
     λ o n m ready cache.
     let h = c.args.self.now in
     let rest = c.in_ok-rest.rest in
@@ -73,7 +73,7 @@ returns-then-not-reserve_all-clause-left c = λ _.
     let small : c.from.result < length c.args.self.now.ports = search rules in
     let said = c.in-Some.ensures.found in
     let says = rw (at_port c.args.self.now.ports c.from.result c.index-self-from.result small) at (rw c.deref.ensures.value at said.1) in
-    let one = some_and _ _ rest ((rw c.deref-2.ensures.value at (c.rest_of.ensures.only n m))
+    let one = some_and _ _ rest ((rw c.deref-2.ensures.value at (c.remaining_of.ensures.only n m))
     (ready_is_said h c.from.result c.args.port c.args.slot c.in-Some.command.now c.from.ensures may said.0 says o n m ready)) c.in_ok-rest.was in
     let same = ready_is_one h c.from.result c.args.port c.args.slot c.in-Some.command.now c.from.ensures may said.0 says o n m ready in (
       one.0,
@@ -92,22 +92,22 @@ returns-then-not-reserve_all-clause-left c = λ _.
     inr (record {
       left = rest.left;
       clears = rest.clears;
-      ready = ready_to_take h c.from.result c.args.port c.args.slot c.in-Some.command.now c.from.ensures rest.left rest.clears
+      may_finish = ready_to_take h c.from.result c.args.port c.args.slot c.in-Some.command.now c.from.ensures rest.left rest.clears
           (rw c.deref-2.ensures.value at c.in_ok-rest.ensures.rest) said.0 may (rw (at_port c.args.self.now.ports c.from.result c.index-self-from.result small) at (c.may_take_command.ensures.open c.if-not-may_take_command.false)) says;
-      lacked = λ o n m may room old.
+      room_was_lacking = λ o n m may room old.
           let one = ready_one o n m may c.args.cache.now in
           let left = one.0 in
           let clears = one.1 in
           c.reserve_all.ensures.lacked c.if-not-reserve_all.true (omega (arith, room, left, clears, entries)) (one.2 old);
-      lacks = λ o n m may room old.
+      room_is_lacking = λ o n m may room old.
           let one = ready_one o n m may c.reserve_all.new.cache in
           let left = one.0 in
           let clears = one.1 in
           c.reserve_all.ensures.lacks c.if-not-reserve_all.true (omega (arith, room, left, clears, entries)) (one.2 old);
-      same = λ o.
+      device_is_kept = λ o.
           ap (λ (l : List PortModel). record (device_of (record h { ports = l }) o) { tape = c.reserve_all.new.tape.items }) (set-get_or h.ports c.from.result c.index-self-from.result)
           ∙ ap (λ (items : List Entry). record (device_of h o) { tape = items }) c.reserve_all.ensures.items;
-      told = c.note_no_memory.ensures;
+      starved_is_set = c.note_no_memory.ensures;
     })
 
 -- it is taken
@@ -160,13 +160,13 @@ returns-clause-begun c =
     (rw c.deref-2.ensures.value at c.in_ok-rest.ensures.rest) said.0 may alone says in
     let new : Hardware = record held { ports = slice_set h.ports c.from.result c.take.new.self } in
     record {
-      ready = ready;
-      going = λ o.
+      may_finish = ready;
+      is_in_progress = λ o.
           fetched_goes c.args.port c.args.slot rest.left rest.clears true (device_of h o) (device_of new o) (ready o) (λ _. did c o) (λ never. true-false refl never)
           (λ never. true-false refl never);
-      room = omega (arith, room, entries);
-      did = λ _ o. did c o;
-      same = λ never. true-false refl never;
+      tape_has_room = omega (arith, room, entries);
+      fetch_is_done = λ _ o. did c o;
+      device_is_kept = λ never. true-false refl never;
       tape = c.reserve_all.ensures.items;
       starved = refl;
     }

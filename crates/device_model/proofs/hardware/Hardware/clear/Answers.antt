@@ -1,7 +1,7 @@
 use Rattle.std.proofs.Common.{rules, ℕ, ◌<◌, length, arith, subst, sym, slice_index_or}
 use Rattle.std.specs.Vec.{vec_len, vec_capacity}
 use Rattle.device_model.specs.Slots.{WorksOnIn}
-use Rattle.device_model.specs.View.{blank_port}
+use Rattle.device_model.specs.PortView.{blank_port}
 use Rattle.device_model.proofs.Stepping.{port_clears}
 use Rattle.device_model.proofs.SlotLemmas.{at_port}
 use Rattle.device_model.proofs.hardware.Hardware.clear.Goals as goal
@@ -14,5 +14,5 @@ returns-clause-cleared c = λ _ o t holds.
     let here = subst P (sym c.from.ensures) holds in
     let room : vec_len h.tape < vec_capacity h.tape = let enough = c.requires.room in omega (arith, enough) in
     port_clears h o c.from.result c.args.port c.args.slot c.args.run.first c.args.run.count _ t c.record-recorded.new.tape c.from.ensures small
-    ((rw (at_port h.ports c.from.result c.index-self-from.result small) at (c.clear.ensures (o.media c.from.result) t)) here.held)
+    ((rw (at_port h.ports c.from.result c.index-self-from.result small) at (c.clear.ensures (o.media c.from.result) t)) here.is_taken)
     (c.record-recorded.ensures.added (c.record-recorded.ensures.room room))

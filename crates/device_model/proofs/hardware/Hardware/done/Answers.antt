@@ -3,10 +3,10 @@ use Rattle.adapter.specs.Device.{FetchedCommand}
 use Rattle.adapter.specs.Steps.{IsFinished}
 use Rattle.device_model.proofs.Absurd.{true-false}
 use Rattle.device_model.specs.Slots.{WorksOnIn}
-use Rattle.adapter.specs.Asked.{EndsAndPosts}
-use Rattle.device_model.specs.Sent.{SendsEnd}
-use Rattle.device_model.specs.View.{blank_port, cause_of, operation_of_kind, taken_of}
-use Rattle.device_model.specs.WholeAdapter.{device_of, all_media_ended}
+use Rattle.adapter.specs.ToldSteps.{EndsAndPosts}
+use Rattle.device_model.specs.SentFises.{SendsEnd}
+use Rattle.device_model.specs.PortView.{blank_port, cause_of, operation_of_kind, taken_of}
+use Rattle.device_model.specs.WholeAdapter.{device_of, all_media_after_end}
 use Rattle.device_model.specs.declared.port.CommandKind.{CommandKind}
 use Rattle.device_model.specs.declared.hardware.Hardware.{Hardware}
 use Rattle.device_model.proofs.Finishing.{holds}
@@ -23,12 +23,12 @@ returns-clause-did c = λ o.
     let found = c.in-Some.ensures.found in
     let kind : c.in-Some.command_kind ≡ found.0.command_kind = found.3 in
     let P : ℕ → Type 0 = λ q. WorksOnIn (slice_index_or h.ports q blank_port) c.args.slot found.0 in
-    let R : CommandKind → ℕ → Type 0 = λ k q. EndsAndPosts (SendsEnd c.args.slot) port c.args.slot (device_of h o) (device_of c.send_end.new.self (all_media_ended o q (operation_of_kind k))) in
+    let R : CommandKind → ℕ → Type 0 = λ k q. EndsAndPosts (SendsEnd c.args.slot) port c.args.slot (device_of h o) (device_of c.send_end.new.self (all_media_after_end o q (operation_of_kind k))) in
     subst (λ q. R c.in-Some.command_kind q) c.from-place.ensures
     (subst (λ k. R k p) (sym kind)
     (port_ends h o p port c.args.slot c.end.new.self found.0 c.record.new.tape _ c.from-place.ensures small (subst P (sym c.from-place.ensures) found.1)
     found.2 (rw kind at (rw (at_port h.ports p c.index-self-place.result small) at (rw (c.len-here.ensures, h.tape.ok.0) at (c.end.ensures (o.media p))))) (rw kind at (rw c.operation.ensures at c.record.ensures.added c.if-not-record.false))
-    (rw kind at (c.send_end.ensures.sent (all_media_ended o p (operation_of_kind c.in-Some.command_kind))))))
+    (rw kind at (c.send_end.ensures.sent (all_media_after_end o p (operation_of_kind c.in-Some.command_kind))))))
 
 pub returns-in_default-clause-left : goal.returns-in_default-clause-left
 returns-in_default-clause-left c = λ _ o.

@@ -3,7 +3,7 @@ use Rattle.std.specs.Prelude.{not}
 use Rattle.std.specs.Cmp.{booleans_Decides}
 use Rattle.std.proofs.lemmas.Slice.Eq.{slice_eq-Decides}
 use Rattle.device_model.proofs.Absurd.{true-false}
-use Rattle.device_model.specs.Held.{all_held}
+use Rattle.device_model.specs.HeldPorts.{all_held}
 use Rattle.device_model.proofs.hardware.Hardware.end_reset_unless_all_held.Goals as goal
 use Rattle.device_model.proofs.hardware.Hardware.end_reset_unless_all_held.Goals.{else-self-via-then-self+else-ne, else-self-via-else-self}
 

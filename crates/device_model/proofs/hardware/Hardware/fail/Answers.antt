@@ -1,6 +1,6 @@
 use Rattle.std.proofs.Common.{rules, ◌<◌, ℕ, arith, inr, length}
 use Rattle.device_model.proofs.Absurd.{true-false}
-use Rattle.device_model.specs.View.{taken_of}
+use Rattle.device_model.specs.PortView.{taken_of}
 use Rattle.device_model.specs.declared.hardware.Hardware.{Hardware}
 use Rattle.device_model.proofs.SlotLemmas.{at_port}
 use Rattle.device_model.proofs.Stepping.{may_fail, port_fails}

@@ -1,6 +1,6 @@
 use Rattle.std.proofs.Common.{ℕ, subst, slice_index_or}
 use Rattle.device_model.specs.Slots.{HasUntaken}
-use Rattle.device_model.specs.View.{blank_port}
+use Rattle.device_model.specs.PortView.{blank_port}
 use Rattle.device_model.proofs.Stepping.{fetch_takes}
 use Rattle.device_model.proofs.hardware.Hardware.fetch.Goals as goal
 

@@ -3,8 +3,8 @@ use Rattle.device_model.specs.Slots.{HasUntaken}
 use Rattle.adapter.specs.Commands.{Meaning}
 use Rattle.adapter.specs.Steps.{IsUnmixed, admits}
 use Rattle.adapter.proofs.SaysLemmas.{says_meaning}
-use Rattle.device_model.specs.Fetched.{bytes_of}
-use Rattle.device_model.specs.View.{halt_of, port_of, taken_of, blank_port}
+use Rattle.device_model.specs.FetchedBytes.{bytes_of}
+use Rattle.device_model.specs.PortView.{halt_of, port_of, taken_of, blank_port}
 use Rattle.device_model.proofs.Stepping.{port_takes, fetch_says, fetch_takes}
 use Rattle.device_model.proofs.Ready.{may_be_taken}
 use Rattle.device_model.proofs.SlotLemmas.{at_port}
@@ -45,7 +45,7 @@ returns-then-not-may_take_command-clause-only c = λ _ o m places may.
     let said = rw (at_port h.ports c.from-place.result c.index-self-place.result small) at (rw c.deref.ensures.value at c.in-Some.ensures.found.1) in
     let one = says_meaning (bytes_of h.memory.items) _ c.args.slot m (taken_of c.in-Some.command).meaning places _ says said in
     let takes = fetch_takes h o c.from-place.result c.args.port c.args.slot m places c.from-place.ensures may in
-    let alone = takes.alone in
+    let alone = takes.is_unmixed in
     (rw (at_port h.ports c.from-place.result c.index-self-place-2.result small) at (c.may_take_command.ensures.only c.if-not-may_take_command.true (o.media c.from-place.result)))
     (subst (λ (x : Meaning). admits (halt_of (slice_index_or h.ports c.from-place.result blank_port).halting) x.operation ≡ true) one takes.working.admitted)
     (subst (λ (x : Meaning). IsUnmixed (port_of (slice_index_or h.ports c.from-place.result blank_port) (o.media c.from-place.result)) x.operation) one alone)

@@ -2,10 +2,10 @@ use Rattle.std.proofs.Common.{rules, Bool, Option, None, false, ◌≡◌, ◌<�
 use Rattle.std.specs.Prelude.{is_some}
 use Rattle.std.proofs.lemmas.Bool.{or_parts}
 use Rattle.device_model.proofs.Absurd.{some_one, true-false}
-use Rattle.device_model.specs.Finishing.{LooksForPage, sends_page}
+use Rattle.device_model.specs.Finishing.{FindsPageCommand, sends_page}
 use Rattle.device_model.specs.WholeAdapter.{device_of}
 use Rattle.device_model.specs.declared.port.TakenCommand.{TakenCommand}
-use Rattle.device_model.specs.View.{operation_of_kind}
+use Rattle.device_model.specs.PortView.{operation_of_kind}
 use Rattle.device_model.proofs.Ready.{Ends, page_barred, page_held, page_unheld, page_unmeant, page_unsaid, page_unused}
 use Rattle.device_model.proofs.SlotLemmas.{at_port, none_filled}
 use Rattle.device_model.proofs.hardware.Hardware.has_page.Goals as goal
@@ -24,7 +24,7 @@ returns-else-can_end c = λ o.
       page_barred c.args.self.now c.args.port c.args.slot never o,
       page_unheld c.args.self.now c.args.port c.args.slot c.len.result c.len.ensures
           (λ r held kind ends.
-          let same : r ≡ c.in_ok-command.command.now = some_one (sym held.held ∙ c.in_ok-command.ensures.found.held) in
+          let same : r ≡ c.in_ok-command.command.now = some_one (sym held.is_taken ∙ c.in_ok-command.ensures.found.is_taken) in
           let here = subst (λ (x : TakenCommand). Ends c.args.self.now c.args.port c.args.slot c.len.result c.len.ensures x) same ends in
           c.can_end.ensures.only c.if-can_end.false here.0 here.1 here.2)
           never o,
@@ -33,7 +33,7 @@ returns-else-can_end c = λ o.
 pub returns-in_err-command : goal.returns-in_err-command
 returns-in_err-command c = λ o.
     let never = c.has_untaken.ensures.only c.if-has_untaken.false in
-    let P : Option Bool → Type 0 = λ r. LooksForPage (device_of c.args.self.now o) c.args.port c.args.slot r in
+    let P : Option Bool → Type 0 = λ r. FindsPageCommand (device_of c.args.self.now o) c.args.port c.args.slot r in
     subst P (sym c.from_residual.ensures) (
       page_barred c.args.self.now c.args.port c.args.slot never o,
       page_unheld c.args.self.now c.args.port c.args.slot _ refl (λ r held kind ends. c.working_on.ensures.none c.in_err-command.was r held) never o,
@@ -45,7 +45,7 @@ returns-then-not-sends_page c = λ o.
       page_barred c.args.self.now c.args.port c.args.slot never o,
       page_unheld c.args.self.now c.args.port c.args.slot _ refl
           (λ r held kind ends.
-          let same : r ≡ c.in_ok-command.command.now = some_one (sym held.held ∙ c.in_ok-command.ensures.found.held) in
+          let same : r ≡ c.in_ok-command.command.now = some_one (sym held.is_taken ∙ c.in_ok-command.ensures.found.is_taken) in
           true-false (ap (λ (x : TakenCommand). sends_page (operation_of_kind x.command_kind)) (sym same) ∙ kind) (sym c.sends_page.ensures ∙ c.if-not-sends_page.true))
           never o,
     )

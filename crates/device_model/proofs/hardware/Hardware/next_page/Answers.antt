@@ -2,34 +2,34 @@ use Rattle.std.proofs.Common.{rules, ℕ, ◌<◌, length, None, Some, below_mor
 use Rattle.std.proofs.lemmas.Bool.{cases_lt}
 use Rattle.device_model.proofs.Ready.{page_unused}
 use Rattle.device_model.proofs.SlotLemmas.{at_port}
-use Rattle.device_model.specs.Finishing.{LooksForPage}
+use Rattle.device_model.specs.Finishing.{FindsPageCommand}
 use Rattle.device_model.specs.WholeAdapter.{device_of}
 use Rattle.device_model.proofs.hardware.Hardware.next_page.Goals as goal
 
 pub loop-slot-preserved : goal.loop-slot-preserved
 loop-slot-preserved c = λ o.
-    below_more (λ (k : ℕ). LooksForPage (device_of c.args.self.now o) c.from-place.result k None) c.loop-slot.slot (c.loop-slot.invariant o) (c.in_default.ensures o)
+    below_more (λ (k : ℕ). FindsPageCommand (device_of c.args.self.now o) c.from-place.result k None) c.loop-slot.slot (c.loop-slot.invariant o) (c.in_default.ensures o)
 
 pub returns-clause-none : goal.returns-clause-none
 returns-clause-none c = λ _ o slot small.
-    let P : ℕ → Type 0 = λ q. LooksForPage (device_of c.args.self.now o) q slot None in
+    let P : ℕ → Type 0 = λ q. FindsPageCommand (device_of c.args.self.now o) q slot None in
     subst P c.from-place.ensures (c.loop-slot.invariant o slot (omega (arith, small, c.loop-slot-test.false)))
 
 pub returns-in-Some-clause-found : goal.returns-in-Some-clause-found
 returns-in-Some-clause-found c = λ o.
-    let P : ℕ → Type 0 = λ q. LooksForPage (device_of c.args.self.now o) q c.loop-slot.slot (Some c.in-Some.ends) in
+    let P : ℕ → Type 0 = λ q. FindsPageCommand (device_of c.args.self.now o) q c.loop-slot.slot (Some c.in-Some.ends) in
     subst P c.from-place.ensures (c.in-Some.ensures o)
 
 pub returns-in-Some-clause-first : goal.returns-in-Some-clause-first
 returns-in-Some-clause-first c = λ o slot below.
-    let P : ℕ → Type 0 = λ q. LooksForPage (device_of c.args.self.now o) q slot None in
+    let P : ℕ → Type 0 = λ q. FindsPageCommand (device_of c.args.self.now o) q slot None in
     subst P c.from-place.ensures (c.loop-slot.invariant o slot below)
 
 -- nothing is issued or taken from here on
 pub returns-then-is_unused_from-clause-none : goal.returns-then-is_unused_from-clause-none
 returns-then-is_unused_from-clause-none c = λ _ o slot small.
     let h = c.args.self.now in
-    let P : ℕ → Type 0 = λ q. LooksForPage (device_of h o) q slot None in
+    let P : ℕ → Type 0 = λ q. FindsPageCommand (device_of h o) q slot None in
     let some : c.from-place.result < length h.ports = search rules in
     subst P c.from-place.ensures
     (elim (cases_lt slot c.loop-slot.slot) [

@@ -4,10 +4,10 @@ use Rattle.std.proofs.lemmas.Option.{IfSome_then}
 use Rattle.adapter.specs.Commands.{is_ranged}
 use Rattle.adapter.specs.Memory.{bytes_at}
 use Rattle.adapter.specs.declared.tape.Entry.TheVariants as entry
-use Rattle.device_model.specs.Exchanged.{piece_of}
-use Rattle.device_model.specs.Fetched.{bytes_of}
+use Rattle.device_model.specs.PieceTransfers.{piece_of}
+use Rattle.device_model.specs.FetchedBytes.{bytes_of}
 use Rattle.device_model.specs.Slots.{IsNextMove}
-use Rattle.device_model.specs.View.{blank_port, taken_in, operation_of_kind}
+use Rattle.device_model.specs.PortView.{blank_port, taken_in, operation_of_kind}
 use Rattle.device_model.specs.declared.hardware.Hardware.{Hardware}
 use Rattle.device_model.specs.declared.port.TakenCommand.{TakenCommand}
 use Rattle.device_model.specs.declared.port.CommandKind.{CommandKind}
@@ -30,7 +30,7 @@ returns-clause-moved c = λ old o t is next.
     let small : c.from.result < length h.ports = search rules in
     let held : taken_in (slice_index_or h.ports c.args.port blank_port).taken c.args.slot ≡ Some t =
     subst (λ (x : Hardware). taken_in (slice_index_or x.ports c.args.port blank_port).taken c.args.slot ≡ Some t)
-    (sym is.rest) next.holds.held in
+    (sym is.rest_is_kept) next.works_on.is_taken in
     let here = rw (← c.from.ensures) at held in
     let noted : c.push_reserved.new.self.items
     ≡ h.tape.items ++ entry.Move (moved_by c.args.port c.args.slot c.operation.result c.args.next.sector
@@ -57,10 +57,10 @@ returns-clause-after c =
       starved = h.starved;
     } in
     let small : c.from.result < length h.ports = search rules in
-    let here = rw (← c.from.ensures) at is.holds.held in
+    let here = rw (← c.from.ensures) at is.works_on.is_taken in
     IfSome_then c.after.result c.after.ensures
     (λ n one.
-    let ranged = is.behind.ranged one.0 in
+    let ranged = is.pieces_follow.is_ranged_if_any one.0 in
     let no_trim : c.args.next.command_kind ≡ Trim → ⊥ = λ (e : c.args.next.command_kind ≡ Trim).
     true-false ranged (ap (λ (k : CommandKind). is_ranged (operation_of_kind k)) (sym is.kind_is ∙ e)) in
     let next = next_after h c.from.result c.args.port c.args.slot c.args.next t _ c.push_reserved.new.self h.starved is one.0 c.from.ensures small

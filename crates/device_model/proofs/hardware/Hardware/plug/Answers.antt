@@ -1,6 +1,6 @@
 use Rattle.std.proofs.Common.{rules, arith, ◌≡◌, ◌<◌, ◌∙◌, Bool, length, nat_eq, ℕ, inl, inr, ap, refl, sym}
 use Rattle.std.specs.Prelude.{if◌then◌else◌, slice_index_or}
-use Rattle.device_model.specs.View.{blank_port}
+use Rattle.device_model.specs.PortView.{blank_port}
 use Rattle.device_model.proofs.Absurd.{true-false}
 use Rattle.device_model.proofs.Stepping.{plugged_in}
 use Rattle.device_model.proofs.SlotLemmas.{at_port}

@@ -1,10 +1,10 @@
 use Rattle.std.proofs.Common.{rules, ◌≡◌, ◌<◌, ℕ, true, false, arith, inl, inr, length, refl, subst, sym}
 use Rattle.std.specs.Prelude.{slice_index_or}
-use Rattle.adapter.specs.Asked.{fatal_bit}
+use Rattle.adapter.specs.ToldSteps.{fatal_bit}
 use Rattle.adapter.specs.Steps.{Can}
 use Rattle.adapter.specs.Steps.DeviceTransition.{Fatal}
 use Rattle.device_model.proofs.Absurd.{true-false}
-use Rattle.device_model.specs.View.{blank_port}
+use Rattle.device_model.specs.PortView.{blank_port}
 use Rattle.device_model.specs.WholeAdapter.{device_of}
 use Rattle.device_model.specs.declared.hardware.Hardware.{Hardware}
 use Rattle.device_model.proofs.SlotLemmas.{at_port}

@@ -1,8 +1,8 @@
 use Rattle.std.proofs.Common.{◌≡◌, length}
 use Rattle.std.specs.Prelude.{slice_index_or}
-use Rattle.adapter.specs.Asked.{IsScribbled}
-use Rattle.device_model.specs.Fetched.{bytes_of}
-use Rattle.device_model.specs.View.{Media, blank_port, port_of}
+use Rattle.adapter.specs.ToldSteps.{IsScribbled}
+use Rattle.device_model.specs.FetchedBytes.{bytes_of}
+use Rattle.device_model.specs.PortView.{Media, blank_port, port_of}
 use Rattle.device_model.proofs.hardware.Hardware.scribble.Given as goal
 
 -- the area is filled, and PRDBC of the slots below

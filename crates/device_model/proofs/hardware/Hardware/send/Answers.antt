@@ -3,7 +3,7 @@ use Rattle.std.proofs.lemmas.Grind.{get_or_default_zero}
 use Rattle.std.specs.Vec.{with_items}
 use Rattle.std.proofs.lemmas.List.{with_items_is}
 use Rattle.device_model.proofs.Absurd.{true-false}
-use Rattle.device_model.specs.View.{blank_port}
+use Rattle.device_model.specs.PortView.{blank_port}
 use Rattle.device_model.specs.WholeAdapter.{device_of}
 use Rattle.device_model.specs.declared.port.PortModel.{PortModel}
 use Rattle.device_model.proofs.Bytes.{memory_put}
@@ -26,7 +26,7 @@ returns-then-area-len-clause-sent c = λ o.
     let fits_8 = c.type_inv.fis in
     let byte : (k : ℕ) → slice_index c.args.fis.now k < 256 = λ k. search (fits_8, rules) in
     record {
-      posted = λ _. record {
+      is_posted = λ _. record {
         receives = receives;
         from = omega arith;
         to = search rules;
@@ -34,5 +34,5 @@ returns-then-area-len-clause-sent c = λ o.
         effect = memory_put (device_of h o) h.memory.items c.args.fis.now (with_items h.memory c.put.new.memory).items (fb + c.args.place) fits
             (with_items_is h.memory c.put.new.memory size ∙ rw same at (rw c.deref_mut.ensures.value at c.put.ensures));
       };
-      lost = λ no. true-false (received_there ((device_of h o).port c.args.port) (length h.memory.items) receives inside) no;
+      is_lost = λ no. true-false (received_there ((device_of h o).port c.args.port) (length h.memory.items) receives inside) no;
     }

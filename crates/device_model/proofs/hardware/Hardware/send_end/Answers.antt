@@ -7,8 +7,8 @@ use Rattle.fis.specs.declared.DeviceToHost.{DeviceToHost}
 use Rattle.fis.specs.declared.PioSetup.{PioSetup}
 use Rattle.fis.specs.declared.SetDeviceBits.{SetDeviceBits}
 use Rattle.adapter.specs.Device.{Device}
-use Rattle.device_model.specs.Sent.{SendsBits, SendsRegisters, SendsSetup, end_fis, page_setup, tag_fis}
-use Rattle.device_model.specs.View.{port_of}
+use Rattle.device_model.specs.SentFises.{SendsBits, SendsRegisters, SendsSetup, end_fis, page_setup, ended_tag_fis}
+use Rattle.device_model.specs.PortView.{port_of}
 use Rattle.device_model.specs.WholeAdapter.{device_of, no_media}
 use Rattle.device_model.proofs.SlotLemmas.{at_port}
 use Rattle.device_model.proofs.hardware.Hardware.send_end.Goals as goal
@@ -57,6 +57,6 @@ returns-in-ReadQueued-clause-sent c = λ o.
     let small : c.args.port < length c.args.self.now.ports = search rules in
     let P : SetDeviceBits → Type 0 = λ f. EncodesSetDeviceBits c.encode_set_device_bits-fis.result f in
     let d : Device = device_of c.args.self.now o in
-    let sent : SendsBits c.args.port (tag_fis c.args.slot (d.port c.args.port)) d (device_of c.send-in-ReadQueued.new.self o) =
+    let sent : SendsBits c.args.port (ended_tag_fis c.args.slot (d.port c.args.port)) d (device_of c.send-in-ReadQueued.new.self o) =
     (c.encode_set_device_bits-fis.result, subst P (rw (at_port c.args.self.now.ports c.args.port c.index-self-port-in-ReadQueued.result small) at (c.ended_tag.ensures (o.media c.args.port))) c.encode_set_device_bits-fis.ensures, c.send-in-ReadQueued.ensures.sent o) in
     elim c.in-ReadQueued.is [ inl read ↦ rw read (refl, sent) | inr write ↦ rw write (refl, sent) ]

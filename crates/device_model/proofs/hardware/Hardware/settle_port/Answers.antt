@@ -1,8 +1,8 @@
 use Rattle.std.proofs.Common.{rules, ℕ, ◌<◌, ◌∙◌, List, length, slice_index_or, sym, ap, subst, get_or-set_same, get_or-set_other}
 use Rattle.std.specs.Prelude.{slice_set}
 use Rattle.adapter.specs.Device.{Device}
-use Rattle.device_model.specs.Settled.{LeadsOwn, Settles, IsSettledPort}
-use Rattle.device_model.specs.View.{port_of, blank_port}
+use Rattle.device_model.specs.ModelOwnSteps.{LeadsOwn, Settles, IsSettledPort}
+use Rattle.device_model.specs.PortView.{port_of, blank_port}
 use Rattle.device_model.specs.WholeAdapter.{device_of}
 use Rattle.device_model.specs.declared.hardware.Hardware.{Hardware}
 use Rattle.device_model.specs.declared.port.PortModel.{PortModel}

@@ -5,8 +5,8 @@ use Rattle.std.proofs.lemmas.List.{get_or_past}
 use Rattle.adapter.specs.Device.{DevicePort}
 use Rattle.device_model.proofs.Absurd.{true-false}
 use Rattle.device_model.proofs.Own.{own_none, own_on}
-use Rattle.device_model.specs.Settled.{Settles, IsSettledPort}
-use Rattle.device_model.specs.View.{port_of, blank_port}
+use Rattle.device_model.specs.ModelOwnSteps.{Settles, IsSettledPort}
+use Rattle.device_model.specs.PortView.{port_of, blank_port}
 use Rattle.device_model.specs.WholeAdapter.{device_of}
 use Rattle.device_model.specs.declared.port.PortModel.{PortModel}
 use Rattle.device_model.proofs.GoingOn.{blank_settled}
@@ -42,10 +42,10 @@ loop-port-preserved c =
                       let ne = differ.1 in
                       subst P (sym (s.others o q ne)) (is.settled o q (let lt : q < c.loop-port.port = omega (arith, ne, small) in lt) free)
                 ];
-            number = s.spares.number ∙ is.number;
-            left = λ on. is.left (sym s.spares.reset ∙ on);
-            tape = s.spares.tape ∙ is.tape;
-            starved = s.spares.starved ∙ is.starved;
+            number = s.spares.port_count_is_kept ∙ is.number;
+            left = λ on. is.left (sym s.spares.hr_is_kept ∙ on);
+            tape = s.spares.tape_is_kept ∙ is.tape;
+            starved = s.spares.starved_is_kept ∙ is.starved;
           })
       | else-not-held-port w ↦
           rw w.self-is
@@ -81,10 +81,10 @@ returns-clause-settled c = λ o.
           subst P (sym (get_or_past h.ports q blank_port (omega (arith, past, four)))) (blank_settled (o.media q))
     ] in
     record {
-      reset = λ on. c.loop-port.invariant.left on;
-      engines = λ q may. held_if _ (λ free. (all q free).engine may.0 may.1);
-      areas = λ q may. held_if _ (λ free. (all q free).area may.0 may.1 may.2);
-      links = λ q sig n may. held_if _ (λ free. (all q free).link sig may);
+      reset_has_ended = λ on. c.loop-port.invariant.left on;
+      crs_have_fallen = λ q may. held_if _ (λ free. (all q free).cr_has_fallen may.0 may.1);
+      frs_have_fallen = λ q may. held_if _ (λ free. (all q free).fr_has_fallen may.0 may.1 may.2);
+      no_links_may_come = λ q sig n may. held_if _ (λ free. (all q free).no_link_may_come sig may);
     }
   where
     held_if : (b : Bool) → (b ≡ false → ⊥) → b ≡ true

@@ -1,6 +1,6 @@
 use Rattle.std.proofs.Common.{ℕ, ◌≡◌, ◌<◌, true, false, length, slice_index_or}
-use Rattle.device_model.specs.Held.{all_held}
-use Rattle.device_model.specs.Settled.{LeadsOwn, Settles, IsSettledPort}
+use Rattle.device_model.specs.HeldPorts.{all_held}
+use Rattle.device_model.specs.ModelOwnSteps.{LeadsOwn, Settles, IsSettledPort}
 use Rattle.device_model.specs.WholeAdapter.{AllMedia, device_of}
 use Rattle.device_model.proofs.hardware.Hardware.settle_state.Given as goal
 

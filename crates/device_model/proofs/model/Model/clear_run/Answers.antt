@@ -1,12 +1,12 @@
 use Rattle.std.proofs.Common.{ℕ, Bool, true, min, ◌-◌, ◌≡◌, ◌<◌, ◌≤◌, ◌+◌, ◌∙◌, Some, length, refl, sym, ap, subst, arith, inl, inr}
 use Rattle.adapter.specs.declared.access.DeviceStep.TheVariants as asked
 use Rattle.adapter.specs.Steps.{disk_cleared}
-use Rattle.device_model.specs.Cached.{CallFails, HasRoomForOld}
+use Rattle.device_model.specs.WriteCaches.{CallFails, HasRoomForOld}
 use Rattle.device_model.specs.Disks.{bay_of, disk_over, bay_failures, lasting_of}
-use Rattle.device_model.specs.Does.{Completes, HasCleared, CommandFails, IsSectorFault, LacksMemory, cleared_on_disk}
-use Rattle.device_model.specs.Modelled.{device_at, media_of, all_media_at}
+use Rattle.device_model.specs.StepEffects.{Completes, HasCleared, CommandFails, IsSectorFault, LacksMemory, cleared_count_on_disk}
+use Rattle.device_model.specs.ModelState.{device_at, media_of, all_media_at}
 use Rattle.device_model.specs.Trims.{HasClear, next_uncleared, next_run_length}
-use Rattle.device_model.specs.View.{taken_of}
+use Rattle.device_model.specs.PortView.{taken_of}
 use Rattle.device_model.specs.WholeAdapter.{AllMedia}
 use Rattle.device_model.proofs.Absurd.{some_one, true-false}
 use Rattle.device_model.proofs.Caching.{less_room}
@@ -32,19 +32,19 @@ returns-in_default-clause-answers g c =
     let o : AllMedia = all_media_at g.S.SectorStore.size g.S.SectorStore.told m in
     let starved = c.reserve-room.ensures.starved in
     record {
-      device = c.reserve-room.ensures.same o;
-      held = refl;
-      says = refl;
-      which = refl;
-      others = λ _ _. refl;
-      keeps = record { identities = λ _ _. refl; out = λ _ _ _. refl; port_has_cache = λ _. refl; queue = refl; accesses = refl };
-      disks = λ _. refl;
-      why = λ served may.
+      device_is_kept = c.reserve-room.ensures.same o;
+      held_ports_are = refl;
+      page_source_is = refl;
+      disk_index_is = refl;
+      other_bays_are_kept = λ _ _. refl;
+      step_keeps = record { identities_are_kept = λ _ _. refl; absent_disks_are_kept = λ _ _ _. refl; caches_are_kept = λ _. refl; queue_is_kept = refl; access_count_is_kept = refl };
+      disks_are_kept = λ _. refl;
+      lacks_memory = λ served may.
           absurd (
           let found = clear_fits c.reserve-room.new.self o _ c.args.port.0 c.args.slot.0 c.args.most may.1 (c.reserve-room.ensures.same o) may.2 in
           c.run_to_clear.ensures.none c.in_default.is found.0 found.1 found.2);
-      starved_on = λ yes. starved ∙ yes;
-      starved_since = λ yes. inl (sym starved ∙ yes);
+      stays_starved = λ yes. starved ∙ yes;
+      starves_for_want = λ yes. inl (sym starved ∙ yes);
     }
 
 -- the tape had no memory for it, and that is told
@@ -59,25 +59,25 @@ returns-then-not-room-clause-answers g c =
     let lacks : LacksMemory (asked.Clear c.args.port c.args.slot c.args.most) (device_at g.S.SectorStore.size g.S.SectorStore.told m) m.hardware m.bays.items =
     (taken_of found.0, has, λ room _. true-false (c.reserve-room.ensures.enough room) c.if-not-room.true) in
     record {
-      device = c.reserve-room.ensures.same o;
-      held = refl;
-      says = refl;
-      which = refl;
-      others = λ _ _. refl;
-      keeps = record { identities = λ _ _. refl; out = λ _ _ _. refl; port_has_cache = λ _. refl; queue = refl; accesses = refl };
-      disks = λ _. refl;
-      why = λ _ _. (lacks, refl);
-      starved_on = λ _. refl;
-      starved_since = λ _. inr ((c.requires, taken_of found.0, has), lacks);
+      device_is_kept = c.reserve-room.ensures.same o;
+      held_ports_are = refl;
+      page_source_is = refl;
+      disk_index_is = refl;
+      other_bays_are_kept = λ _ _. refl;
+      step_keeps = record { identities_are_kept = λ _ _. refl; absent_disks_are_kept = λ _ _ _. refl; caches_are_kept = λ _. refl; queue_is_kept = refl; access_count_is_kept = refl };
+      disks_are_kept = λ _. refl;
+      lacks_memory = λ _ _. (lacks, refl);
+      stays_starved = λ _. refl;
+      starves_for_want = λ _. inr ((c.requires, taken_of found.0, has), lacks);
     }
 
 pub clear-requires-clause-held : goal.clear-requires-clause-held
 clear-requires-clause-held g c =
     let found = c.in-Some.ensures.found in
-    let fits = found.1.fits in
-    let few = c.clear-count.ensures.zero.few in
+    let fits = found.1.cleared_fits in
+    let few = c.clear-count.ensures.zero.count_is_allowed in
     let cut = c.cut-on_disk.ensures.count in
-    (found.0, found.1.holds, omega (arith, fits, few, cut))
+    (found.0, found.1.works_on, omega (arith, fits, few, cut))
 
 pub clear-requires-clause-room : goal.clear-requires-clause-room
 clear-requires-clause-room g c = let room = c.reserve-room.ensures.room c.if-not-room.false in omega (arith, room)
@@ -104,7 +104,7 @@ whole_lasts g c =
     ∙ (ap (lasting_of g.S.SectorStore.told) c.reserve.ensures.rest ∙ grown_lasts g.S.SectorStore.told c.in-Some-index_mut.bay c.reserve.new.self.cache c.reserve.ensures.same)
 
 whole_cached : (g : Over) (c : goal.Then-count-run g) → c.clear-count.new.self.cache.is_on ≡ c.in-Some-index_mut.bay.cache.is_on
-whole_cached g c = c.clear-count.ensures.zero.cached ∙ c.reserve.ensures.same.is_on
+whole_cached g c = c.clear-count.ensures.zero.cache_mode_is_kept ∙ c.reserve.ensures.same.is_on
 
 whole_disk : (g : Over) (c : goal.Then-count-run g) →
     disk_over c.in-Some-index_mut.bay.which (g.S.SectorStore.size c.clear-count.new.self.disk.store) (g.S.SectorStore.told c.clear-count.new.self.disk.store)
@@ -113,7 +113,7 @@ whole_disk : (g : Over) (c : goal.Then-count-run g) →
 whole_disk g c =
     let P : Bay g.row.S.Denot → Type 0 = λ x. disk_over x.which (g.S.SectorStore.size c.clear-count.new.self.disk.store) (g.S.SectorStore.told c.clear-count.new.self.disk.store)
     ≡ disk_cleared (disk_over x.which (g.S.SectorStore.size x.disk.store) (g.S.SectorStore.told x.disk.store)) c.cut-on_disk.result.first c.clear-count.result in
-    subst P c.reserve.ensures.rest c.clear-count.ensures.zero.disk
+    subst P c.reserve.ensures.rest c.clear-count.ensures.zero.disk_is
 
 abbrev whole_mid : (g : Over) (c : goal.Then-count-run g) → Model g.row.S.Denot
 whole_mid g c = record c.args.self.now { hardware = c.clear.new.self; bays = with_item c.args.self.now.bays c.from-place.result (Some c.clear-count.new.self) }
@@ -140,8 +140,8 @@ whole_part g c =
     cut_part g.S.SectorStore.size g.S.SectorStore.told g.S.SectorStore.failures c.args.port c.args.slot c.args.most c.args.self.now (whole_mid g c)
     c.in-Some-index_mut.bay c.clear-count.new.self (whole_was g c) (whole_items g c) (whole_rest g c) (whole_lasts g c) c.reserve-room.new.self
     c.in-Some.run'.first c.clear-count.result found.0 c.reserve-room.ensures.same
-    c.in-Some.run' c.cut-on_disk.result c.sectors.result refl found.1 c.sectors.ensures cut.inside cut.count cut.first zeros.few (whole_disk g c) (λ none. zeros.none none ∙ ap g.S.SectorStore.told (whole_store g c)) (zeros.sized ∙ ap g.S.SectorStore.size (whole_store g c))
-    c.clear.ensures.none (λ some o. c.clear.ensures.cleared some o found.0 found.1.holds)
+    c.in-Some.run' c.cut-on_disk.result c.sectors.result refl found.1 c.sectors.ensures cut.inside cut.count cut.first zeros.count_is_allowed (whole_disk g c) (λ none. zeros.none_keeps_told none ∙ ap g.S.SectorStore.told (whole_store g c)) (zeros.size_is_kept ∙ ap g.S.SectorStore.size (whole_store g c))
+    c.clear.ensures.none (λ some o. c.clear.ensures.cleared some o found.0 found.1.works_on)
 
 -- all of it is
 all : (g : Over) (c : goal.Then-count-run g) →
@@ -155,21 +155,21 @@ all g c =
     let found = c.in-Some.ensures.found in
     let p = whole_part g c in
     let able = whole_can g c in
-    let one = span_some c.args.most (taken_of found.0) able.some able.enough in
+    let one = span_some c.args.most (taken_of found.0) able.count_is_positive able.enough_are_left in
     let whole : c.in-Some.run'.count ≡ next_run_length c.args.most (taken_of found.0) = found.1.count_is in
     let same = c.if-count-run.true in
     let some : 1 ≤ c.clear-count.result = omega (arith, one, whole, same) in
-    let few = c.clear-count.ensures.zero.few in
+    let few = c.clear-count.ensures.zero.count_is_allowed in
     let cut = c.cut-on_disk.ensures.count in
     let cleared = p.all some (omega (arith, whole, same)) in (
       cleared,
       record {
-        asked = p.whole some;
-        fine = λ _. store_fine m (whole_mid g c) c.args.port.0 a b (whole_was g c) (whole_items g c) (whole_rest g c) g.S.SectorStore.failures
-            (c.clear-count.ensures.zero.fine (omega (arith, few, cut, same)) ∙ ap g.S.SectorStore.failures (whole_store g c));
-        says = store_says m (whole_mid g c) c.args.port.0 a b (whole_was g c) (whole_items g c) (whole_rest g c) c.args.port.0;
-        ends = λ _. cleared;
-        loses = λ yes. true-false yes refl;
+        does_told_step = p.whole some;
+        no_call_failed = λ _. store_fine m (whole_mid g c) c.args.port.0 a b (whole_was g c) (whole_items g c) (whole_rest g c) g.S.SectorStore.failures
+            (c.clear-count.ensures.zero.no_call_failed (omega (arith, few, cut, same)) ∙ ap g.S.SectorStore.failures (whole_store g c));
+        page_source_is = store_says m (whole_mid g c) c.args.port.0 a b (whole_was g c) (whole_items g c) (whole_rest g c) c.args.port.0;
+        does_all_it_asks = λ _. cleared;
+        loses_cache = λ yes. true-false yes refl;
       },
     )
 
@@ -184,13 +184,13 @@ returns-then-count-run-clause-answers g c =
     let found = c.in-Some.ensures.found in (
       (c.requires, taken_of found.0, whole_can g c),
       record {
-        came = inl (all g c).1;
-        held = refl;
-        which = store_whichs m (whole_mid g c) c.args.port.0 a b (whole_was g c) (whole_items g c) (whole_rest g c) c.args.port.0;
-        others = seated_others m (whole_mid g c) c.args.port.0 a b (whole_was g c) (whole_items g c);
-        pages = (whole_part g c).pages;
-        disks = λ none. absurd (none (c.requires, taken_of found.0, whole_can g c));
-        keeps = store_keeps m (whole_mid g c) c.args.port.0 a b (whole_was g c) (whole_items g c) (whole_rest g c) g.S.SectorStore.size (c.clear-count.ensures.zero.sized ∙ ap g.S.SectorStore.size (whole_store g c)) (whole_cached g c) refl refl;
+        completes_or_fails = inl (all g c).1;
+        held_ports_are = refl;
+        disk_index_is = store_whichs m (whole_mid g c) c.args.port.0 a b (whole_was g c) (whole_items g c) (whole_rest g c) c.args.port.0;
+        other_bays_are_kept = seated_others m (whole_mid g c) c.args.port.0 a b (whole_was g c) (whole_items g c);
+        gains_own_pages = (whole_part g c).gains_own_pages;
+        disks_are_kept = λ none. absurd (none (c.requires, taken_of found.0, whole_can g c));
+        step_keeps = store_keeps m (whole_mid g c) c.args.port.0 a b (whole_was g c) (whole_items g c) (whole_rest g c) g.S.SectorStore.size (c.clear-count.ensures.zero.size_is_kept ∙ ap g.S.SectorStore.size (whole_store g c)) (whole_cached g c) refl refl;
         starved = c.clear.ensures.starved ∙ c.reserve-room.ensures.starved;
       },
     )
@@ -220,7 +220,7 @@ then_lasts g c =
     ∙ (ap (lasting_of g.S.SectorStore.told) c.reserve.ensures.rest ∙ grown_lasts g.S.SectorStore.told c.in-Some-index_mut.bay c.reserve.new.self.cache c.reserve.ensures.same)
 
 then_cached : (g : Over) (c : goal.After-fail-failed g) → c.clear-count.new.self.cache.is_on ≡ c.in-Some-index_mut.bay.cache.is_on
-then_cached g c = c.clear-count.ensures.zero.cached ∙ c.reserve.ensures.same.is_on
+then_cached g c = c.clear-count.ensures.zero.cache_mode_is_kept ∙ c.reserve.ensures.same.is_on
 
 then_disk : (g : Over) (c : goal.After-fail-failed g) →
     disk_over c.in-Some-index_mut.bay.which (g.S.SectorStore.size c.clear-count.new.self.disk.store) (g.S.SectorStore.told c.clear-count.new.self.disk.store)
@@ -229,7 +229,7 @@ then_disk : (g : Over) (c : goal.After-fail-failed g) →
 then_disk g c =
     let P : Bay g.row.S.Denot → Type 0 = λ x. disk_over x.which (g.S.SectorStore.size c.clear-count.new.self.disk.store) (g.S.SectorStore.told c.clear-count.new.self.disk.store)
     ≡ disk_cleared (disk_over x.which (g.S.SectorStore.size x.disk.store) (g.S.SectorStore.told x.disk.store)) c.cut-on_disk.result.first c.clear-count.result in
-    subst P c.reserve.ensures.rest c.clear-count.ensures.zero.disk
+    subst P c.reserve.ensures.rest c.clear-count.ensures.zero.disk_is
 
 abbrev mid : (g : Over) (c : goal.After-fail-failed g) → Model g.row.S.Denot
 mid g c = record c.args.self.now { hardware = c.clear.new.self; bays = with_item c.args.self.now.bays c.from-place.result (Some c.clear-count.new.self) }
@@ -256,13 +256,13 @@ part g c =
     cut_part g.S.SectorStore.size g.S.SectorStore.told g.S.SectorStore.failures c.args.port c.args.slot c.args.most c.args.self.now (mid g c)
     c.in-Some-index_mut.bay c.clear-count.new.self (was g c) (items g c) (then_rest g c) (then_lasts g c) c.reserve-room.new.self
     c.in-Some.run'.first c.clear-count.result found.0 c.reserve-room.ensures.same
-    c.in-Some.run' c.cut-on_disk.result c.sectors.result refl found.1 c.sectors.ensures cut.inside cut.count cut.first zeros.few (then_disk g c) (λ none. zeros.none none ∙ ap g.S.SectorStore.told (then_store g c)) (zeros.sized ∙ ap g.S.SectorStore.size (then_store g c))
-    c.clear.ensures.none (λ some o. c.clear.ensures.cleared some o found.0 found.1.holds)
+    c.in-Some.run' c.cut-on_disk.result c.sectors.result refl found.1 c.sectors.ensures cut.inside cut.count cut.first zeros.count_is_allowed (then_disk g c) (λ none. zeros.none_keeps_told none ∙ ap g.S.SectorStore.told (then_store g c)) (zeros.size_is_kept ∙ ap g.S.SectorStore.size (then_store g c))
+    c.clear.ensures.none (λ some o. c.clear.ensures.cleared some o found.0 found.1.works_on)
 
 fewer : (g : Over) (c : goal.After-fail-failed g) → c.clear-count.result < next_run_length c.args.most (taken_of c.in-Some.ensures.found.0)
 fewer g c =
     let whole : c.in-Some.run'.count ≡ next_run_length c.args.most (taken_of c.in-Some.ensures.found.0) = c.in-Some.ensures.found.1.count_is in
-    let few = c.clear-count.ensures.zero.few in
+    let few = c.clear-count.ensures.zero.count_is_allowed in
     let cut = c.cut-on_disk.ensures.count in
     let other = c.if-count-run.false in
     omega (arith, whole, few, cut, other)
@@ -276,7 +276,7 @@ cause g c =
     let run = c.in-Some.run' in
     let on = c.cut-on_disk.result in
     let count = c.clear-count.result in
-    let few = c.clear-count.ensures.zero.few in
+    let few = c.clear-count.ensures.zero.count_is_allowed in
     let cut = c.cut-on_disk.ensures.count in
     let inside = c.cut-on_disk.ensures.inside in
     let size = c.sectors.ensures in
@@ -290,11 +290,11 @@ cause g c =
           let V : Bool → Type 0 = λ x. CallFails x true (on.first + count) (g.S.SectorStore.failures c.reserve.new.self.disk.store) (g.S.SectorStore.failures c.clear-count.new.self.disk.store) in
           let W : g.row.S.Denot → Type 0 = λ x. CallFails a.cache.is_on true (on.first + count) (g.S.SectorStore.failures x) (g.S.SectorStore.failures c.clear-count.new.self.disk.store) in
           let sector : on.first + count ≡ run.first + count = omega (arith, first) in
-          (inr (omega (arith, less, first, inside, size), error, subst Q sector (subst W (then_store g c) (subst V c.reserve.ensures.same.is_on (c.clear-count.ensures.zero.fails less)))), omega (arith, error))
+          (inr (omega (arith, less, first, inside, size), error, subst Q sector (subst W (then_store g c) (subst V c.reserve.ensures.same.is_on (c.clear-count.ensures.zero.failure_is_noted less)))), omega (arith, error))
       | else-count-on_disk w ↦
           let most = w.if-count-on_disk.false in
           let error = w.error-is in
-          (inl (omega (arith, few, cut, most, other, size), error, c.clear-count.ensures.zero.fine (omega (arith, few, most)) ∙ ap g.S.SectorStore.failures (then_store g c)), omega (arith, error))
+          (inl (omega (arith, few, cut, most, other, size), error, c.clear-count.ensures.zero.no_call_failed (omega (arith, few, most)) ∙ ap g.S.SectorStore.failures (then_store g c)), omega (arith, error))
     ]
 
 failed : (g : Over) (c : goal.After-fail-failed g) →
@@ -308,7 +308,7 @@ failed g c =
     is_failed g.S.SectorStore.size g.S.SectorStore.told g.S.SectorStore.failures c.args.port c.args.slot c.if-count-on_disk.error
     (record (taken_of c.in-Some.ensures.found.0) { cleared = c.in-Some.ensures.found.0.cleared + c.clear-count.result }) c.fail-failed.result
     (mid g c) c.fail-failed.new.self c.fail-failed.ensures (omega (arith, small, at)) c.requires
-    (record { taken = more.works.taken; running = more.works.working.running; is_byte = (cause g c).1; kept = refl })
+    (record { taken = more.works.taken; running = more.works.working.running; is_byte = (cause g c).1; kept_bits_are_allowed = refl })
     (c.clear.ensures.left 1 (c.reserve-room.ensures.room c.if-not-room.false))
 
 has_failed : (g : Over) (c : goal.After-fail-failed g) →
@@ -339,8 +339,8 @@ returns-clause-answers g c =
           (asked.Clear c.args.port c.args.slot c.args.most) refl (has_failed g c) refl refl refl
           (store_says m (mid g c) c.args.port.0 a b (was g c) (items g c) (then_rest g c) c.args.port.0)
           (store_whichs m (mid g c) c.args.port.0 a b (was g c) (items g c) (then_rest g c) c.args.port.0)
-          (seated_others m (mid g c) c.args.port.0 a b (was g c) (items g c)) (part g c).pages
-          (store_keeps m (mid g c) c.args.port.0 a b (was g c) (items g c) (then_rest g c) g.S.SectorStore.size (c.clear-count.ensures.zero.sized ∙ ap g.S.SectorStore.size (then_store g c)) (then_cached g c) refl refl)
+          (seated_others m (mid g c) c.args.port.0 a b (was g c) (items g c)) (part g c).gains_own_pages
+          (store_keeps m (mid g c) c.args.port.0 a b (was g c) (items g c) (then_rest g c) g.S.SectorStore.size (c.clear-count.ensures.zero.size_is_kept ∙ ap g.S.SectorStore.size (then_store g c)) (then_cached g c) refl refl)
           (c.clear.ensures.starved ∙ c.reserve-room.ensures.starved) (c.requires, taken_of found.0, can g c),
     )
 
@@ -374,7 +374,7 @@ returns-then-not-reserve-clause-answers g c =
     let cut : c.cut-on_disk.result.count ≡ min c.in-Some.run'.count (c.sectors.result - c.in-Some.run'.first) = c.cut-on_disk.ensures.count in
     let whole : c.in-Some.run'.count ≡ next_run_length c.args.most t = found.1.count_is in
     let start : c.in-Some.run'.first ≡ next_uncleared t = found.1.first_is in
-    let here : cleared_on_disk ((device_at g.S.SectorStore.size g.S.SectorStore.told m).port c.args.port.0).disk.size c.args.most t ≡ c.cut-on_disk.result.count =
+    let here : cleared_count_on_disk ((device_at g.S.SectorStore.size g.S.SectorStore.told m).port c.args.port.0).disk.size c.args.most t ≡ c.cut-on_disk.result.count =
     sym (cut ∙ (λ i. min (whole i) (sym size i - start i))) in
     let lacks : LacksMemory (asked.Clear c.args.port c.args.slot c.args.most) (device_at g.S.SectorStore.size g.S.SectorStore.told m) m.hardware m.bays.items =
     (t, has, λ _ old. c.reserve.ensures.lacked c.if-not-reserve.true (subst (HasRoomForOld a.cache) here (room_here m c.args.port.0 _ a push_bay old))) in
@@ -393,10 +393,10 @@ returns-then-count-run-clause-old_room g c = λ _ t taken n room.
     let able = whole_can g c in
     let one : t ≡ taken_of found.0 = some_one (sym taken ∙ able.works.taken) in
     let whole : c.in-Some.run'.count ≡ next_run_length c.args.most t = found.1.count_is ∙ ap (next_run_length c.args.most) (sym one) in
-    let few = c.clear-count.ensures.zero.few in
+    let few = c.clear-count.ensures.zero.count_is_allowed in
     let cut = c.cut-on_disk.ensures.count in
     let same = c.if-count-run.true in
     room_there (whole_mid g c) c.args.port.0 n c.clear-count.new.self (seated_here m (whole_mid g c) c.args.port.0 a c.clear-count.new.self (whole_was g c) (whole_items g c))
-    (c.clear-count.ensures.zero.old_room n
+    (c.clear-count.ensures.zero.cache_has_room n
     (c.reserve.ensures.kept (c.cut-on_disk.result.count + n)
     (less_room a.cache (next_run_length c.args.most t + n) (c.cut-on_disk.result.count + n) (omega (arith, whole, cut, few, same)) (room_here m c.args.port.0 (next_run_length c.args.most t + n) a (whole_was g c) room))))

@@ -2,7 +2,7 @@ use Rattle.std.proofs.Common.{ℕ, suc, ◌≡◌, ◌<◌, ◌≤◌, ◌+◌, 
 use Rattle.std.specs.Global.{Vec}
 use Rattle.std.specs.List.{remove}
 use Rattle.adapter.specs.declared.access.DeviceStep.{DeviceStep}
-use Rattle.device_model.specs.Does.{AnswersStep}
+use Rattle.device_model.specs.StepEffects.{AnswersStep}
 use Rattle.device_model.specs.Queue.{DoesEach, due_steps, later_steps}
 use Rattle.adapter.specs.declared.counting.AccessCounter.{AccessCounter}
 use Rattle.device_model.specs.declared.model.QueuedStep.{QueuedStep}
@@ -82,10 +82,10 @@ loop-queued-preserved g c =
           (answers_queued g.S.SectorStore.size g.S.SectorStore.told g.S.SectorStore.failures step w.do_step-done.result taken new q one) in
           let keeps = did_or_left_keeps g.S.SectorStore.size g.S.SectorStore.told g.S.SectorStore.failures step taken new w.do_step-done.result one in
           let items : new.queue.items ≡ remove m.queue.items c.loop-queued.place =
-          ap (λ (v : Vec QueuedStep). v.items) keeps.queue ∙ w.remove.ensures.items in
+          ap (λ (v : Vec QueuedStep). v.items) keeps.queue_is_kept ∙ w.remove.ensures.items in
           let T : List QueuedStep → Type 0 = λ now. IsAt access c.args.self.now.queue.items now c.loop-queued.place left DidStep in
           rw (w.self-is, w.place-is) (record {
-            same = keeps.accesses ∙ c.loop-queued.invariant.same;
+            same = keeps.access_count_is_kept ∙ c.loop-queued.invariant.same;
             at = subst T (sym items) (at_done access c.args.self.now.queue.items m.queue.items c.loop-queued.place left Was DidStep at x early more);
           })
     ]
@@ -104,8 +104,8 @@ returns g c =
     let Q : AccessCounter → Type 0 = λ a.
     DoesEach g.S.SectorStore.size g.S.SectorStore.told g.S.SectorStore.failures (due_steps a.shown items) (record c.args.self.now { accesses = a; queue = m.queue }) m in
     record {
-      counted = same ∙ c.add.ensures.shown;
-      made = ap (λ (a : AccessCounter). a.count.made) c.loop-queued.invariant.same ∙ c.add.ensures.made;
-      waiting = at_end_left access items m.queue.items c.loop-queued.place DidStep at ∙ ap (λ n. later_steps n items) (sym same);
-      does = subst Q (sym c.loop-queued.invariant.same) (at_end_did access items m.queue.items c.loop-queued.place DidStep at m.queue);
+      access_is_counted = same ∙ c.add.ensures.shown;
+      made_is = ap (λ (a : AccessCounter). a.count.made) c.loop-queued.invariant.same ∙ c.add.ensures.made;
+      queue_is = at_end_left access items m.queue.items c.loop-queued.place DidStep at ∙ ap (λ n. later_steps n items) (sym same);
+      does_due_steps = subst Q (sym c.loop-queued.invariant.same) (at_end_did access items m.queue.items c.loop-queued.place DidStep at m.queue);
     }

@@ -1,5 +1,5 @@
 use Rattle.std.proofs.Common.{arith, refl}
-use Rattle.device_model.specs.View.{operation_of_kind}
+use Rattle.device_model.specs.PortView.{operation_of_kind}
 use Rattle.device_model.proofs.Told.{done_answers, done_left}
 use Rattle.device_model.proofs.model.Model.done.Goals as goal
 

@@ -1,10 +1,10 @@
 use Rattle.std.proofs.Common.{ℕ, ◌∙◌, ap, refl, sym, subst, arith}
-use Rattle.adapter.specs.Asked.{Fails}
-use Rattle.device_model.specs.Modelled.{all_media_at}
+use Rattle.adapter.specs.ToldSteps.{Fails}
+use Rattle.device_model.specs.ModelState.{all_media_at}
 use Rattle.device_model.specs.Disks.{OnlyChangesPageSource}
-use Rattle.device_model.specs.Paged.{with_logged_error}
-use Rattle.device_model.specs.Sent.{SendsFailed}
-use Rattle.device_model.specs.View.{busy_if_left}
+use Rattle.device_model.specs.DiskPages.{with_logged_error}
+use Rattle.device_model.specs.SentFises.{SendsFailed}
+use Rattle.device_model.specs.PortView.{busy_if_left}
 use Rattle.device_model.specs.WholeAdapter.{AllMedia, device_of}
 use Rattle.device_model.specs.declared.hardware.Hardware.{Hardware}
 use Rattle.device_model.proofs.Told.{fail_left, fault_sent, plain_answers, queued_answers}

@@ -3,8 +3,8 @@ use Rattle.adapter.specs.Device.{Device}
 use Rattle.adapter.specs.Steps.{Can, device_after}
 use Rattle.adapter.specs.Steps.DeviceTransition.{FetchFault}
 use Rattle.device_model.specs.Finishing.{IsStepSkipped}
-use Rattle.device_model.specs.Modelled.{all_media_at}
-use Rattle.device_model.specs.Sent.{SendsFault}
+use Rattle.device_model.specs.ModelState.{all_media_at}
+use Rattle.device_model.specs.SentFises.{SendsFault}
 use Rattle.device_model.specs.WholeAdapter.{AllMedia, device_of}
 use Rattle.device_model.specs.declared.hardware.Hardware.{Hardware}
 use Rattle.device_model.proofs.Told.{fetch_answers, senseless_answers}

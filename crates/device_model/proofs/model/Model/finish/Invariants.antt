@@ -1,11 +1,11 @@
 use Rattle.std.proofs.Common.{◌≡◌, ◌+◌, ◌-◌, true, false, IfSome}
-use Rattle.adapter.specs.Asked.{SlotGoesOn}
+use Rattle.adapter.specs.ToldSteps.{SlotGoesOn}
 use Rattle.adapter.specs.declared.access.DeviceStep.TheVariants as asked
 use Rattle.device_model.specs.Disks.{numbered_disk}
-use Rattle.device_model.specs.Does.{AsksStore, NoCallFailed}
+use Rattle.device_model.specs.StepEffects.{AsksStore, NoCallFailed}
 use Rattle.device_model.specs.Finishing.{TapeHasRoom, IsInProgress}
-use Rattle.device_model.specs.Modelled.{device_at}
-use Rattle.device_model.specs.Sent.{SendsEnd}
+use Rattle.device_model.specs.ModelState.{device_at}
+use Rattle.device_model.specs.SentFises.{SendsEnd}
 use Rattle.device_model.specs.Slots.{IsNextMove}
 use Rattle.device_model.specs.declared.port.TakenCommand.{TakenCommand}
 use Rattle.device_model.specs.declared.disks.DiskIndex.{DiskIndex}

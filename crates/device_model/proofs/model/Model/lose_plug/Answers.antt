@@ -1,7 +1,7 @@
 use Rattle.std.proofs.Common.{rules, ℕ, Some, ◌<◌, ◌∙◌, length, refl, sym, ap, inl, inr, arith}
 use Rattle.std.specs.Prelude.{slice_set}
 use Rattle.adapter.specs.Device.{Device}
-use Rattle.device_model.specs.Modelled.{all_media_at}
+use Rattle.device_model.specs.ModelState.{all_media_at}
 use Rattle.device_model.specs.WholeAdapter.{AllMedia}
 use Rattle.device_model.proofs.Absurd.{true-false}
 use Rattle.device_model.proofs.Doing.{left_same}
@@ -48,7 +48,7 @@ pub returns : goal.returns
 returns g c =
     let m = c.args.self.now in
     let a = c.in-Some.bay in
-    let b = c.put_in_lossy.new.self in
+    let b = c.plug_after_cache_loss.new.self in
     let small = c.if-place-ge-PORTS.false in
     let at = c.from-place.ensures in
     let was = seat_is m c.from-place.result c.args.port.0 c.index_mut.result.now a c.from-place.ensures
@@ -56,7 +56,7 @@ returns g c =
     c.index_mut.ensures.value c.in-Some.is in
     let yes = c.if-not-plug.false in
     did_lose g.S.SectorStore.size g.S.SectorStore.told g.S.SectorStore.failures m _ c.args.port refl refl refl a b was
-    (ap (λ k. slice_set m.bays.items k (Some b)) c.from-place.ensures) c.put_in_lossy.ensures.loses c.put_in_lossy.ensures.rest c.put_in_lossy.ensures.later
+    (ap (λ k. slice_set m.bays.items k (Some b)) c.from-place.ensures) c.plug_after_cache_loss.ensures.loses c.plug_after_cache_loss.ensures.rest c.plug_after_cache_loss.ensures.later
     (omega (arith, small, at))
     (λ d is. ap (λ (x : Device). (x.port c.args.port.0).present) is ∙ c.plug.ensures.free yes (all_media_at g.S.SectorStore.size g.S.SectorStore.told m))
     g.met.S.SectorStore.tells_sectors (λ o disk name same. c.plug.ensures.did yes o disk (name ∙ sym c.number.ensures) same) (c.plug.ensures.fed yes)

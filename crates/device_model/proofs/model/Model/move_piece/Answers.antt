@@ -3,7 +3,7 @@ use Rattle.std.specs.Prelude.{IfSome, option_map, slice_set}
 use Rattle.std.specs.Vec.{with_item}
 use Rattle.std.proofs.Common.{Bool, Some, Option, refl, ◌++◌, ℕ, true, false, ◌≡◌, ◌<◌, ◌≤◌, ◌∙◌, ◌+◌, ◌^◌, ◌∷◌, [], length, sym, ap, subst, arith, inl, inr}
 use Rattle.device_model.proofs.Absurd.{some_one, true-false}
-use Rattle.adapter.specs.Asked.{DoesMove}
+use Rattle.adapter.specs.ToldSteps.{DoesMove}
 use Rattle.adapter.specs.Commands.{is_ranged, reads_memory}
 use Rattle.adapter.specs.Device.{Device, FetchedCommand}
 use Rattle.adapter.specs.Steps.{next_place, next_sector, Can, device_after, move_of}
@@ -13,16 +13,16 @@ use Rattle.adapter.specs.declared.tape.Entry.TheVariants as entry
 use Rattle.sector_store.specs.declared.store.Failures.{Failures}
 use Rattle.adapter.specs.declared.access.DeviceStep.TheVariants as asked
 use Rattle.device_model.specs.Disks.{bay_of, port_has_cache, disk_in_bay, bay_failures, disk_failures, has_cache, lasting_of}
-use Rattle.device_model.specs.Cached.{CallFails, HasRoomForOld}
-use Rattle.device_model.specs.Does.{Completes, CommandFails, LacksMemory}
-use Rattle.device_model.specs.Exchanged.{TransfersPiece, piece_of}
+use Rattle.device_model.specs.WriteCaches.{CallFails, HasRoomForOld}
+use Rattle.device_model.specs.StepEffects.{Completes, CommandFails, LacksMemory}
+use Rattle.device_model.specs.PieceTransfers.{TransfersPiece, piece_of}
 use Rattle.device_model.specs.Finishing.{HasMove}
-use Rattle.device_model.specs.Modelled.{device_at, media_of, all_media_at}
+use Rattle.device_model.specs.ModelState.{device_at, media_of, all_media_at}
 use Rattle.device_model.specs.Slots.{IsNextMove}
 use Rattle.device_model.specs.Trims.{written_ahead}
-use Rattle.device_model.specs.View.{Media, operation_of_kind, taken_of}
+use Rattle.device_model.specs.PortView.{Media, operation_of_kind, taken_of}
 use Rattle.device_model.specs.declared.port.CommandKind.{CommandKind}
-use Rattle.device_model.specs.WholeAdapter.{AllMedia, device_of, all_media_after}
+use Rattle.device_model.specs.WholeAdapter.{AllMedia, device_of, all_media_after_move}
 use Rattle.device_model.specs.declared.bay.Bay.{Bay}
 use Rattle.device_model.specs.declared.hardware.Hardware.{Hardware}
 use Rattle.device_model.specs.declared.model.Model.{Model}
@@ -57,7 +57,7 @@ returns-in_default-next_move-clause-answers g c =
     (omega (arith, c.if-place-len.false, c.len.ensures)) c.index_mut.ensures.value c.in-Some.is in
     grown_left g.S.SectorStore.size g.S.SectorStore.told g.S.SectorStore.failures m _ c.args.port.0 a a.cache was
     (ap (λ k. slice_set m.bays.items k (Some a)) c.from-place.ensures)
-    (record { is_on = refl; items = refl }) (asked.Move c.args.port c.args.slot) refl refl refl refl refl
+    (record { is_on = refl; old_sectors_are = refl }) (asked.Move c.args.port c.args.slot) refl refl refl refl refl
     (λ served may.
     absurd (
     let few : length m.hardware.memory.items ≤ 2 ^ 32 = served in
@@ -81,7 +81,7 @@ returns-then-not-room-clause-answers g c =
     (taken_of found.0, fits, λ room _. true-false (c.reserve-room.ensures.enough room) c.if-not-room.true) in
     grown_left g.S.SectorStore.size g.S.SectorStore.told g.S.SectorStore.failures m _ c.args.port.0 a a.cache was
     (ap (λ k. slice_set m.bays.items k (Some a)) c.from-place.ensures)
-    (record { is_on = refl; items = refl }) (asked.Move c.args.port c.args.slot) refl (c.reserve-room.ensures.same o) refl refl refl
+    (record { is_on = refl; old_sectors_are = refl }) (asked.Move c.args.port c.args.slot) refl (c.reserve-room.ensures.same o) refl refl refl
     (λ _ _. (lacks, refl)) (λ _. refl) (λ _. inr ((c.requires.small, taken_of found.0, fits), lacks))
 
 -- ---- the bay of the port, as the piece is moved
@@ -102,10 +102,10 @@ exchanged g c =
     subst P c.reserve.ensures.rest c.transfer_piece.ensures.exchanges
 
 lasts : (g : Over) (c : goal.After-note_move g) → lasting_of g.S.SectorStore.told c.transfer_piece.new.self ≡ lasting_of g.S.SectorStore.told c.in-Some.bay
-lasts g c = (exchanged g c).lasting ∙ grown_lasts g.S.SectorStore.told c.in-Some.bay c.reserve.new.self.cache c.reserve.ensures.same
+lasts g c = (exchanged g c).lasting_is_kept ∙ grown_lasts g.S.SectorStore.told c.in-Some.bay c.reserve.new.self.cache c.reserve.ensures.same
 
 cached : (g : Over) (c : goal.After-note_move g) → c.transfer_piece.new.self.cache.is_on ≡ c.in-Some.bay.cache.is_on
-cached g c = (exchanged g c).cached ∙ c.reserve.ensures.same.is_on
+cached g c = (exchanged g c).cache_mode_is_kept ∙ c.reserve.ensures.same.is_on
 
 -- the model afterwards
 abbrev moved_model : (g : Over) (c : goal.After-note_move g) → Model g.row.S.Denot
@@ -136,21 +136,21 @@ moved g c =
     let is : IsNextMove h c.args.port.0 c.args.slot.0 c.in-Some-next_move.next r = (grow c.args.port.0 c.args.slot.0 c.reserve-room.ensures.rest c.in-Some-next_move.ensures.found).1 in
     let here : Media = media_of g.S.SectorStore.size g.S.SectorStore.told (Some a) in
     let at : here ≡ o.media c.args.port.0 = sym (ap (media_of g.S.SectorStore.size g.S.SectorStore.told) (was g c)) in
-    let behind : all_media_at g.S.SectorStore.size g.S.SectorStore.told (moved_model g c) ≡ all_media_after o c.args.port.0 (taken_of r) bytes =
+    let behind : all_media_at g.S.SectorStore.size g.S.SectorStore.told (moved_model g c) ≡ all_media_after_move o c.args.port.0 (taken_of r) bytes =
     outside_moved m (moved_model g c) c.args.port.0 a c.transfer_piece.new.self (was g c) (items g c)
-    (exchanged g c).rest g.S.SectorStore.size g.S.SectorStore.told
-    c.in-Some-next_move.next r bytes (lasts g c) is.kind_is is.sector_is ((exchanged g c).disk did) in
+    (exchanged g c).rest_is_kept g.S.SectorStore.size g.S.SectorStore.told
+    c.in-Some-next_move.next r bytes (lasts g c) is.kind_is is.sector_is ((exchanged g c).disk_is did) in
     let R : Device → Type 0 = λ d. Can (Move c.args.port.0 c.args.slot.0 (taken_of r) bytes) d in
     record {
-      t = taken_of r;
+      fetched_command = taken_of r;
       bytes = bytes;
       can = subst R (c.reserve-room.ensures.same o)
-          (may_move h o c.args.port.0 c.args.slot.0 c.in-Some-next_move.next r bytes is (exchanged g c).sector
+          (may_move h o c.args.port.0 c.args.slot.0 c.in-Some-next_move.next r bytes is (exchanged g c).bytes_are_sector
           (subst (λ (x : Media). is_ranged (operation_of_kind c.in-Some-next_move.next.command_kind) ≡ true →
           c.in-Some-next_move.next.sector < x.disk.size) at ((exchanged g c).inside did))
           (subst (λ (x : Media). is_ranged (operation_of_kind c.in-Some-next_move.next.command_kind) ≡ true → reads_memory (operation_of_kind c.in-Some-next_move.next.command_kind) ≡ false →
-          IfSome x.disk.sectors (λ f. bytes ≡ f c.in-Some-next_move.next.sector)) at ((exchanged g c).gives did))
-          (exchanged g c).takes);
+          IfSome x.disk.sectors (λ f. bytes ≡ f c.in-Some-next_move.next.sector)) at ((exchanged g c).read_gives_told did))
+          (exchanged g c).write_keeps_bytes);
       effect = ap (λ (x : AllMedia). device_of c.note_move.new.self x) behind
           ∙ (c.note_move.ensures.moved h o r c.transfer_piece.ensures.memory is
           ∙ ap (λ (d : Device). device_after (Move c.args.port.0 c.args.slot.0 (taken_of r) bytes) d)
@@ -163,14 +163,14 @@ whole g c =
     let m = c.args.self.now in
     let a = c.in-Some.bay in
     record {
-      asked = moved g c;
-      fine = λ _. store_fine m (moved_model g c) c.args.port.0 a c.transfer_piece.new.self (was g c) (items g c)
-          (exchanged g c).rest g.S.SectorStore.failures
-          ((exchanged g c).fine c.if-not-transfer_piece.false);
-      says = store_says m (moved_model g c) c.args.port.0 a c.transfer_piece.new.self (was g c) (items g c)
-          (exchanged g c).rest c.args.port.0;
-      ends = λ _. tt;
-      loses = λ yes. true-false yes refl;
+      does_told_step = moved g c;
+      no_call_failed = λ _. store_fine m (moved_model g c) c.args.port.0 a c.transfer_piece.new.self (was g c) (items g c)
+          (exchanged g c).rest_is_kept g.S.SectorStore.failures
+          ((exchanged g c).no_call_failed c.if-not-transfer_piece.false);
+      page_source_is = store_says m (moved_model g c) c.args.port.0 a c.transfer_piece.new.self (was g c) (items g c)
+          (exchanged g c).rest_is_kept c.args.port.0;
+      does_all_it_asks = λ _. tt;
+      loses_cache = λ yes. true-false yes refl;
     }
 
 pub returns-clause-whole : goal.returns-clause-whole
@@ -189,25 +189,25 @@ returns-clause-answers g c =
     let disks = has_disks g.S.SectorStore.size g.S.SectorStore.told m c.args.port.0 a (was g c) in (
       (c.requires.small, taken_of (grow c.args.port.0 c.args.slot.0 c.reserve-room.ensures.rest c.in-Some-next_move.ensures.found).0, fits g c),
       record {
-        came = inl (whole g c);
-        held = refl;
-        which = store_whichs m (moved_model g c) c.args.port.0 a b (was g c) (items g c)
-            (exchanged g c).rest c.args.port.0;
-        others = seated_others m (moved_model g c) c.args.port.0 a b (was g c) (items g c);
-        pages = gains_moved g.S.SectorStore.size m _ a found.0.command_kind
+        completes_or_fails = inl (whole g c);
+        held_ports_are = refl;
+        disk_index_is = store_whichs m (moved_model g c) c.args.port.0 a b (was g c) (items g c)
+            (exchanged g c).rest_is_kept c.args.port.0;
+        other_bays_are_kept = seated_others m (moved_model g c) c.args.port.0 a b (was g c) (items g c);
+        gains_own_pages = gains_moved g.S.SectorStore.size m _ a found.0.command_kind
             (move_of c.args.port.0 c.args.slot.0 (taken_of found.0) bytes) (was g c)
             (ap (λ (d : Device). d.tape) noted ∙ ap (λ (d : Device). d.tape ++ entry ∷ [])
             (c.reserve-room.ensures.same o)) refl
-            (λ identify. (exchanged g c).page c.if-not-transfer_piece.false (found.1.kind_is ∙ identify))
-            (λ log. (exchanged g c).log c.if-not-transfer_piece.false (found.1.kind_is ∙ log));
-        disks = λ none w.
+            (λ identify. (exchanged g c).identify_page_is_sent c.if-not-transfer_piece.false (found.1.kind_is ∙ identify))
+            (λ log. (exchanged g c).log_page_is_sent c.if-not-transfer_piece.false (found.1.kind_is ∙ log));
+        disks_are_kept = λ none w.
             seated_same m (moved_model g c) c.args.port.0 a b (was g c) (items g c) (option_map (λ (x : Bay g.row.S.Denot). disk_in_bay x w))
             (ap (λ (x : Bay g.row.S.Denot). Some (disk_in_bay x w))
-            ((exchanged g c).same
+            ((exchanged g c).bay_is_kept
             (next_unranged c.reserve-room.new.self o _ c.args.port c.args.slot c.in-Some-next_move.next (grow c.args.port.0 c.args.slot.0 c.reserve-room.ensures.rest c.in-Some-next_move.ensures.found).0 disks c.requires.small
             (c.reserve-room.ensures.same o) (grow c.args.port.0 c.args.slot.0 c.reserve-room.ensures.rest c.in-Some-next_move.ensures.found).1 none))) c.args.port.0;
-        keeps = store_keeps m (moved_model g c) c.args.port.0 a b (was g c) (items g c)
-            (exchanged g c).rest g.S.SectorStore.size (exchanged g c).sized (cached g c) refl refl;
+        step_keeps = store_keeps m (moved_model g c) c.args.port.0 a b (was g c) (items g c)
+            (exchanged g c).rest_is_kept g.S.SectorStore.size (exchanged g c).size_is_kept (cached g c) refl refl;
         starved = c.note_move.ensures.starved ∙ (starved_over c.transfer_piece.ensures.memory
             ∙ c.reserve-room.ensures.starved);
       },
@@ -251,12 +251,12 @@ past : (g : Over) (c : goal.After-fail-failed g) →
 past g c =
     let o : AllMedia = all_media_at g.S.SectorStore.size g.S.SectorStore.told (past_model g c) in
     let found = (grow c.args.port.0 c.args.slot.0 c.reserve-room.ensures.rest c.in-Some-next_move.ensures.found) in
-    let works = found.1.holds.works (o.media c.args.port.0) in
+    let works = found.1.works_on.works (o.media c.args.port.0) in
     let small = c.if-place-ge-PORTS.false in
     let at = c.from-place.ensures in
     is_failed g.S.SectorStore.size g.S.SectorStore.told g.S.SectorStore.failures c.args.port c.args.slot 0x10 (taken_of found.0) c.fail-failed.result
     (past_model g c) c.fail-failed.new.self c.fail-failed.ensures (omega (arith, small, at)) c.requires.small
-    (record { taken = works.taken; running = works.working.running; is_byte = omega arith; kept = refl }) (c.reserve-room.ensures.room c.if-not-room.false)
+    (record { taken = works.taken; running = works.working.running; is_byte = omega arith; kept_bits_are_allowed = refl }) (c.reserve-room.ensures.room c.if-not-room.false)
 
 -- it names one
 past_ranged : (g : Over) (c : goal.After-fail-failed g) → (next_sector (taken_of (grow c.args.port.0 c.args.slot.0 c.reserve-room.ensures.rest c.in-Some-next_move.ensures.found).0) ≡ c.in-Some-next_move.next.sector)
@@ -267,7 +267,7 @@ past_ranged g c = by (is_ranged (operation_of_kind c.in-Some-next_move.next.comm
     found = (grow c.args.port.0 c.args.slot.0 c.reserve-room.ensures.rest c.in-Some-next_move.ensures.found)
 
     never : (is_ranged (operation_of_kind c.in-Some-next_move.next.command_kind) ≡ true → c.in-Some-next_move.next.sector < c.sectors.result) → ⊥
-    never on = true-false (c.is_on.ensures.1 on) c.if-not-is_on.true
+    never on = true-false (c.is_within_disk.ensures.1 on) c.if-not-is_within_disk.true
 
     by : (b : Bool) → is_ranged (operation_of_kind c.in-Some-next_move.next.command_kind) ≡ b → (next_sector (taken_of found.0) ≡ c.in-Some-next_move.next.sector)
         × (is_ranged (operation_of_kind found.0.command_kind) ≡ true) × (g.S.SectorStore.size c.in-Some.bay.disk.store ≤ c.in-Some-next_move.next.sector)
@@ -299,11 +299,11 @@ past_failed g c =
     (store_says m (past_model g c) c.args.port.0 a a (was_past g c) (past_items g c) refl c.args.port.0) (past_fits g c) is.1
     (inl (omega (arith, size, sector, below), refl, calls))
 
-pub returns-then-not-is_on-clause-failed : goal.returns-then-not-is_on-clause-failed
-returns-then-not-is_on-clause-failed g c = λ _. past_failed g c
+pub returns-then-not-is_within_disk-clause-failed : goal.returns-then-not-is_within_disk-clause-failed
+returns-then-not-is_within_disk-clause-failed g c = λ _. past_failed g c
 
-pub returns-then-not-is_on-clause-answers : goal.returns-then-not-is_on-clause-answers
-returns-then-not-is_on-clause-answers g c =
+pub returns-then-not-is_within_disk-clause-answers : goal.returns-then-not-is_within_disk-clause-answers
+returns-then-not-is_within_disk-clause-answers g c =
     let m = c.args.self.now in
     let a = c.in-Some.bay in
     let found = (grow c.args.port.0 c.args.slot.0 c.reserve-room.ensures.rest c.in-Some-next_move.ensures.found) in (
@@ -335,10 +335,10 @@ exchanged_so g c =
     subst P c.reserve.ensures.rest c.transfer_piece.ensures.exchanges
 
 lasts_so : (g : Over) (c : goal.After-fail-failed-then-not-transfer_piece g) → lasting_of g.S.SectorStore.told c.transfer_piece.new.self ≡ lasting_of g.S.SectorStore.told c.in-Some.bay
-lasts_so g c = (exchanged_so g c).lasting ∙ grown_lasts g.S.SectorStore.told c.in-Some.bay c.reserve.new.self.cache c.reserve.ensures.same
+lasts_so g c = (exchanged_so g c).lasting_is_kept ∙ grown_lasts g.S.SectorStore.told c.in-Some.bay c.reserve.new.self.cache c.reserve.ensures.same
 
 cached_so : (g : Over) (c : goal.After-fail-failed-then-not-transfer_piece g) → c.transfer_piece.new.self.cache.is_on ≡ c.in-Some.bay.cache.is_on
-cached_so g c = (exchanged_so g c).cached ∙ c.reserve.ensures.same.is_on
+cached_so g c = (exchanged_so g c).cache_mode_is_kept ∙ c.reserve.ensures.same.is_on
 
 abbrev store_model : (g : Over) (c : goal.After-fail-failed-then-not-transfer_piece g) → Model g.row.S.Denot
 store_model g c = record c.args.self.now {
@@ -366,13 +366,13 @@ store g c =
     let mid = store_model g c in
     let o : AllMedia = all_media_at g.S.SectorStore.size g.S.SectorStore.told mid in
     let found = (grow c.args.port.0 c.args.slot.0 c.reserve-room.ensures.rest c.in-Some-next_move.ensures.found) in
-    let works = (next_over c.args.port.0 c.args.slot.0 c.transfer_piece.ensures.memory found.1).holds.works
+    let works = (next_over c.args.port.0 c.args.slot.0 c.transfer_piece.ensures.memory found.1).works_on.works
     (o.media c.args.port.0) in
     let small = c.if-place-ge-PORTS.false in
     let at = c.from-place.ensures in
     is_failed g.S.SectorStore.size g.S.SectorStore.told g.S.SectorStore.failures c.args.port c.args.slot 0x40 (taken_of found.0) c.fail-failed-then-not-transfer_piece.result
     mid c.fail-failed-then-not-transfer_piece.new.self c.fail-failed-then-not-transfer_piece.ensures (omega (arith, small, at)) c.requires.small
-    (record { taken = works.taken; running = works.working.running; is_byte = omega arith; kept = refl })
+    (record { taken = works.taken; running = works.working.running; is_byte = omega arith; kept_bits_are_allowed = refl })
     (room_over 1 c.transfer_piece.ensures.memory (c.reserve-room.ensures.room c.if-not-room.false))
 
 -- it is as it was, but for the store
@@ -382,9 +382,9 @@ store_same g c =
     let m = c.args.self.now in
     ap (λ (x : AllMedia). device_of c.transfer_piece.new.hardware x)
     (outside_kept m (store_model g c) c.args.port.0 c.in-Some.bay c.transfer_piece.new.self (was_store g c)
-    (store_items g c) (exchanged_so g c).rest
-    g.S.SectorStore.size g.S.SectorStore.told (exchanged_so g c).sized
-    ((exchanged_so g c).kept c.if-not-transfer_piece.true) (lasts_so g c))
+    (store_items g c) (exchanged_so g c).rest_is_kept
+    g.S.SectorStore.size g.S.SectorStore.told (exchanged_so g c).size_is_kept
+    ((exchanged_so g c).told_is_kept c.if-not-transfer_piece.true) (lasts_so g c))
     ∙ (c.transfer_piece.ensures.stays c.if-not-transfer_piece.true (all_media_at g.S.SectorStore.size g.S.SectorStore.told m)
     ∙ c.reserve-room.ensures.same (all_media_at g.S.SectorStore.size g.S.SectorStore.told m))
 
@@ -395,13 +395,13 @@ store_failed g c =
     let a = c.in-Some.bay in
     let b = c.transfer_piece.new.self in
     let next = (grow c.args.port.0 c.args.slot.0 c.reserve-room.ensures.rest c.in-Some-next_move.ensures.found) in
-    let ranged = (exchanged_so g c).ranged c.if-not-transfer_piece.true in
-    let here = c.is_on.ensures.0 c.if-not-is_on.false ranged in
+    let ranged = (exchanged_so g c).only_ranged_fails c.if-not-transfer_piece.true in
+    let here = c.is_within_disk.ensures.0 c.if-not-is_within_disk.false ranged in
     let listed = c.sectors.ensures in
     let on : c.reserve.new.self.cache.is_on ≡ port_has_cache m c.args.port.0 = c.reserve.ensures.same.is_on ∙ sym (ap has_cache (was_store g c)) in
     let Q : Bool → ℕ → Type 0 = λ writes sector. CallFails (port_has_cache m c.args.port.0) writes sector (g.S.SectorStore.failures a.disk.store) (g.S.SectorStore.failures b.disk.store) in
     let O : Bool → Type 0 = λ x. CallFails x (reads_memory (operation_of_kind c.in-Some-next_move.next.command_kind)) c.in-Some-next_move.next.sector (g.S.SectorStore.failures a.disk.store) (g.S.SectorStore.failures b.disk.store) in
-    let failed = subst O on ((exchanged_so g c).fails c.if-not-transfer_piece.true (omega (arith, here, listed))) in
+    let failed = subst O on ((exchanged_so g c).failure_is_noted c.if-not-transfer_piece.true (omega (arith, here, listed))) in
     let writes = ap (λ (k : CommandKind). reads_memory (operation_of_kind k)) next.1.kind_is in
     let size : ((device_at g.S.SectorStore.size g.S.SectorStore.told m).port c.args.port.0).disk.size ≡ g.S.SectorStore.size a.disk.store =
     ap (λ x. (media_of g.S.SectorStore.size g.S.SectorStore.told x).disk.size) (was_store g c) in
@@ -414,7 +414,7 @@ store_failed g c =
     fails_to_move g.S.SectorStore.size g.S.SectorStore.told g.S.SectorStore.failures c.args.port c.args.slot 0x40 (taken_of next.0) m
     (store_model g c) c.fail-failed-then-not-transfer_piece.new.self (store g c) (store_same g c)
     (store_says m (store_model g c) c.args.port.0 a b (was_store g c) (store_items g c)
-    (exchanged_so g c).rest c.args.port.0) (store_fits g c)
+    (exchanged_so g c).rest_is_kept c.args.port.0) (store_fits g c)
     (ap (λ (k : CommandKind). is_ranged (operation_of_kind k)) (sym next.1.kind_is) ∙ ranged)
     (inr (
       omega (arith, here, listed, size, sector),
@@ -432,18 +432,18 @@ returns-then-not-transfer_piece-clause-answers g c =
     let b = c.transfer_piece.new.self in
     let next = (grow c.args.port.0 c.args.slot.0 c.reserve-room.ensures.rest c.in-Some-next_move.ensures.found) in
     let ranged = ap (λ (k : CommandKind). is_ranged (operation_of_kind k)) (sym next.1.kind_is)
-    ∙ (exchanged_so g c).ranged c.if-not-transfer_piece.true in (
+    ∙ (exchanged_so g c).only_ranged_fails c.if-not-transfer_piece.true in (
       (c.requires.small, taken_of next.0, store_fits g c),
       did_fail g.S.SectorStore.size g.S.SectorStore.told g.S.SectorStore.failures c.args.port c.args.slot 0x40 (taken_of next.0) m
           (store_model g c) c.fail-failed-then-not-transfer_piece.new.self (store g c) (asked.Move c.args.port c.args.slot) refl (store_failed g c) refl refl refl
           (store_says m (store_model g c) c.args.port.0 a b (was_store g c) (store_items g c)
-          (exchanged_so g c).rest c.args.port.0)
+          (exchanged_so g c).rest_is_kept c.args.port.0)
           (store_whichs m (store_model g c) c.args.port.0 a b (was_store g c) (store_items g c)
-          (exchanged_so g c).rest c.args.port.0)
+          (exchanged_so g c).rest_is_kept c.args.port.0)
           (seated_others m (store_model g c) c.args.port.0 a b (was_store g c) (store_items g c))
           (gains_none g.S.SectorStore.size m _ (ap (λ (d : Device). d.tape) (store_same g c)))
           (store_keeps m (store_model g c) c.args.port.0 a b (was_store g c) (store_items g c)
-          (exchanged_so g c).rest g.S.SectorStore.size (exchanged_so g c).sized (cached_so g c) refl refl)
+          (exchanged_so g c).rest_is_kept g.S.SectorStore.size (exchanged_so g c).size_is_kept (cached_so g c) refl refl)
           (starved_over c.transfer_piece.ensures.memory ∙ c.reserve-room.ensures.starved)
           (c.requires.small, taken_of next.0, store_fits g c, ranged),
     )
@@ -453,9 +453,9 @@ returns-then-not-transfer_piece-clause-answers g c =
 pub returns-clause-readies : goal.returns-clause-readies
 returns-clause-readies g c = λ _.
     record {
-      tape = λ n room.
+      tape_has_room = λ n room.
           c.note_move.ensures.left n (room_over (n + 1) c.transfer_piece.ensures.memory (c.reserve-room.ensures.kept (n + 1) room));
-      old_room = λ t taken n room.
+      cache_has_room = λ t taken n room.
           let m = c.args.self.now in
           let a = c.in-Some.bay in
           let found = (grow c.args.port.0 c.args.slot.0 c.reserve-room.ensures.rest c.in-Some-next_move.ensures.found) in
@@ -465,10 +465,10 @@ returns-clause-readies g c = λ _.
           ap (λ (x : FetchedCommand). written_ahead x.meaning.operation 1) one ∙ ap (λ (k : CommandKind). written_ahead (operation_of_kind k) 1) (sym found.1.kind_is) in
           let P : ℕ → Type 0 = λ k. HasRoomForOld a.cache (k + n) in
           room_there (moved_model g c) c.args.port.0 n c.transfer_piece.new.self (seated_here m (moved_model g c) c.args.port.0 a c.transfer_piece.new.self (was g c) (items g c))
-          ((exchanged g c).old_room n
+          ((exchanged g c).cache_has_room n
           (c.reserve.ensures.kept (written_ahead (operation_of_kind c.in-Some-next_move.next.command_kind) 1 + n)
           (subst P kind (room_here m c.args.port.0 (written_ahead t.meaning.operation 1 + n) a (was g c) room))));
-      next = c.note_move.ensures.after;
+      next_move_is = c.note_move.ensures.after;
     }
 
 -- ---- a page, for which no store is asked
@@ -520,7 +520,7 @@ returns-then-not-reserve-clause-page g c = λ t taken sends _ _ _ _.
     let o : AllMedia = all_media_at g.S.SectorStore.size g.S.SectorStore.told m in
     let found = (grow c.args.port.0 c.args.slot.0 c.reserve-room.ensures.rest c.in-Some-next_move.ensures.found) in
     let P : Device → Type 0 = λ d. (d.port c.args.port.0).taken c.args.slot.0 ≡ Some (taken_of found.0) in
-    let here = subst P (c.reserve-room.ensures.same o) (found.1.holds.works (o.media c.args.port.0)).taken in
+    let here = subst P (c.reserve-room.ensures.same o) (found.1.works_on.works (o.media c.args.port.0)).taken in
     let one : t ≡ taken_of found.0 = some_one (sym taken ∙ here) in
     let none : written_ahead (operation_of_kind found.0.command_kind) 1 ≡ 0 =
     ap (λ (x : FetchedCommand). written_ahead x.meaning.operation 1) (sym one) ∙ page_unwritten t.meaning.operation 1 sends in

@@ -1,9 +1,9 @@
 use Rattle.std.proofs.Common.{ℕ, true, false, ◌≡◌, ◌<◌, ◌∙◌, None, Some, Option, slice_index_or, below_more, sym, subst, arith}
 use Rattle.std.specs.Prelude.{IfSome}
 use Rattle.adapter.specs.Device.{Device}
-use Rattle.device_model.specs.Finishing.{LooksForPage}
-use Rattle.device_model.specs.Held.{IsPortLoose}
-use Rattle.device_model.specs.Modelled.{device_at, all_media_at}
+use Rattle.device_model.specs.Finishing.{FindsPageCommand}
+use Rattle.device_model.specs.HeldPorts.{IsPortReleased}
+use Rattle.device_model.specs.ModelState.{device_at, all_media_at}
 use Rattle.device_model.specs.WholeAdapter.{HasDisks, AllMedia, device_of}
 use Rattle.device_model.specs.declared.hardware.Hardware.{Hardware}
 use Rattle.device_model.specs.declared.steps.PendingPage.{PendingPage}
@@ -15,9 +15,9 @@ use Rattle.device_model.proofs.model.Model.next_page.Goals.{then-not-left_out-fr
 
 -- what was found is of the port that it names
 named : (h : Hardware) (o : AllMedia) (port : ℕ) (r : Option PendingPage) → IfSome r (λ found. found.port ≡ port) →
-    IfSome r (λ found. (o : AllMedia) → LooksForPage (device_of h o) port found.slot (Some found.ends)) → IfSome r (λ found. LooksForPage (device_of h o) found.port found.slot (Some found.ends))
+    IfSome r (λ found. (o : AllMedia) → FindsPageCommand (device_of h o) port found.slot (Some found.ends)) → IfSome r (λ found. FindsPageCommand (device_of h o) found.port found.slot (Some found.ends))
 named h o port None at found = found
-named h o port (Some f) at found = subst (λ q. LooksForPage (device_of h o) q f.slot (Some f.ends)) (sym at) (found o)
+named h o port (Some f) at found = subst (λ q. FindsPageCommand (device_of h o) q f.slot (Some f.ends)) (sym at) (found o)
 
 pub returns-then-is_some-clause-found : goal.returns-then-is_some-clause-found
 returns-then-is_some-clause-found g c =
@@ -29,7 +29,7 @@ loop-port-preserved g c = λ port slot small.
     let m = c.args.self.now in
     let o : AllMedia = all_media_at g.S.SectorStore.size g.S.SectorStore.told m in
     let d : Device = device_at g.S.SectorStore.size g.S.SectorStore.told m in
-    let P : ℕ → Type 0 = λ k. (slot : ℕ) → IsPortLoose c.args.left_out.now k → HasDisks d k → slot < 32 → LooksForPage d k slot None in
+    let P : ℕ → Type 0 = λ k. (slot : ℕ) → IsPortReleased c.args.left_out.now k → HasDisks d k → slot < 32 → FindsPageCommand d k slot None in
     let here : P c.loop-port.port = elim c.if-not-left_out-from.branch [
       | then-not-left_out-from+then-has_disks+else-is_some w ↦
           λ s loose disks low. w.next_page-found.ensures.none (none_filled w.next_page-found.result (sym w.is_some.ensures ∙ w.if-is_some.false)) o s low

@@ -1,7 +1,7 @@
 use Rattle.std.proofs.Common.{rules, ℕ, Some, ◌<◌, ◌∙◌, length, refl, sym, ap, inl, inr, arith}
 use Rattle.std.specs.Prelude.{slice_set}
 use Rattle.adapter.specs.Device.{Device}
-use Rattle.device_model.specs.Modelled.{all_media_at}
+use Rattle.device_model.specs.ModelState.{all_media_at}
 use Rattle.device_model.specs.WholeAdapter.{AllMedia}
 use Rattle.device_model.specs.declared.bay.Bay.{Bay}
 use Rattle.device_model.proofs.Absurd.{true-false}
@@ -59,7 +59,7 @@ returns g c =
     c.put_in.ensures.lasting
     (omega (arith, small, at))
     (λ d is. ap (λ (x : Device). (x.port c.args.port.0).present) is ∙ c.plug.ensures.free yes (all_media_at g.S.SectorStore.size g.S.SectorStore.told m))
-    g.met.S.SectorStore.tells_sectors (λ o disk name same. c.plug.ensures.did yes o disk (name ∙ (sym c.in-Some.ensures.found ∙ sym c.number.ensures)) (c.is.ensures ∙ same)) (c.plug.ensures.fed yes)
+    g.met.S.SectorStore.tells_sectors (λ o disk name same. c.plug.ensures.did yes o disk (name ∙ (sym c.in-Some.ensures.found ∙ sym c.number.ensures)) (c.equals.ensures ∙ same)) (c.plug.ensures.fed yes)
 
 -- a disk is in
 pub returns-then-self-place : goal.returns-then-self-place

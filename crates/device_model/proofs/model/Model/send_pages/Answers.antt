@@ -4,7 +4,7 @@ use Rattle.adapter.specs.declared.access.DeviceStep.TheVariants as asked
 use Rattle.ata_types.specs.declared.Port.{Port}
 use Rattle.ata_types.specs.declared.Slot.{Slot}
 use Rattle.device_model.specs.Finishing.{HasPageCommand, MayTakePage}
-use Rattle.device_model.specs.Modelled.{device_at}
+use Rattle.device_model.specs.ModelState.{device_at}
 use Rattle.device_model.proofs.Absurd.{true-false}
 use Rattle.device_model.proofs.Doing.{left_it}
 use Rattle.device_model.proofs.Paging.{found_ends, found_stuck}
@@ -16,7 +16,7 @@ use Rattle.device_model.proofs.model.Model.send_pages.Goals as goal
 pub loop-found-smaller-then-lacks : goal.loop-found-smaller-then-lacks
 loop-found-smaller-then-lacks g c =
     let found = c.in-Some.ensures.port in
-    less_taken (device_at g.S.SectorStore.size g.S.SectorStore.told c.loop-found.self) (device_at g.S.SectorStore.size g.S.SectorStore.told c.take_page.new.self) c.loop-found.left_out c.in-Some.found.port c.from.result c.from.ensures found.0 c.loop-found.invariant.long found.1 c.take_page.ensures.others
+    less_taken (device_at g.S.SectorStore.size g.S.SectorStore.told c.loop-found.self) (device_at g.S.SectorStore.size g.S.SectorStore.told c.take_page.new.self) c.loop-found.left_out c.in-Some.found.port c.from.result c.from.ensures found.0 c.loop-found.invariant.long found.1 c.take_page.ensures.other_ports_are_kept
 
 pub loop-found-preserved-then-lacks : goal.loop-found-preserved-then-lacks
 loop-found-preserved-then-lacks g c =
@@ -45,9 +45,9 @@ loop-found-smaller-then-not-finish g c =
     let p : Port = record { 0 = c.in-Some.found.port } in
     let s : Slot = record { 0 = c.in-Some.found.slot } in
     let found = c.in-Some.ensures.port in
-    let same = (left_it g.S.SectorStore.size g.S.SectorStore.told g.S.SectorStore.failures (asked.Finish p s) m c.finish.new.self c.finish.result c.finish.ensures.answers c.if-not-finish.true).device in
+    let same = (left_it g.S.SectorStore.size g.S.SectorStore.told g.S.SectorStore.failures (asked.Finish p s) m c.finish.new.self c.finish.result c.finish.ensures.answers c.if-not-finish.true).device_is_kept in
     less_taken (device_at g.S.SectorStore.size g.S.SectorStore.told m) (device_at g.S.SectorStore.size g.S.SectorStore.told c.take_page-then-not-finish.new.self) c.loop-found.left_out c.in-Some.found.port c.from-then-not-finish.result c.from-then-not-finish.ensures found.0 c.loop-found.invariant.long found.1
-    (λ q ne. c.take_page-then-not-finish.ensures.others q ne ∙ ap (λ (d : Device). d.port q) same)
+    (λ q ne. c.take_page-then-not-finish.ensures.other_ports_are_kept q ne ∙ ap (λ (d : Device). d.port q) same)
 
 pub loop-found-preserved-then-not-finish : goal.loop-found-preserved-then-not-finish
 loop-found-preserved-then-not-finish g c =

@@ -1,5 +1,5 @@
 use Rattle.device_model.proofs.SentPages.{IsSoFar, left_in_all}
-use Rattle.device_model.specs.Modelled.{device_at}
+use Rattle.device_model.specs.ModelState.{device_at}
 use Rattle.device_model.proofs.model.Model.send_pages.Given as goal
 
 abbrev pub invariant-loop-found : goal.invariant-loop-found

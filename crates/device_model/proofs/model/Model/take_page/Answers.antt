@@ -1,17 +1,17 @@
 use Rattle.std.proofs.Common.{ℕ, List, true, false, ◌≡◌, ◌≤◌, ◌+◌, ◌∙◌, ap, inl, refl, subst}
 use Rattle.std.specs.Global.{Vec}
 use Rattle.std.specs.Vec.{vec_len, vec_capacity}
-use Rattle.adapter.specs.Asked.{DoesFetch, SlotGoesOn}
+use Rattle.adapter.specs.ToldSteps.{DoesFetch, SlotGoesOn}
 use Rattle.adapter.specs.Commands.{Meaning}
 use Rattle.adapter.specs.Device.{Device}
 use Rattle.adapter.specs.Steps.{Can}
 use Rattle.adapter.specs.Steps.DeviceTransition.{Fetch}
 use Rattle.adapter.specs.declared.tape.Entry.{Entry}
 use Rattle.adapter.proofs.Going.{goes_one}
-use Rattle.device_model.specs.Modelled.{device_at, all_media_at}
+use Rattle.device_model.specs.ModelState.{device_at, all_media_at}
 use Rattle.device_model.specs.WholeAdapter.{device_of}
 use Rattle.device_model.specs.declared.hardware.Hardware.{Hardware}
-use Rattle.device_model.specs.Sent.{SendsEnd}
+use Rattle.device_model.specs.SentFises.{SendsEnd}
 use Rattle.device_model.proofs.GoingOn.{gone_settled}
 use Rattle.device_model.proofs.Paging.{BringsPage, fetched_apart, fetched_busy, fetched_has, fetched_left, found_only}
 use Rattle.device_model.proofs.Own.{own_gone}
@@ -35,24 +35,24 @@ returns g c =
     let went : did ≡ true → SlotGoesOn (SendsEnd slot) port slot old new = λ (e : did ≡ true). goes_one (SendsEnd slot) port slot old new (inl (fetched e)) in
     let apart = fetched_apart port slot did old new fetched same in
     record {
-      own = λ held loose. (own_gone BringsPage (λ o places is. is) held port slot loose did old new went same (found_only old port slot c.requires.there)).0;
-      settled = gone_settled port slot did old new went same;
-      taken = fetched_busy port slot did old new fetched never same c.requires.there;
-      stuck = λ may k has. fetched_has port slot k did old new fetched never may has;
-      left = λ has. fetched_left port slot did old new has fetched same never;
-      others = apart.1;
-      as_large = apart.0;
-      rest = record {
-        held = refl;
-        says = λ _. refl;
-        which = λ _. refl;
-        pages = gains_none g.S.SectorStore.size was is (ap (λ (v : Vec Entry). v.items) c.fetch-taken.ensures.tape);
-        keeps = record { out = λ _ _ _. refl; identities = λ _ _. refl; port_has_cache = λ _. refl; queue = refl; accesses = refl };
-        starved_on = λ yes. c.fetch-taken.ensures.starved ∙ yes;
+      by_own_steps = λ held loose. (own_gone BringsPage (λ o places is. is) held port slot loose did old new went same (found_only old port slot c.requires.there)).0;
+      stays_settled = gone_settled port slot did old new went same;
+      has_taken_command = fetched_busy port slot did old new fetched never same c.requires.there;
+      page_is_stuck_before = λ may k has. fetched_has port slot k did old new fetched never may has;
+      as_much_is_left = λ has. fetched_left port slot did old new has fetched same never;
+      other_ports_are_kept = apart.1;
+      size_is_kept = apart.0;
+      own_steps_keep = record {
+        held_ports_are = refl;
+        page_source_is = λ _. refl;
+        disk_index_is = λ _. refl;
+        gains_own_pages = gains_none g.S.SectorStore.size was is (ap (λ (v : Vec Entry). v.items) c.fetch-taken.ensures.tape);
+        step_keeps = record { absent_disks_are_kept = λ _ _ _. refl; identities_are_kept = λ _ _. refl; caches_are_kept = λ _. refl; queue_is_kept = refl; access_count_is_kept = refl };
+        stays_starved = λ yes. c.fetch-taken.ensures.starved ∙ yes;
       };
-      room = λ n room.
+      tape_had_room = λ n room.
           let R : Vec Entry → Type 0 = λ tape. vec_len tape + n ≤ vec_capacity tape in
           subst R c.fetch-taken.ensures.tape room;
       starved = c.fetch-taken.ensures.starved;
-      disks = λ _ _. refl;
+      disks_are_kept = λ _ _. refl;
     }

@@ -1,5 +1,5 @@
 use Rattle.std.proofs.Common.{arith}
-use Rattle.device_model.specs.Modelled.{all_media_at}
+use Rattle.device_model.specs.ModelState.{all_media_at}
 use Rattle.device_model.specs.WholeAdapter.{AllMedia}
 use Rattle.device_model.proofs.Told.{unplug_answers}
 use Rattle.device_model.proofs.model.Model.unplug.Goals as goal

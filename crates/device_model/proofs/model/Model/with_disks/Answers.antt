@@ -1,8 +1,8 @@
 use Rattle.std.proofs.Common.{◌∷◌, [], slice_index_or, rules, ◌≡◌, ◌∙◌, refl, sym, ap, arith}
 use Rattle.std.specs.Prelude.{is_some}
 use Rattle.device_model.specs.Disks.{disks_given_for}
-use Rattle.device_model.specs.View.{blank_port}
-use Rattle.device_model.specs.Tells.{disks_told}
+use Rattle.device_model.specs.PortView.{blank_port}
+use Rattle.device_model.specs.ToldDisks.{disks_told}
 use Rattle.device_model.proofs.NewModel.{IsIdleModel, IsResetModel, blank_idle, ports_are, all_zero, disks_are, new_port, past_given, zeros_small}
 use Rattle.device_model.proofs.model.Model.with_disks.Goals as goal
 
@@ -11,37 +11,37 @@ returns g c =
     let bays = c.in_ok-bays_for.field-0.items in
     let is = c.in_ok-bays_for.ensures in
     record {
-      adapter = record {
+      adapter_is_new = record {
         memory = search rules;
         cap = search rules;
         pi = search rules;
-        given = λ port.
+        ports_are_new = λ port.
             new_port g.S.SectorStore.size g.S.SectorStore.told (disks_given_for c.args.disks port) (slice_index_or (c.in_ok-port0.port0 ∷ c.in_ok-port1.port1 ∷ c.in_ok-port2.port2 ∷ c.in_ok-port3.port3 ∷ []) port blank_port) _
             (ports_are (λ k p. p.present ≡ is_some (disks_given_for c.args.disks k)) c.in_ok-port0.port0 c.in_ok-port1.port1 c.in_ok-port2.port2 c.in_ok-port3.port3 (c.in_ok-port0.ensures.present ∙ c.is_some.ensures)
             (c.in_ok-port1.ensures.present ∙ c.is_some-2.ensures) (c.in_ok-port2.ensures.present ∙ c.is_some-3.ensures)
             (c.in_ok-port3.ensures.present ∙ c.is_some-4.ensures) port (λ past. sym (ap is_some (past_given c.args.disks port past))))
             (ports_are (λ _ p. p.lasting_at ≡ 0) _ _ _ _ c.in_ok-port0.ensures.lasting c.in_ok-port1.ensures.lasting c.in_ok-port2.ensures.lasting c.in_ok-port3.ensures.lasting port (λ _. refl)) (is.media port);
-        unused = search rules;
-        off = refl;
-        silent = refl;
-        zeros = all_zero _ _ (c.in_ok-vec.ensures.items_if_clones_equal (λ y e. e));
-        ports = λ port small.
+        tape_is_empty = search rules;
+        ae_is_clear = refl;
+        ie_is_clear = refl;
+        memory_is_zero = all_zero _ _ (c.in_ok-vec.ensures.items_if_clones_equal (λ y e. e));
+        ports_are_reset = λ port small.
             ports_are (λ _. IsResetModel) _ _ _ _ c.in_ok-port0.ensures.reset c.in_ok-port1.ensures.reset c.in_ok-port2.ensures.reset c.in_ok-port3.ensures.reset port (λ past. absurd (omega (arith, past, small))) _;
-        idle = record {
+        is_idle = record {
           no_reset = refl;
-          port = λ port. ports_are (λ _. IsIdleModel) _ _ _ _ c.in_ok-port0.ensures.idle c.in_ok-port1.ensures.idle c.in_ok-port2.ensures.idle c.in_ok-port3.ensures.idle port (λ _. blank_idle) _;
+          ports_are_idle = λ port. ports_are (λ _. IsIdleModel) _ _ _ _ c.in_ok-port0.ensures.idle c.in_ok-port1.ensures.idle c.in_ok-port2.ensures.idle c.in_ok-port3.ensures.idle port (λ _. blank_idle) _;
         };
       };
-      sane = record {
-        bytes = zeros_small _ _ (c.in_ok-vec.ensures.items_if_clones_equal (λ y e. e));
-        disk = λ port. disks_are g.S.SectorStore.size g.S.SectorStore.told g.met.S.SectorStore.tells_sectors _;
-        told = disks_told g.S.SectorStore.size g.S.SectorStore.told bays;
+      holds_and_tells_bytes = record {
+        memory_holds_bytes = zeros_small _ _ (c.in_ok-vec.ensures.items_if_clones_equal (λ y e. e));
+        disks_hold_sectors = λ port. disks_are g.S.SectorStore.size g.S.SectorStore.told g.met.S.SectorStore.tells_sectors _;
+        disks_are_told = disks_told g.S.SectorStore.size g.S.SectorStore.told bays;
       };
-      telling = is.tells;
-      bays = is.bays;
+      telling_is = is.tells;
+      bays_are_new = is.bays;
       held = search rules;
       queue = search rules;
       accesses = c.none.ensures.shown;
-      made = c.none.ensures.made;
-      sated = refl;
+      no_access_was_made = c.none.ensures.made;
+      is_not_starved = refl;
     }

@@ -1,4 +1,4 @@
-use Rattle.device_model.specs.Modelled.{all_media_at}
+use Rattle.device_model.specs.ModelState.{all_media_at}
 use Rattle.device_model.proofs.Queueing.{begins_steps}
 use Rattle.device_model.proofs.model.ModelAdapter.load.Goals as goal
 

@@ -5,9 +5,9 @@ use Rattle.std.specs.Vec.{vec_len, vec_capacity}
 use Rattle.adapter.specs.Device.{Device}
 use Rattle.adapter.specs.declared.tape.Entry.{Entry}
 use Rattle.device_model.specs.Finishing.{HasPageCommand, MayTakePage}
-use Rattle.device_model.specs.Held.{IsPortHeld}
-use Rattle.device_model.specs.Settled.{DoesOwn, EndsReset, IsSettled}
-use Rattle.device_model.specs.Modelled.{device_at, all_media_at}
+use Rattle.device_model.specs.HeldPorts.{IsPortHeld}
+use Rattle.device_model.specs.ModelOwnSteps.{DoesOwn, EndsReset, IsSettled}
+use Rattle.device_model.specs.ModelState.{device_at, all_media_at}
 use Rattle.device_model.specs.WholeAdapter.{HasDisks, AllMedia, device_of}
 use Rattle.device_model.proofs.TwoDisks.{disks_kept, identity_kept}
 use Rattle.device_model.proofs.Paging.{noted_page, noted_may}
@@ -44,7 +44,7 @@ returns-clause-settled g c =
     let Q : List Bool → Type 0 = λ held. IsSettled held (device_of c.send_pages.new.self.hardware last) in
     subst P (sym (c.note.ensures.notes last))
     (noted_settled c.args.r c.shown-value.result (device_of c.send_pages.new.self.hardware last) _
-    (subst Q (sym c.send_pages.ensures.rest.held) (c.send_pages.ensures.settled _ (c.settle_state.ensures.settled o))))
+    (subst Q (sym c.send_pages.ensures.rest.held_ports_are) (c.send_pages.ensures.settled _ (c.settle_state.ensures.settled o))))
 
 pub returns-clause-left : goal.returns-clause-left
 returns-clause-left g c =
@@ -55,14 +55,14 @@ returns-clause-left g c =
     λ (port : ℕ) (has : HasDisks (device_of c.note.new.self last) port).
     disks_kept g.S.SectorStore.size g.S.SectorStore.told (record c.send_pages.new.self { hardware = c.note.new.self }) c.send_pages.new.self port refl has in
     record {
-      taken = λ port slot small low disks may.
+      none_may_be_taken = λ port slot small low disks may.
           let P : Device → Type 0 = λ d. MayTakePage d port slot in
-          c.send_pages.ensures.left.taken port slot small low (had port disks)
+          c.send_pages.ensures.left.none_may_be_taken port slot small low (had port disks)
           (noted_may c.args.r c.shown-value.result sent port slot (subst P (c.note.ensures.notes last) may));
-      done = λ port slot small low disks has.
+      none_may_be_finished = λ port slot small low disks has.
           let P : Device → Type 0 = λ d. HasPageCommand d port slot in
           subst (Q port) (sym c.note.ensures.starved)
-          (c.send_pages.ensures.left.done port slot small low (had port disks)
+          (c.send_pages.ensures.left.none_may_be_finished port slot small low (had port disks)
           (noted_page c.args.r c.shown-value.result sent port slot (subst P (c.note.ensures.notes last) has)));
     }
 
@@ -78,35 +78,35 @@ returns-clause-alone g c =
     let Q : List Bool → Type 0 = λ held. DoesOwn held settled.0 (device_of c.send_pages.new.self.hardware last) in
     record {
       mid = mid;
-      begins = c.do_queued_steps.ensures;
+      begins_access = c.do_queued_steps.ensures;
       reset = settled.0;
-      ends = subst P (sym own.held) settled.1;
+      ends_reset = subst P (sym own.held_ports_are) settled.1;
       last = device_of c.send_pages.new.self.hardware last;
-      own = subst Q (sym own.held) (record { settled = device_of c.settle_state.new.self o; settles = settled.2; sends = c.send_pages.ensures.own });
+      does_own_steps = subst Q (sym own.held_ports_are) (record { settled = device_of c.settle_state.new.self o; settles_ports = settled.2; sends_pages = c.send_pages.ensures.own });
       shows = c.shown-value.ensures last;
       effect = c.note.ensures.notes last;
-      says = own.says;
-      which = own.which;
-      pages = gains_on g.S.SectorStore.size mid after _ (λ _. refl) (λ _. refl)
+      page_source_is = own.page_source_is;
+      disk_index_is = own.disk_index_is;
+      gains_own_pages = gains_on g.S.SectorStore.size mid after _ (λ _. refl) (λ _. refl)
           (gains_none g.S.SectorStore.size mid after (ap (λ (v : Vec Entry). v.items) c.settle_state.ensures.tape))
-          (gains_on g.S.SectorStore.size after c.send_pages.new.self _ own.says
-          (λ q. identity_kept g.S.SectorStore.size after c.send_pages.new.self q (own.which q) (own.keeps.identities q)) own.pages
+          (gains_on g.S.SectorStore.size after c.send_pages.new.self _ own.page_source_is
+          (λ q. identity_kept g.S.SectorStore.size after c.send_pages.new.self q (own.disk_index_is q) (own.step_keeps.identities_are_kept q)) own.gains_own_pages
           (gains_none g.S.SectorStore.size c.send_pages.new.self _
           (ap (λ (d : Device). d.tape) (c.note.ensures.notes last) ∙ noted_tape c.args.r c.shown-value.result (device_of c.send_pages.new.self.hardware last))));
-      disks = c.send_pages.ensures.disks;
-      keeps = record {
-        out = own.keeps.out;
-        identities = own.keeps.identities;
-        port_has_cache = own.keeps.port_has_cache;
-        queue = own.keeps.queue;
-        accesses = own.keeps.accesses;
+      disks_are_kept = c.send_pages.ensures.disks;
+      step_keeps = record {
+        absent_disks_are_kept = own.step_keeps.absent_disks_are_kept;
+        identities_are_kept = own.step_keeps.identities_are_kept;
+        caches_are_kept = own.step_keeps.caches_are_kept;
+        queue_is_kept = own.step_keeps.queue_is_kept;
+        access_count_is_kept = own.step_keeps.access_count_is_kept;
       };
-      starved_since = λ now.
+      starves_for_want = λ now.
           elim (c.send_pages.ensures.told (sym c.note.ensures.starved ∙ now)) [
             | inl before ↦ inl (sym c.settle_state.ensures.starved ∙ before)
             | inr one ↦
                 let R : Vec Entry → Type 0 = λ tape. vec_len tape + (one.5.left + 1) ≤ vec_capacity tape in
                 inr (one.0, one.1, one.2, one.3, one.4, one.5, λ room. one.6 (subst R c.note.ensures.tape room))
           ];
-      starved_on = λ told. c.note.ensures.starved ∙ own.starved_on (c.settle_state.ensures.starved ∙ told);
+      stays_starved = λ told. c.note.ensures.starved ∙ own.stays_starved (c.settle_state.ensures.starved ∙ told);
     }

@@ -11,8 +11,8 @@ returns-clause-stores g c = record { mid = _; steps = begins_steps g.S.SectorSto
 pub returns-clause-alone : goal.returns-clause-alone
 returns-clause-alone g c = record {
   mid = c.do_queued_steps.new.self;
-  begins = c.do_queued_steps.ensures;
+  begins_access = c.do_queued_steps.ensures;
   effect_is = c.store.ensures.stored _;
-  rest = refl;
+  rest_is_kept = refl;
   starved = c.store.ensures.starved;
 }

@@ -1,5 +1,5 @@
 use Rattle.std.proofs.Common.{false}
-use Rattle.device_model.specs.View.{port_of, taken_slots}
+use Rattle.device_model.specs.PortView.{port_of, taken_slots}
 use Rattle.device_model.proofs.GoingOn.{goes_fallen, goes_nowhere}
 use Rattle.device_model.proofs.port.PortModel.fall.Goals as goal
 

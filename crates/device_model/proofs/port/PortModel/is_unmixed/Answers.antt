@@ -1,7 +1,7 @@
 use Rattle.std.proofs.Common.{Bool, true, false, ◌≡◌, ◌∙◌, ◌&&◌, sym, ap}
 use Rattle.adapter.specs.Commands.{is_queued}
 use Rattle.device_model.proofs.Absurd.{true-false}
-use Rattle.device_model.specs.View.{taken_in, operation_of_kind, port_of, taken_of}
+use Rattle.device_model.specs.PortView.{taken_in, operation_of_kind, port_of, taken_of}
 use Rattle.device_model.proofs.SlotLemmas.{none_slot, slot_taken}
 use Rattle.device_model.proofs.Transfers.{alone_none}
 use Rattle.device_model.proofs.port.PortModel.is_unmixed.Goals as goal

@@ -1,4 +1,4 @@
-use Rattle.device_model.specs.View.{port_of}
+use Rattle.device_model.specs.PortView.{port_of}
 use Rattle.device_model.proofs.port.PortModel.latch.Goals as goal
 
 pub returns : goal.returns

@@ -1,6 +1,6 @@
 use Rattle.std.proofs.Common.{ℕ, Option, ap, refl}
 use Rattle.std.specs.Prelude.{option_map}
-use Rattle.device_model.specs.View.{taken_of}
+use Rattle.device_model.specs.PortView.{taken_of}
 use Rattle.device_model.specs.declared.port.TakenCommand.{TakenCommand}
 use Rattle.device_model.proofs.NewModel.{zero_bit}
 use Rattle.device_model.proofs.port.PortModel.new.Goals as goal
@@ -18,7 +18,7 @@ returns-clause-idle c = λ m. record {
 
 pub returns-clause-reset : goal.returns-clause-reset
 returns-clause-reset c = λ m. record {
-  addresses = λ i. record {
+  bases_are = λ i. record {
     clb = c.default.ensures.0 i;
     fb = c.default.ensures.1.0 i;
     clb_set = c.default.ensures.1.1.0 i;
@@ -39,7 +39,7 @@ returns-clause-reset c = λ m. record {
   fresh = refl;
   link_due = refl;
   halt = refl;
-  whole = refl;
+  no_fatal_error = refl;
   notes = λ i. record {
     st_set_at = c.default-2.ensures.0 i;
     sctl_written_at = c.default-2.ensures.1.0 i;

@@ -1,6 +1,6 @@
 use Rattle.std.proofs.Common.{ℕ, ◌≡◌, ◌||◌, Bool, true, false, refl}
 use Rattle.adapter.specs.Access.{raises}
-use Rattle.device_model.specs.View.{port_of}
+use Rattle.device_model.specs.PortView.{port_of}
 use Rattle.device_model.proofs.port.PortModel.raises_interrupt.Goals as goal
 
 -- nine of them, whichever are taken together first

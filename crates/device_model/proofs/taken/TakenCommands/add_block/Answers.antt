@@ -3,7 +3,7 @@ use Rattle.std.proofs.lemmas.List.{length-set}
 use Rattle.adapter.specs.Memory.{changed}
 use Rattle.adapter.specs.Steps.{snapshot_of_bytes}
 use Rattle.device_model.proofs.Rooms.{in_it, in_taken_room, room_brings, room_changed}
-use Rattle.device_model.specs.View.{taken_in}
+use Rattle.device_model.specs.PortView.{taken_in}
 use Rattle.device_model.specs.declared.port.TakenCommand.{TakenCommand}
 use Rattle.device_model.proofs.taken.TakenCommands.add_block.Goals as goal
 

@@ -5,7 +5,7 @@ use Rattle.adapter.specs.Memory.{changed}
 use Rattle.device_model.proofs.Absurd.{some-none}
 use Rattle.device_model.proofs.Rooms.{in_it, in_seen_room, room_changed, room_keeps}
 use Rattle.device_model.proofs.SlotLemmas.{held_none, is_held}
-use Rattle.device_model.specs.View.{taken_in}
+use Rattle.device_model.specs.PortView.{taken_in}
 use Rattle.device_model.specs.declared.port.TakenCommand.{TakenCommand}
 use Rattle.device_model.proofs.taken.TakenCommands.add_moved.Goals as goal
 

@@ -1,6 +1,6 @@
 use Rattle.std.proofs.Common.{ℕ, List, Option, ◌∙◌, ap, sym, refl}
 use Rattle.device_model.proofs.SlotLemmas.{is_held}
-use Rattle.device_model.specs.Block.{taken_in_slot}
+use Rattle.device_model.specs.TakenBlocks.{taken_in_slot}
 use Rattle.device_model.specs.declared.port.TakenCommand.{TakenCommand}
 use Rattle.std.proofs.Common.{List}
 use Rattle.device_model.proofs.taken.TakenCommands.are_queued.Goals as goal

@@ -3,7 +3,7 @@ use Rattle.std.specs.Prelude.{is_some}
 use Rattle.device_model.proofs.Absurd.{some_one}
 use Rattle.device_model.proofs.Blocks.{block_is}
 use Rattle.device_model.proofs.SlotLemmas.{is_held}
-use Rattle.device_model.specs.Block.{taken_in_slot}
+use Rattle.device_model.specs.TakenBlocks.{taken_in_slot}
 use Rattle.device_model.specs.declared.port.TakenCommand.{TakenCommand}
 use Rattle.device_model.proofs.taken.TakenCommands.block.Goals as goal
 

@@ -13,7 +13,7 @@ pub returns-then-is_set-clause-low : goal.returns-then-is_set-clause-low
 returns-then-is_set-clause-low c =
     let small : c.from-then-is_set.result < length c.self.inside.slots.items = search rules in
     let is = in_seen_room small c.self.view_is c.from-then-is_set.ensures c.from.ensures c.is_set.ensures c.if-is_set.true c.index.ensures in
-    c.self.invariant.1.low c.from-then-is_set.result c.index.result.now is.there
+    c.self.invariant.1.first_in_range c.from-then-is_set.result c.index.result.now is.there
 
 pub returns-else-is_set-clause-none : goal.returns-else-is_set-clause-none
 returns-else-is_set-clause-none c = λ _.

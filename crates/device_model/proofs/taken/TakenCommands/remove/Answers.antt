@@ -2,8 +2,8 @@ use Rattle.std.proofs.Common.{ℕ, Option, ◌≡◌, ◌∙◌, None, ap, sym, 
 use Rattle.adapter.specs.Memory.{changed}
 use Rattle.device_model.proofs.Blocks.{block_removed}
 use Rattle.device_model.proofs.SlotLemmas.{held_list, held_removed}
-use Rattle.device_model.specs.View.{taken_in}
-use Rattle.device_model.specs.Block.{HasBlock, taken_in_slot}
+use Rattle.device_model.specs.PortView.{taken_in}
+use Rattle.device_model.specs.TakenBlocks.{HasBlock, taken_in_slot}
 use Rattle.device_model.specs.declared.port.TakenCommand.{TakenCommand}
 use Rattle.device_model.proofs.taken.TakenCommands.remove.Goals as goal
 

@@ -1,5 +1,5 @@
 use Rattle.std.proofs.Common.{◌≡◌}
-use Rattle.follow.specs.NotedDifferences.{GoesOnBySteps}
+use Rattle.follow.specs.DifferingSlots.{GoesOnBySteps}
 use Rattle.follow.proofs.followed.Followed.follow_fallen.Given as goal
 
 abbrev pub invariant-loop-slot : goal.invariant-loop-slot

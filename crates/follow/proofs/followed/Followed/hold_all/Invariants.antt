@@ -1,5 +1,5 @@
 use Rattle.std.proofs.Common.{◌≡◌}
-use Rattle.follow.specs.NotedDifferences.{GoesOnBySteps}
+use Rattle.follow.specs.DifferingSlots.{GoesOnBySteps}
 use Rattle.follow.proofs.followed.Followed.hold_all.Given as goal
 
 abbrev pub invariant-loop-port : goal.invariant-loop-port

@@ -8,7 +8,7 @@ read-shown-requires g c =
     let device = g.A.Adapter.device in
     let old = device c.args.self.now.model in
     let mid = device c.prepare_read-said.new.self.model in
-    let steps = c.prepare_read-said.ensures.goes old (c.law_steps_compose.ensures.none old) in
+    let steps = c.prepare_read-said.ensures.goes old (c.law_steps_compose.ensures.reflexive old) in
     may_read_still c.args.r old mid (c.law_step_lists_keep_what_steps_keep.ensures old mid steps) c.requires
 
 pub returns-clause-reads : goal.returns-clause-reads
@@ -16,6 +16,6 @@ returns-clause-reads g c =
     let device = g.A.Adapter.device in
     let old = device c.args.self.now.model in
     let mid = device c.prepare_read-said.new.self.model in
-    let steps = c.prepare_read-said.ensures.goes old (c.law_steps_compose.ensures.none old) in
+    let steps = c.prepare_read-said.ensures.goes old (c.law_steps_compose.ensures.reflexive old) in
     let Read : g.row.A.Denot → Type 0 = λ model. Reads c.args.r c.read-shown.result old (device model) in
-    subst Read (sym c.compare.ensures.model) (reads_since c.args.r c.read-shown.result old mid (device c.read-shown.new.self) c.law_steps_compose.ensures.more steps c.read-shown.ensures.does)
+    subst Read (sym c.compare.ensures.model) (reads_since c.args.r c.read-shown.result old mid (device c.read-shown.new.self) c.law_steps_compose.ensures.transitive steps c.read-shown.ensures.does)

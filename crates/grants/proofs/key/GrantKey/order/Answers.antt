@@ -1,6 +1,6 @@
 use Rattle.std.proofs.Common.{ℕ, ◌≡◌, Equal, ap₂, subst, arith}
 use Rattle.ata_types.specs.declared.request.ClientId.{ClientId}
-use Rattle.grants.specs.Names.{Name, IsOrderOf}
+use Rattle.grants.specs.NamedRows.{RowName, IsOrderOf}
 use Rattle.grants.proofs.key.GrantKey.order.Goals.{then-self-client, else-self-client+then-client-self, else-self-client+else-client-self+then-self-number, else-self-client+else-client-self+else-self-number+then-number-self, else-self-client+else-client-self+else-self-number+else-number-self}
 use Rattle.grants.proofs.key.GrantKey.order.Goals as goal
 
@@ -11,7 +11,7 @@ pub returns-clause-order : goal.returns-clause-order
 returns-clause-order c =
     let a = c.self.inside in
     let small = c.self.invariant in
-    let P : Name → Type 0 = λ n. IsOrderOf n (c.args.client, c.args.number) c.if-self-client.result in
+    let P : RowName → Type 0 = λ n. IsOrderOf n (c.args.client, c.args.number) c.if-self-client.result in
     subst P c.self.view_is (elim c.if-self-client.branch [
       | then-self-client w ↦ rw w.result-is (let h = w.if-self-client.true in omega (arith, small, h))
       | else-self-client+then-client-self w ↦ rw w.result-is (let h = w.if-client-self.true in omega (arith, small, h))

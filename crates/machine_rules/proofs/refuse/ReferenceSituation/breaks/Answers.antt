@@ -1,4 +1,4 @@
-use Rattle.machine_rules.specs.Reference.{situation_in}
+use Rattle.machine_rules.specs.ReferenceSituations.{situation_in}
 use Rattle.machine_rules.proofs.PlainRules.{no_grant_test}
 use Rattle.machine_rules.proofs.refuse.ReferenceSituation.breaks.Goals as goal
 

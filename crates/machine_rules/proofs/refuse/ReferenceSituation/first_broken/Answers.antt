@@ -1,4 +1,4 @@
-use Rattle.machine_rules.specs.Reference.{situation_in}
+use Rattle.machine_rules.specs.ReferenceSituations.{situation_in}
 use Rattle.machine_rules.proofs.PlainRules.{rule_told, acceptable_no_rule}
 use Rattle.machine_rules.proofs.refuse.ReferenceSituation.first_broken.Goals as goal
 

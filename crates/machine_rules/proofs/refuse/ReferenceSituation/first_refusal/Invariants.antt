@@ -1,9 +1,9 @@
 use Rattle.std.proofs.Common.{◌<◌}
 use Rattle.ata_types.specs.declared.refusal.Refusal.{Refusal}
-use Rattle.block_machine.specs.Rules.{rank}
-use Rattle.block_machine.specs.Refusals.{Applies}
-use Rattle.machine_rules.specs.Reference.{situation_in}
+use Rattle.block_machine.specs.Rules.{refusal_rank}
+use Rattle.block_machine.specs.Refusals.{RefusalApplies}
+use Rattle.machine_rules.specs.ReferenceSituations.{situation_in}
 use Rattle.machine_rules.proofs.refuse.ReferenceSituation.first_refusal.Given as goal
 
 abbrev pub invariant-loop-number : goal.invariant-loop-number
-invariant-loop-number l = (other : Refusal) → (rank other).0 < l.number → Applies (situation_in l.self) l.request other → ⊥
+invariant-loop-number l = (other : Refusal) → (refusal_rank other).0 < l.number → RefusalApplies (situation_in l.self) l.request other → ⊥

@@ -2,8 +2,8 @@ use Rattle.std.proofs.Common.{sym}
 use Rattle.port_control.proofs.looks.Serving.{spares_ghc, spares_port}
 use Rattle.port_control.proofs.events.laws.law_services_spare_registers.Goals as goal
 
-pub returns-clause-host : goal.returns-clause-host
-returns-clause-host c = spares_ghc
+pub returns-clause-ghc_is_unwritten : goal.returns-clause-ghc_is_unwritten
+returns-clause-ghc_is_unwritten c = spares_ghc
 
 pub returns-clause-port : goal.returns-clause-port
 returns-clause-port c = λ port r one two three. spares_port port r (λ same. one (sym same)) (λ same. two (sym same)) (λ same. three (sym same))

@@ -2,11 +2,11 @@ use Rattle.port_control.proofs.events.prerequisites.law_prerequisites.Goals as g
 
 pub returns : goal.returns
 returns c = record {
-  steps_none = c.law_steps_compose.ensures.none;
+  steps_none = c.law_steps_compose.ensures.reflexive;
   law_step_lists_keep_what_steps_keep = c.law_step_lists_keep_what_steps_keep.ensures;
-  put = c.law_port_register_accesses.ensures.put;
+  put = c.law_port_register_accesses.ensures.register_written;
   store_leaves = c.law_loads_and_stores_leave_ports.ensures.store;
-  access_on = c.law_adapter_stays.ensures.on;
+  access_on = c.law_adapter_stays.ensures.stays_on;
   access_same = c.law_adapter_stays.ensures.same;
   access_controls = c.law_controls_stay.ensures;
   shown_after = c.law_notes_are_set.ensures.shows;
@@ -22,8 +22,8 @@ returns c = record {
   shows_still = c.law_cleared_stays.ensures.none;
   healthy_reads = c.law_healthy_stays.ensures.reads;
   reads_show = c.law_trouble_is_shown.ensures.reads;
-  told_calm = c.law_trouble_is_shown.ensures.told;
-  calm_told = c.law_trouble_is_shown.ensures.tells;
+  told_calm = c.law_trouble_is_shown.ensures.none_told_none_shown;
+  calm_told = c.law_trouble_is_shown.ensures.tells_what_is_shown;
   changes_told = c.law_looks_tell_trouble.ensures.errors;
   access_causes = c.law_errors_are_kept.ensures.causes;
   access_news = c.law_errors_are_kept.ensures.errors;

@@ -1,7 +1,7 @@
 use Rattle.std.proofs.Common.{sym, subst}
-use Rattle.dma_frames.specs.Table.{Table}
-use Rattle.server_history.specs.Server.{ServerState}
-use Rattle.port_driver.specs.Ports.{HasDonePort}
+use Rattle.dma_frames.specs.FrameTables.{FrameOwnership}
+use Rattle.server_history.specs.ServerState.{ServerState}
+use Rattle.port_driver.specs.LentSlots.{HasDonePort}
 use Rattle.port_driver.specs.Recovery.{IsInError}
 use Rattle.port_driver.proofs.Lent.{Answered, FoundDone, Troubled, Waiting, agreed, alike, alone, lends_done, may, mid_kept, mends_rest, mid_there, named, places, seen_kept, seen_there}
 use Rattle.port_driver.proofs.served_port.ServedPort.complete_and_recover.Given.{Over}
@@ -18,10 +18,10 @@ troubled g c l = record {
     looking = c.law_looks_preserve_invariant.ensures.looking;
     finding = c.law_looks_preserve_invariant.ensures.finding;
     over = c.law_looks_preserve_invariant.ensures.found;
-    may = c.law_port_errors_may_be_handled.ensures.may;
+    may = c.law_port_errors_may_be_handled.ensures.may_recover;
     agreed = c.law_port_errors_may_be_handled.ensures.agreed;
-    alike = c.law_port_errors_may_be_handled.ensures.alike;
-    alone = c.law_port_errors_may_be_handled.ensures.alone;
+    alike = c.law_port_errors_may_be_handled.ensures.are_queued_alike;
+    alone = c.law_port_errors_may_be_handled.ensures.plain_is_alone;
   };
   s = l.0;
   device = g.A.Adapter.device c.args.adapter.now;
@@ -81,7 +81,7 @@ waiting g c l = record {
 }
 
 pub done-finished-requires-clause-on : goal.done-finished-requires-clause-on
-done-finished-requires-clause-on g c = (seen_kept (troubled g c c.requires.sees)).on
+done-finished-requires-clause-on g c = (seen_kept (troubled g c c.requires.sees)).adapter_is_on
 
 pub done-finished-requires-clause-there : goal.done-finished-requires-clause-there
 done-finished-requires-clause-there g c = seen_there (troubled g c c.requires.sees)
@@ -90,7 +90,7 @@ pub answer_done-requires-clause-lends : goal.answer_done-requires-clause-lends
 answer_done-requires-clause-lends g c =
     let f = found_done g c c.requires.sees in
     let s = record c.requires.sees.0 { device = f.found } in
-    let D : Table → Type 0 = λ table. HasDonePort s table c.args.shared.now.book c.args.self.now.slots c.args.port f.done in
+    let D : FrameOwnership → Type 0 = λ table. HasDonePort s table c.args.shared.now.book c.args.self.now.slots c.args.port f.done in
     (s, c.args.port, subst D (sym c.deref_mut.ensures.value) (lends_done (troubled g (at_taking g c) c.requires.sees) f))
 
 pub are_queued-queued-requires : goal.are_queued-queued-requires
@@ -103,11 +103,11 @@ recover_or_stop-recovered-requires-clause-ready g c =
     let l = c.requires.sees in
     let a = at_answer g c in
     record {
-      on = (mid_kept (its_trouble g a l) (its_done g a l) (answered g a l)).on;
-      there = mid_there (its_trouble g a l) (its_done g a l) (answered g a l);
-      room = (mid_kept (its_trouble g a l) (its_done g a l) (answered g a l)).room;
-      agreed = agreed (its_trouble g a l) (its_done g a l) (answered g a l) (waiting g c l);
-      alone = alone (its_trouble g a l) (its_done g a l) (answered g a l) (waiting g c l);
+      adapter_is_on = (mid_kept (its_trouble g a l) (its_done g a l) (answered g a l)).adapter_is_on;
+      has_port = mid_there (its_trouble g a l) (its_done g a l) (answered g a l);
+      driver_memory_fits = (mid_kept (its_trouble g a l) (its_done g a l) (answered g a l)).driver_memory_fits;
+      machine_is_related = agreed (its_trouble g a l) (its_done g a l) (answered g a l) (waiting g c l);
+      plain_is_slot_0 = alone (its_trouble g a l) (its_done g a l) (answered g a l) (waiting g c l);
     }
 
 pub recover_or_stop-recovered-requires-clause-may : goal.recover_or_stop-recovered-requires-clause-may
@@ -116,10 +116,10 @@ recover_or_stop-recovered-requires-clause-may g c =
     let a = at_answer g c in
     may (its_trouble g a l) (its_done g a l)
 
-pub failed_in-failed-requires : goal.failed_in-failed-requires
-failed_in-failed-requires g c =
+pub failed_request_in-failed-requires : goal.failed_request_in-failed-requires
+failed_request_in-failed-requires g c =
     let l = c.requires.sees in
-    let q = (goal.at.failed_in-failed-requires g c).After-recover_or_stop-arg-1 in
+    let q = (goal.at.failed_request_in-failed-requires g c).After-recover_or_stop-arg-1 in
     let a = at_answer g q in
     named (its_trouble g a l) (its_done g a l) (answered g a l) (waiting g q l) c.recover_or_stop-recovered.result (g.A.Adapter.device c.recover_or_stop-recovered.new.adapter) c.recover_or_stop-recovered.ensures.handling
 
@@ -128,4 +128,4 @@ returns-clause-handling g c = λ s sees.
     let q = (goal.at.returns-clause-handling g c).After-recover_or_stop-arg-1 in
     let a = at_answer g q in
     let l : Has g (at_taking g (at_done g a)) = (s, sees) in
-    mends_rest (its_trouble g a l) (its_done g a l) (answered g a l) (waiting g q l) c.recover_or_stop-recovered.result (g.A.Adapter.device c.recover_or_stop-recovered.new.adapter) c.recover_or_stop-recovered.ensures.handling c.failed_in-failed.result c.failed_in-failed.ensures
+    mends_rest (its_trouble g a l) (its_done g a l) (answered g a l) (waiting g q l) c.recover_or_stop-recovered.result (g.A.Adapter.device c.recover_or_stop-recovered.new.adapter) c.recover_or_stop-recovered.ensures.handling c.failed_request_in-failed.result c.failed_request_in-failed.ensures

@@ -1,18 +1,18 @@
 use Rattle.std.proofs.Common.{Option, Some, ℕ, ◌≡◌, ◌≤◌, ◌++◌, List, [], map, take, drop, length, refl, set, sym, ap, ◌∙◌, subst, arith}
 use Rattle.std.specs.List.Sorted.{IsPermutation}
 use Rattle.std.proofs.lemmas.List.{length-append, set-set}
-use Rattle.port_driver.specs.Parts.{TakesTurn, with_served_port}
+use Rattle.port_driver.specs.PortAndShared.{TakesTurn, with_served_port}
 use Rattle.port_driver.specs.Recovery.{HandlesPortErrorOf, IsInError}
-use Rattle.port_driver.specs.Dispositions.{HaveLoanRoom, book_and_loans}
-use Rattle.port_driver.specs.Ports.{HasFoundPort, with_port_slots}
+use Rattle.port_driver.specs.LoanRoom.{HaveLoanRoom, book_and_loans}
+use Rattle.port_driver.specs.LentSlots.{HasFoundPort, with_port_slots}
 use Rattle.block_machine.specs.declared.due.QueueMode.{QueueMode}
 use Rattle.host_boot.specs.declared.ProbeResult.{ProbeResult}
 use Rattle.identify.specs.declared.DiskInfo.{DiskInfo}
 use Rattle.identify.specs.declared.wanted.Wanted.{Wanted}
 use Rattle.server_history.specs.ErrorHandling.{IsRevalidated, requests_of}
-use Rattle.server_history.specs.Served.{done_reply}
-use Rattle.server_history.specs.Server.{ServerState, quarantined_at, last_disk_of}
-use Rattle.slots.specs.Uses.{PortSlots}
+use Rattle.server_history.specs.IssuingAndAnswering.{done_reply}
+use Rattle.server_history.specs.ServerState.{ServerState, quarantined_at, last_disk_of}
+use Rattle.slots.specs.SlotUses.{PortSlots}
 use Rattle.port_driver.specs.declared.served_port.ServedPort.{ServedPort}
 use Rattle.port_driver.specs.declared.served_port.Shared.{Shared}
 use Rattle.dma_frames.specs.Loan.{Lending}
@@ -46,9 +46,9 @@ recovered g c s h =
       port = c.args.port;
       port_error = c.args.port_error;
       first = g.A.Adapter.device c.args.adapter.now;
-      sees = h.sees;
+      sees = h.sees_port_error;
       was = c.in-Ready.was;
-      is_ready = h.before.parts.port_is.found_is ∙ c.in-Ready.is;
+      is_ready = h.is_settled_with.parts.port_is.found_is ∙ c.in-Ready.is;
       before = c.args.replies.now.items;
       told = then.replies.items;
       failed = c.complete_and_recover-failed.result.0;
@@ -73,18 +73,18 @@ found_so g c disk = record c.complete_and_recover-failed.new.self {
 is_anew : (g : Over) (c : After-sort_replies_from-arg-1 g) → c.note_probe_result.new.self ≡ found_so g c (Some c.in-Ready.was)
 is_anew g c =
     let then = c.complete_and_recover-failed.new.self in
-    c.note_probe_result.ensures.fields
+    c.note_probe_result.ensures.only_these_change
     ∙ ap (λ (f : ProbeResult). found_so g c (last_disk_of f then.remembered)) (ap (λ (p : ServedPort). p.found) c.complete_and_recover-failed.ensures.rest ∙ c.in-Ready.is)
 
 -- what the server kept of the port is kept still
 same_kept : (g : Over) (c : After-complete_and_recover-failed g) (s : ServerState) → Has g c s → c.complete_and_recover-failed.new.self.kept ≡ quarantined_at s.kept c.args.port.0
-same_kept g c s h = ap (λ (p : ServedPort). p.kept) c.complete_and_recover-failed.ensures.rest ∙ sym h.before.parts.port_is.kept_is
+same_kept g c s h = ap (λ (p : ServedPort). p.kept) c.complete_and_recover-failed.ensures.rest ∙ sym h.is_settled_with.parts.port_is.kept_is
 
 pub resume_or_reboot-found-requires-clause-mode : goal.resume_or_reboot-found-requires-clause-mode
 resume_or_reboot-found-requires-clause-mode g c =
     let a = (goal.at.resume_or_reboot-found-requires-clause-mode g c).After-complete_and_recover-failed in
     let h = c.requires.sees in
-    restoring.mode_then (recovered g a h.0 h.1) c.complete_and_recover-failed.new.self.mode (ap (λ (p : ServedPort). p.mode) c.complete_and_recover-failed.ensures.rest ∙ sym h.1.before.parts.port_is.mode_is)
+    restoring.mode_then (recovered g a h.0 h.1) c.complete_and_recover-failed.new.self.mode (ap (λ (p : ServedPort). p.mode) c.complete_and_recover-failed.ensures.rest ∙ sym h.1.is_settled_with.parts.port_is.mode_is)
 
 pub resume_or_reboot-found-requires-clause-bootable : goal.resume_or_reboot-found-requires-clause-bootable
 resume_or_reboot-found-requires-clause-bootable g c =
@@ -105,13 +105,13 @@ pub resolve-requires-clause-places : goal.resolve-requires-clause-places
 resolve-requires-clause-places g c =
     let a = (goal.at.resolve-requires-clause-places g c).After-complete_and_recover-failed in
     let x = recovered g a c.requires.sees.0 c.requires.sees.1 in
-    subst (HaveLoanRoom (requests_of c.args.port x.b)) (sym (ap (λ (p : ServedPort). p.kept) c.note_probe_result.ensures.fields ∙ same_kept g a c.requires.sees.0 c.requires.sees.1)) (restoring.have_places x c.args.port.0 refl [])
+    subst (HaveLoanRoom (requests_of c.args.port x.b)) (sym (ap (λ (p : ServedPort). p.kept) c.note_probe_result.ensures.only_these_change ∙ same_kept g a c.requires.sees.0 c.requires.sees.1)) (restoring.have_places x c.args.port.0 refl [])
 
 pub sort_replies_from-requires : goal.sort_replies_from-requires
 sort_replies_from-requires g c =
     let r = (recovered g (goal.at.sort_replies_from-requires g c).After-complete_and_recover-failed c.requires.sees.0 c.requires.sees.1).rest in
     let all = ap length c.resolve.ensures.resolves.1 ∙ length-append c.complete_and_recover-failed.new.replies.items c.resolve.ensures.resolves.0 in
-    let told = ap length r.told ∙ length-append c.args.replies.now.items (map done_reply r.error_handled.requests) in
+    let told = ap length r.replies_are ∙ length-append c.args.replies.now.items (map done_reply r.error_handled.requests) in
     let first = c.len-first.ensures.value in
     omega (arith, all, told, first)
 
@@ -127,7 +127,7 @@ restored g c s h =
     let now = book_and_loans c.resolve.new.self.book c.resolve.new.self.table.value c.resolve.new.kept in
     let K : List Lending → Type 0 = λ loans. AreResolved (disposition_of c.complete_and_recover-failed.result.0 c.revalidation_of-revalidation.result) (requests_of c.args.port x.b) met.0 (book_and_loans x.b x.t loans) now in
     let W : Wanted → Type 0 = λ wanted. IsRevalidated wanted c.args.port c.args.port_error c.in-Ready.was x.next x.one (device c.resume_or_reboot-found.new.adapter) c.resume_or_reboot-found.result.0 in
-    let wanted_is = (ap (λ (p : ServedPort). p.wanted) c.complete_and_recover-failed.ensures.rest ∙ sym h.before.parts.port_is.wanted_is) in
+    let wanted_is = (ap (λ (p : ServedPort). p.wanted) c.complete_and_recover-failed.ensures.rest ∙ sym h.is_settled_with.parts.port_is.wanted_is) in
     record {
       two = device c.resume_or_reboot-found.new.adapter;
       found = c.resume_or_reboot-found.result.0;
@@ -135,14 +135,14 @@ restored g c s h =
       mode = c.resume_or_reboot-found.result.1;
       mode_is = c.resume_or_reboot-found.ensures.mode;
       fresh = c.note_probe_result.new.self.slots;
-      usable = c.note_probe_result.ensures.unused.usable;
-      as_many = c.note_probe_result.ensures.unused.places;
-      free = c.note_probe_result.ensures.unused.free;
+      usable = c.note_probe_result.ensures.has_no_used_slot.usable;
+      as_many = c.note_probe_result.ensures.has_no_used_slot.places;
+      free = c.note_probe_result.ensures.has_no_used_slot.free;
       revalidation = c.revalidation_of-revalidation.result;
       expects = c.revalidation_of-revalidation.ensures;
       now = now;
       later = met.0;
-      meets = subst K (ap (λ (p : ServedPort). p.kept) c.note_probe_result.ensures.fields ∙ same_kept g (at_mending g c) s h) met.2;
+      meets = subst K (ap (λ (p : ServedPort). p.kept) c.note_probe_result.ensures.only_these_change ∙ same_kept g (at_mending g c) s h) met.2;
     }
 
 -- and it has what issuing asks
@@ -179,7 +179,7 @@ module _ (g : Over) (c : After-issue_where_ready g) (s : ServerState) (h : IsInE
       let X : ℕ → Type 0 = λ n. (c.sort_replies_from.new.replies.items ≡ take n c.resolve.new.replies.items ++ sorted.0) × IsPermutation sorted.0 (drop n c.resolve.new.replies.items) in
       let moved = subst X c.len-first.ensures.value (sorted.1, sorted.2) in
       record {
-        settled = h.before.settled;
+        settled = h.is_settled_with.settled_invariant;
         three = g.A.Adapter.device c.issue_where_ready.new.adapter;
         book = c.issue_where_ready.new.book;
         slots = c.issue_where_ready.new.self.slots;
@@ -201,7 +201,7 @@ module _ (g : Over) (c : After-issue_where_ready g) (s : ServerState) (h : IsInE
       ≡ with_port_slots (restoring.then x y) (g.A.Adapter.device c.issue_where_ready.new.adapter) c.issue_where_ready.new.book c.issue_where_ready.new.self.slots c.args.port
   placed =
       let three = g.A.Adapter.device c.issue_where_ready.new.adapter in
-      let wanted_is = ap (λ (p : ServedPort). p.wanted) c.issue_where_ready.ensures.rest ∙ ap (λ (p : ServedPort). p.wanted) (is_anew g (at_order g c)) ∙ ap (λ (p : ServedPort). p.wanted) c.complete_and_recover-failed.ensures.rest in
+      let wanted_is = ap (λ (p : ServedPort). p.wanted) c.issue_where_ready.ensures.only_slots_change ∙ ap (λ (p : ServedPort). p.wanted) (is_anew g (at_order g c)) ∙ ap (λ (p : ServedPort). p.wanted) c.complete_and_recover-failed.ensures.rest in
       let P : List Lending → PortSlots → ServedPort → ServerState = λ kept slots p. record s {
         device = three;
         table = c.resolve.new.self.table.value;
@@ -212,8 +212,8 @@ module _ (g : Over) (c : After-issue_where_ready g) (s : ServerState) (h : IsInE
         kept = set s.kept c.args.port.0 kept;
         book = c.issue_where_ready.new.book;
       } in
-      placing.with_other s c.args.port c.args.self.now h.before.parts.port_is three shared c.issue_where_ready.new.self wanted_is
-      ∙ ap (λ (p : ServedPort). P p.kept p.slots p) c.issue_where_ready.ensures.rest
+      placing.with_other s c.args.port c.args.self.now h.is_settled_with.parts.port_is three shared c.issue_where_ready.new.self wanted_is
+      ∙ ap (λ (p : ServedPort). P p.kept p.slots p) c.issue_where_ready.ensures.only_slots_change
       ∙ ap (P c.resolve.new.kept c.issue_where_ready.new.self.slots) (is_anew g (at_order g c))
       ∙ ap (λ (list : List PortSlots). record (restoring.then x y) { device = three; slots = list; book = c.issue_where_ready.new.book })
       (sym (set-set s.slots c.args.port.0 c.note_probe_result.new.self.slots c.issue_where_ready.new.self.slots))
@@ -224,7 +224,7 @@ module _ (g : Over) (c : After-issue_where_ready g) (s : ServerState) (h : IsInE
   handled =
       let done = restoring.error_handled x y o in
       subst (TakesTurn (HandlesPortErrorOf c.args.port c.args.port_error) c.args.replies.now.items c.sort_replies_from.new.replies.items s) (sym placed)
-      (record { its = c.sort_replies_from.ensures.0; told = restoring.replies_are x y o; does = done.0; settled = done.1 })
+      (record { new_replies = c.sort_replies_from.ensures.0; replies_are = restoring.replies_are x y o; turn_is_taken = done.0; settled_invariant = done.1 })
 
   as_many : length c.sort_replies_from.new.replies.items ≡ length c.resolve.new.replies.items
   unfolding o
@@ -237,5 +237,5 @@ pub returns-clause-room : goal.returns-clause-room
 returns-clause-room g c =
     let same = as_many g (goal.at.returns-clause-room g c).After-issue_where_ready c.requires.sees.0 c.requires.sees.1 in
     let room = c.resolve.ensures.may.room in
-    let as_many = c.issue_where_ready.ensures.as_many in
+    let as_many = c.issue_where_ready.ensures.book_length_is_kept in
     omega (arith, same, room, as_many)

@@ -5,17 +5,17 @@ use Rattle.std.proofs.lemmas.List.Elements.{All-nil}
 use Rattle.ata_types.specs.declared.request.RequestId.{RequestId}
 use Rattle.hba_regs.specs.Bits.{bit}
 use Rattle.adapter.specs.Device.{Device}
-use Rattle.block_machine.specs.Due.{AreAllDueInOrder, due_of, is_plain}
+use Rattle.block_machine.specs.DueRequests.{AreAllDueInOrder, due_of, is_plain}
 use Rattle.block_machine.specs.declared.due.QueueMode.{QueueMode}
 use Rattle.block_machine.specs.declared.due.Unanswered.{Unanswered}
 use Rattle.commands.specs.Batches.{AreUnused, IsBatchIssued, IsBatchStored, PlacedTask, StoresTransfer}
 use Rattle.commands.specs.Issuing.{MayIssueTransfer}
 use Rattle.refinement.specs.Slots.{Free}
-use Rattle.request_queue.specs.Entries.{BookEntry, BookIsInOrder, asks_of, due_ids, issue, update_if_id}
-use Rattle.server_history.specs.Served.{IssuesTogetherIfAny, IssuesTogether, ChangesSlotsAndBook, FindsSlotFor, PutsInSlots, task_of, use_for}
-use Rattle.server_history.specs.Server.{ServerState}
-use Rattle.slots.specs.Uses.{IsLowestFree, IsTaken, PortSlots, with_use}
-use Rattle.port_driver.specs.Ports.{HasFoundPort, with_port_slots}
+use Rattle.request_queue.specs.BookEntries.{BookEntry, BookIsInOrder, unanswered_of, due_ids, issued_entry, update_if_id}
+use Rattle.server_history.specs.IssuingAndAnswering.{IssuesTogetherIfAny, IssuesTogether, ChangesSlotsAndBook, FindsSlotFor, PutsInSlots, task_of, use_for}
+use Rattle.server_history.specs.ServerState.{ServerState}
+use Rattle.slots.specs.SlotUses.{IsLowestFree, IsTaken, PortSlots, with_use}
+use Rattle.port_driver.specs.LentSlots.{HasFoundPort, with_port_slots}
 use Rattle.port_driver.specs.declared.served_port.ServedPort.{ServedPort}
 use Rattle.port_driver.proofs.Batching as batching
 use Rattle.port_driver.proofs.Batching.{Preparing}
@@ -34,16 +34,16 @@ loop-place-init g c =
     let self = c.args.self.now in
     let port = c.args.port in
     let may = c.requires.may in
-    let s = may.lends.0 in
-    let l = may.lends.1 in
-    let there = sending.ready_there s port l.kept (ap (λ f. Rattle.server_history.specs.Server.state_of f) l.found_is ∙ may.ready) in
-    let runs = (l.kept.behind port.0 there.0).runs (ap (λ f. Rattle.server_history.specs.Server.state_of f) l.found_is ∙ may.ready) in
-    let none : IsBatchStored port [] s.device s.device = c.law_batches_grow.ensures.none port s.device l.kept.on there l.kept.room (record { started = runs.st; list = ap (λ b. b.clb) runs.bases })
-    (l.kept.stands.uses, All-nil (λ t. l.kept.stands.uses port.0 t.slot ≡ Free), record { machine = l.kept.machine; parked = l.kept.stands.parked; reached = l.kept.reached; knows = l.kept.stands.knows }) in
-    let order : BookIsInOrder book = subst BookIsInOrder l.book_is l.kept.ordered in
+    let s = may.has_found_port.0 in
+    let l = may.has_found_port.1 in
+    let there = sending.ready_there s port l.in_call_invariant (ap (λ f. Rattle.server_history.specs.ServerState.state_of f) l.found_is ∙ may.ready) in
+    let runs = (l.in_call_invariant.port_invariant port.0 there.0).engine_runs (ap (λ f. Rattle.server_history.specs.ServerState.state_of f) l.found_is ∙ may.ready) in
+    let none : IsBatchStored port [] s.device s.device = c.law_batches_grow.ensures.empty_batch port s.device l.in_call_invariant.adapter_is_on there l.in_call_invariant.driver_memory_fits (record { st_is_set = runs.st; list_is_in_place = ap (λ b. b.clb) runs.bases })
+    (l.in_call_invariant.machine_relation.uses, All-nil (λ t. l.in_call_invariant.machine_relation.uses port.0 t.slot ≡ Free), record { machine = l.in_call_invariant.machine; parked = l.in_call_invariant.machine_relation.parked; reached = l.in_call_invariant.reached; driver_relation = l.in_call_invariant.machine_relation.driver_relation }) in
+    let order : BookIsInOrder book = subst BookIsInOrder l.book_is l.in_call_invariant.book_is_in_order in
     record {
-      batch = ([], subst (λ (d : Device). IsBatchStored port [] d d) l.device_is none, c.law_batch_masks_grow.ensures.none, λ s l. sending.lent_same s device book self.slots port self.mode self.found may.ready l);
-      turns = subst (λ (ids : List RequestId). AreAllDueInOrder self.mode port ids (asks_of book)) (sym c.requires.due) (c.law_due_in_turn.ensures self.mode port (asks_of book) (c.law_the_book_stays_in_order.ensures.asks book order));
+      batch = ([], subst (λ (d : Device). IsBatchStored port [] d d) l.device_is none, c.law_batch_masks_grow.ensures.empty_mask, λ s l. sending.lent_same s device book self.slots port self.mode self.found may.ready l);
+      turns = subst (λ (ids : List RequestId). AreAllDueInOrder self.mode port ids (unanswered_of book)) (sym c.requires.due) (c.law_due_in_turn.ensures self.mode port (unanswered_of book) (c.law_the_book_stays_in_order.ensures.unanswered_are_in_order book order));
       many = refl;
       port = refl;
       fits = omega arith;
@@ -93,29 +93,29 @@ module _ (g : Over) (c : After-deref g) where
     mid = batching.mid preparing s l
 
     pub goes_on : ChangesSlotsAndBook s mid
-    goes_on = c.law_due_requests_get_slots.ensures.goes_on s mid preparing.port preparing.ids preparing.tasks l.kept (preparing.puts s l)
+    goes_on = c.law_due_requests_get_slots.ensures.invariant_goes_on s mid preparing.port preparing.ids preparing.tasks l.in_call_invariant (preparing.puts s l)
 
     pub full : ((slot : ℕ) → slot < preparing.slots.usable → IsTaken preparing.slots slot) → ⊥
-    full all = c.law_due_requests_get_slots.ensures.full s mid preparing.port preparing.ids preparing.tasks preparing.turn.0 l.kept (preparing.puts s l) preparing.turn.1 preparing.turn.3 (batching.mid_due preparing s l)
+    full all = c.law_due_requests_get_slots.ensures.full s mid preparing.port preparing.ids preparing.tasks preparing.turn.0 l.in_call_invariant (preparing.puts s l) preparing.turn.1 preparing.turn.3 (batching.mid_due preparing s l)
         (subst (λ (u : PortSlots). (slot : ℕ) → slot < u.usable → IsTaken u slot) (sym (batching.mid_slots preparing s l)) all)
 
     pub may_take : (slot : ℕ) → IsLowestFree preparing.slots slot → FindsSlotFor s preparing.port preparing.tasks preparing.turn.0 slot
-    may_take slot lowest = c.law_due_requests_get_slots.ensures.lowest s mid preparing.port preparing.ids preparing.tasks preparing.turn.0 l.kept (preparing.puts s l) preparing.turn.1 preparing.turn.3 (batching.mid_due preparing s l)
+    may_take slot lowest = c.law_due_requests_get_slots.ensures.lowest s mid preparing.port preparing.ids preparing.tasks preparing.turn.0 l.in_call_invariant (preparing.puts s l) preparing.turn.1 preparing.turn.3 (batching.mid_due preparing s l)
         slot (subst (λ (u : PortSlots). IsLowestFree u slot) (sym (batching.mid_slots preparing s l)) lowest)
 
     -- it is queued, since another is due beside it
     pub is_queued : (slot : ℕ) → IsLowestFree preparing.slots slot → is_plain mode preparing.turn.0.entry.op ≡ false
     is_queued slot lowest = ⊎_elim first later (cases_eq c.loop-place.place 0)
       where
-        in_mode : is_plain (Rattle.server_history.specs.Server.mode_in s preparing.port) preparing.turn.0.entry.op ≡ false → is_plain mode preparing.turn.0.entry.op ≡ false
+        in_mode : is_plain (Rattle.server_history.specs.ServerState.mode_in s preparing.port) preparing.turn.0.entry.op ≡ false → is_plain mode preparing.turn.0.entry.op ≡ false
         in_mode queued = ap (λ (m : QueueMode). is_plain m preparing.turn.0.entry.op) (sym l.mode_is) ∙ queued
 
         later : (c.loop-place.place ≡ 0 → ⊥) → is_plain mode preparing.turn.0.entry.op ≡ false
-        later some = in_mode (c.law_due_requests_get_slots.ensures.together s mid preparing.port preparing.ids preparing.tasks preparing.turn.0 l.kept (preparing.puts s l) preparing.turn.1 preparing.turn.3 (batching.mid_due preparing s l)
+        later some = in_mode (c.law_due_requests_get_slots.ensures.together s mid preparing.port preparing.ids preparing.tasks preparing.turn.0 l.in_call_invariant (preparing.puts s l) preparing.turn.1 preparing.turn.3 (batching.mid_due preparing s l)
             (λ none. some (batching.puts_place preparing.port items c.loop-place.place preparing.tasks s mid in_list (preparing.puts s l) none))).0
 
         first : c.loop-place.place ≡ 0 → is_plain mode preparing.turn.0.entry.op ≡ false
-        first zero_is = batching.first_queued preparing s l slot (may_take slot lowest).small lowest c.law_operations_change_what_is_due.ensures.issue c.law_due_requests_get_slots.ensures.more c.law_due_requests_get_slots.ensures.together
+        first zero_is = batching.first_queued preparing s l slot (may_take slot lowest).slot_is_below_32 lowest c.law_operations_change_what_is_due.ensures.issue c.law_due_requests_get_slots.ensures.one_more_gets_a_slot c.law_due_requests_get_slots.ensures.together
             items c.loop-place.place no_id (let some = c.requires.several in omega (arith, some, zero_is)) id_is c.loop-place.invariant.turns
 
 pub entry-requires : goal.entry-requires
@@ -123,7 +123,7 @@ entry-requires g c = let turn = (preparing g (goal.at.entry-requires g c).After-
 
 pub unreachable-requires : goal.unreachable-requires
 unreachable-requires g c =
-    let l = c.requires.may.lends in
+    let l = c.requires.may.has_found_port in
     full g (goal.at.unreachable-requires g c).After-deref l.0 l.1 c.in_default.ensures.full
 
 -- ---- it is stored
@@ -142,16 +142,16 @@ module _ (g : Over) (c : After-frames g) where
   now = g.A.Adapter.device c.loop-place.adapter
 
   abbrev s0 : ServerState
-  s0 = c.requires.may.lends.0
+  s0 = c.requires.may.has_found_port.0
 
   abbrev l0 : HasFoundPort s0 x.start x.first_book x.first_slots x.port x.mode x.found
-  l0 = c.requires.may.lends.1
+  l0 = c.requires.may.has_found_port.1
 
   takes : FindsSlotFor s0 x.port x.tasks x.turn.0 slot
   takes = may_take g d s0 l0 slot c.in-Some.ensures.lowest
 
   pub slot_small : slot < 32
-  slot_small = takes.small
+  slot_small = takes.slot_is_below_32
 
   pub queued : is_plain x.mode x.turn.0.entry.op ≡ false
   queued = is_queued g d s0 l0 slot c.in-Some.ensures.lowest
@@ -160,13 +160,13 @@ module _ (g : Over) (c : After-frames g) where
   t = record { slot = slot; task = task_of x.mode x.turn.0; frames = x.turn.0.frames }
 
   pub made_is : ◌≡◌ {A = PlacedTask} (record { slot = slot; task = record { op = c.entry.result.0.now.op; range = c.entry.result.0.now.range; queued = true }; frames = c.frames.result.now }) t
-  made_is = batching.task_made x s0 l0 (goes_on g d s0 l0) c.law_an_id_is_one_request.ensures.one c.entry.result.0.now c.entry.result.1.now.frames c.entry.ensures.held c.entry.ensures.id.0 queued slot c.frames.result.now c.frames.ensures.frames
+  made_is = batching.task_made x s0 l0 (goes_on g d s0 l0) c.law_an_id_is_one_request.ensures.one_request_an_id c.entry.result.0.now c.entry.result.1.now.frames c.entry.ensures.held c.entry.ensures.id.0 queued slot c.frames.result.now c.frames.ensures.frames
 
   pub grows : MayIssueTransfer x.port t.slot t.task t.frames now × ((new : Device) → StoresTransfer x.port t now new → IsBatchStored x.port (x.tasks ++ t ∷ []) x.start new)
-  grows = c.law_batches_grow.ensures.more x.port x.tasks t x.start now c.loop-place.invariant.batch.1
-      (subst (λ (v : Device). Rattle.refinement.specs.Driven.RelatesWith (AreUnused x.port.0 (x.tasks ++ t ∷ [])) v) l0.device_is (takes.agreed t refl))
-      takes.own slot_small (subst (λ (v : Device). slot ≤ v.cap / 256 % 32) l0.device_is takes.there)
-      (batching.fits x s0 l0 (goes_on g d s0 l0) queued slot (λ plain. takes.head (ap (λ (m : QueueMode). is_plain m x.turn.0.entry.op) l0.mode_is ∙ plain)))
+  grows = c.law_batches_grow.ensures.one_more_task x.port x.tasks t x.start now c.loop-place.invariant.batch.1
+      (subst (λ (v : Device). Rattle.refinement.specs.Fragments.RelatesWith (AreUnused x.port.0 (x.tasks ++ t ∷ [])) v) l0.device_is (takes.agreed t refl))
+      takes.is_none_of_tasks slot_small (subst (λ (v : Device). slot ≤ v.cap / 256 % 32) l0.device_is takes.slot_exists)
+      (batching.fits x s0 l0 (goes_on g d s0 l0) queued slot (λ plain. takes.plain_is_in_slot_0 (ap (λ (m : QueueMode). is_plain m x.turn.0.entry.op) l0.mode_is ∙ plain)))
       (ap not queued)
 
 pub store_transfer-requires : goal.store_transfer-requires
@@ -195,22 +195,22 @@ loop-place-preserved g c =
     let next = drop_more items place no_id (in_list g e) in
     let ids_are : take place items ++ x.id ∷ [] ≡ take (place + 1) items = ap (λ (i : RequestId). take place items ++ i ∷ []) (id_is g e) ∙ sym (take_more items place no_id (in_list g e)) in
     let used_is : used ≡ with_use x.slots c.in-Some.slot.0 (Some (use_for x.mode (sending.with_id x.id x.turn.0))) = c.in-Some.ensures.taken ∙ ap (λ (b : Rattle.std.proofs.Common.Bool). with_use x.slots c.in-Some.slot.0 (Some (record { id = x.id; queued = b }))) (sym (ap not (queued g f))) in
-    let turn : AreAllDueInOrder x.mode x.port (x.id ∷ drop (place + 1) items) (asks_of x.book) =
-    subst (λ (i : RequestId). AreAllDueInOrder x.mode x.port (i ∷ drop (place + 1) items) (asks_of x.book)) (sym (id_is g e))
-    (subst (λ (ids : List RequestId). AreAllDueInOrder x.mode x.port ids (asks_of x.book)) next c.loop-place.invariant.turns) in
+    let turn : AreAllDueInOrder x.mode x.port (x.id ∷ drop (place + 1) items) (unanswered_of x.book) =
+    subst (λ (i : RequestId). AreAllDueInOrder x.mode x.port (i ∷ drop (place + 1) items) (unanswered_of x.book)) (sym (id_is g e))
+    (subst (λ (ids : List RequestId). AreAllDueInOrder x.mode x.port ids (unanswered_of x.book)) next c.loop-place.invariant.turns) in
     record {
       batch = (
         x.tasks ++ task ∷ [],
         (grows g f).1 then (subst (λ (u : PlacedTask). StoresTransfer x.port u (g.A.Adapter.device c.loop-place.adapter) then) (made_is g f) c.store_transfer.ensures.stores),
-        c.law_batch_masks_grow.ensures.more x.tasks task c.loop-place.mask c.with_bit-mask.result c.loop-place.invariant.fits c.with_bit-mask.type_inv c.loop-place.invariant.batch.2
+        c.law_batch_masks_grow.ensures.one_more_bit x.tasks task c.loop-place.mask c.with_bit-mask.result c.loop-place.invariant.fits c.with_bit-mask.type_inv c.loop-place.invariant.batch.2
             (subst (λ (n : ℕ). bit c.with_bit-mask.result n ≡ true) c.from.ensures c.with_bit-mask.ensures.set) (λ k small other. c.with_bit-mask.ensures.others k small (λ same. other (same ∙ c.from.ensures))),
         λ s l. subst (λ (ids : List RequestId). PutsInSlots x.port ids (x.tasks ++ task ∷ []) s (with_port_slots s x.start later used x.port)) ids_are
-            (c.law_due_requests_get_slots.ensures.more s (batching.mid x s l) (with_port_slots s x.start later used x.port) x.port x.ids x.tasks x.id task (x.puts s l)
+            (c.law_due_requests_get_slots.ensures.one_more_gets_a_slot s (batching.mid x s l) (with_port_slots s x.start later used x.port) x.port x.ids x.tasks x.id task (x.puts s l)
             (batching.puts_it x s l c.in-Some.slot.0 (slot_small g f) c.in-Some.ensures.lowest later c.issue.ensures used used_is)),
       );
       turns = subst (λ (us : List Unanswered). AreAllDueInOrder x.mode x.port (drop (place + 1) items) us)
-          (sym (ap asks_of c.issue.ensures ∙ c.law_operations_change_what_is_due.ensures.issue x.book x.id)) turn.1;
-      many = ap length c.issue.ensures ∙ length-map x.book (update_if_id x.id issue) ∙ c.loop-place.invariant.many;
+          (sym (ap unanswered_of c.issue.ensures ∙ c.law_operations_change_what_is_due.ensures.issue x.book x.id)) turn.1;
+      many = ap length c.issue.ensures ∙ length-map x.book (update_if_id x.id issued_entry) ∙ c.loop-place.invariant.many;
       port = ap (λ (p : ServedPort). record p { slots = used }) c.loop-place.invariant.port;
       fits = c.with_bit-mask.type_inv;
       cost = let cost = c.store_transfer.ensures.cost in let before = c.loop-place.invariant.cost in omega (arith, cost, before);
@@ -231,7 +231,7 @@ returns g c =
     let end = c.len-place-end.ensures.value in
     let whole : take c.loop-place.place items ≡ items = take_all c.loop-place.place items (omega (arith, low, end)) in
     let many = ap length c.requires.due in
-    let as_long = length-map (due_of self.mode port (asks_of c.args.book.now)) (λ r. r.id) in
+    let as_long = length-map (due_of self.mode port (unanswered_of c.args.book.now)) (λ r. r.id) in
     let several = c.requires.several in
     record {
       issues = λ s l.
@@ -241,14 +241,14 @@ returns g c =
             taken = with_port_slots s start c.loop-place.book c.loop-place.self.slots port;
             puts = subst (λ (ids : List RequestId). PutsInSlots port ids b.0 s (with_port_slots s start c.loop-place.book c.loop-place.self.slots port)) whole (b.3 s l);
             issued = subst (λ (d : Device). IsBatchIssued port b.0 d then) (sym l.device_is) (c.issue_all.ensures.issued start b.0 b.1 b.2);
-            server = refl;
+            server_is = refl;
           } in
-          let M : QueueMode → Type 0 = λ mode. IssuesTogetherIfAny port (due_ids mode port (asks_of s.book)) s after in
+          let M : QueueMode → Type 0 = λ mode. IssuesTogetherIfAny port (due_ids mode port (unanswered_of s.book)) s after in
           subst M (sym l.mode_is) (subst (λ (ids : List RequestId). IssuesTogetherIfAny port ids s after)
-          (c.requires.due ∙ ap (λ (book : List BookEntry). due_ids self.mode port (asks_of book)) (sym l.book_is)) (batching.as_batch port items s after several together));
-      rest = c.loop-place.invariant.port;
-      as_many = c.loop-place.invariant.many;
-      none = λ none. absurd (let least : length (due_of self.mode port (asks_of c.args.book.now)) ≡ 0 = ap length none in omega (arith, least, many, as_long, several));
-      each = let cost = c.issue_all.ensures.cost in let before = c.loop-place.invariant.cost in omega (arith, low, end, many, as_long, several, cost, before);
+          (c.requires.due ∙ ap (λ (book : List BookEntry). due_ids self.mode port (unanswered_of book)) (sym l.book_is)) (batching.as_batch port items s after several together));
+      only_slots_change = c.loop-place.invariant.port;
+      book_length_is_kept = c.loop-place.invariant.many;
+      none_due_no_access = λ none. absurd (let least : length (due_of self.mode port (unanswered_of c.args.book.now)) ≡ 0 = ap length none in omega (arith, least, many, as_long, several));
+      cost_is_by_due = let cost = c.issue_all.ensures.cost in let before = c.loop-place.invariant.cost in omega (arith, low, end, many, as_long, several, cost, before);
       cost = search rules;
     }

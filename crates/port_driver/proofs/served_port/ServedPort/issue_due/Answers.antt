@@ -1,28 +1,28 @@
 use Rattle.std.proofs.Common.{[], ◌∷◌, List, ap, subst, arith}
 use Rattle.ata_types.specs.declared.request.RequestId.{RequestId}
-use Rattle.block_machine.specs.Due.{AreAllDueInOrder}
-use Rattle.request_queue.specs.Entries.{BookEntry, BookIsInOrder, asks_of, due_ids}
+use Rattle.block_machine.specs.DueRequests.{AreAllDueInOrder}
+use Rattle.request_queue.specs.BookEntries.{BookEntry, BookIsInOrder, unanswered_of, due_ids}
 use Rattle.port_driver.proofs.Batching as batching
 use Rattle.port_driver.proofs.Sending as sending
 use Rattle.port_driver.proofs.served_port.ServedPort.issue_due.Goals as goal
 
 pub issue_one-requires-clause-due : goal.issue_one-requires-clause-due
 issue_one-requires-clause-due g c =
-    let l = c.requires.lends.1 in
+    let l = c.requires.has_found_port.1 in
     let book = c.args.book.now in
     let mode = c.args.self.now.mode in
     let port = c.args.port in
     let id = c.in-Some.id in
-    let order : BookIsInOrder book = subst BookIsInOrder l.book_is l.kept.ordered in
-    let turns : AreAllDueInOrder mode port (id ∷ []) (asks_of book) =
-    subst (λ (ids : List RequestId). AreAllDueInOrder mode port ids (asks_of book)) c.in-Some.ensures.due (c.law_due_in_turn.ensures mode port (asks_of book) (c.law_the_book_stays_in_order.ensures.asks book order)) in
+    let order : BookIsInOrder book = subst BookIsInOrder l.book_is l.in_call_invariant.book_is_in_order in
+    let turns : AreAllDueInOrder mode port (id ∷ []) (unanswered_of book) =
+    subst (λ (ids : List RequestId). AreAllDueInOrder mode port ids (unanswered_of book)) c.in-Some.ensures.due (c.law_due_in_turn.ensures mode port (unanswered_of book) (c.law_the_book_stays_in_order.ensures.unanswered_are_in_order book order)) in
     sending.next_due book port mode (id ∷ []) 0 id (omega arith) turns
 
 -- no request is left, so none is due
 pub returns-then-is_empty : goal.returns-then-is_empty
 returns-then-is_empty g c =
     batching.none_due g.A.Adapter.device g.A.Adapter.access_count c.args.port c.args.self.now c.args.adapter.now c.args.book.now c.requires
-    (ap (λ (b : List BookEntry). due_ids c.args.self.now.mode c.args.port (asks_of b)) (c.is_empty.ensures.0 c.if-is_empty.true))
+    (ap (λ (b : List BookEntry). due_ids c.args.self.now.mode c.args.port (unanswered_of b)) (c.is_empty.ensures.0 c.if-is_empty.true))
 
 -- the only request is issued
 pub returns-in-Some : goal.returns-in-Some

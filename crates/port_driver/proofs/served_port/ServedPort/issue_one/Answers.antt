@@ -1,10 +1,10 @@
 use Rattle.std.proofs.Common.{◌<◌, ◌≤◌, ◌/◌, ◌%◌, List, Some, not, refl, ap, ◌∙◌, subst}
 use Rattle.ata_types.specs.declared.request.Frame.{Frame}
 use Rattle.commands.specs.Issuing.{IsIssued}
-use Rattle.block_machine.specs.Due.{is_plain}
+use Rattle.block_machine.specs.DueRequests.{is_plain}
 use Rattle.request_queue.specs.declared.PendingRequest.{PendingRequest}
 use Rattle.commands.specs.declared.ncq.Task.{Task}
-use Rattle.slots.specs.Uses.{with_use}
+use Rattle.slots.specs.SlotUses.{with_use}
 use Rattle.port_driver.proofs.Sending as sending
 use Rattle.port_driver.proofs.served_port.ServedPort.issue_one.Given.{Over}
 use Rattle.port_driver.proofs.served_port.ServedPort.issue_one.Goals as goal
@@ -12,13 +12,13 @@ use Rattle.port_driver.proofs.served_port.ServedPort.issue_one.Goals.{After-fram
 
 pub unreachable-requires : goal.unreachable-requires
 unreachable-requires g c =
-    let l = c.requires.may.lends in
+    let l = c.requires.may.has_found_port in
     sending.is_free l.0 (g.A.Adapter.device c.args.adapter.now) c.args.book.now c.args.self.now.slots c.args.port c.args.self.now.mode c.args.self.now.found c.requires.may.ready l.1 c.args.id c.requires.due c.law_a_due_request_may_issue.ensures.full c.in_default.ensures.full
 
 pub issue_task-requires-clause-fits : goal.issue_task-requires-clause-fits
 issue_task-requires-clause-fits g c =
-    let l = c.requires.may.lends in
-    let one = c.law_an_id_is_one_request.ensures.one in
+    let l = c.requires.may.has_found_port in
+    let one = c.law_an_id_is_one_request.ensures.one_request_an_id in
     let device = g.A.Adapter.device c.args.adapter.now in
     let book = c.args.book.now in
     let slots = c.args.self.now.slots in
@@ -35,7 +35,7 @@ returns g c = record {
       let device = g.A.Adapter.device in
       let port = c.args.port in
       let slot = c.in-Some.slot.0 in
-      let one = c.law_an_id_is_one_request.ensures.one in
+      let one = c.law_an_id_is_one_request.ensures.one_request_an_id in
       let e = c.requires.due.0 in
       let task : Task = record { op = c.entry.result.0.now.op; range = c.entry.result.0.now.range; queued = not c.is_plain.result } in
       let small = (sending.may_issue s (device c.args.adapter.now) c.args.book.now c.args.self.now.slots port c.args.self.now.mode c.args.self.now.found c.requires.may.ready l c.args.id c.requires.due c.law_a_due_request_may_issue.ensures.lowest slot c.in-Some.ensures.lowest).0 in
@@ -54,13 +54,13 @@ returns g c = record {
 
 pub issue_task-requires-clause-may : goal.issue_task-requires-clause-may
 issue_task-requires-clause-may g c =
-    let l = c.requires.may.lends in
+    let l = c.requires.may.has_found_port in
     sending.may_issue_task l.0 (g.A.Adapter.device c.args.adapter.now) c.args.book.now c.args.self.now.slots c.args.port c.args.self.now.mode c.args.self.now.found c.requires.may.ready l.1 c.args.id c.requires.due c.law_a_due_request_may_issue.ensures.lowest c.in-Some.slot.0 c.in-Some.ensures.lowest
 
 -- where it may be issued
 goes_in : (g : Over) (c : After-frames g) → (c.in-Some.slot.0 < 32) × (c.in-Some.slot.0 ≤ (g.A.Adapter.device c.args.adapter.now).cap / 256 % 32)
 goes_in g c =
-    let l = c.requires.may.lends in
+    let l = c.requires.may.has_found_port in
     let may = sending.may_issue l.0 (g.A.Adapter.device c.args.adapter.now) c.args.book.now c.args.self.now.slots c.args.port c.args.self.now.mode c.args.self.now.found c.requires.may.ready l.1 c.args.id c.requires.due c.law_a_due_request_may_issue.ensures.lowest c.in-Some.slot.0 c.in-Some.ensures.lowest in
     (may.0, may.1)
 

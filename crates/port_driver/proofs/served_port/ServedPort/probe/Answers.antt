@@ -5,12 +5,12 @@ use Rattle.host_boot.specs.declared.ProbeResult.{ProbeResult}
 use Rattle.host_boot.specs.declared.ProbeResult.TheVariants.{Unready}
 use Rattle.identify.specs.declared.wanted.Wanted.{Wanted}
 use Rattle.adapter.specs.Rules.{HasPort, IsOn}
-use Rattle.refinement.specs.Driven.{AnyUse, IsSimulated, RelatesWith}
-use Rattle.port_control.specs.Looks.{IsLooking}
+use Rattle.refinement.specs.Fragments.{AnyUse, IsSimulated, RelatesWith}
+use Rattle.port_control.specs.PortEvents.{IsEventAccess}
 use Rattle.server_history.specs.Probing.{IsLookedAt, ProbesAnew}
-use Rattle.server_history.specs.Server.{ServerState, SettledInvariant, last_disk_of}
+use Rattle.server_history.specs.ServerState.{ServerState, SettledInvariant, last_disk_of}
 use Rattle.server_history.specs.Turns.{ProbesUnready}
-use Rattle.port_driver.specs.Parts.{IsSettledWith, with_served_port}
+use Rattle.port_driver.specs.PortAndShared.{IsSettledWith, with_served_port}
 use Rattle.port_driver.specs.declared.served_port.Shared.{Shared}
 use Rattle.port_driver.proofs.Anew as anew
 use Rattle.port_driver.proofs.Placing as placing
@@ -29,13 +29,13 @@ module _ (g : Over) (c : After-needs_probe g) (s : ServerState) (shared : Shared
   looks : (shows : Bool) → IsLookedAt c.args.state c.args.port shows (g.A.Adapter.device c.args.adapter.now) seen → IsLookedAt c.args.state c.args.port shows s.device seen
   looks shows looked = subst (λ (d : Device). IsLookedAt c.args.state c.args.port shows d seen) (sym h.parts.device_is) looked
 
-  followed : IsSimulated (IsLooking c.args.port) AnyUse s.device seen
-  followed = subst (λ (d : Device). IsSimulated (IsLooking c.args.port) AnyUse d seen) (sym h.parts.device_is) c.needs_probe.ensures.followed
+  followed : IsSimulated (IsEventAccess c.args.port) AnyUse s.device seen
+  followed = subst (λ (d : Device). IsSimulated (IsEventAccess c.args.port) AnyUse d seen) (sym h.parts.device_is) c.needs_probe.ensures.followed
 
   -- where it shows that it may have a disk, it may be stopped
   looked : IsLookedAt c.args.state c.args.port true (g.A.Adapter.device c.args.adapter.now) seen → IsOn seen × HasPort seen c.args.port.0 × RelatesWith AnyUse seen
   looked shows =
-      c.law_an_unready_port_is_probed.ensures.looked s seen c.args.port c.args.state h.settled.kept unready (anew.booted_alive c.args.state c.args.port s.device seen (looks true shows)) followed
+      c.law_an_unready_port_is_probed.ensures.looked s seen c.args.port c.args.state h.settled_invariant.in_call_invariant unready (anew.booted_alive c.args.state c.args.port s.device seen (looks true shows)) followed
 
 pub returns-then-not-needs_probe-clause-probes : goal.returns-then-not-needs_probe-clause-probes
 returns-then-not-needs_probe-clause-probes g c = λ s shared h.
@@ -43,7 +43,7 @@ returns-then-not-needs_probe-clause-probes g c = λ s shared h.
     let new = seen g a s shared h in
     subst (λ (x : ServerState). ProbesUnready c.args.port s x × SettledInvariant x)
     (sym (placing.with_same s c.args.port c.args.self.now h.parts.port_is new shared ∙ (λ i. record s { device = new; table = sym h.parts.table_is i; book = sym h.parts.book_is i })))
-    (anew.left_settles c.law_an_unready_port_is_probed.ensures.tried s c.args.port c.args.state (unready g a s shared h) h.settled new (looks g a s shared h false c.if-not-needs_probe.ensures.looks) (followed g a s shared h))
+    (anew.left_settles c.law_an_unready_port_is_probed.ensures.tried s c.args.port c.args.state (unready g a s shared h) h.settled_invariant new (looks g a s shared h false c.if-not-needs_probe.ensures.looks) (followed g a s shared h))
 
 -- a dead port isn't booted
 pub returns-clause-dead : goal.returns-clause-dead
@@ -63,7 +63,7 @@ probe_anew-found-requires-clause-bootable g c = λ stopped result token gives re
     let a = (goal.at.probe_anew-found-requires-clause-bootable g c).After-needs_probe in
     let h = c.requires.settled in
     let its = looks g a h.0 h.1 h.2 true c.if-not-needs_probe.ensures.looks in
-    c.law_an_unready_port_is_probed.ensures.bootable h.0 (seen g a h.0 h.1 h.2) stopped c.args.port c.args.state result token h.2.settled.kept (unready g a h.0 h.1 h.2)
+    c.law_an_unready_port_is_probed.ensures.bootable h.0 (seen g a h.0 h.1 h.2) stopped c.args.port c.args.state result token h.2.settled_invariant.in_call_invariant (unready g a h.0 h.1 h.2)
     (anew.booted_alive c.args.state c.args.port h.0.device (seen g a h.0 h.1 h.2) its) (followed g a h.0 h.1 h.2) gives restarts
 
 pub returns-clause-probes : goal.returns-clause-probes
@@ -75,12 +75,12 @@ returns-clause-probes g c = λ s shared h.
     let slots = c.note_probe_result.new.self.slots in
     let old = c.args.self.now in
     let anew_is : c.note_probe_result.new.self ≡ record old { found = found; mode = mode; slots = slots } =
-    c.note_probe_result.ensures.fields ∙ ap (λ (f : ProbeResult). record old { found = found; remembered = last_disk_of f old.remembered; mode = mode; slots = slots }) c.requires.unready in
+    c.note_probe_result.ensures.only_these_change ∙ ap (λ (f : ProbeResult). record old { found = found; remembered = last_disk_of f old.remembered; mode = mode; slots = slots }) c.requires.unready in
     let F : Wanted → Type 0 = λ wanted. ProbesAnew wanted c.args.port found mode (seen g a s shared h) new in
     let back : with_served_port s new shared c.args.port c.note_probe_result.new.self ≡ anew.found_anew s new found mode slots c.args.port.0 =
     ap (with_served_port s new shared c.args.port) anew_is ∙ placing.with_found s c.args.port c.args.self.now h.parts.port_is new shared found mode slots
     ∙ (λ i. record (anew.found_anew s new found mode slots c.args.port.0) { table = sym h.parts.table_is i; book = sym h.parts.book_is i }) in
     subst (λ (x : ServerState). ProbesUnready c.args.port s x × SettledInvariant x) (sym back)
-    (anew.booted_settles c.law_an_unready_port_is_probed.ensures.tried s c.args.port c.args.state (unready g a s shared h) h.settled (seen g a s shared h)
+    (anew.booted_settles c.law_an_unready_port_is_probed.ensures.tried s c.args.port c.args.state (unready g a s shared h) h.settled_invariant (seen g a s shared h)
     (looks g a s shared h true c.if-not-needs_probe.ensures.looks) (followed g a s shared h) new found mode slots
-    (subst F (sym h.parts.port_is.wanted_is) c.probe_anew-found.ensures.finds) c.note_probe_result.ensures.unused c.args.port.0 refl)
+    (subst F (sym h.parts.port_is.wanted_is) c.probe_anew-found.ensures.finds) c.note_probe_result.ensures.has_no_used_slot c.args.port.0 refl)

@@ -2,22 +2,22 @@ use Rattle.std.proofs.Common.{◌≡◌, [], append-nil, refl, sym, ◌∙◌, s
 use Rattle.ata_types.specs.declared.PortState.TheVariants.{Dead}
 use Rattle.host_boot.specs.declared.ProbeResult.{ProbeResult}
 use Rattle.host_boot.specs.declared.ProbeResult.TheVariants.{Ready, Unready, Unserved}
-use Rattle.server_history.specs.Server.{ServerState}
-use Rattle.port_driver.specs.Parts.{TakesTurn, TurnInService, with_served_port}
+use Rattle.server_history.specs.ServerState.{ServerState}
+use Rattle.port_driver.specs.PortAndShared.{TakesTurn, TurnInService, with_served_port}
 use Rattle.port_driver.proofs.Placing as placing
 use Rattle.port_driver.proofs.served_port.ServedPort.take_turn.Goals as goal
 
 pub returns-in-Ready-clause-turn : goal.returns-in-Ready-clause-turn
 returns-in-Ready-clause-turn g c = λ s h.
-    let turn = c.serve.ensures.serves s h in
-    subst (λ (found : ProbeResult). TakesTurn (TurnInService found c.args.port) c.args.replies.now.items c.serve.new.replies.items s (with_served_port s (g.A.Adapter.device c.serve.new.adapter) c.serve.new.shared c.args.port c.serve.new.self)) (sym c.in-Ready.is)
-    (record { its = turn.its; told = turn.told; does = turn.does; settled = turn.settled })
+    let turn = c.service_ready.ensures.serves s h in
+    subst (λ (found : ProbeResult). TakesTurn (TurnInService found c.args.port) c.args.replies.now.items c.service_ready.new.replies.items s (with_served_port s (g.A.Adapter.device c.service_ready.new.adapter) c.service_ready.new.shared c.args.port c.service_ready.new.self)) (sym c.in-Ready.is)
+    (record { new_replies = turn.new_replies; replies_are = turn.replies_are; turn_is_taken = turn.turn_is_taken; settled_invariant = turn.settled_invariant })
 
 pub returns-in-Unready-clause-turn : goal.returns-in-Unready-clause-turn
 returns-in-Unready-clause-turn g c = λ s h.
     let probed = c.probe.ensures.probes s c.args.shared.now h in
     subst (λ (found : ProbeResult). TakesTurn (TurnInService found c.args.port) c.args.replies.now.items c.args.replies.now.items s (with_served_port s (g.A.Adapter.device c.probe.new.adapter) c.args.shared.now c.args.port c.probe.new.self)) (sym c.in-Unready.is)
-    (record { its = []; told = sym (append-nil c.args.replies.now.items); does = (refl, probed.0); settled = probed.1 })
+    (record { new_replies = []; replies_are = sym (append-nil c.args.replies.now.items); turn_is_taken = (refl, probed.0); settled_invariant = probed.1 })
 
 -- no access is made of one that isn't served, or is dead
 pub returns-in-Ready-clause-untouched : goal.returns-in-Ready-clause-untouched
@@ -38,4 +38,4 @@ returns-in-Unserved-clause-turn g c = λ s h.
     ∙ (λ i. record s { device = sym h.parts.device_is i; table = sym h.parts.table_is i; book = sym h.parts.book_is i }) in
     subst (λ (x : ServerState). TakesTurn (TurnInService c.args.self.now.found c.args.port) c.args.replies.now.items c.args.replies.now.items s x) (sym same)
     (subst (λ (found : ProbeResult). TakesTurn (TurnInService found c.args.port) c.args.replies.now.items c.args.replies.now.items s s) (sym c.in-Unserved.is)
-    (record { its = []; told = sym (append-nil c.args.replies.now.items); does = (refl, refl); settled = h.settled }))
+    (record { new_replies = []; replies_are = sym (append-nil c.args.replies.now.items); turn_is_taken = (refl, refl); settled_invariant = h.settled_invariant }))

@@ -2,16 +2,16 @@ use Rattle.std.proofs.Common.{true, false, ◌≡◌, List, [], append-nil, inl,
 use Rattle.std.proofs.lemmas.Bool.{false≢true}
 use Rattle.ata_types.specs.declared.Port.{Port}
 use Rattle.adapter.specs.Device.{Device}
-use Rattle.refinement.specs.Driven.{AnyUse, IsSimulated}
-use Rattle.port_control.specs.Looks.{IsLooking}
+use Rattle.refinement.specs.Fragments.{AnyUse, IsSimulated}
+use Rattle.port_control.specs.PortEvents.{IsEventAccess}
 use Rattle.identify.specs.declared.DiskInfo.{DiskInfo}
 use Rattle.host_boot.specs.declared.ProbeResult.{ProbeResult}
 use Rattle.host_boot.specs.declared.ProbeResult.TheVariants.{Ready, Unready, Unserved}
-use Rattle.request_queue.specs.Entries.{BookEntry}
+use Rattle.request_queue.specs.BookEntries.{BookEntry}
 use Rattle.port_control.specs.declared.events.PortError.TheVariants.{TimedOut}
-use Rattle.server_history.specs.Server.{ServerState, state_of}
+use Rattle.server_history.specs.ServerState.{ServerState, state_of}
 use Rattle.server_history.specs.Turns.{is_ready}
-use Rattle.port_driver.specs.Parts.{IsSettledWith, TakesTurn, TurnInTick, with_served_port}
+use Rattle.port_driver.specs.PortAndShared.{IsSettledWith, TakesTurn, TurnInTick, with_served_port}
 use Rattle.port_driver.specs.Recovery.{IsInError}
 use Rattle.port_driver.specs.declared.served_port.ServedPort.{ServedPort}
 use Rattle.port_driver.specs.declared.served_port.Shared.{Shared}
@@ -35,20 +35,20 @@ rests Unserved unready book port s = (refl, refl)
 in_error : (g : Over) (c : In-Ready g) (s : ServerState) → IsSettledWith s (g.A.Adapter.device c.args.adapter.now) c.args.shared.now c.args.port c.args.self.now
     → IsInError s (g.A.Adapter.device c.args.adapter.now) c.args.shared.now c.args.port c.args.self.now TimedOut
 in_error g c s h = record {
-  before = placing.on_its_device s c.args.shared.now c.args.port c.args.self.now h;
-  sees =
+  is_settled_with = placing.on_its_device s c.args.shared.now c.args.port c.args.self.now h;
+  sees_port_error =
       record {
-        kept = h.settled.kept;
+        in_call_invariant = h.settled_invariant.in_call_invariant;
         ready = ap state_of (h.parts.port_is.found_is ∙ c.in-Ready.is);
         finds = sym h.parts.device_is;
-        followed = subst (IsSimulated (IsLooking c.args.port) AnyUse s.device) h.parts.device_is (c.law_looks_preserve_invariant.ensures.none c.args.port s.device);
+        is_simulated = subst (IsSimulated (IsEventAccess c.args.port) AnyUse s.device) h.parts.device_is (c.law_looks_preserve_invariant.ensures.no_look_is_one c.args.port s.device);
       };
 }
 
 pub returns-in_default-clause-turn : goal.returns-in_default-clause-turn
 returns-in_default-clause-turn g c = λ s book exact h.
     subst (TakesTurn (TurnInTick c.args.self.now.found book c.args.port) c.args.replies.now.items c.args.replies.now.items s) (sym (same s _ c.args.shared.now c.args.port c.args.self.now h))
-    (record { its = []; told = sym (append-nil c.args.replies.now.items); does = rests c.args.self.now.found c.in_default.not-Ready book c.args.port s; settled = h.settled })
+    (record { new_replies = []; replies_are = sym (append-nil c.args.replies.now.items); turn_is_taken = rests c.args.self.now.found c.in_default.not-Ready book c.args.port s; settled_invariant = h.settled_invariant })
 
 pub handle_error-requires-clause-sees : goal.handle_error-requires-clause-sees
 handle_error-requires-clause-sees g c = (c.requires.settled.0, in_error g (goal.at.handle_error-requires-clause-sees g c).In-Ready c.requires.settled.0 c.requires.settled.1)
@@ -56,10 +56,10 @@ handle_error-requires-clause-sees g c = (c.requires.settled.0, in_error g (goal.
 pub returns-then-is_overdue-clause-turn : goal.returns-then-is_overdue-clause-turn
 returns-then-is_overdue-clause-turn g c = λ s book exact h.
     let turn = c.handle_error.ensures.handles s (in_error g (goal.at.returns-then-is_overdue-clause-turn g c).In-Ready s h) in
-    let r = turn.does in
-    let part = c.law_a_timed_out_port_is_restarted.ensures s _ c.args.port turn.its h.settled (ap state_of (h.parts.port_is.found_is ∙ c.in-Ready.is)) r.handling r.trouble_is in
+    let r = turn.turn_is_taken in
+    let part = c.law_a_timed_out_port_is_restarted.ensures s _ c.args.port turn.new_replies h.settled_invariant (ap state_of (h.parts.port_is.found_is ∙ c.in-Ready.is)) r.handling r.port_error_is in
     subst (λ (found : ProbeResult). TakesTurn (TurnInTick found book c.args.port) c.args.replies.now.items c.handle_error.new.replies.items s (with_served_port s (g.A.Adapter.device c.handle_error.new.adapter) c.handle_error.new.shared c.args.port c.handle_error.new.self)) (sym c.in-Ready.is)
-    (record { its = turn.its; told = turn.told; does = inl (exact.0 c.if-is_overdue.true, r.handling, r.trouble_is, part.0); settled = turn.settled })
+    (record { new_replies = turn.new_replies; replies_are = turn.replies_are; turn_is_taken = inl (exact.0 c.if-is_overdue.true, r.handling, r.port_error_is, part.0); settled_invariant = turn.settled_invariant })
 
 -- a ready one of which a request is overdue doesn't rest
 pub returns-then-is_overdue-clause-rests : goal.returns-then-is_overdue-clause-rests
@@ -72,4 +72,4 @@ pub returns-else-is_overdue-clause-turn : goal.returns-else-is_overdue-clause-tu
 returns-else-is_overdue-clause-turn g c = λ s book exact h.
     subst (TakesTurn (TurnInTick c.args.self.now.found book c.args.port) c.args.replies.now.items c.args.replies.now.items s) (sym (same s _ c.args.shared.now c.args.port c.args.self.now h))
     (subst (λ (found : ProbeResult). TakesTurn (TurnInTick found book c.args.port) c.args.replies.now.items c.args.replies.now.items s s) (sym c.in-Ready.is)
-    (record { its = []; told = sym (append-nil c.args.replies.now.items); does = inr (λ due. false≢true (sym c.if-is_overdue.false ∙ exact.1 due), refl, refl); settled = h.settled }))
+    (record { new_replies = []; replies_are = sym (append-nil c.args.replies.now.items); turn_is_taken = inr (λ due. false≢true (sym c.if-is_overdue.false ∙ exact.1 due), refl, refl); settled_invariant = h.settled_invariant }))

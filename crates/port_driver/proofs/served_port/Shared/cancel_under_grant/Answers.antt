@@ -4,16 +4,16 @@ use Rattle.std.proofs.lemmas.List.{drop_all}
 use Rattle.std.proofs.lemmas.List.Elements.{Contains-get_or}
 use Rattle.ata_types.specs.declared.request.Outcome.TheVariants.{Revoked}
 use Rattle.ata_types.specs.declared.request.RequestId.{RequestId}
-use Rattle.request_queue.specs.Entries.{BookEntry, waits_under}
+use Rattle.request_queue.specs.BookEntries.{BookEntry, waits_under}
 use Rattle.request_queue.specs.declared.disposition.Disposition.TheVariants.{Complete}
-use Rattle.port_driver.specs.Dispositions.{book_and_loans}
+use Rattle.port_driver.specs.LoanRoom.{book_and_loans}
 use Rattle.port_driver.proofs.Settling as settling
 use Rattle.port_driver.proofs.served_port.Shared.cancel_under_grant.Goals as goal
 
 pub loop-place-init : goal.loop-place-init
 loop-place-init c kept =
     settling.begins (λ e. Complete Revoked) (filter (λ (e : BookEntry). waits_under c.args.client c.args.number e.entry) c.args.self.now.book) (book_and_loans c.args.self.now.book c.args.self.now.table.value kept) c.args.replies.now.items
-    (settling.of_book (waits_under c.args.client c.args.number) c.args.self.now.book) (settling.passing_ordered (waits_under c.args.client c.args.number) c.args.self.now.book c.requires.sound.ordered) c.requires
+    (settling.of_book (waits_under c.args.client c.args.number) c.args.self.now.book) (settling.passing_ordered (waits_under c.args.client c.args.number) c.args.self.now.book c.requires.sound.book_is_in_order) c.requires
 
 pub cancel_revoked_request-requires-clause-may : goal.cancel_revoked_request-requires-clause-may
 cancel_revoked_request-requires-clause-may c = (c.loop-place.invariant []).may
@@ -22,10 +22,10 @@ pub cancel_revoked_request-requires-clause-here : goal.cancel_revoked_request-re
 cancel_revoked_request-requires-clause-here c =
     let all = filter (λ (e : BookEntry). waits_under c.args.client c.args.number e.entry) c.args.self.now.book in
     let n = settling.next_of all c.loop-place.place
-    (settling.as_many (waits_under c.args.client c.args.number) c.args.self.now.book c.waiting_of-waiting.result.items c.loop-place.place c.len-place-end.result c.waiting_of-waiting.ensures c.len-place-end.ensures.value c.loop-place-test.true) in (
+    (settling.as_many (waits_under c.args.client c.args.number) c.args.self.now.book c.waiting_ids_under-waiting.result.items c.loop-place.place c.len-place-end.result c.waiting_ids_under-waiting.ensures c.len-place-end.ensures.value c.loop-place-test.true) in (
       n.0,
       (c.loop-place.invariant []).here n.0 (subst (λ (list : List BookEntry). Contains list n.0) (sym n.1) (Contains-get_or (n.0 ∷ drop (c.loop-place.place + 1) all) 0 n.0 (omega arith))),
-      sym (ap (λ (ids : List RequestId). get_or ids c.loop-place.place (record { 0 = 0 })) (c.deref.ensures.0 ∙ c.waiting_of-waiting.ensures) ∙ n.2 (record { 0 = 0 })),
+      sym (ap (λ (ids : List RequestId). get_or ids c.loop-place.place (record { 0 = 0 })) (c.deref.ensures.0 ∙ c.waiting_ids_under-waiting.ensures) ∙ n.2 (record { 0 = 0 })),
     )
 
 pub loop-place-preserved : goal.loop-place-preserved
@@ -36,11 +36,11 @@ loop-place-preserved c kept =
     let new = book_and_loans c.cancel_revoked_request.new.self.book c.cancel_revoked_request.new.self.table.value kept in
     let left = drop (c.loop-place.place + 1) all in
     let n = settling.next_of all c.loop-place.place
-    (settling.as_many (waits_under c.args.client c.args.number) c.args.self.now.book c.waiting_of-waiting.result.items c.loop-place.place c.len-place-end.result c.waiting_of-waiting.ensures c.len-place-end.ensures.value c.loop-place-test.true) in
+    (settling.as_many (waits_under c.args.client c.args.number) c.args.self.now.book c.waiting_ids_under-waiting.result.items c.loop-place.place c.len-place-end.result c.waiting_ids_under-waiting.ensures c.len-place-end.ensures.value c.loop-place-test.true) in
     let f : settling.SoFar (λ e. Complete Revoked) all start c.args.replies.now.items (n.0 ∷ left) now c.loop-place.replies.items =
     subst (λ (list : List BookEntry). settling.SoFar (λ e. Complete Revoked) all start c.args.replies.now.items list now c.loop-place.replies.items) n.1 (c.loop-place.invariant kept) in
     let here = f.here n.0 (Contains-get_or (n.0 ∷ left) 0 n.0 (omega arith)) in
-    let its_id = sym (ap (λ (ids : List RequestId). get_or ids c.loop-place.place (record { 0 = 0 })) (c.deref.ensures.0 ∙ c.waiting_of-waiting.ensures) ∙ n.2 (record { 0 = 0 })) in
+    let its_id = sym (ap (λ (ids : List RequestId). get_or ids c.loop-place.place (record { 0 = 0 })) (c.deref.ensures.0 ∙ c.waiting_ids_under-waiting.ensures) ∙ n.2 (record { 0 = 0 })) in
     let m = c.cancel_revoked_request.ensures.resolves n.0 kept here its_id in
     settling.goes_on (λ e. Complete Revoked) all start c.args.replies.now.items n.0 left now new c.loop-place.replies.items c.cancel_revoked_request.new.replies.items m.0 f m.1 m.2
     (λ e there ne. c.cancel_revoked_request.ensures.others e there (λ same. ne (same ∙ sym its_id))) c.cancel_revoked_request.ensures.may
@@ -53,6 +53,6 @@ returns c = λ kept.
     let met = settling.ends (λ e. Complete Revoked) all start c.args.replies.now.items now c.loop-place.replies.items
     (subst (λ (list : List BookEntry). settling.SoFar (λ e. Complete Revoked) all start c.args.replies.now.items list now c.loop-place.replies.items)
     (drop_all c.loop-place.place all
-    (settling.no_more (waits_under c.args.client c.args.number) c.args.self.now.book c.waiting_of-waiting.result.items c.loop-place.place c.len-place-end.result c.waiting_of-waiting.ensures c.len-place-end.ensures.value c.loop-place-test.false))
+    (settling.no_more (waits_under c.args.client c.args.number) c.args.self.now.book c.waiting_ids_under-waiting.result.items c.loop-place.place c.len-place-end.result c.waiting_ids_under-waiting.ensures c.len-place-end.ensures.value c.loop-place-test.false))
     (c.loop-place.invariant kept)) in
-    (met.0, met.1, c.law_answers_of_one_outcome_are_one_change.ensures.at_once (waits_under c.args.client c.args.number) Revoked (λ e. refl) start c.requires.sound.ordered c.requires.sound.accepted met.0 now met.2)
+    (met.0, met.1, c.law_answers_of_one_outcome_are_one_change.ensures.at_once (waits_under c.args.client c.args.number) Revoked (λ e. refl) start c.requires.sound.book_is_in_order c.requires.sound.requests_are_accepted met.0 now met.2)

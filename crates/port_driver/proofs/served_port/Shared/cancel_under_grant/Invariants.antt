@@ -1,8 +1,8 @@
 use Rattle.std.proofs.Common.{drop, filter}
-use Rattle.port_driver.specs.Dispositions.{book_and_loans}
+use Rattle.port_driver.specs.LoanRoom.{book_and_loans}
 use Rattle.port_driver.proofs.Settling.{SoFar}
 use Rattle.ata_types.specs.declared.request.Outcome.TheVariants.{Revoked}
-use Rattle.request_queue.specs.Entries.{BookEntry, waits_under}
+use Rattle.request_queue.specs.BookEntries.{BookEntry, waits_under}
 use Rattle.request_queue.specs.declared.disposition.Disposition.TheVariants.{Complete}
 use Rattle.dma_frames.specs.Loan.{Lending}
 use Rattle.std.proofs.Common.{List}

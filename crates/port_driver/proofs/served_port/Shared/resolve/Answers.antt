@@ -3,16 +3,16 @@ use Rattle.std.specs.List.{Contains}
 use Rattle.std.proofs.lemmas.List.{drop_all}
 use Rattle.std.proofs.lemmas.List.Elements.{Contains-get_or}
 use Rattle.ata_types.specs.declared.request.RequestId.{RequestId}
-use Rattle.request_queue.specs.Entries.{BookEntry, is_of_port}
+use Rattle.request_queue.specs.BookEntries.{BookEntry, is_of_port}
 use Rattle.request_queue.specs.Dispositions.{disposition_of}
-use Rattle.port_driver.specs.Dispositions.{HaveLoanRoom, book_and_loans}
+use Rattle.port_driver.specs.LoanRoom.{HaveLoanRoom, book_and_loans}
 use Rattle.port_driver.proofs.Settling as settling
 use Rattle.port_driver.proofs.served_port.Shared.resolve.Goals as goal
 
 pub loop-place-init : goal.loop-place-init
 loop-place-init c = (
   settling.begins (disposition_of c.args.failed.now c.args.revalidation) (filter (λ (e : BookEntry). is_of_port c.args.port e.entry) c.args.self.now.book) (book_and_loans c.args.self.now.book c.args.self.now.table.value c.args.kept.now) c.args.replies.now.items
-      (settling.of_book (is_of_port c.args.port) c.args.self.now.book) (settling.passing_ordered (is_of_port c.args.port) c.args.self.now.book c.requires.may.sound.ordered) c.requires.may,
+      (settling.of_book (is_of_port c.args.port) c.args.self.now.book) (settling.passing_ordered (is_of_port c.args.port) c.args.self.now.book c.requires.may.sound.book_is_in_order) c.requires.may,
   c.requires.places,
 )
 

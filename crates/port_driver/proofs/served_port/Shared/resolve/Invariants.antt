@@ -1,7 +1,7 @@
 use Rattle.std.proofs.Common.{drop, filter}
-use Rattle.port_driver.specs.Dispositions.{HaveLoanRoom, book_and_loans}
+use Rattle.port_driver.specs.LoanRoom.{HaveLoanRoom, book_and_loans}
 use Rattle.port_driver.proofs.Settling.{SoFar}
-use Rattle.request_queue.specs.Entries.{BookEntry, is_of_port}
+use Rattle.request_queue.specs.BookEntries.{BookEntry, is_of_port}
 use Rattle.request_queue.specs.Dispositions.{disposition_of}
 use Rattle.port_driver.proofs.served_port.Shared.resolve.Given as goal
 

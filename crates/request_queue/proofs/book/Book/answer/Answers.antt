@@ -1,22 +1,22 @@
 use Rattle.std.proofs.Common.{◌∙◌, List, ap, subst, arith}
 use Rattle.std.proofs.lemmas.Option.{slice_get_within}
 use Rattle.std.specs.List.{Contains}
-use Rattle.request_queue.specs.Entries.{BookEntry, without_entry}
+use Rattle.request_queue.specs.BookEntries.{BookEntry, without_entry}
 use Rattle.request_queue.proofs.BookIndexes as beside
 use Rattle.request_queue.proofs.Changing.{there}
 use Rattle.request_queue.proofs.book.Book.answer.Goals as goal
 
-pub take_beside-requires-clause-place : goal.take_beside-requires-clause-place
-take_beside-requires-clause-place c = let found = c.place_of-place.ensures in slice_get_within c.self.inside.store c.place_of-place.result found.0 found.1
+pub remove_from_indexes-requires-clause-place : goal.remove_from_indexes-requires-clause-place
+remove_from_indexes-requires-clause-place c = let found = c.place_of-place.ensures in slice_get_within c.self.inside.store c.place_of-place.result found.0 found.1
 
-pub take_beside-requires-clause-beside : goal.take_beside-requires-clause-beside
-take_beside-requires-clause-beside c =
+pub remove_from_indexes-requires-clause-beside : goal.remove_from_indexes-requires-clause-beside
+remove_from_indexes-requires-clause-beside c =
     beside.parts_beside c.self.inside.store c.self.inside.conflicts c.self.inside.blockers.items c.self.inside.counts c.self.invariant
 
 pub invariant_of-self : goal.invariant_of-self
 invariant_of-self c =
     let found = c.place_of-place.ensures in
-    let it = c.take_beside in
+    let it = c.remove_from_indexes in
     let room = it.ensures in
     let had = c.self.invariant in
     beside.parts_less c.self.inside.store c.place_of-place.result c.args.id found.0 had.0 found.1 found.2 c.remove.new.self c.remove.ensures.rest

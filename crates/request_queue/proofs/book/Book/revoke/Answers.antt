@@ -1,4 +1,4 @@
-use Rattle.request_queue.specs.Entries.{marked_under}
+use Rattle.request_queue.specs.BookEntries.{marked_under}
 use Rattle.request_queue.proofs.AllChanged.{parts_stay}
 use Rattle.request_queue.proofs.Changing.{revoked_spares}
 use Rattle.request_queue.proofs.book.Book.revoke.Goals as goal

@@ -2,8 +2,8 @@ use Rattle.std.proofs.Common.{ℕ, ◌≡◌, ◌≢◌, List, length, get_or, s
 use Rattle.std.specs.List.{All}
 use Rattle.request_queue.specs.declared.ranges.BookRange.{BookRange}
 use Rattle.request_queue.specs.declared.ranges.IndexEntry.{IndexEntry}
-use Rattle.request_queue.specs.Items.{StandsBefore}
-use Rattle.request_queue.specs.Index.{items_of}
+use Rattle.request_queue.specs.BookRanges.{StandsBefore}
+use Rattle.request_queue.specs.RangeIndex.{items_of}
 use Rattle.request_queue.proofs.Sorting.{as_many}
 use Rattle.request_queue.proofs.Editing.{inserted_below, inserted_follow, inserted_view, inserted_index}
 use Rattle.request_queue.proofs.ranges.Ranges.insert.Goals as goal

@@ -3,8 +3,8 @@ use Rattle.std.specs.List.{Contains}
 use Rattle.std.proofs.lemmas.Option.{slice_get-get_or}
 use Rattle.request_queue.specs.declared.ranges.BookRange.{BookRange}
 use Rattle.request_queue.specs.declared.ranges.IndexEntry.{IndexEntry}
-use Rattle.request_queue.specs.Items.{StandsBefore, item_first}
-use Rattle.request_queue.specs.Index.{IsIndex, items_of}
+use Rattle.request_queue.specs.BookRanges.{StandsBefore, item_first}
+use Rattle.request_queue.specs.RangeIndex.{IsIndex, items_of}
 use Rattle.request_queue.proofs.Sorting.{as_many}
 use Rattle.request_queue.proofs.Editing.{its_place, removed_below, removed_follow, removed_view, removed_index}
 use Rattle.request_queue.proofs.ranges.Ranges.remove.Goals as goal

@@ -9,13 +9,13 @@ returns-then-sector-self c =
     let written = c.args.self.now.written.items in
     let left = c.args.self.now.size - length written in
     record {
-      inside = search rules;
-      gives = λ _. sym (get_or-append_right written (replicate left (replicate 512 0)) (length written) c.args.sector [] refl (search rules)
+      is_inside = search rules;
+      bytes_are_told = λ _. sym (get_or-append_right written (replicate left (replicate 512 0)) (length written) c.args.sector [] refl (search rules)
           ∙ get_or-replicate left (c.args.sector - length written) (replicate 512 0) [] (search rules));
-      bytes = λ _. zero_sector;
-      kept = search rules;
-      serves = search rules;
-      fails = search rules;
-      same = search rules;
-      sized = search rules;
+      is_sector = λ _. zero_sector;
+      place_is_kept = search rules;
+      no_call_fails = search rules;
+      failure_is_noted = search rules;
+      contents_are_kept = search rules;
+      size_is_kept = search rules;
     }

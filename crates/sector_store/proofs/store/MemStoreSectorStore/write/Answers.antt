@@ -20,12 +20,12 @@ pub returns : goal.returns
 returns c =
     let now = c.extend_to.new.self in
     record {
-      inside = search rules;
-      puts = λ _. ap (λ (f : ℕ → List ℕ). Some f)
+      is_inside = search rules;
+      sector_is_replaced = λ _. ap (λ (f : ℕ → List ℕ). Some f)
           (sector_rewritten now.size c.args.sector now.written.items c.args.bytes.now c.extend_to.ensures.there
           ∙ ap (λ (l : List (List ℕ)). replaced (λ k. slice_index_or l k []) c.args.sector c.args.bytes.now) c.extend_to.ensures.kept);
-      kept = search rules;
-      serves = search rules;
-      fails = search rules;
-      sized = search rules;
+      told_is_kept = search rules;
+      no_call_fails = search rules;
+      failure_is_noted = search rules;
+      size_is_kept = search rules;
     }

@@ -2,7 +2,7 @@ use Rattle.std.proofs.Common.{ℕ, ◌≡◌, arith, sym, ap, ◌∙◌, subst}
 use Rattle.std.proofs.lemmas.List.Elements.{All-weaker}
 use Rattle.ata_types.specs.declared.Port.{Port}
 use Rattle.hba_regs.specs.Bits.{bit}
-use Rattle.refinement.specs.Driven.{AnyAccess, OnPortWriting}
+use Rattle.refinement.specs.Fragments.{AnyAccess, IsPortAccessWriting}
 use Rattle.host_boot.specs.declared.ProbeResult.TheVariants.{Ready, Unserved}
 use Rattle.port_control.specs.Calls.{MayBeginReceiving}
 use Rattle.port_control.specs.Ports.{IsCommandRegister}
@@ -13,26 +13,26 @@ stop-requires g c =
     let taken = c.take_over-host.ensures.taken in
     let none : Ready c.in-Ready.field-0 ≡ Unserved → ⊥ = λ e. absurd cc in
     let there = c.law_what_was_taken_over_may_be_served.ensures.there _ _ 0 _ _ taken (omega arith) (λ e. none (sym c.in-Ready.is ∙ e)) in
-    record { usable = record { on = taken.on; there = there; agreed = (taken.uses, tt, taken.agreed) } }
+    record { usable = record { adapter_is_on = taken.adapter_is_on; has_port = there; machine_is_related = (taken.uses, tt, taken.machine_is_related) } }
 
 pub receive-requires : goal.receive-requires
 receive-requires g c =
     let taken = c.take_over-host.ensures.taken in
-    let followed = c.in-Ok.ensures.halts.told.followed in
+    let followed = c.in-Ok.ensures.halts.is_simulated.followed in
     let same = c.law_other_ports_are_left.ensures.adapter _ _ (record {
-      accesses = followed.driven.accesses;
-      all = followed.driven.all;
-      only = All-weaker (OnPortWriting IsCommandRegister (record { 0 = 0 })) AnyAccess (λ access is. tt) followed.driven.accesses followed.driven.only;
+      accesses = followed.is_driven.accesses;
+      all_are_done = followed.is_driven.all_are_done;
+      accesses_are_of_kind = All-weaker (IsPortAccessWriting IsCommandRegister (record { 0 = 0 })) AnyAccess (λ access is. tt) followed.is_driven.accesses followed.is_driven.accesses_are_of_kind;
     }) in
     let none : Ready c.in-Ready.field-0 ≡ Unserved → ⊥ = λ e. absurd cc in
     let there = c.law_what_was_taken_over_may_be_served.ensures.there _ _ 0 _ _ taken (omega arith) (λ e. none (sym c.in-Ready.is ∙ e)) in
     let M : Port → Type 0 = λ p. MayBeginReceiving p (g.A.Adapter.device c.stop.new.adapter) in
     record {
       may = subst M (sym c.in-Ok.ensures.names) (record {
-        on = c.stop.ensures.on;
-        there = (there.0, ap (λ (pi : ℕ). bit pi 0) same.pi ∙ there.1);
-        agreed = (taken.uses, tt, c.law_followed_fragments_agree.ensures.agreed tt (λ uses. uses) taken.uses _ _ tt followed taken.agreed);
+        adapter_is_on = c.stop.ensures.on;
+        has_port = (there.0, ap (λ (pi : ℕ). bit pi 0) same.pi ∙ there.1);
+        machine_is_related = (taken.uses, tt, c.law_followed_fragments_agree.ensures.agreed tt (λ uses. uses) taken.uses _ _ tt followed taken.machine_is_related);
         stopped = c.in-Ok.ensures.halts.stopped;
-        room = let size = same.size in let had = taken.same.size in let room = c.requires.room in omega (arith, room, size, had);
+        driver_memory_fits = let size = same.size in let had = taken.adapter_is_kept.size in let room = c.requires.room in omega (arith, room, size, had);
       });
     }

@@ -1,7 +1,7 @@
 use Rattle.std.proofs.Common.{rules, ℕ, List, Some, ◌+◌, ap, sym, ◌∙◌}
 use Rattle.sector_store.specs.Stores.{replaced}
 use Rattle.server_examples.proofs.Numbered.{numbered_clears, numbered_sector}
-use Rattle.server_examples.specs.Numbered.{numbered_sectors}
+use Rattle.server_examples.specs.NumberedSectors.{numbered_sectors}
 use Rattle.server_examples.proofs.tests.numbered_store.NumberedStoreSectorStore.write.Goals as goal
 
 pub invariant_of-self-2-clause-are_sectors : goal.invariant_of-self-2-clause-are_sectors
@@ -10,8 +10,8 @@ invariant_of-self-2-clause-are_sectors c = numbered_sector c.args.self.now.first
 pub returns : goal.returns
 returns c =
     record {
-      inside = search rules;
-      puts = λ _.
+      is_inside = search rules;
+      sector_is_replaced = λ _.
           let s = c.args.self.now in
           let told = numbered_sectors s.first s.next in
           let cleared = c.is_next.ensures c.if-not-is_next.false in
@@ -19,8 +19,8 @@ returns c =
           numbered_clears s.first s.next s.rising
           ∙ sym (ap (λ (k : ℕ). replaced told k c.args.bytes.now) cleared.0 ∙ ap (λ (bytes : List ℕ). replaced told s.next bytes) cleared.1)
           );
-      kept = search rules;
-      serves = search rules;
-      fails = search rules;
-      sized = search rules;
+      told_is_kept = search rules;
+      no_call_fails = search rules;
+      failure_is_noted = search rules;
+      size_is_kept = search rules;
     }

@@ -1,0 +1,123 @@
+-- What the calls of a list are to clients (this project's own).
+use Rattle.std.specs.Prelude.{ℕ, Bool, true, false, ◌≡◌, ◌⊎◌, ◌↔◌, ◌<◌, List, [], ◌∷◌, ◌++◌, Option, map, reverse}
+use Rattle.ata_types.specs.declared.Port.{Port}
+use Rattle.ata_types.specs.declared.PortState.{PortState}
+use Rattle.ata_types.specs.declared.PortState.TheVariants.{Absent, Ready, Dead}
+use Rattle.ata_types.specs.declared.grant.GrantRow.{GrantRow}
+use Rattle.ata_types.specs.declared.request.ClientId.{ClientId}
+use Rattle.ata_types.specs.declared.request.Frame.{Frame}
+use Rattle.ata_types.specs.declared.request.RequestId.{RequestId}
+use Rattle.adapter.specs.Device.{Device, Disk}
+use Rattle.adapter.specs.Rules.{IsOn}
+use Rattle.adapter.specs.declared.access.DeviceStep.{DeviceStep}
+use Rattle.adapter.specs.declared.tape.Entry.{Entry}
+use Rattle.refinement.specs.Relation.{IsDiskOf, SameMemory, SameSectors}
+use Rattle.refinement.specs.Tape.{PutsInDisks, TellsDeviceSteps}
+use Rattle.block_machine.specs.Events.{AbstractCall, CallResult, EveryReadHolds, EmptyUnlessReady, IsRun, steps_of}
+use Rattle.block_machine.specs.Histories.{JointEvent, JointState, events_of, joint_state_after}
+use Rattle.durability.specs.Durable.{EveryPlugFindsFlushed}
+use Rattle.driver_history.specs.PortInvariants.{ShowsDiskInfo}
+use Rattle.driver_history.specs.ConfinedMoves.{ConfinesCallMoves}
+use Rattle.host_boot.specs.TakeOver.{IsServed, wanted_of}
+use Rattle.identify.specs.Wanted.{serial_of}
+use Rattle.identify.specs.declared.DiskInfo.{DiskInfo}
+use Rattle.identify.specs.declared.wanted.Wanted.{Wanted}
+use Rattle.port_boot.specs.States.{BacksState, HasFitDisk}
+
+-- Each of these calls, the newest first, which came after that history, is of this kind.
+abbrev pub AllAdded : {X : Type 0} → (List X → X → Type 0) → List X → List X → Type 0
+AllAdded Is past [] = Unit {0}
+AllAdded Is past (h ∷ added) = AllAdded Is past added × Is (added ++ past) h
+
+-- What can be seen of a server: the device behind its adapter, the disks that are wanted in its ports, its grants, by
+-- frame the owner and the request that it is lent to, and the states of its ports.
+pub record ObservedState : Type 0 where
+  pub device : Device
+  pub wanted : List Wanted
+  pub rows : List GrantRow
+  pub owner : Frame → Option ClientId
+  pub lent : Frame → Option RequestId
+  pub state : Port → PortState
+
+-- so the server is seen at the instant
+pub record IsSeenAt (v : ObservedState) (i : JointState Device) : Type 0 where
+  pub device_is : i.device ≡ v.device
+  pub rows : i.abstract.machine.rows ≡ v.rows
+  pub owner : (frame : Frame) → i.abstract.machine.owner frame ≡ v.owner frame
+  pub lent : (frame : Frame) → i.abstract.machine.lent frame ≡ v.lent frame
+  pub state : (port : Port) → i.abstract.ports.state port ≡ v.state port
+
+-- ---- between two calls
+
+-- Why a port is in its state. One that isn't served is absent. Behind a ready one the adapter is on, and there stands
+-- the page that its disk sent last, since PxSCTL was last written: it fits what is wanted, and says how many sectors
+-- there are and what else requests are checked by. Absent, unfit and foreign ones are stopped, for what was read last
+-- or for that page. Of a dead one an engine was awaited in vain; or the adapter isn't on, since its last reset wasn't
+-- seen to end (PxSSTS, PxTFD, PxSIG, PxCMD: AHCI 1.3.1, 3.3; IDENTIFY DEVICE: ACS-3, 7.12).
+abbrev pub PortStateIsJustified : Wanted → JointState Device → Port → Bool → PortState → Type 0
+PortStateIsJustified wanted i p false state = state ≡ Absent
+PortStateIsJustified wanted i p true Ready = IsOn i.device × (info : DiskInfo)
+    × HasFitDisk (serial_of wanted) p.0 i.device info
+    × ShowsDiskInfo i.abstract.ports p i.device.cap info
+PortStateIsJustified wanted i p true Dead = BacksState (serial_of wanted) Dead p.0 i.device ⊎ (IsOn i.device → ⊥)
+PortStateIsJustified wanted i p true state = BacksState (serial_of wanted) state p.0 i.device
+
+-- What holds between two calls. Of ports 0 to 3 those are served in which a disk is wanted and which the adapter has;
+-- each is in its state for a reason; and on one that isn't ready no request waits, unless the adapter isn't on.
+-- Clients' frames hold what the machine's do. The disk of each port is the machine's; and where the adapter's disks
+-- tell their sectors, these hold the same.
+pub record BetweenCallsInvariant (wanted : List Wanted) (i : JointState Device) : Type 0 where
+  pub served : (p : Port) → p.0 < 4 → (i.abstract.ports.served p ≡ true) ↔ IsServed (wanted_of wanted p.0) p.0 i.device
+  pub states_are_justified : (p : Port) → p.0 < 4
+      → PortStateIsJustified (wanted_of wanted p.0) i p (i.abstract.ports.served p) (i.abstract.ports.state p)
+  pub waits : (p : Port) → p.0 < 4 → IsOn i.device → EmptyUnlessReady i.abstract p
+  pub memory_is_same : SameMemory i.abstract.machine i.device.memory
+  pub disks_are_same : (port : ℕ) → IsDiskOf i.abstract.machine (i.device.port port) port
+  pub sectors_are_same : i.device.telling ≡ true → (port : ℕ)
+      → SameSectors i.abstract.machine (i.device.port port).disk port
+
+-- ---- the promise
+
+-- The call's device steps are those that its tape tells of, one by one: what moved, was cleared or ended is of a
+-- request that was issued then, or kept; a move is of a sector of its own, to or from its place in a frame that was
+-- lent to it. The disks that were put in are the device's. And after the call there holds what holds between calls.
+pub record MatchesTape (wanted : List Wanted) (first : JointState Device) (past : List (JointEvent Device DeviceStep))
+    (h : JointEvent Device DeviceStep) : Type 0 where
+  pub new_entries : List Entry
+  pub tape_is : h.device.tape ≡ (joint_state_after first past).device.tape ++ new_entries
+  pub tells_device_steps : TellsDeviceSteps (joint_state_after first past).abstract.machine new_entries h.event.steps
+  pub plugged : (p : ℕ) → (disks : List Disk) × PutsInDisks p disks h.event.steps
+      × ((h.device.port p).plugged ≡ ((joint_state_after first past).device.port p).plugged ++ disks)
+  pub invariant_holds : BetweenCallsInvariant wanted (joint_state_after first (h ∷ past))
+
+-- What is promised to clients of calls, the newest first, that asked that and said this, one after another, after a
+-- history from where the server was made. With them the history is a run of the block machine, which leads to the
+-- server as it is seen after them; in it each read that was answered Ok has what was left, where the adapter's disks
+-- tell their sectors. The device stands behind its steps in each of the calls, and before and after it there holds what
+-- holds between calls; the disks that are wanted stay so.
+pub record MeetsClientPromise (first : JointState Device) (past added : List (JointEvent Device DeviceStep))
+    (old new : ObservedState) (asked : List (AbstractCall DeviceStep)) (said : List CallResult) : Type 0 where
+  pub asks : map (λ h. h.event.ask) (reverse added) ≡ asked
+  pub says : map (λ h. h.event.said) (reverse added) ≡ said
+  pub wanted : new.wanted ≡ old.wanted
+  pub starts_at : IsSeenAt old (joint_state_after first past)
+  pub ends_at : IsSeenAt new (joint_state_after first (added ++ past))
+  pub is_run : IsRun first.abstract (events_of (added ++ past))
+  pub every_read_holds : first.device.telling ≡ true → EveryReadHolds first.abstract (events_of (added ++ past))
+  pub invariant_at_start : BetweenCallsInvariant old.wanted (joint_state_after first past)
+  pub matches_tape : AllAdded (MatchesTape new.wanted first) past added
+
+-- What is promised of moves of data, which follows: in each of these calls moves and clears keep to their places, of
+-- requests that were accepted when they broke no rule.
+abbrev pub ConfinesMoves : JointState Device → List (JointEvent Device DeviceStep) → List (JointEvent Device DeviceStep)
+    → Type 0
+ConfinesMoves first past added = AllAdded (λ before h. ConfinesCallMoves first.abstract.machine
+    (steps_of (events_of before))
+    h.event.steps (joint_state_after first before).device h.device) past added
+
+-- What is promised to clients of disks that are pulled out. Of a write or trim that was answered Ok before a flush of
+-- its port was accepted that was answered Ok, too, with its disk in from the acceptance of the write to the answer of
+-- the flush, and no other one put in since: where that disk comes back it has, in each sector of it, the bytes that it
+-- put there, or those of a write or trim accepted later, where the adapter's disks tell their sectors.
+pub record FlushesSurviveReplug (first : JointState Device) (calls : List (JointEvent Device DeviceStep)) : Type 0 where
+  pub finds : first.device.telling ≡ true → EveryPlugFindsFlushed first.abstract.machine (steps_of (events_of calls))

@@ -1,0 +1,16 @@
+use Rattle.commands.proofs.ProbeResult.{finds_done}
+use Rattle.commands.proofs.laws_of_done.law_reading_finds_done.Goals as goal
+
+pub returns : goal.returns
+returns c = finds_done (record {
+  access = c.law_accesses_and_decisions_are_acts.ensures.access;
+  on = c.law_adapter_stays.ensures.stays_on;
+  controls = c.law_controls_stay.ensures;
+  ends = c.law_ended_is_clear.ensures.ends;
+  reached = c.law_advances_compose.ensures.reached;
+  device = c.law_histories_compose.ensures.device_steps_join;
+  after_both = c.law_histories_compose.ensures.machine_after_joins;
+  reading = c.law_reading_is_followed.ensures;
+  keeps = c.law_step_lists_keep_what_steps_keep.ensures;
+  kept = c.law_steps_spare_the_book.ensures.none_quarantined_stays;
+})

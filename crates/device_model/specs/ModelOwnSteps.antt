@@ -1,0 +1,111 @@
+-- What a model does by itself before a register is read (this project's own).
+use Rattle.std.specs.Prelude.{ℕ, Bool, true, false, ◌≡◌, ◌≢◌, ◌+◌, ◌<◌, ◌⊎◌, List, [], ◌∷◌, All, length}
+use Rattle.adapter.specs.Device.{DevicePort, Device}
+use Rattle.adapter.specs.Steps.{DeviceTransition, Can, MayLinkUp, device_after, with_port}
+use Rattle.adapter.specs.Steps.DeviceTransition.{Fetch, Move, Done, Fall, FrFall, LinkUp, ResetEnds}
+use Rattle.device_model.specs.Finishing.{HasPageCommand, TapeHasRoom, MayTakePage, sends_page}
+use Rattle.device_model.specs.HeldPorts.{IsPortHeld, IsPortReleased, all_held, none_held}
+use Rattle.device_model.specs.SentFises.{SendsAfter}
+use Rattle.device_model.specs.WholeAdapter.{HasDisks}
+use Rattle.device_model.specs.declared.hardware.Hardware.{Hardware}
+
+-- A step that the model does by itself, while these ports are held. On the others CR and FR fall, the link comes up
+-- with the signature of an ATA disk, N and X, and IDENTIFY DEVICE and READ LOG EXT are taken, moved and ended.
+abbrev pub IsOwnStep : List Bool → DeviceTransition → Type 0
+IsOwnStep held (Fall port) = IsPortReleased held port
+IsOwnStep held (FrFall port) = IsPortReleased held port
+IsOwnStep held (LinkUp port sig n) = IsPortReleased held port × (sig ≡ 0x101) × (n ≡ true)
+IsOwnStep held (Fetch port slot meaning places) = IsPortReleased held port × (sends_page meaning.operation ≡ true)
+IsOwnStep held (Move port slot t bytes) = IsPortReleased held port × (sends_page t.meaning.operation ≡ true)
+IsOwnStep held (Done port slot flag t) = IsPortReleased held port × (sends_page t.meaning.operation ≡ true)
+IsOwnStep held step = ⊥
+
+-- CR or FR falls, or the link comes up
+abbrev pub IsSettling : DeviceTransition → Type 0
+IsSettling (Fall port) = Unit {0}
+IsSettling (FrFall port) = Unit {0}
+IsSettling (LinkUp port sig n) = Unit {0}
+IsSettling step = ⊥
+
+-- IDENTIFY DEVICE or READ LOG EXT is taken, moved or ended
+abbrev pub IsPageStep : DeviceTransition → Type 0
+IsPageStep (Fetch port slot meaning places) = Unit {0}
+IsPageStep (Move port slot t bytes) = Unit {0}
+IsPageStep (Done port slot flag t) = Unit {0}
+IsPageStep step = ⊥
+
+-- such a step of the model's own
+abbrev pub Settles : List Bool → DeviceTransition → Type 0
+Settles held step = IsOwnStep held step × IsSettling step
+
+-- or such a one
+abbrev pub SendsPages : List Bool → DeviceTransition → Type 0
+SendsPages held step = IsOwnStep held step × IsPageStep step
+
+-- steps one after another, each with the FIS that is sent after it
+abbrev pub LeadsSending : List DeviceTransition → Device → Device → Type 0
+LeadsSending [] old new = new ≡ old
+LeadsSending (step ∷ steps) old new = Can step old × (mid : Device) × SendsAfter step (device_after step old) mid
+    × LeadsSending steps mid new
+
+-- such steps with their FISes, and no others, lead from the one state to the other
+pub record LeadsOwn (Own : DeviceTransition → Type 0) (old new : Device) : Type 0 where
+  pub steps : List DeviceTransition
+  pub steps_are_own : All Own steps
+  pub steps_lead : LeadsSending steps old new
+
+-- What the model does by itself: first the ports settle, and then IDENTIFY DEVICE and READ LOG EXT go on. So no command
+-- is ended that falls with CR.
+pub record DoesOwn (held : List Bool) (old new : Device) : Type 0 where
+  pub settled : Device
+  pub settles_ports : LeadsOwn (Settles held) old settled
+  pub sends_pages : LeadsOwn (SendsPages held) settled new
+
+-- A pending reset ends, and ends all holds, unless all ports are held.
+abbrev pub EndsReset : List Bool → List Bool → Device → Device → Type 0
+EndsReset was held old new =
+    ((old.hr ≡ true → was ≡ all_held) × (held ≡ was) × (new ≡ old))
+    ⊎ ((old.hr ≡ true) × (was ≢ all_held) × (held ≡ none_held) × (new ≡ device_after ResetEnds old))
+
+-- in each device, and on each port that isn't held, such steps lead from the one state of the port to the other, and
+-- change nothing else
+abbrev pub SettlesPort : DevicePort → DevicePort → Type 0
+SettlesPort old new = (held : List Bool) (d : Device) (port : ℕ) → IsPortReleased held port → d.port port ≡ old
+    → LeadsOwn (Settles held) d (with_port d port new)
+
+-- CR and FR have fallen where ST and FRE are zero, and no link is left that may come up
+pub record IsSettledPort (p : DevicePort) : Type 0 where
+  pub cr_has_fallen : p.st ≡ false → p.cr ≡ true → ⊥
+  pub fr_has_fallen : p.fre ≡ false → p.cr ≡ false → p.fr ≡ true → ⊥
+  pub no_link_may_come : (sig : ℕ) → MayLinkUp p sig → ⊥
+
+-- A reset that may end is left only while all ports are held; a CR or an FR that may fall, and a link that may come up,
+-- only on a held port.
+pub record IsSettled (held : List Bool) (d : Device) : Type 0 where
+  pub reset_has_ended : Can ResetEnds d → held ≡ all_held
+  pub crs_have_fallen : (port : ℕ) → Can (Fall port) d → IsPortHeld held port
+  pub frs_have_fallen : (port : ℕ) → Can (FrFall port) d → IsPortHeld held port
+  pub no_links_may_come : (port sig : ℕ) (n : Bool) → Can (LinkUp port sig n) d → IsPortHeld held port
+
+-- In none of the slots 0 to 31 of a port with disks an IDENTIFY DEVICE or a READ LOG EXT is left that may be taken,
+-- unless the port is held; nor one that can be done to its end, unless the port is held, or it is told that something
+-- was left out for want of memory. To take one needs no memory.
+pub record NoPageIsLeft (held : List Bool) (starved : Bool) (d : Device) : Type 0 where
+  pub none_may_be_taken : (port slot : ℕ) → port < 4 → slot < 32 → HasDisks d port → MayTakePage d port slot
+      → IsPortHeld held port
+  pub none_may_be_finished : (port slot : ℕ) → port < 4 → slot < 32 → HasDisks d port → HasPageCommand d port slot
+      → IsPortHeld held port
+      ⊎ (starved ≡ true)
+
+-- one is left, for which the tape has no memory: each of its moves, and its end, would be noted there
+abbrev pub LeavesPageWithoutMemory : Hardware → Device → Type 0
+LeavesPageWithoutMemory h d = (port slot : ℕ) × (port < 4) × (slot < 32) × HasDisks d port
+    × (has : HasPageCommand d port slot)
+    × (TapeHasRoom h (has.left + 1) → ⊥)
+
+-- What a port does by itself leaves the number of ports, a pending reset, the tape, and whether memory for it lacked.
+pub record SparesAdapter (old new : Hardware) : Type 0 where
+  pub port_count_is_kept : length new.ports ≡ length old.ports
+  pub hr_is_kept : new.hr ≡ old.hr
+  pub tape_is_kept : new.tape ≡ old.tape
+  pub starved_is_kept : new.starved ≡ old.starved

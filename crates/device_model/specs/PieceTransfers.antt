@@ -1,0 +1,63 @@
+-- A disk and the memory exchange the next piece of a command.
+use Rattle.std.specs.Prelude.{ℕ, ◌≡◌, ◌<◌, ◌+◌, Bool, true, false, List, Option, IfSome, length, if◌then◌else◌}
+use Rattle.adapter.specs.Commands.{is_ranged, reads_memory}
+use Rattle.adapter.specs.Device.{IsSector}
+use Rattle.adapter.specs.Memory.{bytes_at, patched}
+use Rattle.adapter.specs.Steps.{disk_after}
+use Rattle.sector_store.specs.declared.store.Failures.{Failures}
+use Rattle.device_model.specs.WriteCaches.{CallFails, HasRoomForOld}
+use Rattle.device_model.specs.Disks.{disk_over, identity, lasting_of}
+use Rattle.device_model.specs.FetchedBytes.{bytes_of}
+use Rattle.device_model.specs.DiskPages.{IsSentLog, IsSentIdentify}
+use Rattle.device_model.specs.Trims.{written_ahead}
+use Rattle.device_model.specs.PortView.{operation_of_kind}
+use Rattle.device_model.specs.declared.bay.Bay.{Bay}
+use Rattle.device_model.specs.declared.hardware.Hardware.{Hardware}
+use Rattle.device_model.specs.declared.port.CommandKind.TheVariants.{Identify, ReadLog}
+use Rattle.device_model.specs.declared.steps.NextMove.{NextMove}
+
+-- the bytes of memory that it moves
+abbrev pub piece_of : Hardware → NextMove → List ℕ
+piece_of h next = bytes_at (bytes_of h.memory.items) next.address 512
+
+-- it was exchanged: it stands in memory, where nothing else is another; what the device reads there is as it was
+pub record IsTransferred (old new : Hardware) (next : NextMove) : Type 0 where
+  pub rest_is_kept : new ≡ record old { memory = new.memory }
+  pub memory_size_is_kept : length new.memory.items ≡ length old.memory.items
+  pub memory_is : bytes_of new.memory.items
+      ≡ (if reads_memory (operation_of_kind next.command_kind) then bytes_of old.memory.items
+      else patched (bytes_of old.memory.items) next.address (piece_of new next))
+
+-- Bytes of memory, as they were and as they are now. The disk that is in has given them: the sector of a read, or its
+-- page. Or it has taken them as a write's sector, or they are a trim's block. Or the store has failed: it tells what it
+-- told, and the bytes are as they were. What is lasting of the disk stays so.
+pub record TransfersPiece {S : Type 0} (size : S → ℕ) (told : S → Option (ℕ → List ℕ)) (failures : S → Option Failures)
+    (old new : Bay S) (next : NextMove) (before after : List ℕ) (done : Bool) : Type 0 where
+  pub inside : done ≡ true → is_ranged (operation_of_kind next.command_kind) ≡ true → next.sector < size old.disk.store
+  pub bytes_are_sector : IsSector after
+  pub read_gives_told : done ≡ true → is_ranged (operation_of_kind next.command_kind) ≡ true →
+      reads_memory (operation_of_kind next.command_kind) ≡ false →
+      IfSome (told old.disk.store) (λ told. after ≡ told next.sector)
+  pub write_keeps_bytes : reads_memory (operation_of_kind next.command_kind) ≡ true → after ≡ before
+  pub failure_keeps_bytes : done ≡ false → after ≡ before
+  pub identify_page_is_sent : done ≡ true → next.command_kind ≡ Identify
+      → IsSentIdentify (identity size old.disk) old.says after
+  pub log_page_is_sent : done ≡ true → next.command_kind ≡ ReadLog → IsSentLog old.says after
+  pub bay_is_kept : is_ranged (operation_of_kind next.command_kind) ≡ false → new ≡ old
+  pub disk_is : done ≡ true → disk_over old.which (size new.disk.store) (told new.disk.store)
+      ≡ disk_after (operation_of_kind next.command_kind) (disk_over old.which (size old.disk.store) (told
+      old.disk.store))
+      next.sector after
+  pub told_is_kept : done ≡ false → told new.disk.store ≡ told old.disk.store
+  pub size_is_kept : size new.disk.store ≡ size old.disk.store
+  pub no_call_failed : done ≡ true → failures new.disk.store ≡ failures old.disk.store
+  pub only_ranged_fails : done ≡ false → is_ranged (operation_of_kind next.command_kind) ≡ true
+  pub failure_is_noted : done ≡ false → next.sector < size old.disk.store →
+      CallFails old.cache.is_on (reads_memory (operation_of_kind next.command_kind)) next.sector (failures
+      old.disk.store)
+      (failures new.disk.store)
+  pub lasting_is_kept : lasting_of told new ≡ lasting_of told old
+  pub cache_mode_is_kept : new.cache.is_on ≡ old.cache.is_on
+  pub cache_has_room : (n : ℕ) → HasRoomForOld old.cache (written_ahead (operation_of_kind next.command_kind) 1 + n)
+      → HasRoomForOld new.cache n
+  pub rest_is_kept : new ≡ record old { disk = record old.disk { store = new.disk.store }; cache = new.cache }

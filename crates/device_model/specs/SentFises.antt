@@ -1,0 +1,122 @@
+-- The FISes that the model sends, in the received FIS area of a port (Serial ATA; AHCI 1.3.1, 4.2.1).
+use Rattle.std.specs.Prelude.{ℕ, Bool, true, false, ◌≡◌, ◌+◌, ◌/◌, ◌%◌, ◌^◌, ◌&&◌, List, bit_and, bit_or, nat_le}
+use Rattle.ata_types.specs.declared.memory.TheConstants.{RECEIVED_FIS_BYTES}
+use Rattle.adapter.specs.ToldSteps.{IsPosted, PostsNone}
+use Rattle.adapter.specs.Commands.{is_queued}
+use Rattle.adapter.specs.Device.{DevicePort, Device}
+use Rattle.adapter.specs.Steps.{DeviceTransition}
+use Rattle.adapter.specs.Steps.DeviceTransition.{Done, LinkUp}
+use Rattle.adapter.specs.declared.access.DeviceStep.{DeviceStep}
+use Rattle.adapter.specs.declared.access.DeviceStep.TheVariants as asked
+use Rattle.adapter.specs.declared.command.Operation.{Operation}
+use Rattle.adapter.specs.declared.command.Operation.TheVariants.{Identify, ReadLog, ReadQueued, WriteQueued}
+use Rattle.fis.specs.Encoding.{EncodesDeviceToHost, EncodesPioSetup, EncodesSetDeviceBits}
+use Rattle.fis.specs.declared.DeviceToHost.{DeviceToHost}
+use Rattle.fis.specs.declared.PioSetup.{PioSetup}
+use Rattle.fis.specs.declared.SetDeviceBits.{SetDeviceBits}
+
+-- ---- what is sent: status and error are those of PxTFD
+
+-- The page of IDENTIFY DEVICE or READ LOG EXT, 512 bytes by PIO: DRQ was set beside the ending status; I asks for an
+-- interrupt. A disk sends it before the page's bytes: here it stands as the command ends, since nobody may look there
+-- meanwhile.
+abbrev pub page_setup : DevicePort → PioSetup
+page_setup p =
+    record {
+      interrupt = true;
+      to_host = true;
+      status = bit_or (p.tfd % 256) 0x08;
+      error = p.tfd / 256;
+      lba = 0;
+      device = 0;
+      count = 0;
+      ending_status = p.tfd % 256;
+      transfer_count = 512;
+    }
+
+-- A command ended, or a plain one failed: LBA, device and count, which are reserved where it ended (ACS-3), are zero. A
+-- disk may tell in LBA where a command failed: the model's tells 0.
+abbrev pub end_fis : DevicePort → DeviceToHost
+end_fis p = record { interrupt = true; status = p.tfd % 256; error = p.tfd / 256; lba = 0; device = 0; count = 0 }
+
+-- the queued command of a slot ended without error: its tag, and the status without BSY and DRQ, which this FIS doesn't
+-- set
+abbrev pub ended_tag_fis : ℕ → DevicePort → SetDeviceBits
+ended_tag_fis slot p =
+    record { interrupt = true; status = bit_and (p.tfd % 256) 0x77; error = p.tfd / 256; tags = 2 ^ slot }
+
+-- a queued command failed: no tag is named, since none has ended
+abbrev pub failed_tags_fis : DevicePort → SetDeviceBits
+failed_tags_fis p = record (ended_tag_fis 0 p) { tags = 0 }
+
+-- the first FIS of an ATA disk: its signature has LBA 1 and count 1 (ACS-3), as PxSIG shows it; it asks for no
+-- interrupt
+abbrev pub signature_fis : DevicePort → DeviceToHost
+signature_fis p = record {
+  interrupt = false;
+  status = p.tfd % 256;
+  error = p.tfd / 256;
+  lba = 1;
+  device = 0;
+  count = 1;
+}
+
+-- ---- where it comes
+
+-- The port receives FISes, and its area is in the memory.
+abbrev pub receives_fis : DevicePort → ℕ → Bool
+receives_fis p size = p.fre && nat_le (p.bases.fb + RECEIVED_FIS_BYTES) size
+
+-- The bytes stand at this place of the port's received FIS area, and nothing else is another; or they are lost, where
+-- the port doesn't receive them.
+pub record IsSent (port place : ℕ) (bytes : List ℕ) (old new : Device) : Type 0 where
+  pub is_posted : receives_fis (old.port port) old.size ≡ true
+      → IsPosted port ((old.port port).bases.fb + place) bytes old
+      new
+  pub is_lost : receives_fis (old.port port) old.size ≡ false → new ≡ old
+
+-- where a PIO Setup FIS, a Register FIS and a Set Device Bits FIS stand in the area (AHCI 1.3.1, 4.2.1)
+abbrev pub SendsSetup : ℕ → PioSetup → Device → Device → Type 0
+SendsSetup port fis old new = (bytes : List ℕ) × EncodesPioSetup bytes fis × IsSent port 0x20 bytes old new
+
+abbrev pub SendsRegisters : ℕ → DeviceToHost → Device → Device → Type 0
+SendsRegisters port fis old new = (bytes : List ℕ) × EncodesDeviceToHost bytes fis × IsSent port 0x40 bytes old new
+
+abbrev pub SendsBits : ℕ → SetDeviceBits → Device → Device → Type 0
+SendsBits port fis old new = (bytes : List ℕ) × EncodesSetDeviceBits bytes fis × IsSent port 0x58 bytes old new
+
+-- ---- when it is sent
+
+-- As a slot's command ends: of IDENTIFY DEVICE and READ LOG EXT a PIO Setup FIS, which PSS of PxIS tells; of a queued
+-- one a Set Device Bits FIS, which SDBS tells; and of the others that the model takes a Register FIS, which DHRS tells
+-- (AHCI 1.3.1, 3.3.5). A disk sends a Register FIS as it takes a queued command, and a DMA Setup FIS, too: nobody may
+-- look there meanwhile, and the last FIS covers them.
+abbrev pub SendsEnd : (slot port flag : ℕ) → Operation → Device → Device → Type 0
+SendsEnd slot port flag Identify old new = (flag ≡ 1) × SendsSetup port (page_setup (old.port port)) old new
+SendsEnd slot port flag ReadLog old new = (flag ≡ 1) × SendsSetup port (page_setup (old.port port)) old new
+SendsEnd slot port flag ReadQueued old new = (flag ≡ 3) × SendsBits port (ended_tag_fis slot (old.port port)) old new
+SendsEnd slot port flag WriteQueued old new = (flag ≡ 3) × SendsBits port (ended_tag_fis slot (old.port port)) old new
+SendsEnd slot port flag _ old new = (flag ≡ 0) × SendsRegisters port (end_fis (old.port port)) old new
+
+-- As a command fails, with TFES of PxIS: of a queued one a Set Device Bits FIS, and of another one, or of what means
+-- none, a Register FIS (TFES: AHCI 1.3.1, 3.3.5).
+abbrev pub SendsFault : (queued : Bool) → (port : ℕ) → Device → Device → Type 0
+SendsFault true port old new = SendsBits port (failed_tags_fis (old.port port)) old new
+SendsFault false port old new = SendsRegisters port (end_fis (old.port port)) old new
+
+abbrev pub SendsFailed : (port flag : ℕ) → Operation → Device → Device → Type 0
+SendsFailed port flag operation old new = SendsFault (is_queued operation) port old new
+
+-- as the command of the slot that a step names ends or fails
+abbrev pub Sends : DeviceStep → (port flag : ℕ) → Operation → Device → Device → Type 0
+Sends (asked.Done p s) = SendsEnd s.0
+Sends (asked.Finish p s) = SendsEnd s.0
+Sends (asked.Fault p s error) = SendsFailed
+Sends (asked.FaultBusy p s error) = SendsFailed
+Sends step = PostsNone
+
+-- after a step that the model does by itself: as a command ends, and as the link comes up
+abbrev pub SendsAfter : DeviceTransition → Device → Device → Type 0
+SendsAfter (Done port slot flag t) old new = SendsEnd slot port flag t.meaning.operation old new
+SendsAfter (LinkUp port sig n) old new = SendsRegisters port (signature_fis (old.port port)) old new
+SendsAfter step old new = new ≡ old

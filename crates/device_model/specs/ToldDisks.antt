@@ -1,0 +1,33 @@
+-- Why the adapter's law on its disks holds of a model: each model tells its disks' sectors if it is one that tells.
+use Rattle.std.proofs.Common.{ℕ, Bool, zero, suc, true, false, ◌≡◌, ◌&&◌, List, [], ◌∷◌, Option, None, Some, refl, subst, slice_index_or}
+use Rattle.std.specs.Prelude.{is_some}
+use Rattle.adapter.specs.Device.{HasKnownSectors}
+use Rattle.device_model.specs.ModelState.{all_tell, media_of, all_media_of, tells}
+use Rattle.device_model.specs.declared.bay.Bay.{Bay}
+
+is_told : (told other : Option (ℕ → List ℕ)) → is_some told && is_some other ≡ true → (f : ℕ → List ℕ) × (told ≡ Some f)
+is_told None other telling = absurd (let e : false ≡ true = telling in cc)
+is_told (Some f) other telling = (f, refl)
+
+module _ {S : Type 0} (size : S → ℕ) (told : S → Option (ℕ → List ℕ)) where
+  pub bay_told : (b : Option (Bay S)) → tells told b ≡ true → HasKnownSectors (media_of size told b).disk
+  bay_told None telling = ((λ k. []), refl)
+  bay_told (Some b) telling = is_told (told b.disk.store) (told b.other.store) telling
+
+  pub each_tells : (bays : List (Option (Bay S))) → all_tell told bays ≡ true → (port : ℕ)
+      → tells told (slice_index_or bays port None) ≡ true
+  each_tells [] telling port = refl
+  each_tells (b ∷ rest) telling zero = by (tells told b) refl
+    where
+      by : (x : Bool) → tells told b ≡ x → tells told b ≡ true
+      by true e = e
+      by false e = absurd (let no : false ≡ true = subst (λ y. y && all_tell told rest ≡ true) e telling in cc)
+  each_tells (b ∷ rest) telling (suc port) = each_tells rest (by (tells told b) telling) port
+    where
+      by : (x : Bool) → x && all_tell told rest ≡ true → all_tell told rest ≡ true
+      by true e = e
+      by false e = absurd (let no : false ≡ true = e in cc)
+
+  pub disks_told : (bays : List (Option (Bay S))) → all_tell told bays ≡ true → (port : ℕ)
+      → HasKnownSectors ((all_media_of size told bays).media port).disk
+  disks_told bays telling port = bay_told (slice_index_or bays port None) (each_tells bays telling port)

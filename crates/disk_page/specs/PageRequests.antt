@@ -1,0 +1,126 @@
+-- Pages that a disk sends to the driver itself (ACS-3: IDENTIFY DEVICE, READ LOG EXT), and how they are asked for.
+use Rattle.std.specs.Prelude.{ℕ, true, false, ◌≡◌, ◌≢◌, ◌≤◌, ◌++◌, List, All, length, Option, None, Some, IfSome}
+use Rattle.ata_types.specs.declared.Port.{Port}
+use Rattle.ata_types.specs.declared.limits.TheConstants.{MOST_READINGS}
+use Rattle.ata_types.specs.declared.memory.TheConstants.{DRIVER_BYTES}
+use Rattle.hba_regs.specs.Bits.{bit}
+use Rattle.hba_regs.specs.declared.reg.Reg.TheVariants.{Px}
+use Rattle.hba_regs.specs.declared.reg.PortReg.TheVariants.{Ci}
+use Rattle.adapter.specs.Access.{Access}
+use Rattle.adapter.specs.Access.Access.{Reading, Writing, Loading, Storing}
+use Rattle.adapter.specs.Device.{Notes, Device}
+use Rattle.adapter.specs.Device.Halt.{NotHalted}
+use Rattle.adapter.specs.KeptBySteps.{KeepsControls}
+use Rattle.adapter.specs.Rules.{IsOn, HasPort}
+use Rattle.adapter.specs.declared.command.Operation.{Operation}
+use Rattle.adapter.specs.declared.command.Operation.TheVariants.{Identify, ReadLog}
+use Rattle.refinement.specs.Fragments.{RelatesWith, IsRelated, IsSimulated, IsSimulatedAlongChangingUses, GainsNoMove}
+use Rattle.refinement.specs.Driver.{AllFree}
+use Rattle.refinement.specs.PortFacts.{IsSlotClear, FaultsOnRecord}
+use Rattle.refinement.specs.MemoryLayout.{list_of, scratch_of}
+use Rattle.refinement.specs.Slots.{Own, SlotStates, op_of, set_slot_state, PageStandsInScratch}
+use Rattle.command_table.specs.TableStores.{IsTableStore, IsUnused}
+use Rattle.disk_page.specs.declared.Page.{Page}
+use Rattle.disk_page.specs.declared.Page.TheVariants.{Identity, ErrorLog}
+
+-- the command that brings the page
+abbrev pub page_operation : Page → Operation
+page_operation Identity = Identify
+page_operation ErrorLog = ReadLog
+
+-- The port runs with its command list in its place and no COMRESET being sent, and ST was set before now.
+pub record MayAskForPage (port : ℕ) (d : Device) : Type 0 where
+  pub st_is_set : (d.port port).st ≡ true
+  pub list_is_in_place : (d.port port).bases.clb ≡ list_of port
+  pub no_comreset : (d.port port).sctl_det ≡ 0
+  pub st_set_in_tape : (d.port port).notes.st_set_at ≤ length d.tape
+
+-- A page may be awaited: PxCI can be read, and PxSCTL.DET is 0, so that its readings are counted.
+pub record MayAwaitPage (port : Port) (d : Device) : Type 0 where
+  pub adapter_is_on : IsOn d
+  pub has_port : HasPort d port.0
+  pub no_comreset : (d.port port.0).sctl_det ≡ 0
+
+-- A page may be asked for: slot 0 of such a port is unused, and memory has the driver's areas.
+pub record MayGetPage (port : Port) (d : Device) : Type 0 where
+  pub adapter_is_on : IsOn d
+  pub has_port : HasPort d port.0
+  pub driver_memory_fits : DRIVER_BYTES ≤ d.size
+  pub machine_is_related : RelatesWith (IsUnused port.0 0) d
+  pub may_ask : MayAskForPage port.0 d
+
+-- all that readings noted is as it was, but for those of PxCI
+abbrev pub SameButCiNotes : Notes → Notes → Type 0
+SameButCiNotes old new = new ≡ record old { last_ci = new.last_ci; command_count = new.command_count }
+
+-- It stores slot 0's header, with PRDBC zero, or its table, reads PxCI, writes it with bit 0 alone, or loads the page
+-- from the scratch frame.
+abbrev pub IsPageAccess : Port → Access → Type 0
+IsPageAccess port (Reading r v) = r ≡ Px port Ci
+IsPageAccess port (Writing r v) = (r ≡ Px port Ci) × (v ≡ 1)
+IsPageAccess port (Loading at bytes) = (at ≡ scratch_of port.0) × (length bytes ≡ 512)
+IsPageAccess port (Storing at bytes) = IsTableStore port.0 0 (Storing at bytes)
+
+-- What asking leaves of the port: its controls and its addresses; every slot but slot 0, which has no command if it had
+-- none; all that readings noted but of PxCI; the bits of PxSACT that were clear; and the record of its faults since ST
+-- was set.
+pub record LeavesRunning (port : ℕ) (old new : Device) : Type 0 where
+  pub controls : KeepsControls (old.port port) (new.port port)
+  pub bases : (new.port port).bases ≡ (old.port port).bases
+  pub ci : (slot : ℕ) → slot ≢ 0 → (old.port port).ci slot ≡ false → (new.port port).ci slot ≡ false
+  pub taken : (slot : ℕ) → slot ≢ 0 → (old.port port).ci slot ≡ false → (old.port port).taken slot ≡ None
+      → (new.port port).taken slot ≡ None
+  pub sact : (slot : ℕ) → (old.port port).sact slot ≡ false → (new.port port).sact slot ≡ false
+  pub notes : SameButCiNotes (old.port port).notes (new.port port).notes
+  pub tape_is_not_shorter : length old.tape ≤ length new.tape
+  pub faults_are_on_record : FaultsOnRecord old.tape (old.port port) port → FaultsOnRecord new.tape (new.port port) port
+
+-- it reads PxCI, which shows slot 0's command
+abbrev pub ShowsIssued : Port → Access → Type 0
+ShowsIssued port (Reading r v) = (r ≡ Px port Ci) × (bit v 0 ≡ true)
+ShowsIssued port access = ⊥
+
+-- so many such readings, and nothing else
+abbrev pub AreIssuedReadings : Port → ℕ → List Access → Type 0
+AreIssuedReadings port count accesses = (length accesses ≡ count) × All (ShowsIssued port) accesses
+
+-- 64 of them were made in a row. (The count that stands beside the device's state goes on from earlier calls: it goes
+-- back at a write of PxSCTL alone.)
+pub record WaitsInVain (port : Port) (accesses : List Access) : Type 0 where
+  pub before : List Access
+  pub waits : List Access
+  pub later : List Access
+  pub accesses_are : accesses ≡ before ++ (waits ++ later)
+  pub waits_are_vain : AreIssuedReadings port MOST_READINGS waits
+
+-- What is said of the page: it is the last that the port's command of this operation has moved, the command came after
+-- the tape was so long, and it is over.
+pub record BringsLastPage (port : ℕ) (o : Operation) (since : ℕ) (bytes : List ℕ) (d : Device) : Type 0 where
+  pub page_stands : PageStandsInScratch d.memory d.tape port o since
+  pub page_bytes_are : bytes ≡ page_stands.move.bytes.value
+  pub slot_is_clear : IsSlotClear (d.port port) 0
+
+-- The page came: slot 0 isn't used any more. Or 64 readings of PxCI showed its bit, as the accesses tell: then the
+-- command may be in slot 0 still.
+abbrev pub ReadsPage : Port → Operation → Option (List ℕ) → Device → Device → Type 0
+ReadsPage port o (Some bytes) old new = BringsLastPage port.0 o (length old.tape) bytes new
+    × IsSimulated (IsPageAccess port) (IsUnused port.0 0) old new
+ReadsPage port o None old new = ((new.port port.0).notes.command_count ≡ MOST_READINGS)
+    × IsSimulatedAlongChangingUses (WaitsInVain port) (IsPageAccess port) (IsUnused port.0 0)
+    (λ uses. set_slot_state uses port.0 0 (Own o)) old new
+
+-- Some machine agrees with the slots used as they were; or with the command in slot 0.
+abbrev pub AgreesAfter : Port → Operation → Option (List ℕ) → SlotStates → Device → Type 0
+AgreesAfter port o (Some bytes) uses new = IsRelated uses new
+AgreesAfter port o None uses new = IsRelated (set_slot_state uses port.0 0 (Own o)) new
+
+-- The page was asked for, and came or didn't. The port is left as asking leaves it. Where no slot was used, no fault
+-- halts the port once a page has come; and no page of another command comes.
+pub record GetsPage (port : Port) (page : Page) (result : Option (List ℕ)) (old new : Device) : Type 0 where
+  pub leaves : LeavesRunning port.0 old new
+  pub agrees : (uses : SlotStates) → IsUnused port.0 0 uses → IsRelated uses old
+      → AgreesAfter port (page_operation page) result uses new
+  pub reads : ReadsPage port (page_operation page) result old new
+  pub is_not_halted : IfSome result (λ _. RelatesWith (λ uses. AllFree uses port.0) old
+      → (new.port port.0).halt ≡ NotHalted)
+  pub no_other_page_moves : (o : Operation) → op_of o ≡ None → o ≢ page_operation page → GainsNoMove port.0 o old new

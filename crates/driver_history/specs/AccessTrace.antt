@@ -1,0 +1,67 @@
+-- What stands in the list of a call's accesses, the first access first (this project's own).
+use Rattle.std.specs.Prelude.{ℕ, ◌≡◌, ◌+◌, ◌%◌, ◌≤◌, ◌++◌, List, ◌∷◌, length, All}
+use Rattle.ata_types.specs.declared.Port.{Port}
+use Rattle.ata_types.specs.declared.memory.TheConstants.{DRIVER_BYTES}
+use Rattle.hba_regs.specs.declared.reg.Reg.TheVariants.{Ghc, Px}
+use Rattle.hba_regs.specs.declared.reg.PortReg.TheVariants.{Cmd, Sctl, Sact, Ci}
+use Rattle.adapter.specs.Access.{Access}
+use Rattle.adapter.specs.Access.Access.{Reading, Writing, Loading, Storing}
+use Rattle.refinement.specs.PortFacts.{ClearsNoTrouble}
+use Rattle.refinement.specs.Links.{DoesNotWrite}
+
+-- ---- what one access is
+
+-- the access doesn't write PxCMD of the port: so it neither stops nor starts it
+abbrev pub DoesNotWriteCmd : Port → Access → Type 0
+DoesNotWriteCmd port access = DoesNotWrite (Px port Cmd) access
+
+-- nor PxSCTL: so it doesn't reset its link either
+abbrev pub LeavesEngine : Port → Access → Type 0
+LeavesEngine port access = DoesNotWriteCmd port access × DoesNotWrite (Px port Sctl) access
+
+-- the access clears no bit that tells of the port's trouble
+abbrev pub ClearsNoError : Port → Access → Type 0
+ClearsNoError port (Writing r v) = ClearsNoTrouble port r v
+ClearsNoError port access = Unit {0}
+
+-- The driver's own stores lie in its frames, and so does what it loads. Registers are left to the rules of the adapter.
+abbrev pub IsDriversOwn : Access → Type 0
+IsDriversOwn (Reading r v) = Unit {0}
+IsDriversOwn (Writing r v) = Unit {0}
+IsDriversOwn (Loading at bytes) = at + length bytes ≤ DRIVER_BYTES
+IsDriversOwn (Storing at bytes) = at + length bytes ≤ DRIVER_BYTES
+
+-- of ports' registers it uses those of such ports alone
+abbrev pub IsOfPorts : (Port → Type 0) → Access → Type 0
+IsOfPorts Such (Reading (Px port r) v) = Such port
+IsOfPorts Such (Writing (Px port r) v) = Such port
+IsOfPorts Such access = Unit {0}
+
+-- An access that serves such ports: it doesn't write GHC either, so it neither resets the adapter nor switches it off.
+abbrev pub IsAccessForPorts : (Port → Type 0) → Access → Type 0
+IsAccessForPorts Such access = IsDriversOwn access × DoesNotWrite Ghc access × IsOfPorts Such access
+
+-- ---- what the list shows
+
+-- PxCI was read, and right after it PxSACT, at a moment when PxCMD hadn't been written: what both show is of commands
+-- that were not given up.
+pub record ReadsCiAndSact (port : Port) (ci sact : ℕ) (accesses : List Access) : Type 0 where
+  pub before : List Access
+  pub later : List Access
+  pub accesses_are_split : accesses ≡ before ++ Reading (Px port Ci) ci ∷ Reading (Px port Sact) sact ∷ later
+  pub cmd_is_unwritten_before : All (DoesNotWriteCmd port) before
+
+-- The port's link was reset by COMRESET: DET of PxSCTL was set to one, and then to zero, and PxSCTL wasn't written
+-- again (AHCI 1.3.1, 10.4.2).
+pub record ResetsLink (port : Port) (accesses : List Access) : Type 0 where
+  pub before : List Access
+  pub between : List Access
+  pub later : List Access
+  pub sending : ℕ
+  pub ending : ℕ
+  pub accesses_are_split : accesses ≡ before
+      ++ (Writing (Px port Sctl) sending ∷ (between ++ (Writing (Px port Sctl) ending ∷ later)))
+  pub sends_comreset : sending % 16 ≡ 1
+  pub ends_comreset : ending % 16 ≡ 0
+  pub sctl_is_unwritten_between : All (DoesNotWrite (Px port Sctl)) between
+  pub sctl_is_unwritten_later : All (DoesNotWrite (Px port Sctl)) later

@@ -1,0 +1,52 @@
+-- What stands behind what is told of a request in a run (this project's own).
+use Rattle.std.specs.Prelude.{◌≡◌, ◌⊎◌, ℕ, ◌<◌, ◌≤◌, ◌==◌, Bool, true, false, List, [], ◌∷◌, ◌++◌, count_by, Contains, Ok}
+use Rattle.ata_types.specs.declared.request.RequestId.{RequestId}
+use Rattle.ata_types.specs.declared.request.Op.TheVariants.{Read}
+use Rattle.ata_types.specs.declared.request.Outcome.TheVariants as outcome
+use Rattle.block_machine.specs.State.{Accepted, Pending, Machine, sector_of}
+use Rattle.block_machine.specs.Steps.{Step, WaitAgain, Answer}
+use Rattle.block_machine.specs.Expected.{HasTouchedSinceIssue, HasEndedSinceIssue, HoldsExpected}
+use Rattle.block_machine.specs.Confinement.{WasAccepted}
+use Rattle.block_machine.specs.Events.{CallRecord, AbstractState, Submit, Submitted, IsIssuedIn, issues_id, abstract_after_all, steps_of}
+
+-- the call is a submit that asked for the request, and was told its id
+abbrev pub AsksFor : {D : Type 0} → Accepted → CallRecord D → Type 0
+AsksFor r event = (event.ask ≡ Submit r.asked) × (event.said ≡ Submitted (Ok r.id))
+
+-- a call of the run is
+abbrev pub WasAsked : {D : Type 0} → Accepted → List (CallRecord D) → Type 0
+WasAsked r [] = ⊥
+WasAsked r (event ∷ past) = AsksFor r event ⊎ WasAsked r past
+
+-- the step has the request of this id wait again
+abbrev pub waits_again : RequestId → Step → Bool
+waits_again id (WaitAgain e) = e.request.id.0 == id.0
+waits_again id _ = false
+
+-- In these steps the request was accepted and issued; and since its last issue each of its sectors was touched, and it
+-- was ended.
+pub record WasServed (start : Machine) (steps : List Step) (r : Accepted) : Type 0 where
+  pub accepted : WasAccepted start steps r
+  pub issued : 1 ≤ count_by (issues_id r.id) steps
+  pub touched : (i : ℕ) → i < r.asked.count → HasTouchedSinceIssue r (sector_of r i) steps
+  pub ended : HasEndedSinceIssue r steps
+
+-- A call of a run answers the request Ok, which is as far as this then. Before that it was served; and a read has, at
+-- the call's end, what is left.
+pub record CallAnswersOk {D : Type 0} (first : AbstractState) (past : List (CallRecord D)) (event : CallRecord D)
+    (e : Pending) : Type 0 where
+  pub late : List Step
+  pub early : List Step
+  pub answered : event.steps ≡ late ++ Answer e outcome.Ok ∷ early
+  pub served : WasServed first.machine (early ++ steps_of past) e.request
+  pub holds : e.request.asked.op ≡ Read
+      → HoldsExpected first.machine (early ++ steps_of past) (abstract_after_all first
+      (event ∷ past)).machine.memory e.request
+
+-- An unanswered request was there before these steps; and where it is issued, it was issued then, or these steps issue
+-- it.
+pub record WasUnansweredBefore (old : Machine) (steps : List Step) (e : Pending) : Type 0 where
+  pub before : Pending
+  pub is_in_book : Contains old.book before
+  pub same : before.request ≡ e.request
+  pub issued : e.issued ≡ true → IsIssuedIn e.request.id steps ⊎ (before.issued ≡ true)

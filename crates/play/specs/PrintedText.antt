@@ -1,0 +1,74 @@
+-- What is printed of a call: what the tape gained, and what the call said (this project's own).
+use Rattle.std.specs.Prelude.{ℕ, Bool, true, false, List, [], ◌∷◌, ◌++◌, drop, Ok, Err}
+use Rattle.std.specs.Borrow.{Bor}
+use Rattle.std.specs.List.{flat_map}
+use Rattle.arrayvec.specs.ArrayVec.{ArrayVec}
+use Rattle.ata_types.specs.declared.call.CallResult.{CallResult}
+use Rattle.ata_types.specs.declared.call.CallResult.TheVariants as said
+use Rattle.ata_types.specs.declared.refusal.Refusal.TheVariants as refusal
+use Rattle.ata_types.specs.declared.refusal.Rule.TheVariants.{NoGrant}
+use Rattle.ata_types.specs.declared.request.Reply.{Reply}
+use Rattle.adapter.specs.declared.command.Operation.{Operation}
+use Rattle.adapter.specs.declared.command.Operation.TheVariants.{Flush}
+use Rattle.adapter.specs.declared.tape.Done.{Done}
+use Rattle.adapter.specs.declared.tape.Entry.{Entry}
+use Rattle.adapter.specs.declared.tape.Entry.TheVariants as entry
+use Rattle.script.specs.Answer.{answer_line}
+use Rattle.script.specs.declared.answer.Answer.TheVariants as answer
+
+-- a value as an answer refers to it; no line tells where it lies
+abbrev pub as_reference : {X : Type 0} → X → Bor X
+as_reference x = record { ref_ptr = (0, 0); now = x }
+
+-- a line for each reply, or one that there is none
+abbrev pub replies_text : List Reply → List ℕ
+replies_text [] = answer_line answer.Quiet
+replies_text (reply ∷ replies) = flat_map (λ r. answer_line (answer.Replied r)) (reply ∷ replies)
+
+-- that the call is done, and a line for each reply
+abbrev pub done_text : List Reply → List ℕ
+done_text replies = answer_line answer.Done ++ flat_map (λ r. answer_line (answer.Replied r)) replies
+
+-- what a call said
+abbrev pub said_text : CallResult (ArrayVec Reply) → List ℕ
+said_text (said.Submitted (Ok id)) = answer_line (answer.Accepted id)
+said_text (said.Submitted (Err refusal)) = answer_line (answer.Refused refusal)
+said_text (said.Stored (Ok done)) = answer_line answer.Stored
+said_text (said.Stored (Err fault)) = answer_line (answer.Barred fault)
+said_text (said.Loaded (Ok bytes)) = answer_line (answer.Bytes (as_reference bytes.items))
+said_text (said.Loaded (Err fault)) = answer_line (answer.Barred fault)
+said_text (said.Served replies) = replies_text replies.items
+said_text (said.WasReset (Ok replies)) = done_text replies.items
+said_text (said.WasReset (Err stuck)) = answer_line answer.Stuck
+said_text (said.WasRevoked (Ok replies)) = done_text replies.items
+said_text (said.WasRevoked (Err none)) = answer_line (answer.Refused (refusal.Rule NoGrant))
+said_text (said.State state) = answer_line (answer.State state)
+said_text (said.Stepped done) = answer_line (answer.Stepped done)
+
+-- a flush that has ended has a line, and no other command has
+abbrev pub end_text : Operation → Done → List ℕ
+end_text Flush done = answer_line (answer.Flushed done)
+end_text _ done = []
+
+-- a move, a clear and the end of a flush have a line; nothing else on a tape has one
+abbrev pub entry_text : Entry → List ℕ
+entry_text (entry.Move moved) = answer_line (answer.Moved (as_reference moved))
+entry_text (entry.Clear cleared) = answer_line (answer.Cleared cleared)
+entry_text (entry.Done done) = end_text done.operation done
+entry_text (entry.Fault fault) = []
+entry_text (entry.Fatal port) = []
+entry_text (entry.Unplug port) = []
+entry_text (entry.Plug port name) = []
+
+abbrev pub entries_text : List Entry → List ℕ
+entries_text entries = flat_map entry_text entries
+
+-- with a trace, what a tape has gained past so many entries
+abbrev pub trace_text : Bool → ℕ → List Entry → List ℕ
+trace_text true shown tape = entries_text (drop shown tape)
+trace_text false shown tape = []
+
+-- what is printed of a call: with a trace, what the tape has gained past the entries that were shown before, and then
+-- what the call said
+abbrev pub call_text : Bool → ℕ → List Entry → CallResult (ArrayVec Reply) → List ℕ
+call_text trace shown tape one = trace_text trace shown tape ++ said_text one

@@ -1,0 +1,164 @@
+// What is due on a port is issued.
+ghost use Rattle.std.specs.Prelude.{◌≡◌, ◌<◌, ◌≤◌, ◌/◌, ◌%◌, [], ◌∷◌, length};
+ghost use Rattle.block_machine.specs.DueRequests.{IsDue};
+ghost use Rattle.port_driver.specs.Issuing.{IssuesWhatIsDue, MayIssueDue};
+ghost use Rattle.port_driver.specs.LentSlots.{HasFoundPort, FitsSlot, with_port_slots};
+ghost use Rattle.commands.specs.Issuing.{IsIssued, MayIssueTask};
+ghost use Rattle.request_queue.specs.BookEntries.{BookEntry, as_unanswered, unanswered_of, due_ids};
+ghost use Rattle.server_history.specs.IssuingAndAnswering.{IssuesTogether};
+ghost use Rattle.server_history.specs.ServerState.{ServerState};
+ghost use Rattle.std.specs.List.{Contains};
+ghost use Rattle.adapter.specs.AccessBounds.{MakesAtMost};
+ghost use Rattle.commands.specs.Costs.{ISSUE_ACCESSES};
+
+use crate::served_port::ServedPort;
+use adapter::Adapter;
+use ata_types::{Frame, Op, Port, RequestId, Slot};
+use block_machine::is_plain;
+use block_machine::laws::law_due_in_turn;
+use commands::laws::{law_batch_masks_grow, law_batches_grow};
+use commands::{Task, issue, issue_all, issue_flush, issue_trim, store_transfer};
+use hba_regs::with_bit;
+use host_boot::ProbeResult;
+use request_queue::laws::{
+    law_an_id_is_one_request, law_operations_change_what_is_due, law_the_book_stays_in_order,
+};
+use request_queue::{Book, DueIds};
+use server_history::laws::{
+    law_a_due_request_may_issue, law_a_port_goes_on_after_its_errors, law_due_requests_get_slots,
+};
+
+/// Issues a task in a slot that it may go in: the slot's command then says the task.
+fn issue_task<A: Adapter>(adapter: &mut A, port: Port, slot: Slot, task: &Task, frames: &[Frame])
+    requires may { MayIssueTask port slot.0 (A.device adapter.old) }
+    requires small { slot.0 < 32 }
+    requires usable { slot.0 ≤ (A.device adapter.old).cap / 256 % 32 }
+    requires fits { FitsSlot task.now frames.now slot.0 }
+    ensures issued { IsIssued port slot.0 task.now frames.now (A.device adapter.old) (A.device adapter.new) }
+    ensures cost { MakesAtMost ISSUE_ACCESSES (A.access_count adapter.old) (A.access_count adapter.new) }
+{
+    match task.op {
+        Op::Read => issue(adapter, port, slot, task, frames),
+        Op::Write => issue(adapter, port, slot, task, frames),
+        Op::Trim => issue_trim(adapter, port, &task.range),
+        Op::Flush => issue_flush(adapter, port),
+    }
+}
+
+impl ServedPort {
+    /// Issues a due request of the port, which is ready, in the lowest free slot.
+    fn issue_one<A: Adapter>(&mut self, adapter: &mut A, book: &mut Book, port: Port, id: RequestId)
+        requires may { MayIssueDue A.device port self.old adapter.old book.old }
+        requires due { (request : BookEntry) × Contains book.old request × (request.entry.id ≡ id)
+            × (request.entry.port ≡ port) × IsDue self.old.mode (unanswered_of book.old) (as_unanswered request.entry) }
+        ensures issues { (s : ServerState)
+            → HasFoundPort s (A.device adapter.old) book.old self.old.slots port self.old.mode self.old.found
+            → IssuesTogether port (id ∷ []) s (with_port_slots s (A.device adapter.new) book.new self.new.slots port) }
+        ensures rest { self.new ≡ record self.old { slots = self.new.slots } }
+        ensures cost { MakesAtMost ISSUE_ACCESSES (A.access_count adapter.old) (A.access_count adapter.new) }
+    {
+        law_a_due_request_may_issue();
+        law_an_id_is_one_request();
+        let (entry, loan) = book.entry(id);
+        let task = Task {
+            op: entry.op,
+            range: entry.range,
+            queued: !is_plain(self.mode, entry.op),
+        };
+        let Some(slot) = self.slots.take(id, task.queued) else {
+            unreachable!()
+        };
+        issue_task(adapter, port, slot, &task, loan.frames());
+        book.issue(id);
+    }
+
+    /// Issues the due requests of the port, which is ready, in order of acceptance. No list of them is made where the
+    /// book has no request, or one alone.
+    pub fn issue_due<A: Adapter>(&mut self, adapter: &mut A, book: &mut Book, port: Port)
+        requires { MayIssueDue A.device port self.old adapter.old book.old }
+        ensures { IssuesWhatIsDue A.device A.access_count port self.old self.new adapter.old adapter.new
+            book.old book.new }
+    {
+        law_due_in_turn();
+        law_the_book_stays_in_order();
+        if book.is_empty() {
+            return;
+        }
+        match book.lone_due(self.mode, port) {
+            Some(id) => self.issue_one(adapter, book, port, id),
+            None => self.issue_listed(adapter, book, port),
+        }
+    }
+
+    /// The same, by a list of what is due. Room for it is cleared on entry, so that it stands in a function of its own.
+    #[inline(never)]
+    fn issue_listed<A: Adapter>(&mut self, adapter: &mut A, book: &mut Book, port: Port)
+        requires { MayIssueDue A.device port self.old adapter.old book.old }
+        ensures { IssuesWhatIsDue A.device A.access_count port self.old self.new adapter.old adapter.new
+            book.old book.new }
+    {
+        law_due_in_turn();
+        law_the_book_stays_in_order();
+        let mut due = DueIds::new();
+        book.issuable(self.mode, port, &mut due);
+        match due.len() {
+            0 => {}
+            1 => self.issue_one(adapter, book, port, due[0]),
+            _ => self.issue_batch(adapter, book, port, &due),
+        }
+    }
+
+    /// Issues several due requests of the port together, which are all queued: each is put in the lowest free slot and
+    /// stored there, and then one write each of PxSACT and PxCI has the bits of all.
+    fn issue_batch<A: Adapter>(
+        &mut self,
+        adapter: &mut A,
+        book: &mut Book,
+        port: Port,
+        due: &DueIds,
+    )
+        requires may { MayIssueDue A.device port self.old adapter.old book.old }
+        requires due { due.now.items ≡ due_ids self.old.mode port (unanswered_of book.old) }
+        requires several { 1 < length due.now.items }
+        ensures { IssuesWhatIsDue A.device A.access_count port self.old self.new adapter.old adapter.new
+            book.old book.new }
+    {
+        law_an_id_is_one_request();
+        law_batch_masks_grow();
+        law_batches_grow();
+        law_due_in_turn();
+        law_due_requests_get_slots();
+        law_operations_change_what_is_due();
+        law_the_book_stays_in_order();
+        let mut mask = 0;
+        for place in 0..due.len() {
+            let id = due[place];
+            let (entry, loan) = book.entry(id);
+            let task = Task {
+                op: entry.op,
+                range: entry.range,
+                queued: true,
+            };
+            let Some(slot) = self.slots.take(id, true) else {
+                unreachable!()
+            };
+            store_transfer(adapter, port, slot, &task, loan.frames());
+            book.issue(id);
+            mask = with_bit(mask, u32::from(slot.0));
+        }
+        issue_all(adapter, port, mask);
+    }
+
+    /// Issues the due requests of the port, in order of acceptance, if it is ready. On one that isn't none is due.
+    pub fn issue_where_ready<A: Adapter>(&mut self, adapter: &mut A, book: &mut Book, port: Port)
+        requires lends { (s : ServerState)
+            × HasFoundPort s (A.device adapter.old) book.old self.old.slots port self.old.mode self.old.found }
+        ensures { IssuesWhatIsDue A.device A.access_count port self.old self.new adapter.old adapter.new
+            book.old book.new }
+    {
+        law_a_port_goes_on_after_its_errors();
+        if let ProbeResult::Ready(_) = self.found {
+            self.issue_due(adapter, book, port);
+        }
+    }
+}

@@ -1,0 +1,67 @@
+// Loans of a dead port that are kept when their requests are answered, until a reset ends, or the server: the device
+// may still move their sectors.
+ghost use Rattle.std.specs.Prelude.{◌≡◌, ◌<◌, ◌++◌, ◌∷◌, [], All, AllPairs, Contains, IfOk, length};
+ghost use Rattle.server_history.specs.KeptLoans.{TakesBack};
+ghost use Rattle.server_history.specs.ServerState.{DifferInRequest, IsLentOut};
+
+use ata_types::SLOTS;
+use dma_frames::{FrameTable, Loan};
+use server_history::laws::law_loans_end_in_turn;
+use std::alloc::{AllocError, Global};
+use std::marker::Model;
+
+/// The loans of one port that are kept, 32 at most, in the order in which they came. They can't be dropped:
+/// `give_back` ends them, and `destroy` the list.
+pub struct Quarantine {
+    loans: Vec<Loan>,
+}
+
+impl Model for Quarantine {
+    ghost use Rattle.std.specs.Prelude.{List, ◌≤◌, vec_capacity};
+    ghost use Rattle.dma_frames.specs.Loan.{Lending};
+
+    ghost Value = { List Lending };
+
+    ghost view = { λ k. k.loans.items };
+
+    ghost invariant = { λ k. 32 ≤ vec_capacity k.loans };
+}
+
+impl Quarantine {
+    /// No loans, with room for 32. Nothing else takes memory.
+    pub fn new(alloc: Global) -> Result<Self, AllocError>
+        ensures { IfOk result (λ kept. kept ≡ []) }
+    {
+        let loans = Vec::with_capacity(alloc, SLOTS)?;
+        Ok(Quarantine { loans })
+    }
+
+    /// Keeps one more loan.
+    pub(crate) fn keep(&mut self, loan: Loan)
+        requires { length self.old < 32 }
+        ensures { self.new ≡ self.old ++ loan ∷ [] }
+    {
+        self.loans.push_reserved(loan);
+    }
+
+    /// Ends the loans: their frames are lent to none.
+    pub fn give_back(&mut self, table: &mut FrameTable)
+        requires lent { All (IsLentOut table.old) self.old }
+        requires apart { AllPairs DifferInRequest self.old }
+        ensures empty { self.new ≡ [] }
+        ensures back { TakesBack table.old table.new (Contains self.old) }
+    {
+        law_loans_end_in_turn();
+        while let Some(loan) = self.loans.pop() {
+            table.give_back(loan);
+        }
+    }
+
+    /// Ends what has no loans.
+    pub fn destroy(self)
+        requires { self ≡ [] }
+    {
+        let Quarantine { loans } = self;
+        loans.destroy_empty();
+    }
+}

@@ -1,0 +1,134 @@
+-- Fragments of a driver's accesses, and what they are to the block machine (this project's own).
+use Rattle.std.specs.Prelude.{ℕ, true, false, ◌≡◌, ◌≢◌, ◌++◌, List, All}
+use Rattle.ata_types.specs.declared.Port.{Port}
+use Rattle.ata_types.specs.declared.request.RequestId.{RequestId}
+use Rattle.hba_regs.specs.Bits.{bit}
+use Rattle.hba_regs.specs.declared.reg.PortReg.{PortReg}
+use Rattle.hba_regs.specs.declared.reg.PortReg.TheVariants.{Sact, Ci}
+use Rattle.hba_regs.specs.declared.reg.Reg.{Reg}
+use Rattle.hba_regs.specs.declared.reg.Reg.TheVariants.{Is, Px}
+use Rattle.adapter.specs.Access.{Access, DoesAll}
+use Rattle.adapter.specs.Access.Access.{Reading, Writing}
+use Rattle.adapter.specs.Device.{DevicePort, Device}
+use Rattle.adapter.specs.KeptBySteps.{KeepsPort, KeepsControls}
+use Rattle.adapter.specs.declared.command.Operation.{Operation}
+use Rattle.adapter.specs.declared.tape.Entry.{Entry}
+use Rattle.block_machine.specs.Events.{AllByDevice}
+use Rattle.block_machine.specs.Histories.{IsReachable}
+use Rattle.block_machine.specs.State.{Machine}
+use Rattle.refinement.specs.Acts.{Act, ActsReachWith, act_steps}
+use Rattle.refinement.specs.Driver.{DriverState, DriverRelation}
+use Rattle.refinement.specs.Links.{DoesNotWrite}
+use Rattle.refinement.specs.Slots.{SlotStates, IsMove, IsOver}
+
+-- what the driver knows: the use of each slot, the requests that it took from their slots, and the device
+abbrev pub driver_state_of : SlotStates → (ℕ → List RequestId) → Device → DriverState
+driver_state_of uses parked d = record { uses = uses; parked = parked; device = d }
+
+-- Some machine that a history leads to agrees with a driver that uses the slots so.
+pub record IsRelated (uses : SlotStates) (d : Device) : Type 0 where
+  pub machine : Machine
+  pub parked : ℕ → List RequestId
+  pub reached : IsReachable machine
+  pub driver_relation : DriverRelation machine (driver_state_of uses parked d)
+
+-- so it is with some use of the slots that fits
+abbrev pub RelatesWith : (SlotStates → Type 0) → Device → Type 0
+RelatesWith Fits d = (uses : SlotStates) × Fits uses × IsRelated uses d
+
+-- the slots may be used in any way
+abbrev pub AnyUse : SlotStates → Type 0
+AnyUse uses = Unit {0}
+
+-- they are used in this way
+abbrev pub SameUses : SlotStates → SlotStates → Type 0
+SameUses uses other = other ≡ uses
+
+-- ---- accesses
+
+-- Accesses of this kind, by the driver, led from the old device to the new.
+pub record IsDrivenBy (May : Access → Type 0) (old new : Device) : Type 0 where
+  pub accesses : List Access
+  pub all_are_done : DoesAll accesses old new
+  pub accesses_are_of_kind : All May accesses
+
+-- any access
+abbrev pub AnyAccess : Access → Type 0
+AnyAccess access = Unit {0}
+
+-- it reads a register of the port, or writes one of these of its registers
+abbrev pub IsPortAccessWriting : (PortReg → Type 0) → Port → Access → Type 0
+IsPortAccessWriting Written port (Reading (Px at r) v) = at ≡ port
+IsPortAccessWriting Written port (Writing (Px at r) v) = (at ≡ port) × Written r
+IsPortAccessWriting Written port access = ⊥
+
+-- the value has the port's bit alone
+pub record IsSoleBit (port v : ℕ) : Type 0 where
+  pub bit_is_set : bit v port ≡ true
+  pub no_other_bit_is_set : (k : ℕ) → k ≢ port → bit v k ≡ false
+
+-- It reads or writes a register of the port, writes IS with the port's bit alone, reads a register of the adapter's
+-- own, or loads or stores bytes: it touches no register of another port, nor another port's bit of IS.
+abbrev pub SparesOtherPorts : Port → Access → Type 0
+SparesOtherPorts port (Reading (Px at r) v) = at ≡ port
+SparesOtherPorts port (Writing (Px at r) v) = at ≡ port
+SparesOtherPorts port (Writing Is v) = IsSoleBit port.0 v
+SparesOtherPorts port (Writing r v) = ⊥
+SparesOtherPorts port access = Unit {0}
+
+-- no access of this kind writes the register
+abbrev pub NoneWrites : (Access → Type 0) → Reg → Type 0
+NoneWrites May r = (access : Access) → May access → DoesNotWrite r access
+
+-- the tape has gained no move of the port's by a command of this operation
+abbrev pub GainsNoMove : ℕ → Operation → Device → Device → Type 0
+GainsNoMove port o old new = (gained : List Entry) × (new.tape ≡ old.tape ++ gained)
+    × All (λ e. IsMove port o e → ⊥) gained
+
+-- Acts in which the device alone makes steps. Where no access of the kind writes PxCI or PxSACT of a port, its slots
+-- are used after each act as before the first.
+pub record OnlyDeviceActs (May : Access → Type 0) (uses : SlotStates) (acts : List Act) : Type 0 where
+  pub only : AllByDevice (act_steps acts)
+  pub kept : (port : Port) → NoneWrites May (Px port Ci) → NoneWrites May (Px port Sact)
+      → All (λ act. act.later.uses port.0 ≡ uses port.0) acts
+
+-- Accesses of this kind led from the old device to the new. And where the uses of slots fit, acts with these accesses
+-- lead to such uses of the slots, with what is parked as it was; and the device alone makes steps meanwhile.
+pub record IsSimulatedChangingUses (May : Access → Type 0) (Fits : SlotStates → Type 0) (next : SlotStates → SlotStates)
+    (old new : Device) : Type 0 where
+  pub is_driven : IsDrivenBy May old new
+  pub acts_reach : ActsReachWith is_driven.accesses (λ s m. Fits s.uses) (λ s. record s { uses = next s.uses })
+      (λ s m. OnlyDeviceActs May s.uses) old new
+
+-- the same, where each slot goes on as it is used
+abbrev pub IsSimulated : (Access → Type 0) → (SlotStates → Type 0) → Device → Device → Type 0
+IsSimulated May Fits old new = IsSimulatedChangingUses May Fits (λ uses. uses) old new
+
+-- What was followed, and so much is told of the list of its accesses: that list to which the machine's steps belong.
+pub record IsSimulatedAlongChangingUses (Tells : List Access → Type 0) (May : Access → Type 0) (Fits : SlotStates
+    → Type 0)
+    (next : SlotStates → SlotStates)
+    (old new : Device) : Type 0 where
+  pub followed : IsSimulatedChangingUses May Fits next old new
+  pub tells : Tells followed.is_driven.accesses
+
+-- the same, where each slot goes on as it is used
+abbrev pub IsSimulatedAlong : (List Access → Type 0) → (Access → Type 0) → (SlotStates → Type 0) → Device → Device
+    → Type 0
+IsSimulatedAlong Tells May Fits old new = IsSimulatedAlongChangingUses Tells May Fits (λ uses. uses) old new
+
+-- ---- what they leave
+
+-- the tape has only gained
+abbrev pub TapeGrows : Device → Device → Type 0
+TapeGrows old new = (gained : List Entry) × (new.tape ≡ old.tape ++ gained)
+
+-- no slot of the port has a command, neither issued nor taken
+abbrev pub HasNoCommand : DevicePort → Type 0
+HasNoCommand p = (slot : ℕ) → IsOver p slot
+
+-- A port that the driver doesn't touch: what the device's steps leave of it, and all that readings noted of it.
+pub record LeavesPort (old new : DevicePort) : Type 0 where
+  pub keeps : KeepsPort old new
+  pub controls : KeepsControls old new
+  pub notes : new.notes ≡ old.notes

@@ -1,0 +1,26 @@
+-- The machine follows the device (this project's own).
+use Rattle.std.specs.Prelude.{ℕ, true, ◌≡◌, ◌++◌, List}
+use Rattle.adapter.specs.Device as device
+use Rattle.adapter.specs.Device.{Device}
+use Rattle.adapter.specs.declared.tape.Entry.{Entry}
+use Rattle.block_machine.specs.State.{Machine}
+use Rattle.block_machine.specs.Steps.{Step}
+use Rattle.block_machine.specs.Expected.{after, AllStepsFaithful}
+use Rattle.block_machine.specs.Events.{AllEnabled}
+use Rattle.refinement.specs.Slots.{SlotStates}
+use Rattle.refinement.specs.Relation.{StateRelation}
+use Rattle.refinement.specs.Tape.{TapeTells, PutsInDisks}
+
+-- The entries that the tape gained are steps of the machine, each of which may come; reads moved what their disks hold,
+-- where these tell it; the disks that were put in are the device's; and after the steps the two agree.
+pub record SimulatesSteps (uses : SlotStates) (m : Machine) (old new : Device) : Type 0 where
+  pub steps : List Step
+  pub telling : new.telling ≡ old.telling
+  pub may : AllEnabled m steps
+  pub steps_are_faithful : old.telling ≡ true → AllStepsFaithful m steps
+  pub new_entries : List Entry
+  pub tape_is : new.tape ≡ old.tape ++ new_entries
+  pub tape_tells_steps : TapeTells m new_entries steps
+  pub plugged : (port : ℕ) → (disks : List device.Disk) × ((new.port port).plugged ≡ (old.port port).plugged ++ disks)
+      × PutsInDisks port disks steps
+  pub agrees : StateRelation uses (after m steps) new

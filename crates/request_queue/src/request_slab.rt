@@ -1,0 +1,174 @@
+// Where the requests stand: in a slab, their loans beside it at their keys, and the keys in order of acceptance.
+ghost use Rattle.std.specs.Prelude.{◌≡◌, ◌<◌, ◌≤◌, ◌++◌, ◌∷◌, [], length, map, replicate, remove, slice_get, slice_set, All, IfOk, IfSome, None, Some};
+ghost use Rattle.block_machine.specs.Rules.{HasNoFault};
+ghost use Rattle.dma_frames.specs.FrameTables.{LendsOnly, lent_to, owner_of};
+ghost use Rattle.request_queue.specs.BookEntries.{BookEntry, HasItsFrames, as_unanswered, unanswered_of};
+
+use crate::PendingRequest;
+use ata_types::{Frame, MOST_REQUEST_FRAMES, MOST_UNANSWERED};
+use block_machine::Unanswered;
+use dma_frames::{FrameTable, Loan, LoanPlace};
+use slab::Slab;
+use std::alloc::{AllocError, Global};
+use std::marker::Model;
+
+/// Requests with their loans, each at its place.
+pub struct RequestSlab {
+    requests: Slab<PendingRequest>,
+    loans: Vec<LoanPlace>,
+    order: Vec<usize>,
+}
+
+impl Model for RequestSlab {
+    ghost use Rattle.std.specs.Prelude.{List, ◌≤◌, length, vec_capacity};
+    ghost use Rattle.ata_types.specs.declared.limits.TheConstants.{MOST_UNANSWERED};
+    ghost use Rattle.request_queue.specs.BookEntries.{BookEntry};
+    ghost use Rattle.request_queue.specs.RequestSlab.{entries, SlabIsSound};
+
+    ghost Value = { List BookEntry };
+
+    ghost view = { λ s. entries s.requests s.loans.items s.order.items };
+
+    ghost invariant = { λ s. SlabIsSound s.requests s.loans.items s.order.items
+        × (MOST_UNANSWERED ≤ vec_capacity s.order) };
+}
+
+impl RequestSlab {
+    /// A store of no requests, with room for 128. Nothing else takes memory.
+    pub fn new(alloc: Global) -> Result<Self, AllocError>
+        ensures { IfOk result (λ store. store ≡ []) }
+    {
+        let requests = Slab::with_capacity(alloc, MOST_UNANSWERED)?;
+        let order = Vec::with_capacity(alloc, MOST_UNANSWERED)?;
+        let loans = empty_loans(alloc, requests.capacity())?;
+        Ok(RequestSlab {
+            requests,
+            loans,
+            order,
+        })
+    }
+
+    /// How many requests there are.
+    pub fn len(&self) -> usize
+        ensures { result ≡ length self.now }
+    {
+        self.order.len()
+    }
+
+    /// The request at this place.
+    pub fn request(&self, place: usize) -> PendingRequest
+        requires { place < length self.now }
+        ensures { slice_get (map (λ e. e.entry) self.now) place ≡ Some result }
+    {
+        self.requests[self.order[place]]
+    }
+
+    /// The request at this place, and what is lent to it.
+    pub fn entry(&self, place: usize) -> (&PendingRequest, &Loan)
+        requires { place < length self.now }
+        ensures entry { slice_get self.now place
+            ≡ Some (record { entry = result.0.now; frames = result.1.now.frames }) }
+        ensures id { result.1.now.request ≡ result.0.now.id }
+    {
+        let key = self.order[place];
+        (&self.requests[key], self.loans[key].loan())
+    }
+
+    /// Puts a request last, and lends it these frames of the table. The loan begins in its place, so it isn't moved.
+    pub fn push(&mut self, request: PendingRequest, frames: &[Frame], table: &mut FrameTable)
+        requires room { length self.old < MOST_UNANSWERED }
+        requires frames { HasNoFault (owner_of table.old) (lent_to table.old) request.client frames.now
+            × (length frames.now ≤ MOST_REQUEST_FRAMES) }
+        ensures last { self.new ≡ self.old ++ record { entry = request; frames = frames.now } ∷ [] }
+        ensures lent { LendsOnly table.old table.new frames.now (Some request.id) }
+    {
+        let key = self.requests.insert_reserved(request);
+        table.lend_at(request.client, frames, request.id, &mut self.loans[key]);
+        self.order.push_reserved(key);
+    }
+
+    /// Takes out the request at this place, with its loan. It stands in its callers' code, as `Book::answer` does.
+    #[inline(always)]
+    pub fn remove(&mut self, place: usize) -> (PendingRequest, Loan)
+        requires { place < length self.old }
+        ensures entry { slice_get self.old place ≡ Some (record { entry = result.0; frames = result.1.frames }) }
+        ensures id { result.1.request ≡ result.0.id }
+        ensures rest { self.new ≡ remove self.old place }
+    {
+        let key = self.order.remove(place);
+        let request = self.requests.remove(key);
+        (request, self.loans[key].take())
+    }
+
+    /// Takes out the request at this place, and gives back what was lent to it.
+    pub fn release(&mut self, place: usize, table: &mut FrameTable) -> PendingRequest
+        requires within { place < length self.old }
+        requires stands { All (HasItsFrames table.old) self.old }
+        ensures entry { (e : BookEntry) × (slice_get self.old place ≡ Some e) × (e.entry ≡ result)
+            × LendsOnly table.old table.new e.frames None }
+        ensures rest { self.new ≡ remove self.old place }
+    {
+        let freed = self.order.remove(place);
+        let request = self.requests.remove(freed);
+        table.give_back_at(&mut self.loans[freed]);
+        request
+    }
+
+    /// Puts another state of the same request in its place.
+    pub fn replace(&mut self, place: usize, request: PendingRequest)
+        requires within { place < length self.old }
+        requires same_id { IfSome (slice_get self.old place) (λ old. request.id ≡ old.entry.id) }
+        ensures { (e : BookEntry) × (slice_get self.old place ≡ Some e)
+            × (self.new ≡ slice_set self.old place (record e { entry = request })) }
+    {
+        let key = self.order[place];
+        self.requests[key] = request;
+    }
+
+    /// What of the request at this place says whether it is due.
+    pub fn unanswered(&self, place: usize) -> Unanswered
+        requires { place < length self.now }
+        ensures { slice_get (unanswered_of self.now) place ≡ Some result }
+    {
+        unanswered_of(self.request(place))
+    }
+
+    /// Ends the store, once it has no requests.
+    pub fn destroy(self)
+        requires { self ≡ [] }
+    {
+        let RequestSlab {
+            requests: _,
+            loans,
+            order: _,
+        } = self;
+        let mut loans = loans;
+        while let Some(slot) = loans.pop() {
+            slot.destroy();
+        }
+        loans.destroy_empty();
+    }
+}
+
+/// What of a request says whether it is due.
+pub fn unanswered_of(entry: PendingRequest) -> Unanswered
+    ensures { result ≡ as_unanswered entry }
+{
+    Unanswered {
+        id: entry.id,
+        port: entry.port,
+        op: entry.op,
+        range: entry.range,
+        issued: entry.issued,
+    }
+}
+
+fn empty_loans(alloc: Global, count: usize) -> Result<Vec<LoanPlace>, AllocError>
+    ensures { IfOk result (λ loans. loans.items ≡ replicate count None) }
+{
+    let mut loans = Vec::with_capacity(alloc, count)?;
+    for _ in 0..count {
+        loans.push_reserved(LoanPlace::empty());
+    }
+    Ok(loans)
+}

@@ -1,0 +1,96 @@
+-- The unanswered requests of a port that was stopped are resolved in the machine, too (this project's own).
+use Rattle.std.specs.Prelude.{ℕ, Bool, ◌≡◌, ◌≢◌, ◌++◌, true, false, List, [], ◌∷◌, All, AllPairs, Contains}
+use Rattle.ata_types.specs.declared.Port.{Port}
+use Rattle.ata_types.specs.declared.request.Frame.{Frame}
+use Rattle.ata_types.specs.declared.request.Outcome.{Outcome}
+use Rattle.ata_types.specs.declared.request.Reply.{Reply}
+use Rattle.ata_types.specs.declared.request.RequestId.{RequestId}
+use Rattle.adapter.specs.Device.{Device}
+use Rattle.refinement.specs.Driver.{HasNoSlot, IsBacked, DriverState, DriverRelation}
+use Rattle.block_machine.specs.Events.{AllEnabled, RepliesMatch}
+use Rattle.block_machine.specs.Histories.{IsReachable}
+use Rattle.block_machine.specs.Expected.{after}
+use Rattle.block_machine.specs.State.{Machine, Pending}
+use Rattle.block_machine.specs.Steps.{Step, WaitAgain, Answer}
+use Rattle.dma_frames.specs.Loan.{Lending}
+use Rattle.dma_frames.specs.FrameTables.{lent_to}
+use Rattle.request_queue.specs.BookEntries.{BookEntry, IsAccepted, IsEarlier, BookIsInOrder}
+use Rattle.request_queue.specs.Dispositions.{BookAndLoans, keeps_loan}
+use Rattle.request_queue.specs.BookRelation.{BookRelation, EntryRelation}
+use Rattle.request_queue.specs.declared.PendingRequest.{PendingRequest}
+use Rattle.request_queue.specs.declared.disposition.Disposition.{Disposition}
+use Rattle.request_queue.specs.declared.disposition.Disposition.TheVariants.{Complete, Requeue, Wait}
+use Rattle.server_history.specs.ServerState.{DifferInRequest, RevokedMarkAgrees}
+
+-- the step is the server's: a request of the port waits again, or is answered
+abbrev pub IsResolveStep : Port → Step → Type 0
+IsResolveStep port (WaitAgain e) = e.request.port ≡ port
+IsResolveStep port (Answer e outcome) = e.request.port ≡ port
+IsResolveStep port step = ⊥
+
+-- it ends with its frames lent still
+abbrev pub keeps_frames_lent : Disposition → PendingRequest → Bool
+keeps_frames_lent (Complete outcome) e = keeps_loan outcome e
+keeps_frames_lent _ e = false
+
+-- the loan of a request that the machine keeps
+abbrev pub loan_of : Pending → Lending
+loan_of e = record { frames = e.request.asked.frames.items; request = e.request.id }
+
+-- the loans of these, the last first
+abbrev pub loans_of : List Pending → List Lending
+loans_of [] = []
+loans_of (e ∷ rest) = loans_of rest ++ loan_of e ∷ []
+
+-- The machine has the book and the loans. These are requests of the port in the book, each with a mark that tells
+-- whether the machine has its grant; and no slot serves one of them whose loan isn't kept.
+pub record AreResolvable (port : Port) (disposition : PendingRequest
+    → Disposition) (requests : List BookEntry) (now : BookAndLoans)
+    (k : DriverState)
+    (m : Machine) : Type 0 where
+  pub reached : IsReachable m
+  pub driver_relation : DriverRelation m k
+  pub book : BookRelation now.book m.book
+  pub lent : (frame : Frame) → m.lent frame ≡ lent_to now.table frame
+  pub book_is_in_order : BookIsInOrder now.book
+  pub requests_are_accepted : All (IsAccepted now.table) now.book
+  pub here : (e : BookEntry) → Contains requests e → Contains now.book e × (e.entry.port ≡ port)
+  pub marked : (e : BookEntry) → Contains requests e → RevokedMarkAgrees m.rows e.entry
+  pub earlier : AllPairs IsEarlier requests
+  pub unserved : (e : BookEntry) → Contains requests e → keeps_frames_lent (disposition e.entry) e.entry ≡ false
+      → HasNoSlot k.uses e.entry.id
+
+-- the request is decided on, and its loan isn't kept
+abbrev pub IsDecidedAndReleased : (PendingRequest → Disposition) → BookEntry → Type 0
+IsDecidedAndReleased disposition e = (disposition e.entry ≢ Wait)
+    × (keeps_frames_lent (disposition e.entry) e.entry ≡ false)
+
+-- They are resolved by steps that decide on requests of the port, after which the machine has the book and the
+-- loans that are left. Those whose loans are kept are kept in the machine beside those that were, and each has one more
+-- loan. What is parked of the port was before, and is none of those that were let go.
+pub record AreResolvedInMachine (port : Port) (disposition : PendingRequest → Disposition) (requests : List BookEntry)
+    (replies : List Reply)
+    (old new : BookAndLoans) (k : DriverState) (m : Machine) : Type 0 where
+  pub steps : List Step
+  pub parked : ℕ → List RequestId
+  pub steps_are_enabled : AllEnabled m steps
+  pub own : All (IsResolveStep port) steps
+  pub backed : (d : Device) → IsBacked d d m steps
+  pub driver_relation : DriverRelation (after m steps) (record k { parked = parked })
+  pub others : (q : ℕ) → q ≢ port.0 → parked q ≡ k.parked q
+  pub still : (id : RequestId) → Contains (parked port.0) id → Contains (k.parked port.0) id
+      × ((e : BookEntry) → Contains requests e → IsDecidedAndReleased disposition e → e.entry.id ≢ id)
+  pub book : BookRelation new.book (after m steps).book
+  pub lent : (frame : Frame) → (after m steps).lent frame ≡ lent_to new.table frame
+  pub held : List Pending
+  pub kept : (after m steps).kept ≡ held ++ m.kept
+  pub loans : new.kept ≡ old.kept ++ loans_of held
+  pub two : AllPairs DifferInRequest (loans_of held)
+  pub whose : (e : Pending) → Contains held e → (request : BookEntry) × Contains requests request
+      × EntryRelation request e
+      × (keeps_frames_lent (disposition request.entry) request.entry ≡ true)
+  pub answered : (e : Pending) (outcome : Outcome) → Contains steps (Answer e outcome) → (request : BookEntry)
+      × Contains requests request × EntryRelation request e × (disposition request.entry ≡ Complete outcome)
+  pub again : (e : Pending) → Contains steps (WaitAgain e) → (request : BookEntry) × Contains requests request
+      × EntryRelation request e × (disposition request.entry ≡ Requeue)
+  pub replies_match : RepliesMatch steps replies

@@ -1,0 +1,150 @@
+-- Runs of an adapter with its driver: accesses that keep to the rules, and steps of the device (this project's own).
+use Rattle.std.specs.Prelude.{ℕ, Bool, true, false, ◌++◌, ◌≡◌, List, [], ◌∷◌, Some, length}
+use Rattle.adapter.specs.Access.{Access, Shows, noted, written}
+use Rattle.adapter.specs.Access.Access.{Reading, Writing, Loading, Storing}
+use Rattle.adapter.specs.Commands.{is_queued}
+use Rattle.adapter.specs.Device.{FetchedCommand, DevicePort, Device}
+use Rattle.adapter.specs.Device.Halt.{HaltedQueued, NotHalted}
+use Rattle.adapter.specs.FirstRead.{no_notes, empty_port}
+use Rattle.adapter.specs.Guarded.{IsGuarded, PassesTest}
+use Rattle.adapter.specs.Idle.{IsIdle, HoldsBytesAndTellsDisks}
+use Rattle.adapter.specs.Memory.{patched, bytes_at}
+use Rattle.adapter.specs.Rules.{InUse, IsUnowned, MayRead, MayWrite}
+use Rattle.adapter.specs.Steps.{DeviceTransition, Can, device_after, fault_entry}
+use Rattle.adapter.specs.declared.tape.Entry.{Entry}
+use Rattle.adapter.specs.Steps.DeviceTransition.{Fetch as Fetching, FetchFault as SenselessFetching, Move as Moving, Clear as Clearing, Done as Ending, Fault as Failing, Fatal as FailingFatally, Fall as Falling, FrFall as FallingSilent, LinkUp as Linking, Unplug as Unplugging, Plug as Plugging, ResetEnds as EndingReset, Scribble as Scribbling}
+
+-- an access of the driver, or a step of the device
+pub data AccessOrStep : Type 0 where
+  Made : Access → AccessOrStep
+  Came : DeviceTransition → AccessOrStep
+
+-- the access keeps to the rules in the state in which it is made, and what it gives is what is there
+abbrev pub IsAllowedEvent : Access → Device → Type 0
+IsAllowedEvent (Reading r v) d = MayRead r d × Shows r v d
+IsAllowedEvent (Writing r v) d = MayWrite r v d
+IsAllowedEvent (Loading at bytes) d = IsUnowned at (length bytes) d × (bytes ≡ bytes_at d.memory at (length bytes))
+IsAllowedEvent (Storing at bytes) d = IsUnowned at (length bytes) d
+
+abbrev pub after_access : Access → Device → Device
+after_access (Reading r v) d = noted r v d
+after_access (Writing r v) d = written r v d
+after_access (Loading at bytes) d = d
+after_access (Storing at bytes) d = record d { memory = patched d.memory at bytes }
+
+abbrev pub MayCome : AccessOrStep → Device → Type 0
+MayCome (Made access) d = IsAllowedEvent access d
+MayCome (Came step) d = Can step d
+
+abbrev pub after_event : AccessOrStep → Device → Device
+after_event (Made access) d = after_access access d
+after_event (Came step) d = device_after step d
+
+-- what events, the first of them first, lead to, and that each of them may come where it does
+abbrev pub device_after_events : List AccessOrStep → Device → Device
+device_after_events [] d = d
+device_after_events (event ∷ events) d = device_after_events events (after_event event d)
+
+abbrev pub AllMayCome : List AccessOrStep → Device → Type 0
+AllMayCome [] d = Unit {0}
+AllMayCome (event ∷ events) d = MayCome event d × AllMayCome events (after_event event d)
+
+-- A port as a reset of the adapter leaves it, with a disk in it or without: no link is due, nothing halts it, and
+-- nothing was programmed, set or read yet (AHCI 1.3.1, 10.4.3).
+pub record IsAsReset (p : DevicePort) : Type 0 where
+  pub bases : p.bases ≡ empty_port.bases
+  pub control : p.sctl_det ≡ 0
+  pub link : p.ssts_det ≡ 0
+  pub due : p.link_due ≡ false
+  pub fresh : p.fresh ≡ false
+  pub halt : p.halt ≡ NotHalted
+  pub broken : p.broken ≡ false
+  pub notes : p.notes ≡ no_notes
+
+-- An idle adapter that is switched off, handed over to its driver as after a reset, has come to this state.
+pub record IsReachableByRun (d : Device) : Type 0 where
+  pub initial_device : Device
+  pub starts_idle : IsIdle initial_device
+  pub is_off : initial_device.ae ≡ false
+  pub ports_are_as_reset : (port : ℕ) → IsAsReset (initial_device.port port)
+  pub is_sane : HoldsBytesAndTellsDisks initial_device
+  pub events : List AccessOrStep
+  pub events_may_come : AllMayCome events initial_device
+  pub device_is : d ≡ device_after_events events initial_device
+
+-- Its commands stand on bytes that no step of the device changes.
+pub record CommandsAreSafe (d : Device) : Type 0 where
+  pub tables : ℕ → Bool
+  pub kept : ℕ → Bool
+  pub guarded : IsGuarded (PassesTest tables) (PassesTest kept) d
+
+-- ---- the kinds of steps
+
+pub data TransitionKind : Type 0 where
+  Fetch FetchFault Move Clear Done Fault Fatal Fall FrFall LinkUp Unplug Plug ResetEnds Scribble : TransitionKind
+
+abbrev pub kind_of : DeviceTransition → TransitionKind
+kind_of (Fetching port slot meaning places) = Fetch
+kind_of (SenselessFetching port slot queued kept_bits) = FetchFault
+kind_of (Moving port slot t bytes) = Move
+kind_of (Clearing port slot t first count) = Clear
+kind_of (Ending port slot flag t) = Done
+kind_of (Failing port slot error kept_bits t) = Fault
+kind_of (FailingFatally port place) = Fatal
+kind_of (Falling port) = Fall
+kind_of (FallingSilent port) = FrFall
+kind_of (Linking port sig n) = LinkUp
+kind_of (Unplugging port) = Unplug
+kind_of (Plugging port disk) = Plug
+kind_of EndingReset = ResetEnds
+kind_of (Scribbling port slot at bytes) = Scribble
+
+-- a step of the kind can come, in a state that an idle adapter comes to
+pub record StepComes (kind : TransitionKind) : Type 0 where
+  pub device : Device
+  pub reached : IsReachableByRun device
+  pub step : DeviceTransition
+  pub kind_is : kind_of step ≡ kind
+  pub can : Can step device
+
+-- the same in a state in which the commands are safe
+pub record ComesSafely (kind : TransitionKind) : Type 0 where
+  pub comes : StepComes kind
+  pub safe : CommandsAreSafe comes.device
+
+-- ---- what runs come to
+
+-- Two queued commands are taken, in slots 0 and 1, and that in slot 1 may end; that in slot 0 is taken still then.
+pub record SecondEndsFirst : Type 0 where
+  pub device : Device
+  pub reached : IsReachableByRun device
+  pub safe : CommandsAreSafe device
+  pub one : FetchedCommand
+  pub other : FetchedCommand
+  pub queued : (is_queued one.meaning.operation ≡ true) × (is_queued other.meaning.operation ≡ true)
+  pub taken : (device.port 0).taken 0 ≡ Some one
+  pub ends : Can (Ending 0 1 3 other) device
+  pub stays : ((device_after (Ending 0 1 3 other) device).port 0).taken 0 ≡ Some one
+
+-- Two queued commands are taken, in slots 0 and 1, and the first of them has failed.
+pub record FirstHasFailed : Type 0 where
+  pub device : Device
+  pub reached : IsReachableByRun device
+  pub safe : CommandsAreSafe device
+  pub one : FetchedCommand
+  pub other : FetchedCommand
+  pub queued : (is_queued one.meaning.operation ≡ true) × (is_queued other.meaning.operation ≡ true)
+  pub failed : (device.port 0).taken 0 ≡ Some one
+  pub beside : (device.port 0).taken 1 ≡ Some other
+  pub halted : (device.port 0).halt ≡ HaltedQueued
+  pub told : (device.port 0).is 30 ≡ true
+  pub entry : (before : List Entry) × (device.tape ≡ before ++ fault_entry 0 0 0x40 0 ∷ [])
+
+-- A reset of the adapter is pending, and two ports have commands in use.
+pub record IsBeingReset : Type 0 where
+  pub device : Device
+  pub reached : IsReachableByRun device
+  pub safe : CommandsAreSafe device
+  pub pending : device.hr ≡ true
+  pub first_used : InUse (device.port 0) 0
+  pub second_used : InUse (device.port 1) 0
